@@ -1,0 +1,118 @@
+ghost use Rattle.std.specs.Prelude.{◌≡◌, ◌-◌, ◌<◌, ◌≤◌, [], ◌∷◌, ◌++◌, length, take, IsTrue, IfSome, IfNone};
+ghost use Rattle.std.specs.Char.{is_digit};
+ghost use Rattle.std.specs.List.{list_all};
+ghost use Rattle.std.specs.Str.Parse.{digits_value};
+ghost use Rattle.cf_text.specs.Shapes.{base_len, is_decimal};
+ghost use Rattle.cf_text.specs.Split.{EachDigitFrom, Spells, fixed_of, is_marked, split_of};
+
+use crate::is_name;
+
+/// The greatest unit that may be written.
+pub const MAX_UNIT: u32 = 65_535;
+
+/// How a chunk falls into a base and a unit: `cut` is the length of the base, in bytes.
+#[derive(Clone, Copy, Debug, PartialEq, Eq)]
+pub enum Split {
+    /// No unit chunk.
+    Not,
+    /// A base and the digits of a unit.
+    Unit { cut: usize, unit: u32 },
+    /// A base and `*`.
+    Star { cut: usize },
+    /// A base and `?`.
+    Any { cut: usize },
+    /// A base and a unit above `MAX_UNIT`.
+    TooGreat,
+}
+
+/// How much of the chunk stands before the digits at its end.
+fn base_len(chunk: &[u8]) -> usize
+    ensures len { result ≡ base_len chunk.now }
+    ensures within { result ≤ length chunk.now }
+    ensures digits { EachDigitFrom result chunk.now }
+{
+    let mut cut = chunk.len();
+    while cut > 0 && chunk[cut - 1].is_ascii_digit() {
+        cut -= 1;
+    }
+    cut
+}
+
+fn is_digit(byte: u8) -> bool
+    ensures { result ≡ is_digit byte 10 }
+{
+    char::from(byte).is_digit(10)
+}
+
+fn all_digits(bytes: &[u8]) -> bool
+    ensures { result ≡ list_all (λ c. is_digit c 10) bytes.now }
+{
+    bytes.iter().all(|&byte| is_digit(byte))
+}
+
+fn is_decimal(bytes: &[u8]) -> bool
+    ensures { result ≡ is_decimal bytes.now }
+{
+    !bytes.is_empty() && all_digits(bytes) && (bytes[0] != b'0' || bytes.len() == 1)
+}
+
+/// The unit that the digits spell, or `None` where it is too great.
+fn unit_value(digits: &[u8]) -> Option<u32>
+    requires { EachDigitFrom 0 digits.now }
+    ensures some { IfSome result (λ unit. (unit ≡ digits_value 10 digits.now)) }
+    ensures fits { IfSome result (λ unit. unit ≤ MAX_UNIT) }
+    ensures none { IfNone result (MAX_UNIT < digits_value 10 digits.now) }
+{
+    let mut unit = 0;
+    for digit in digits {
+        unit = unit * 10 + u32::from(*digit - b'0');
+        if unit > MAX_UNIT {
+            return None;
+        }
+    }
+    Some(unit)
+}
+
+/// Splits off the digits at the end.
+fn split_fixed(chunk: &[u8]) -> Split
+    ensures split { result ≡ fixed_of (base_len chunk.now) chunk.now }
+    ensures spelled { Spells chunk.now result }
+{
+    let cut = base_len(chunk);
+    let (base, digits) = chunk.split_at(cut);
+    if !(is_name(base) && is_decimal(digits)) {
+        return Split::Not;
+    }
+    match unit_value(digits) {
+        Some(unit) => Split::Unit { cut, unit },
+        None => Split::TooGreat,
+    }
+}
+
+/// Whether a chunk is a name and this mark behind it.
+fn is_marked(chunk: &[u8], mark: u8) -> bool
+    requires { ¬ mark ≡ 0 }
+    ensures marked { result ≡ is_marked mark chunk.now }
+    ensures spelled { IsTrue result → chunk.now ≡ take (length chunk.now - 1) chunk.now ++ mark ∷ [] }
+{
+    match chunk {
+        [base @ .., last] => *last == mark && is_name(base),
+        [] => false,
+    }
+}
+
+/// Splits a unit chunk: a name that does not end with a digit and a decimal number, or any name and `*` or `?`.
+/// Every other chunk is `Not`, and a number above `MAX_UNIT` is `TooGreat`. It takes no memory. See config(5).
+pub fn split_unit(chunk: &[u8]) -> Split
+    ensures split { result ≡ split_of chunk.now }
+    ensures spelled { Spells chunk.now result }
+{
+    let cut = chunk.len().saturating_sub(1);
+    if is_marked(chunk, b'*') {
+        return Split::Star { cut };
+    }
+    if is_marked(chunk, b'?') {
+        return Split::Any { cut };
+    }
+    split_fixed(chunk)
+}

@@ -1,0 +1,14 @@
+ghost use Rattle.std.specs.Prelude.{◌≡◌, ◌++◌, OnOk, OnErr};
+ghost use Rattle.std.specs.Fmt.{signed_decimal};
+
+use crate::Memory;
+
+/// Appends a number in decimal, a negative one with `-`. Where memory runs out, nothing is appended.
+pub fn put_decimal(out: &mut Vec<u8>, value: i64) -> Result<(), Memory>
+    ensures ok { OnOk result (out.new.items ≡ out.old.items ++ signed_decimal value) }
+    ensures err { OnErr result (out.new.items ≡ out.old.items) }
+{
+    let digits = format!(in *out.allocator(); "{value}")?;
+    out.extend_from_slice(digits.as_bytes())?;
+    Ok(())
+}

@@ -1,0 +1,28 @@
+//! The plain types that the other crates share: lists and names, statements and tokens, tables, machines and scripts.
+#![tactic(auto)]
+
+mod decimal;
+mod list;
+mod locs;
+mod machine;
+mod memory;
+mod name;
+mod stmt;
+mod tables;
+mod tree;
+
+pub use decimal::put_decimal;
+pub use list::{List, Text};
+pub use locs::Locs;
+pub use machine::{Command, Given, Machine, MatchLine, Policy, Script, Spot, StyleLine, Ticket};
+pub use memory::Memory;
+pub use name::Name;
+pub use stmt::{
+    AtSpec, CondWord, Expanded, GivenLoc, Item, ItemKind, Piece, Placed, Stmt, Token, TokenKind,
+    UnitMark,
+};
+pub use tables::{
+    Attach, Attr, Device, Locator, ParentSpec, Place, Pseudo, Refusal, Row, Tables, WarnKind,
+    Warning,
+};
+pub use tree::DevLine;

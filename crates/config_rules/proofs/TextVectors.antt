@@ -1,0 +1,64 @@
+-- Small machine files, scripts and order files, and what the definitions say of them.
+use Rattle.std.proofs.Common.{◌≡◌, ℕ, Some, None, Result, Ok, Err, List, [], ◌∷◌, ◌++◌, refl, codes, true, false}
+use Rattle.std.specs.Prelude.{pos, negsuc}
+use Rattle.cf_types.specs.declared.machine.Command.TheVariants as command
+use Rattle.cf_types.specs.declared.tables.Tables.{Tables}
+use Rattle.cf_types.specs.declared.tables.Place.TheVariants.{Root, At}
+use Rattle.config_rules.specs.MachineText.{machine_of, no_policy}
+use Rattle.config_rules.specs.ScriptText.{commands, commands_of, order_of}
+
+-- an attribute `isa` with two locators, and an attachment `com`
+abbrev small : Tables
+small = record {
+  attrs = record { name = codes "isa"; iface = true; class = false; pseudo = false; locs = record { name = codes "port"; default = Some (pos 5); optional = true } ∷ record { name = codes "irq"; default = None; optional = false } ∷ []; needs = [] } ∷ [];
+  devices = [];
+  attaches = record { name = codes "com"; device = 0; places = At 0 ∷ []; needs = [] } ∷ [];
+  rows = [];
+  pseudos = [];
+  options = [];
+  makeoptions = [];
+  file_systems = [];
+  warnings = [];
+}
+
+machine_parent : machine_of small (codes "spot a b root") ≡ Err (1, 3)
+unfolding machine_of
+machine_parent = refl
+
+machine_whole : machine_of small (codes "spot a root root" ++ 10 ∷ codes "spot b a isa port=0x3f8 absent # c" ++ 10 ∷ codes "match com b 7" ++ 10 ∷ codes "driver com final defer") ≡ Ok (record {
+  spots = record { name = codes "a"; parent = None; place = Root; found = []; late = false; absent = false; bad = false }
+      ∷ record { name = codes "b"; parent = Some 0; place = At 0; found = pos 1016 ∷ negsuc 0 ∷ []; late = false; absent = true; bad = false } ∷ [];
+  matches = record { attach = 0; spot = Some 1; value = 7 } ∷ [];
+  styles = [];
+  policies = record no_policy { defer = true; finaliser = true } ∷ [];
+})
+unfolding machine_of
+machine_whole = refl
+
+machine_twice : machine_of small (codes "spot a root root" ++ 10 ∷ codes "spot b a isa port=1 port=2") ≡ Err (2, 1)
+unfolding machine_of
+machine_twice = refl
+
+machine_range : machine_of small (codes "match com * 65536") ≡ Err (1, 7)
+unfolding machine_of
+machine_range = refl
+
+script_fly : commands_of (codes "fly com0") ≡ Err (1, 1)
+unfolding commands_of commands
+script_fly = refl
+
+script_whole : commands_of (codes "open com0" ++ 10 ∷ 10 ∷ codes "io com0 010") ≡ Ok (command.OpenDev (codes "com0") ∷ command.Io (codes "com0") 8 ∷ [])
+unfolding commands_of commands
+script_whole = refl
+
+script_range : commands_of (codes "io com0 -1") ≡ Err (1, 3)
+unfolding commands_of commands
+script_range = refl
+
+order_range : order_of 2 (codes "1 3") ≡ Err (1, 3)
+unfolding order_of
+order_range = refl
+
+order_whole : order_of 2 (codes "1 2 2 1 # x" ++ 10 ∷ codes "0x2") ≡ Ok (1 ∷ 2 ∷ 2 ∷ 1 ∷ 2 ∷ [])
+unfolding order_of
+order_whole = refl

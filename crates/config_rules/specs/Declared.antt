@@ -1,0 +1,91 @@
+-- What statements declare: attributes, devices and attachments, each in order.
+use Rattle.std.specs.Prelude.{ℕ, suc, zero, ◌+◌, Bool, true, false, not, ◌&&◌, ◌||◌, ◌==◌, nat_lt, nat_le, if◌then◌else◌, List, [], ◌∷◌, ◌++◌, length, take, drop, map, filter, filter_map, flat_map, find, position, slice_get, bytes_eq, codes, Option, Some, None, is_some, option_map, option_and_then, unwrap_or}
+use Rattle.std.specs.List.{list_all, list_any}
+use Rattle.std.specs.Option.{option_map_or}
+use Rattle.cf_types.specs.declared.stmt.Stmt.{Stmt}
+use Rattle.cf_types.specs.declared.stmt.Stmt.TheVariants as stmt
+use Rattle.cf_types.specs.declared.tables.Locator.{Locator}
+use Rattle.cf_types.specs.declared.tables.Attr.{Attr}
+use Rattle.cf_types.specs.declared.tables.Device.{Device}
+use Rattle.cf_types.specs.declared.tables.Attach.{Attach}
+use Rattle.cf_types.specs.declared.tables.Place.{Place}
+use Rattle.cf_types.specs.declared.tables.Place.TheVariants.{Root, At}
+
+pub record Declared : Type 0 where
+  pub attrs : List Attr
+  pub devices : List Device
+  pub attaches : List Attach
+
+-- ---- names and their numbers
+
+abbrev pub is_root : List ℕ → Bool
+is_root name = bytes_eq name (codes "root")
+
+-- the place of a name in a list of names
+abbrev pub place_in : List (List ℕ) → List ℕ → Option ℕ
+place_in names name = position (λ n. bytes_eq n name) names
+
+abbrev pub numbers_in : List (List ℕ) → List (List ℕ) → List ℕ
+numbers_in names wanted = map (λ name. unwrap_or (place_in names name) 0) wanted
+
+-- the attribute that a statement declares; a device with braces declares one of its own name
+abbrev pub attr_name : Stmt → Option (List ℕ)
+attr_name (stmt.Define name locs needs) = Some name
+attr_name (stmt.Class name) = Some name
+attr_name (stmt.DefPseudo name locs needs) = Some name
+attr_name (stmt.Device name locs needs) = option_map (λ l. name) locs
+attr_name _ = None
+
+abbrev pub device_name : Stmt → Option (List ℕ)
+device_name (stmt.Device name locs needs) = Some name
+device_name _ = None
+
+-- ---- what a statement declares, where these are the names of all attributes and devices
+
+abbrev pub attr : List ℕ → Bool → Bool → Bool → List Locator → List ℕ → Attr
+attr name iface class pseudo locs needs = record { name = name; iface = iface; class = class; pseudo = pseudo; locs = locs; needs = needs }
+
+abbrev pub attr_of : List (List ℕ) → Stmt → Option Attr
+attr_of attrs (stmt.Define name locs needs) = Some (attr name (is_some locs) false false (unwrap_or locs []) (numbers_in attrs needs))
+attr_of attrs (stmt.Class name) = Some (attr name false true false [] [])
+attr_of attrs (stmt.DefPseudo name locs needs) = Some (attr name (is_some locs) false true (unwrap_or locs []) (numbers_in attrs needs))
+attr_of attrs (stmt.Device name locs needs) = option_map (λ l. attr name true false false l []) locs
+attr_of attrs _ = None
+
+abbrev pub device_of : List (List ℕ) → Stmt → Option Device
+device_of attrs (stmt.Device name locs needs) =
+    Some (record { name = name; own = option_and_then (λ l. place_in attrs name) locs; needs = numbers_in attrs needs })
+device_of attrs _ = None
+
+abbrev pub place_of : List (List ℕ) → List ℕ → Place
+place_of attrs name = if is_root name then Root else At (unwrap_or (place_in attrs name) 0)
+
+abbrev pub attach_of : List (List ℕ) → List (List ℕ) → Stmt → Option Attach
+attach_of attrs devices (stmt.Attach device places name needs) =
+    Some (record { name = unwrap_or name device; device = unwrap_or (place_in devices device) 0; places = map (place_of attrs) places; needs = numbers_in attrs needs })
+attach_of attrs devices _ = None
+
+abbrev pub declared_with : List (List ℕ) → List (List ℕ) → List Stmt → Declared
+declared_with attrs devices stmts = record {
+  attrs = filter_map (attr_of attrs) stmts;
+  devices = filter_map (device_of attrs) stmts;
+  attaches = filter_map (attach_of attrs devices) stmts;
+}
+
+-- the attributes, devices and attachments that the statements declare
+unfoldable pub declared : List Stmt → Declared
+declared stmts = declared_with (filter_map attr_name stmts) (filter_map device_name stmts) stmts
+
+-- ---- looking up
+
+abbrev pub attr_number : Declared → List ℕ → Option ℕ
+attr_number d name = position (λ a. bytes_eq a.name name) d.attrs
+
+abbrev pub device_number : Declared → List ℕ → Option ℕ
+device_number d name = position (λ x. bytes_eq x.name name) d.devices
+
+abbrev pub has_attach : Declared → List ℕ → Bool
+has_attach d name = list_any (λ a. bytes_eq a.name name) d.attaches
+
+abbrev pub attr_named : Declared → List ℕ → Option Attr
+attr_named d name = find (λ a. bytes_eq a.name name) d.attrs

@@ -1,0 +1,129 @@
+-- The first fault of a statement after those before it, and of a configuration.
+use Rattle.std.specs.Prelude.{◌≡◌, ℕ, ◌+◌, Bool, true, false, not, ◌&&◌, ◌||◌, ◌==◌, nat_lt, nat_le, if◌then◌else◌, List, [], ◌∷◌, ◌++◌, length, map, filter, find, count_by, slice_index_or, slice_get, bytes_eq, Option, Some, None, is_some, is_none, option_map, option_and_then, unwrap_or, Result, Ok, Err}
+use Rattle.std.specs.List.{list_all, list_any}
+use Rattle.std.specs.Option.{option_map_or}
+use Rattle.cf_types.specs.declared.stmt.Placed.{Placed}
+use Rattle.cf_types.specs.declared.stmt.Stmt.{Stmt}
+use Rattle.cf_types.specs.declared.stmt.Stmt.TheVariants as stmt
+use Rattle.cf_types.specs.declared.tables.Locator.{Locator}
+use Rattle.cf_types.specs.declared.tables.Refusal.{Refusal}
+use Rattle.config_rules.specs.Form.{given, ◌or◌}
+use Rattle.config_rules.specs.Reading.{Files, Reading, reading}
+use Rattle.config_rules.specs.Declared.{Declared, declared, is_root, attr_number, device_number, attr_named, has_attach}
+use Rattle.cf_types.specs.Offers.{interfaces_of, firsts}
+use Rattle.config_rules.specs.Joined.{Joined, join}
+
+-- ---- words of the table
+
+-- a name that is given twice
+abbrev pub repeats : List (List ℕ) → Bool
+repeats [] = false
+repeats (name ∷ names) = list_any (λ n. bytes_eq n name) names || repeats names
+
+abbrev pub repeats_locator : Option (List Locator) → Bool
+repeats_locator locs = repeats (map (λ l. l.name) (unwrap_or locs []))
+
+abbrev pub has_attr : Declared → List ℕ → Bool
+has_attr d name = is_some (attr_number d name)
+
+abbrev pub has_device : Declared → List ℕ → Bool
+has_device d name = is_some (device_number d name)
+
+abbrev pub lacks_attr : Declared → List (List ℕ) → Bool
+lacks_attr d names = list_any (λ name. not (has_attr d name)) names
+
+abbrev pub attr_numbers : Declared → List (List ℕ) → List ℕ
+attr_numbers d names = map (λ name. unwrap_or (attr_number d name) 0) names
+
+-- an interface list of its own attribute, where there is one, and those of these names would be too long
+abbrev pub offers_too_much : Declared → Option (List Locator) → List (List ℕ) → Bool
+offers_too_much d locs needs = nat_lt 64 (option_map_or (λ l. 1) locs 0 + length (interfaces_of d.attrs (attr_numbers d needs)))
+
+abbrev pub is_class : Declared → ℕ → Bool
+is_class d a = option_map_or (λ x. x.class) (slice_get d.attrs a) false
+
+-- two device classes
+abbrev pub has_classes : Declared → List (List ℕ) → Bool
+has_classes d needs = nat_lt 1 (length (firsts (filter (is_class d) (attr_numbers d needs))))
+
+abbrev pub is_instance : Stmt → Bool
+is_instance (stmt.Inst base mark at pairs flags) = true
+is_instance _ = false
+
+abbrev pub is_pseudo : Declared → List ℕ → Bool
+is_pseudo d name = option_map_or (λ x. x.pseudo) (attr_named d name) false
+
+-- ---- the codes of each statement, in the order in which they are looked for
+
+-- an attribute with locators and needs
+abbrev pub define_fault : Declared → List ℕ → Option (List Locator) → List (List ℕ) → Option ℕ
+define_fault d name locs needs =
+    given (is_root name || has_attr d name) 18
+    or (given (repeats_locator locs) 15
+    or (given (lacks_attr d needs) 8
+    or given (offers_too_much d locs needs) 25))
+
+abbrev pub device_fault : Declared → List ℕ → Option (List Locator) → List (List ℕ) → Option ℕ
+device_fault d name locs needs =
+    given (is_root name || has_device d name || (is_some locs && has_attr d name)) 18
+    or (given (repeats_locator locs) 15
+    or (given (lacks_attr d needs) 8
+    or (given (has_classes d needs) 19
+    or given (offers_too_much d locs needs) 25)))
+
+-- the places in order, each unknown or no interface attribute
+abbrev pub places_fault : Declared → List (List ℕ) → Option ℕ
+places_fault d [] = None
+places_fault d (place ∷ places) =
+    (if is_root place then None
+    else option_map_or (λ a. given (not a.iface) 9) (attr_named d place) (Some 8))
+    or places_fault d places
+
+abbrev pub attach_fault : Declared → List ℕ → List (List ℕ) → List ℕ → List (List ℕ) → Option ℕ
+attach_fault d device places name needs =
+    given (not (has_device d device)) 10
+    or (places_fault d places
+    or (given (is_root name || has_attach d name) 18
+    or given (lacks_attr d needs) 8))
+
+abbrev pub err_of : {A : Type 0} → Result A ℕ → Option ℕ
+err_of (Ok x) = None
+err_of (Err code) = Some code
+
+-- the first code of a statement after what was declared and so many instances
+abbrev pub code_of : Declared → ℕ → Stmt → Option ℕ
+code_of d instances (stmt.Define name locs needs) = define_fault d name locs needs
+code_of d instances (stmt.Class name) = given (is_root name || has_attr d name) 18
+code_of d instances (stmt.DefPseudo name locs needs) = define_fault d name locs needs
+code_of d instances (stmt.Device name locs needs) = device_fault d name locs needs
+code_of d instances (stmt.Attach device places name needs) = attach_fault d device places (unwrap_or name device) needs
+code_of d instances (stmt.Inst base mark at pairs flags) = given (nat_le 8192 instances) 24 or err_of (join d base at pairs)
+code_of d instances (stmt.PseudoDevice name count) = given (not (is_pseudo d name)) 10
+code_of d instances _ = None
+
+unfoldable pub fault_of : List Stmt → Stmt → Option ℕ
+fault_of before s = code_of (declared before) (count_by is_instance before) s
+
+-- ---- the first fault of a configuration
+
+abbrev pub stmts_of : List Placed → List Stmt
+stmts_of placed = map (λ p. p.stmt) placed
+
+abbrev pub refusal : List (List ℕ) → Placed → ℕ → Refusal
+refusal files p code = record { file = slice_index_or files p.file []; line = p.line; code = code }
+
+-- the first of these statements, after those before, that has a code
+abbrev pub first_code : List (List ℕ) → List Stmt → List Placed → Option Refusal
+first_code files before [] = None
+first_code files before (p ∷ placed) =
+    option_map (refusal files p) (fault_of before p.stmt) or first_code files (before ++ p.stmt ∷ []) placed
+
+-- of the statements that are placed, or else the one before which the reading ended
+unfoldable pub fault_in : Reading → Option Refusal
+fault_in r = first_code r.files [] r.placed or r.fault
+
+unfoldable pub first_fault : Files → List ℕ → Option Refusal
+first_fault files name = fault_in (reading files name)
+
+abbrev pub Accepted : Files → List ℕ → Type 0
+Accepted files name = first_fault files name ≡ None

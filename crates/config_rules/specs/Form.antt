@@ -1,0 +1,397 @@
+-- The statement that a list of tokens is, one case for each row of the table of statements.
+use Rattle.std.specs.Prelude.{◌≡◌, ℕ, ◌+◌, ◌-◌, Bool, true, false, not, ◌&&◌, ◌||◌, ◌==◌, nat_lt, nat_le, if◌then◌else◌, List, [], ◌∷◌, length, take, drop, map, slice_index, slice_index_or, bytes_eq, codes, Option, Some, None, is_some, is_none, option_map, option_and_then, unwrap_or, ℤ, pos, nat_abs, int_le}
+use Rattle.std.specs.List.{list_all, list_any, slice_split, before_first, after_first}
+use Rattle.cf_types.specs.declared.stmt.TokenKind.{TokenKind}
+use Rattle.cf_types.specs.declared.stmt.TokenKind.TheVariants as kind
+use Rattle.cf_types.specs.declared.stmt.Piece.{Piece}
+use Rattle.cf_types.specs.declared.stmt.UnitMark.{UnitMark}
+use Rattle.cf_types.specs.declared.stmt.UnitMark.TheVariants.{Fixed, Star}
+use Rattle.cf_types.specs.declared.stmt.AtSpec.{AtSpec}
+use Rattle.cf_types.specs.declared.stmt.AtSpec.TheVariants.{Root, Named}
+use Rattle.cf_types.specs.declared.stmt.GivenLoc.{GivenLoc}
+use Rattle.cf_types.specs.declared.stmt.CondWord.{CondWord}
+use Rattle.cf_types.specs.declared.stmt.CondWord.TheVariants as word
+use Rattle.cf_types.specs.declared.stmt.ItemKind.{ItemKind}
+use Rattle.cf_types.specs.declared.stmt.ItemKind.TheVariants as of_kind
+use Rattle.cf_types.specs.declared.stmt.Item.{Item}
+use Rattle.cf_types.specs.declared.stmt.Stmt.{Stmt}
+use Rattle.cf_types.specs.declared.stmt.Stmt.TheVariants as stmt
+use Rattle.cf_types.specs.declared.tables.Locator.{Locator}
+use Rattle.cf_text.specs.Shapes.{is_name, is_written, ends_with_digit, number, in_range, unit_of, base_before}
+
+-- ---- single tokens
+
+abbrev pub is_chunk : Piece → Bool
+is_chunk p = is_chunk_kind p.kind
+  where
+    is_chunk_kind : TokenKind → Bool
+    is_chunk_kind kind.Chunk = true
+    is_chunk_kind _ = false
+
+abbrev pub is_text : Piece → Bool
+is_text p = is_text_kind p.kind
+  where
+    is_text_kind : TokenKind → Bool
+    is_text_kind kind.Text = true
+    is_text_kind _ = false
+
+abbrev pub is_mark : List ℕ → Piece → Bool
+is_mark mark p = is_mark_kind p.kind && bytes_eq p.text mark
+  where
+    is_mark_kind : TokenKind → Bool
+    is_mark_kind kind.Mark = true
+    is_mark_kind _ = false
+
+abbrev pub is_word : List ℕ → Piece → Bool
+is_word word p = is_chunk p && bytes_eq p.text word
+
+abbrev pub is_among : List (List ℕ) → Piece → Bool
+is_among words p = list_any (λ w. is_word w p) words
+
+-- a value where the test holds
+abbrev pub given : {A : Type 0} → Bool → A → Option A
+given test x = if test then Some x else None
+
+-- what stands before the first of these marks, and what stands behind it
+abbrev pub parted_at : List ℕ → List Piece → Option (List Piece × List Piece)
+parted_at mark ps = given (list_any (is_mark mark) ps) (before_first (is_mark mark) ps, after_first (is_mark mark) ps)
+
+-- `N`
+abbrev pub name_of : Piece → Option (List ℕ)
+name_of p = given (is_chunk p && is_written p.text) p.text
+
+-- a number in its range; where sizes don't count, one out of its range stands for 0
+abbrev pub within : {A : Type 0} → Bool → Bool → A → A → Option A
+within sized fits x zero_of = if fits then Some x else given (not sized) zero_of
+
+-- `V`
+abbrev pub value_of : Bool → Piece → Option ℤ
+value_of sized p = if is_chunk p then option_and_then (λ v. within sized (in_range v) v (pos 0)) (number p.text) else None
+
+-- a chunk or a string
+abbrev pub bytes_of : Piece → Option (List ℕ)
+bytes_of p = given (is_chunk p || is_text p) p.text
+
+-- `P`
+abbrev pub path_of : Piece → Option (List ℕ)
+path_of p = given ((is_chunk p || is_text p) && nat_lt 0 (length p.text)) p.text
+
+abbrev pub fixed_of : Bool → Piece → Option (List ℕ × ℕ)
+fixed_of sized p = if is_chunk p then option_and_then (λ u. within sized (nat_le u.1 65535) u (u.0, 0)) (unit_of p.text) else None
+
+abbrev pub marked_of : ℕ → Piece → Option (List ℕ)
+marked_of mark p = if is_chunk p then base_before mark p.text else None
+
+-- the second, where there is no first
+infixr 5 ◌or◌
+abbrev pub ◌or◌ : {A : Type 0} → Option A → Option A → Option A
+(Some x) or y = Some x
+None or y = y
+
+-- `U`
+abbrev pub unit_chunk : Bool → Piece → Option (List ℕ × UnitMark)
+unit_chunk sized p = option_map (λ u. (u.0, Fixed u.1)) (fixed_of sized p) or option_map (λ base. (base, Star)) (marked_of 42 p)
+
+-- `X`
+abbrev pub place_of : Bool → Piece → Option AtSpec
+place_of sized p =
+    given (is_word (codes "root") p) Root
+    or (option_map (λ u. Named u.0 (Some u.1)) (fixed_of sized p)
+    or option_map (λ base. Named base None) (marked_of 63 p))
+
+-- ---- lists of them
+
+-- what each gives, if each gives something
+abbrev pub each : {A B : Type 0} → (A → Option B) → List A → Option (List B)
+each f [] = Some []
+each f (x ∷ xs) = option_and_then (λ y. option_map (λ ys. y ∷ ys) (each f xs)) (f x)
+
+abbrev pub parted : List Piece → List (List Piece)
+parted ps = slice_split (is_mark (codes ",")) ps
+
+-- one token alone
+abbrev pub alone : {A : Type 0} → (Piece → Option A) → List Piece → Option A
+alone f (p ∷ []) = f p
+alone f _ = None
+
+-- `N, ..`
+abbrev pub names_of : List Piece → Option (List (List ℕ))
+names_of ps = each (alone name_of) (parted ps)
+
+-- `N .. N`
+abbrev pub name_row : List Piece → Option (List (List ℕ))
+name_row ps = if nat_lt 0 (length ps) then each name_of ps else None
+
+-- ---- locators
+
+abbrev pub locator_name : Piece → Option (List ℕ)
+locator_name p = if is_word (codes "flags") p then None else name_of p
+
+abbrev pub locator : List ℕ → Option ℤ → Bool → Locator
+locator name default optional = record { name = name; default = default; optional = optional }
+
+-- `N = V`
+abbrev pub with_default : Bool → Bool → Piece → Piece → Piece → Option Locator
+with_default sized optional n equals v =
+    if is_mark (codes "=") equals
+    then option_and_then (λ name. option_map (λ value. locator name (Some value) optional) (value_of sized v)) (locator_name n)
+    else None
+
+-- `[N = V]`
+abbrev pub bracketed : Bool → Piece → Piece → Piece → Piece → Piece → Option Locator
+bracketed sized open_bracket n equals v close_bracket =
+    if is_mark (codes "[") open_bracket && is_mark (codes "]") close_bracket then with_default sized true n equals v else None
+
+-- `N`, `N = V` or `[N = V]`
+abbrev pub locator_of : Bool → List Piece → Option Locator
+locator_of sized (n ∷ []) = option_map (λ name. locator name None false) (locator_name n)
+locator_of sized (n ∷ equals ∷ v ∷ []) = with_default sized false n equals v
+locator_of sized (open_bracket ∷ n ∷ equals ∷ v ∷ close_bracket ∷ []) = bracketed sized open_bracket n equals v close_bracket
+locator_of sized _ = None
+
+-- `L`
+abbrev pub locators_of : Bool → List Piece → Option (List Locator)
+locators_of sized [] = Some []
+locators_of sized (p ∷ ps) = option_and_then (λ locs. given (nat_le (length locs) 16) locs) (each (locator_of sized) (parted (p ∷ ps)))
+
+-- `[: N, ..]`
+abbrev pub needs_of : List Piece → Option (List (List ℕ))
+needs_of [] = Some []
+needs_of (p ∷ ps) = if is_mark (codes ":") p then names_of ps else None
+
+-- `[{L}] [: N, ..]`, as `make` builds it
+abbrev pub with_body : Bool → (Option (List Locator) → List (List ℕ) → Stmt) → List Piece → Option Stmt
+with_body sized make [] = Some (make None [])
+with_body sized make (p ∷ ps) =
+    if is_mark (codes "{") p
+    then option_and_then (λ parts.
+    option_and_then (λ locs. option_map (make (Some locs)) (needs_of parts.1)) (locators_of sized parts.0))
+    (parted_at (codes "}") ps)
+    else option_map (make None) (needs_of (p ∷ ps))
+
+-- `N` and a body
+abbrev pub defining : Bool → (List ℕ → Option (List Locator) → List (List ℕ) → Stmt) → List Piece → Option Stmt
+defining sized make [] = None
+defining sized make (n ∷ ps) = option_and_then (λ name. with_body sized (make name) ps) (name_of n)
+
+-- ---- one case for each row
+
+-- `attach N at N-or-root, .. [with N] [: N, ..]`, behind its word
+abbrev pub attach_stmt : List Piece → Option Stmt
+attach_stmt (d ∷ at ∷ ps) =
+    if is_word (codes "at") at
+    then option_and_then (λ device.
+    option_and_then (λ needs. attached device needs (before_first (is_mark (codes ":")) ps)) (needs_of (drop (length (before_first (is_mark (codes ":")) ps)) ps)))
+    (name_of d)
+    else None
+  where
+    -- where they end with `with N`, that is the attachment's name
+    attached : List ℕ → List (List ℕ) → List Piece → Option Stmt
+    attached device needs ps =
+        if nat_lt 2 (length ps) && list_any (is_word (codes "with")) (take 1 (drop (length ps - 2) ps))
+        && not (list_any (is_mark (codes ",")) (take 1 (drop (length ps - 3) ps)))
+        then option_and_then (λ places. option_map (λ name. stmt.Attach device places (Some name) needs) (alone name_of (drop (length ps - 1) ps)))
+        (names_of (take (length ps - 2) ps))
+        else option_map (λ places. stmt.Attach device places None needs) (names_of ps)
+attach_stmt _ = None
+
+-- the pairs `N V` and `N ?`, then optionally `flags V`
+abbrev pub pairs_of : Bool → List Piece → Option (List GivenLoc × ℤ)
+pairs_of sized [] = Some ([], pos 0)
+pairs_of sized (n ∷ []) = None
+pairs_of sized (n ∷ v ∷ ps) =
+    if is_word (codes "flags") n then option_and_then (λ value. given (length ps == 0) ([], value)) (value_of sized v)
+    else option_and_then (λ name. option_and_then (λ value.
+    option_map (λ rest. (record { name = name; value = value } ∷ rest.0, rest.1)) (pairs_of sized ps))
+    (given (is_word (codes "?") v) None or option_map (λ value. Some value) (value_of sized v))) (name_of n)
+
+-- `U at X` and the pairs
+abbrev pub inst_stmt : Bool → List Piece → Option Stmt
+inst_stmt sized (u ∷ at ∷ x ∷ ps) =
+    if is_word (codes "at") at
+    then option_and_then (λ unit. option_and_then (λ place.
+    option_map (λ rest. stmt.Inst unit.0 unit.1 place rest.0 rest.1) (pairs_of sized ps))
+    (place_of sized x)) (unit_chunk sized u)
+    else None
+inst_stmt sized _ = None
+
+-- `no` and what it takes back
+abbrev pub no_stmt : Bool → List Piece → Option Stmt
+no_stmt sized [] = None
+no_stmt sized (p ∷ ps) =
+    if is_word (codes "options") p then option_map (stmt.NoItems of_kind.Options) (names_of ps)
+    else (if is_word (codes "makeoptions") p then option_map (stmt.NoItems of_kind.MakeOptions) (names_of ps)
+    else (if is_word (codes "file-system") p then option_map (stmt.NoItems of_kind.FileSystem) (names_of ps)
+    else (if is_word (codes "pseudo-device") p then option_map (λ name. stmt.NoItems of_kind.PseudoDevice (name ∷ [])) (alone name_of ps)
+    else (if is_word (codes "device") p then option_map stmt.NoDevice (at_place sized ps)
+    else option_and_then (λ u. no_inst sized u.0 u.1 ps) (unit_chunk sized p)))))
+  where
+    at_place : Bool → List Piece → Option AtSpec
+    at_place sized (at ∷ x ∷ []) = if is_word (codes "at") at then place_of sized x else None
+    at_place sized _ = None
+
+    no_inst : Bool → List ℕ → UnitMark → List Piece → Option Stmt
+    no_inst sized base mark [] = Some (stmt.NoInst base mark None)
+    no_inst sized base mark (p ∷ ps) = option_map (λ at. stmt.NoInst base mark (Some at)) (at_place sized (p ∷ ps))
+
+abbrev pub item : List ℕ → Bool → Option (List ℕ) → Item
+item name plus value = record { name = name; plus = plus; value = value }
+
+-- `N` or `N = VALUE`
+abbrev pub option_item : List Piece → Option Item
+option_item (n ∷ []) = option_map (λ name. item name false None) (name_of n)
+option_item (n ∷ equals ∷ v ∷ []) =
+    if is_mark (codes "=") equals
+    then option_and_then (λ name. option_map (λ value. item name false (Some value)) (bytes_of v)) (name_of n)
+    else None
+option_item _ = None
+
+-- `N = VALUE` or `N += VALUE`; a chunk is never empty
+abbrev pub make_item : List Piece → Option Item
+make_item (n ∷ equals ∷ v ∷ []) =
+    if is_mark (codes "=") equals || is_mark (codes "+=") equals
+    then option_and_then (λ name. option_map (λ value. item name (is_mark (codes "+=") equals) (Some value)) (bytes_of v)) (name_of n)
+    else None
+make_item _ = None
+
+-- from 1 to 65535
+abbrev pub count_of : Bool → Piece → Option ℕ
+count_of sized p = option_and_then (λ v. within sized (int_le (pos 1) v && int_le v (pos 65535)) (nat_abs v) 0) (value_of sized p)
+
+-- `N [V]`
+abbrev pub pseudo_stmt : Bool → List Piece → Option Stmt
+pseudo_stmt sized (n ∷ []) = option_map (λ name. stmt.PseudoDevice name 1) (name_of n)
+pseudo_stmt sized (n ∷ v ∷ []) = option_and_then (λ name. option_map (stmt.PseudoDevice name) (count_of sized v)) (name_of n)
+pseudo_stmt sized _ = None
+
+-- what is checked and left out of the tables
+abbrev pub checked : List ℕ → Bool → Option Stmt
+checked word holds = given holds (stmt.Checked word)
+
+abbrev pub are_values : Bool → List Piece → Bool
+are_values sized ps = list_all (λ p. is_some (value_of sized p)) ps
+
+-- `config N root on` and one or more chunks
+abbrev pub is_config : List Piece → Bool
+is_config (n ∷ root ∷ on ∷ ps) =
+    is_some (name_of n) && is_word (codes "root") root && is_word (codes "on") on && nat_lt 0 (length ps) && list_all is_chunk ps
+is_config _ = false
+
+abbrev pub cond_stmt : CondWord → List Piece → Option Stmt
+cond_stmt word ps = option_map (λ name. stmt.Cond word (Some name)) (alone name_of ps)
+
+abbrev pub cond_word : CondWord → List Piece → Option Stmt
+cond_word word ps = given (length ps == 0) (stmt.Cond word None)
+
+abbrev pub prefix_stmt : List Piece → Option Stmt
+prefix_stmt [] = Some (stmt.Prefix None)
+prefix_stmt (p ∷ ps) = option_map (λ path. stmt.Prefix (Some path)) (alone path_of (p ∷ ps))
+
+abbrev pub device_stmt : Bool → List Piece → Option Stmt
+device_stmt sized [] = None
+device_stmt sized (n ∷ ps) = if ends_with_digit n.text then None else defining sized stmt.Device (n ∷ ps)
+
+-- a row of the table: its word, and the statement that the tokens behind the word are
+pub record TableRow : Type 0 where
+  pub word : List ℕ
+  pub form : Bool → List Piece → Option Stmt
+
+abbrev pub row : List ℕ → (Bool → List Piece → Option Stmt) → TableRow
+row word form = record { word = word; form = form }
+
+abbrev pub free_words : List (List ℕ)
+free_words = codes "defflag" ∷ codes "defparam" ∷ codes "deffs" ∷ codes "file" ∷ codes "device-major" ∷ codes "version" ∷ codes "obsolete" ∷ []
+
+abbrev pub free_row : List ℕ → TableRow
+free_row word = row word (λ sized ps. given (nat_lt 0 (length ps)) (stmt.Free word ps))
+
+-- the rows that begin with a word of their own
+unfoldable pub table : List TableRow
+table =
+    row (codes "include") (λ sized ps. option_map (λ path. stmt.Include path false) (alone path_of ps))
+    ∷ row (codes "cinclude") (λ sized ps. option_map (λ path. stmt.Include path true) (alone path_of ps))
+    ∷ row (codes "prefix") (λ sized ps. prefix_stmt ps)
+    ∷ row (codes "ifdef") (λ sized ps. cond_stmt word.IfDef ps)
+    ∷ row (codes "ifndef") (λ sized ps. cond_stmt word.IfNDef ps)
+    ∷ row (codes "elifdef") (λ sized ps. cond_stmt word.ElifDef ps)
+    ∷ row (codes "elifndef") (λ sized ps. cond_stmt word.ElifNDef ps)
+    ∷ row (codes "else") (λ sized ps. cond_word word.Else ps)
+    ∷ row (codes "endif") (λ sized ps. cond_word word.EndIf ps)
+    ∷ row (codes "define") (λ sized ps. defining sized stmt.Define ps)
+    ∷ row (codes "devclass") (λ sized ps. option_map stmt.Class (alone name_of ps))
+    ∷ row (codes "defpseudo") (λ sized ps. defining sized stmt.DefPseudo ps)
+    ∷ row (codes "device") device_stmt
+    ∷ row (codes "attach") (λ sized ps. attach_stmt ps)
+    ∷ row (codes "no") no_stmt
+    ∷ row (codes "options") (λ sized ps. option_map stmt.Options (each option_item (parted ps)))
+    ∷ row (codes "makeoptions") (λ sized ps. option_map stmt.MakeOptions (each make_item (parted ps)))
+    ∷ row (codes "file-system") (λ sized ps. option_map stmt.FileSystems (names_of ps))
+    ∷ row (codes "pseudo-device") pseudo_stmt
+    ∷ row (codes "maxusers") (λ sized ps. checked (codes "maxusers") ((length ps == 1 || length ps == 3) && are_values sized ps))
+    ∷ row (codes "maxpartitions") (λ sized ps. checked (codes "maxpartitions") (length ps == 1 && are_values sized ps))
+    ∷ row (codes "machine") (λ sized ps. checked (codes "machine") (is_some (name_row ps)))
+    ∷ row (codes "ident") (λ sized ps. checked (codes "ident") (is_some (alone path_of ps)))
+    ∷ row (codes "config") (λ sized ps. checked (codes "config") (is_config ps))
+    ∷ map free_row free_words
+
+-- the row of this word
+abbrev pub row_of : List TableRow → Piece → Option TableRow
+row_of [] p = None
+row_of (r ∷ rows) p = if is_word r.word p then Some r else row_of rows p
+
+-- the statement by its row; where the first word is none of the table's it is an instance
+abbrev pub by_row : Bool → Option TableRow → Piece → List Piece → Option Stmt
+by_row sized (Some r) p ps = r.form sized ps
+by_row sized None p ps = inst_stmt sized (p ∷ ps)
+
+-- the statement that these tokens are: with each number in its range, or, where sizes don't count, with 0 for those that aren't
+unfoldable pub form_of : Bool → List Piece → Option Stmt
+form_of sized [] = None
+form_of sized (p ∷ ps) =
+    if list_all (λ q. nat_le (length q.text) 1023) (p ∷ ps) then by_row sized (row_of table p) p ps else None
+
+-- ---- the faults
+
+abbrev pub left_out_words : List (List ℕ)
+left_out_words = codes "package" ∷ codes "object" ∷ codes "ioconf" ∷ codes "select" ∷ codes "pseudo-root" ∷ codes "buildprefix" ∷ []
+
+-- a name that may be a locator's, of any length
+abbrev pub may_name_locator : Piece → Bool
+may_name_locator p = is_chunk p && is_name p.text && not (bytes_eq p.text (codes "flags"))
+
+-- a string directly follows a name
+abbrev pub has_named_text : List Piece → Bool
+has_named_text (n ∷ t ∷ ps) = (may_name_locator n && is_text t) || has_named_text (t ∷ ps)
+has_named_text _ = false
+
+-- a string directly follows a name and `=`, or `[` directly follows a name
+abbrev pub has_text_or_size : List Piece → Bool
+has_text_or_size (n ∷ m ∷ ps) =
+    (may_name_locator n && (is_mark (codes "[") m || (is_mark (codes "=") m && list_any is_text (take 1 ps)))) || has_text_or_size (m ∷ ps)
+has_text_or_size _ = false
+
+-- what stands between the first `{` and the next `}` or the end
+abbrev pub braced : List Piece → List Piece
+braced ps = before_first (is_mark (codes "}")) (after_first (is_mark (codes "{")) ps)
+
+abbrev pub is_defining : Piece → Bool
+is_defining p = is_among (codes "define" ∷ codes "defpseudo" ∷ codes "device" ∷ []) p
+
+-- a statement that is left out, a locator with a string, or one with a size
+unfoldable pub is_left_out : List Piece → Bool
+is_left_out [] = false
+is_left_out (p ∷ ps) =
+    is_among left_out_words p
+    || (is_chunk p && is_none (row_of table p) && has_named_text (drop 2 ps))
+    || (is_defining p && has_text_or_size (braced ps))
+
+-- 7, else 6, else 5, else none
+unfoldable pub form_fault : List Piece → Option ℕ
+form_fault ps =
+    given (is_left_out ps) 7
+    or (given (is_none (form_of false ps)) 6
+    or given (is_none (form_of true ps)) 5)
+
+-- the tokens are the statement
+abbrev pub Form : List Piece → Stmt → Type 0
+Form ps s = (form_fault ps ≡ None) × (form_of true ps ≡ Some s)

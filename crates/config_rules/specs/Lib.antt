@@ -1,0 +1,11 @@
+pub mod Cut
+pub mod Form
+pub mod Reading
+pub mod Declared
+pub mod Joined
+pub mod Fault
+pub mod Select
+pub mod Meaning
+pub mod Listing
+pub mod MachineText
+pub mod ScriptText

@@ -1,0 +1,249 @@
+-- What the lines of a machine file mean, or the first bad line and its code.
+use Rattle.std.specs.Prelude.{◌≡◌, ℕ, zero, suc, ◌+◌, ◌-◌, Bool, true, false, not, ◌&&◌, ◌||◌, ◌==◌, nat_lt, nat_le, if◌then◌else◌, List, [], ◌∷◌, ◌++◌, length, take, drop, map, filter, filter_map, find, position, slice_get, slice_index_or, bytes_eq, codes, Option, Some, None, is_some, is_none, option_map, option_and_then, unwrap_or, Result, Ok, Err, ℤ, pos, negsuc, nat_abs, int_le}
+use Rattle.std.specs.List.{list_all, list_any, slice_split, before_first, after_first, enumerate_from}
+use Rattle.std.specs.Option.{option_map_or}
+use Rattle.cf_types.specs.declared.machine.Machine.{Machine}
+use Rattle.cf_types.specs.declared.machine.Spot.{Spot}
+use Rattle.cf_types.specs.declared.machine.MatchLine.{MatchLine}
+use Rattle.cf_types.specs.declared.machine.StyleLine.{StyleLine}
+use Rattle.cf_types.specs.declared.machine.Policy.{Policy}
+use Rattle.cf_types.specs.declared.tables.Attach.{Attach}
+use Rattle.cf_types.specs.declared.tables.Locator.{Locator}
+use Rattle.cf_types.specs.declared.tables.Place.{Place}
+use Rattle.cf_types.specs.declared.tables.Place.TheVariants.{Root, At}
+use Rattle.cf_types.specs.declared.tables.Tables.{Tables}
+use Rattle.cf_types.specs.Locators.{locators_at}
+use Rattle.cf_text.specs.Shapes.{is_written, number, in_range}
+use Rattle.config_rules.specs.Cut.{lines_of, is_space, ◌>>=◌}
+use Rattle.config_rules.specs.Form.{given, each, ◌or◌}
+
+-- ---- lines and words
+
+-- a line without its comment
+abbrev pub uncommented : List ℕ → List ℕ
+uncommented line = before_first (λ c. c == 35) line
+
+-- the words between spaces and tabs
+abbrev pub words_of : List ℕ → List (List ℕ)
+words_of line = filter (λ w. nat_lt 0 (length w)) (slice_split is_space (uncommented line))
+
+-- a tab, or from space to `~`
+abbrev pub is_allowed : ℕ → Bool
+is_allowed c = c == 9 || (nat_le 32 c && nat_le c 126)
+
+abbrev pub has_bad_byte : List ℕ → Bool
+has_bad_byte line = list_any (λ c. not (is_allowed c)) (uncommented line)
+
+-- a line that has words, with its number
+pub record WordLine : Type 0 where
+  pub number : ℕ
+  pub words : List (List ℕ)
+
+-- the lines that have words
+abbrev pub word_lines : List ℕ → List WordLine
+word_lines text =
+    filter (λ l. nat_lt 0 (length l.words)) (map (λ e. record { number = e.0; words = words_of e.1 }) (enumerate_from 1 (lines_of text)))
+
+-- the first line with a byte that is not allowed
+abbrev pub bad_line : List ℕ → Option ℕ
+bad_line text = option_map (λ e. e.0) (find (λ e. has_bad_byte e.1) (enumerate_from 1 (lines_of text)))
+
+abbrev pub records_of : List ℕ → Result (List WordLine) (ℕ × ℕ)
+records_of text = option_map_or (λ line. Err (line, 1)) (bad_line text) (Ok (word_lines text))
+
+-- ---- the forms of the lines
+
+-- a number word, whatever its size
+abbrev pub whole : List ℕ → Option ℤ
+whole word = number word
+
+pub record GivenValue : Type 0 where
+  pub name : List ℕ
+  pub value : ℤ
+
+-- `loc=V`; a locator's name is looked up, whatever its shape
+abbrev pub given_value : List ℕ → Option GivenValue
+given_value word =
+    if list_any (λ c. c == 61) word && nat_lt 0 (length (before_first (λ c. c == 61) word))
+    then option_map (λ v. record { name = before_first (λ c. c == 61) word; value = v }) (whole (after_first (λ c. c == 61) word))
+    else None
+
+abbrev pub mark_words : List (List ℕ)
+mark_words = codes "late" ∷ codes "absent" ∷ codes "bad" ∷ []
+
+abbrev pub is_one : List (List ℕ) → List ℕ → Bool
+is_one words word = list_any (λ w. bytes_eq w word) words
+
+-- no word stands twice
+abbrev pub differ : List (List ℕ) → Bool
+differ [] = true
+differ (w ∷ ws) = not (is_one ws w) && differ ws
+
+-- a name that isn't `root`
+abbrev pub is_free_name : List ℕ → Bool
+is_free_name name = is_written name && not (bytes_eq name (codes "root"))
+
+pub data LineForm : Type 0 where
+  SpotLine : (name parent attr : List ℕ) (found : List GivenValue) (marks : List (List ℕ)) → LineForm
+  MatchOf : (attach : List ℕ) (spot : Option (List ℕ)) (value : ℤ) → LineForm
+  StyleOf : (attach attr : List ℕ) (indirect : Bool) → LineForm
+  DriverOf : (attach : List ℕ) (policies : List (List ℕ)) → LineForm
+
+-- how many words at the front are locators: a mark has no `=`
+abbrev pub located : List (List ℕ) → List (List ℕ)
+located [] = []
+located (w ∷ ws) = if list_any (λ c. c == 61) w then w ∷ located ws else []
+
+abbrev pub spot_form : List ℕ → List ℕ → List ℕ → List (List ℕ) → Option LineForm
+spot_form name parent attr rest =
+    let marks = drop (length (located rest)) rest in
+    option_and_then (λ found.
+    given (is_free_name name && differ (map (λ g. g.name) found) && list_all (is_one mark_words) marks && differ marks)
+    (SpotLine name parent attr found marks))
+    (each given_value (located rest))
+
+abbrev pub match_form : List ℕ → List ℕ → List ℕ → Option LineForm
+match_form attach spot value =
+    option_map (λ v. MatchOf attach (if bytes_eq spot (codes "*") then None else Some spot) v) (whole value)
+
+abbrev pub style_form : List ℕ → List ℕ → List ℕ → Option LineForm
+style_form attach attr style =
+    given (is_one (codes "direct" ∷ codes "indirect" ∷ []) style)
+    (StyleOf attach attr (bytes_eq style (codes "indirect")))
+
+abbrev pub policy_words : List (List ℕ)
+policy_words = codes "nodetach" ∷ codes "norescan" ∷ codes "nopower" ∷ codes "failsuspend" ∷ codes "defer" ∷ codes "interrupts" ∷ codes "final" ∷ []
+
+abbrev pub driver_form : List ℕ → List (List ℕ) → Option LineForm
+driver_form attach policies =
+    given (nat_lt 0 (length policies) && list_all (is_one policy_words) policies) (DriverOf attach policies)
+
+abbrev pub line_form : List (List ℕ) → Option LineForm
+line_form (word ∷ a ∷ b ∷ c ∷ rest) =
+    if bytes_eq word (codes "spot") then spot_form a b c rest
+    else (if bytes_eq word (codes "driver") then driver_form a (b ∷ c ∷ rest)
+    else (if nat_lt 0 (length rest) then None
+    else (if bytes_eq word (codes "match") then match_form a b c
+    else (if bytes_eq word (codes "style") then style_form a b c
+    else None))))
+line_form (word ∷ a ∷ rest) = if bytes_eq word (codes "driver") then driver_form a rest else None
+line_form _ = None
+
+-- ---- what a line means after those before it
+
+abbrev pub attr_number : Tables → List ℕ → Option ℕ
+attr_number t name = position (λ a. bytes_eq a.name name) t.attrs
+
+abbrev pub attach_number : Tables → List ℕ → Option ℕ
+attach_number t name = position (λ a. bytes_eq a.name name) t.attaches
+
+abbrev pub interface_number : Tables → List ℕ → Option ℕ
+interface_number t name =
+    option_and_then (λ a. given (option_map_or (λ x. x.iface) (slice_get t.attrs a) false) a) (attr_number t name)
+
+abbrev pub spot_number : List Spot → List ℕ → Option ℕ
+spot_number spots name = position (λ s. bytes_eq s.name name) spots
+
+-- the place of a spot, where its attribute is one and `root` stands on both sides or on none
+abbrev pub spot_place : Tables → List ℕ → List ℕ → Option Place
+spot_place t parent attr =
+    if bytes_eq parent (codes "root") then given (bytes_eq attr (codes "root")) Root
+    else option_map (λ a. At a) (if bytes_eq attr (codes "root") then None else interface_number t attr)
+
+-- each locator in order: no such locator, or out of range
+abbrev pub found_fault : List Locator → List GivenValue → Option ℕ
+found_fault locs [] = None
+found_fault locs (g ∷ gs) =
+    given (not (list_any (λ l. bytes_eq l.name g.name) locs)) 5 or (given (not (in_range g.value)) 7 or found_fault locs gs)
+
+-- the value given, else the default, else -1
+abbrev pub found_value : List GivenValue → Locator → ℤ
+found_value found l = unwrap_or (option_map (λ g. g.value) (find (λ g. bytes_eq g.name l.name) found) or l.default) (negsuc 0)
+
+-- so many spots lead from this one to the root, of at most so many
+abbrev pub depth_of : ℕ → List Spot → Option ℕ → ℕ
+depth_of zero spots parent = 1
+depth_of (suc n) spots None = 1
+depth_of (suc n) spots (Some x) = suc (depth_of n spots (option_and_then (λ s. s.parent) (slice_get spots x)))
+
+abbrev pub new_spot : Tables → List Spot → List ℕ → List ℕ → List ℕ → List GivenValue → List (List ℕ) → Result Spot ℕ
+new_spot t spots name parent attr found marks =
+    let at_root = bytes_eq parent (codes "root") in
+    let above = if at_root then None else spot_number spots parent in
+    option_map_or (λ code. Err code)
+    (given (is_some (spot_number spots name)) 2
+    or (given (not at_root && is_none above) 3
+    or (given (is_none (spot_place t parent attr)) 4
+    or (found_fault (option_map_or (locators_at t.attrs) (spot_place t parent attr) []) found
+    or (given (nat_le 1024 (length spots)) 8
+    or given (nat_lt 64 (depth_of (length spots) spots above)) 9)))))
+    (Ok (record {
+      name = name;
+      parent = above;
+      place = unwrap_or (spot_place t parent attr) Root;
+      found = map (found_value found) (option_map_or (locators_at t.attrs) (spot_place t parent attr) []);
+      late = is_one marks (codes "late");
+      absent = is_one marks (codes "absent");
+      bad = is_one marks (codes "bad");
+    }))
+
+abbrev pub in_match_range : ℤ → Bool
+in_match_range v = int_le (pos 0) v && int_le v (pos 65535)
+
+abbrev pub new_match : Tables → List Spot → List ℕ → Option (List ℕ) → ℤ → Result MatchLine ℕ
+new_match t spots attach spot value =
+    option_map_or (λ code. Err code)
+    (given (is_none (attach_number t attach)) 6
+    or (given (option_map_or (λ name. is_none (spot_number spots name)) spot false) 3
+    or given (not (in_match_range value)) 7))
+    (Ok (record { attach = unwrap_or (attach_number t attach) 0; spot = option_and_then (spot_number spots) spot; value = nat_abs value }))
+
+abbrev pub new_style : Tables → List ℕ → List ℕ → Bool → Result StyleLine ℕ
+new_style t attach attr indirect =
+    option_map_or (λ code. Err code)
+    (given (is_none (attach_number t attach)) 6 or given (is_none (interface_number t attr)) 4)
+    (Ok (record { attach = unwrap_or (attach_number t attach) 0; attr = unwrap_or (interface_number t attr) 0; indirect = indirect }))
+
+-- a policy with those of the words added
+abbrev pub with_policies : List (List ℕ) → Policy → Policy
+with_policies words p = record {
+  nodetach = p.nodetach || is_one words (codes "nodetach");
+  norescan = p.norescan || is_one words (codes "norescan");
+  nopower = p.nopower || is_one words (codes "nopower");
+  failsuspend = p.failsuspend || is_one words (codes "failsuspend");
+  defer = p.defer || is_one words (codes "defer");
+  interrupts = p.interrupts || is_one words (codes "interrupts");
+  finaliser = p.finaliser || is_one words (codes "final");
+}
+
+abbrev pub new_policies : Tables → List ℕ → List (List ℕ) → List Policy → Result (List Policy) ℕ
+new_policies t attach words policies =
+    option_map_or (λ a. Ok (map (λ e. if e.0 == a then with_policies words e.1 else e.1) (enumerate_from 0 policies)))
+    (attach_number t attach) (Err 6)
+
+abbrev pub after_line : Tables → Machine → Option LineForm → Result Machine ℕ
+after_line t m None = Err 1
+after_line t m (Some (SpotLine name parent attr found marks)) =
+    new_spot t m.spots name parent attr found marks >>= λ s. Ok (record m { spots = m.spots ++ s ∷ [] })
+after_line t m (Some (MatchOf attach spot value)) = new_match t m.spots attach spot value >>= λ l. Ok (record m { matches = m.matches ++ l ∷ [] })
+after_line t m (Some (StyleOf attach attr indirect)) = new_style t attach attr indirect >>= λ l. Ok (record m { styles = m.styles ++ l ∷ [] })
+after_line t m (Some (DriverOf attach words)) = new_policies t attach words m.policies >>= λ ps. Ok (record m { policies = ps })
+
+abbrev pub at_number : {A : Type 0} → ℕ → Result A ℕ → Result A (ℕ × ℕ)
+at_number n (Ok x) = Ok x
+at_number n (Err code) = Err (n, code)
+
+-- the machine after these lines
+abbrev pub after_lines : Tables → List WordLine → Machine → Result Machine (ℕ × ℕ)
+after_lines t [] m = Ok m
+after_lines t (l ∷ ls) m = at_number l.number (after_line t m (line_form l.words)) >>= λ n. after_lines t ls n
+
+abbrev pub no_policy : Policy
+no_policy = record { nodetach = false; norescan = false; nopower = false; failsuspend = false; defer = false; interrupts = false; finaliser = false }
+
+abbrev pub no_machine : Tables → Machine
+no_machine t = record { spots = []; matches = []; styles = []; policies = map (λ a. no_policy) t.attaches }
+
+-- the machine that a text describes, or the first bad line and its code
+unfoldable pub machine_of : Tables → List ℕ → Result Machine (ℕ × ℕ)
+machine_of t text = records_of text >>= λ ls. after_lines t ls (no_machine t)

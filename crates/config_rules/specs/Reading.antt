@@ -1,0 +1,217 @@
+-- The statements that are placed: the named file with its includes, without the parts that are left out.
+use Rattle.std.specs.Prelude.{◌≡◌, ℕ, zero, suc, ◌+◌, ◌-◌, Bool, true, false, not, ◌&&◌, ◌||◌, ◌==◌, nat_lt, nat_le, if◌then◌else◌, List, [], ◌∷◌, ◌++◌, length, take, drop, map, slice_index, slice_index_or, bytes_eq, codes, Option, Some, None, is_some, is_none, option_map, option_and_then, unwrap_or, Result, Ok, Err}
+use Rattle.std.specs.List.{list_all, list_any}
+use Rattle.std.specs.Option.{option_map_or}
+use Rattle.cf_types.specs.declared.stmt.Piece.{Piece}
+use Rattle.cf_types.specs.declared.stmt.Placed.{Placed}
+use Rattle.cf_types.specs.declared.stmt.Token.{Token}
+use Rattle.cf_types.specs.declared.stmt.CondWord.{CondWord}
+use Rattle.cf_types.specs.declared.stmt.CondWord.TheVariants as word
+use Rattle.cf_types.specs.declared.stmt.Stmt.{Stmt}
+use Rattle.cf_types.specs.declared.stmt.Stmt.TheVariants as stmt
+use Rattle.cf_types.specs.declared.tables.Refusal.{Refusal}
+use Rattle.config_rules.specs.Cut.{cut_of, statements, pieces}
+use Rattle.config_rules.specs.Form.{is_word, is_among, form_fault, form_of}
+
+-- the files that are handed in
+abbrev pub Files : Type 0
+Files = List ℕ → Option (List ℕ)
+
+-- a statement of a file: its line and its tokens
+pub record Line : Type 0 where
+  pub number : ℕ
+  pub pieces : List Piece
+
+abbrev pub line_at : List Token → ℕ
+line_at [] = 0
+line_at (t ∷ ts) = t.line
+
+abbrev pub lines_in : List ℕ → List Token → List Line
+lines_in text tokens = map (λ ts. record { number = line_at ts; pieces = pieces text ts }) (statements tokens)
+
+-- an open condition: the line of its opening; whether the part that it stands in is not left out, whether a branch
+-- was taken, whether the branch that is open now is not left out, and whether that is the one of `else`
+pub record Level : Type 0 where
+  pub line : ℕ
+  pub outer : Bool
+  pub taken : Bool
+  pub live : Bool
+  pub last : Bool
+
+-- what was read so far, and the first fault
+pub record Reading : Type 0 where
+  pub placed : List Placed
+  pub files : List (List ℕ)
+  pub prefixes : List (List ℕ)
+  pub fault : Option Refusal
+
+abbrev pub nothing_read : Reading
+nothing_read = record { placed = []; files = []; prefixes = []; fault = None }
+
+-- ---- conditions
+
+-- an attribute or a device of this name
+abbrev pub declares : List ℕ → Stmt → Bool
+declares name (stmt.Define n locs needs) = bytes_eq n name
+declares name (stmt.Class n) = bytes_eq n name
+declares name (stmt.DefPseudo n locs needs) = bytes_eq n name
+declares name (stmt.Device n locs needs) = bytes_eq n name
+declares name _ = false
+
+abbrev pub is_declared : List Placed → List ℕ → Bool
+is_declared placed name = list_any (λ p. declares name p.stmt) placed
+
+abbrev pub opens : Line → Bool
+opens s = list_any (is_among (codes "ifdef" ∷ codes "ifndef" ∷ [])) (take 1 s.pieces)
+
+abbrev pub branches : Line → Bool
+branches s = list_any (is_among (codes "elifdef" ∷ codes "elifndef" ∷ codes "else" ∷ [])) (take 1 s.pieces)
+
+abbrev pub closes : Line → Bool
+closes s = list_any (is_word (codes "endif")) (take 1 s.pieces)
+
+abbrev pub is_negated : Line → Bool
+is_negated s = list_any (is_among (codes "ifndef" ∷ codes "elifndef" ∷ [])) (take 1 s.pieces)
+
+abbrev pub is_else : Line → Bool
+is_else s = list_any (is_word (codes "else")) (take 1 s.pieces)
+
+-- the statement's second word is a name that was declared
+abbrev pub names_declared : List Placed → Line → Bool
+names_declared placed s = list_any (λ p. is_declared placed p.text) (take 1 (drop 1 s.pieces))
+
+-- whether the condition that a statement names holds; that of `else` always does
+abbrev pub holds : List Placed → Line → Bool
+holds placed s =
+    if is_else s then true
+    else (if is_negated s then not (names_declared placed s) else names_declared placed s)
+
+-- the innermost level comes first
+abbrev pub is_live : List Level → Bool
+is_live [] = true
+is_live (l ∷ levels) = l.live
+
+-- a statement stands in a part that is not left out; one that goes on with a condition stands where the condition stands
+abbrev pub is_placed : List Level → Line → Bool
+is_placed [] s = true
+is_placed (l ∷ levels) s = if branches s || closes s then l.outer else l.live
+
+-- a condition word without an open condition, behind its `else`, or one that would open the 17th level
+abbrev pub is_misplaced : ℕ → List Level → Line → Bool
+is_misplaced around levels s =
+    (opens s && nat_le 16 (around + length levels))
+    || ((branches s || closes s) && length levels == 0)
+    || (branches s && list_any (λ l. l.last) (take 1 levels))
+
+abbrev pub opened : List Placed → Line → List Level → Level
+opened placed s levels =
+    record { line = s.number; outer = is_live levels; taken = is_live levels && holds placed s; live = is_live levels && holds placed s; last = false }
+
+abbrev pub next_branch : List Placed → Line → Level → Level
+next_branch placed s l =
+    record l { taken = l.taken || (l.outer && holds placed s); live = l.outer && not l.taken && holds placed s; last = is_else s }
+
+-- the levels behind a statement
+abbrev pub levels_after : List Placed → Line → List Level → List Level
+levels_after placed s [] = if opens s then opened placed s [] ∷ [] else []
+levels_after placed s (l ∷ levels) =
+    if opens s then opened placed s (l ∷ levels) ∷ l ∷ levels
+    else (if branches s then next_branch placed s l ∷ levels
+    else (if closes s then levels else l ∷ levels))
+
+-- ---- prefixes
+
+-- a path as it is taken: behind the top prefix, unless it begins with `/` or there is none
+abbrev pub under_prefix : List (List ℕ) → List ℕ → List ℕ
+under_prefix [] path = path
+under_prefix (top ∷ prefixes) path = if slice_index path 0 == 47 then path else top ++ 47 ∷ path
+
+-- ---- reading
+
+-- the file that is read: its name and number, how many conditions are open around it, and whether it may include none
+pub record Here : Type 0 where
+  pub file : List ℕ
+  pub number : ℕ
+  pub around : ℕ
+  pub deepest : Bool
+
+-- reads a file: its name and text, with so many conditions open around it
+abbrev pub Reader : Type 0
+Reader = ℕ → List ℕ → List ℕ → Reading → Reading
+
+abbrev pub refused : List ℕ → ℕ → ℕ → Reading → Reading
+refused file line code r = record r { fault = Some (record { file = file; line = line; code = code }) }
+
+abbrev pub place : Here → Line → Stmt → Reading → Reading
+place here s form r = record r { placed = r.placed ++ record { stmt = form; file = here.number; line = s.number } ∷ [] }
+
+-- an include of a file that is absent, or of this text
+abbrev pub by_load : Reader → Here → Line → Stmt → ℕ → List ℕ → Bool → Option (List ℕ) → Reading → Reading
+by_load below here s form around path optional None r = if optional then place here s form r else refused here.file s.number 1 r
+by_load below here s form around path optional (Some text) r =
+    if nat_le (length text) 1048576 then below around path text (place here s form r) else refused here.file s.number 2 r
+
+abbrev pub include : Files → Reader → Here → List Level → Line → List ℕ → Bool → Reading → Reading
+include files below here levels s path optional r =
+    if here.deepest || nat_le 4096 (length r.files) then refused here.file s.number 20 r
+    else by_load below here s (stmt.Include path optional) (here.around + length levels) (under_prefix r.prefixes path) optional (files (under_prefix r.prefixes path)) r
+
+abbrev pub pop_prefix : Here → Line → List (List ℕ) → Reading → Reading
+pop_prefix here s [] r = refused here.file s.number 22 r
+pop_prefix here s (top ∷ prefixes) r = place here s (stmt.Prefix None) (record r { prefixes = prefixes })
+
+-- a statement that has a form
+abbrev pub treat : Files → Reader → Here → List Level → Line → Stmt → Reading → Reading
+treat files below here levels s (stmt.Include path optional) r = include files below here levels s path optional r
+treat files below here levels s (stmt.Prefix None) r = pop_prefix here s r.prefixes r
+treat files below here levels s (stmt.Prefix (Some path)) r =
+    place here s (stmt.Prefix (Some path)) (record r { prefixes = under_prefix r.prefixes path ∷ r.prefixes })
+treat files below here levels s (stmt.Cond word name) r =
+    if is_misplaced here.around levels s then refused here.file s.number 21 r else place here s (stmt.Cond word name) r
+treat files below here levels s form r = place here s form r
+
+-- a statement of a part that is not left out
+abbrev pub read_placed : Files → Reader → Here → List Level → Line → Reading → Reading
+read_placed files below here levels s r =
+    if nat_le 65536 (length r.placed) then refused here.file s.number 23 r
+    else option_map_or (λ code. refused here.file s.number code r) (form_fault s.pieces)
+    (option_map_or (λ form. treat files below here levels s form r) (form_of true s.pieces) r)
+
+abbrev pub read_line : Files → Reader → Here → List Level → Line → Reading → Reading
+read_line files below here levels s r =
+    if is_placed levels s then read_placed files below here levels s r
+    else (if is_misplaced here.around levels s then refused here.file s.number 21 r else r)
+
+-- at the end of a file no condition may be open; the innermost is named
+abbrev pub read_end : Here → List Level → Reading → Reading
+read_end here [] r = r
+read_end here (l ∷ levels) r = refused here.file l.line 21 r
+
+-- the statements of a file, up to the first fault
+abbrev pub read_lines : Files → Reader → Here → List Level → List Line → Reading → Reading
+read_lines files below here levels [] r = read_end here levels r
+read_lines files below here levels (s ∷ ss) r =
+    if is_some (read_line files below here levels s r).fault
+    then read_line files below here levels s r
+    else read_lines files below here (levels_after r.placed s levels) ss (read_line files below here levels s r)
+
+-- a file is cut whole before its statements are looked at
+abbrev pub read_cut : Files → Reader → Here → List ℕ → Result (List Token) (ℕ × ℕ) → Reading → Reading
+read_cut files below here text (Ok tokens) r = read_lines files below here [] (lines_in text tokens) r
+read_cut files below here text (Err fault) r = refused here.file fault.0 fault.1 r
+
+-- reads a file that may have so many levels of files, itself counted
+unfoldable pub reader : ℕ → Files → Reader
+reader zero files around name text r = r
+reader (suc n) files around name text r =
+    read_cut files (reader n files) (record { file = name; number = length r.files; around = around; deepest = n == 0 }) text (cut_of text)
+    (record r { files = r.files ++ name ∷ [] })
+
+-- the named file, which takes no prefix
+abbrev pub read_first : Files → List ℕ → Option (List ℕ) → Reading
+read_first files name None = refused name 0 1 nothing_read
+read_first files name (Some text) =
+    if nat_le (length text) 1048576 then reader 17 files 0 name text nothing_read else refused name 0 2 nothing_read
+
+unfoldable pub reading : Files → List ℕ → Reading
+reading files name = read_first files name (files name)
