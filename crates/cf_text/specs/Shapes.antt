@@ -1,6 +1,6 @@
 -- The shapes of the chunks of a configuration file: names, numbers and unit chunks. They are this project's profile
 -- after config(5).
-use Rattle.std.specs.Prelude.{ℕ, ◌+◌, ◌-◌, Bool, true, false, not, ◌&&◌, ◌||◌, ◌==◌, nat_lt, nat_le, if◌then◌else◌, List, [], ◌∷◌, length, take, drop, slice_index, bytes_eq, codes, Option, Some, None, option_map, option_and_then, ℤ, pos, neg_ℤ, int_le}
+use Rattle.std.specs.Prelude.{ℕ, ◌-◌, Bool, false, not, ◌&&◌, ◌||◌, ◌==◌, nat_lt, nat_le, if◌then◌else◌, List, [], ◌∷◌, length, take, drop, slice_index, bytes_eq, codes, Option, Some, None, option_map, ℤ, pos, neg_ℤ, int_le}
 use Rattle.std.specs.Char.{is_ascii_alphabetic, is_ascii_alphanumeric, is_ascii_digit, is_digit}
 use Rattle.std.specs.List.{list_all, suffix_len}
 use Rattle.std.specs.Str.Parse.{digits_value}

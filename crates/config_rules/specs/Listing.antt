@@ -1,5 +1,5 @@
 -- The lines of the listing of tables.
-use Rattle.std.specs.Prelude.{ℕ, ◌+◌, Bool, true, false, if◌then◌else◌, Option, Some, None, is_some, List, [], ◌∷◌, ◌++◌, map, flat_map, length, slice_get, option_map, unwrap_or, codes, decimal}
+use Rattle.std.specs.Prelude.{ℕ, if◌then◌else◌, Option, Some, None, List, [], ◌∷◌, ◌++◌, nat_lt, map, flat_map, ℤ, length, slice_get, codes, decimal}
 use Rattle.std.specs.List.{enumerate_from}
 use Rattle.std.specs.Option.{option_map_or}
 use Rattle.std.specs.Fmt.{signed_decimal}
@@ -17,6 +17,7 @@ use Rattle.cf_types.specs.declared.tables.WarnKind.{WarnKind}
 use Rattle.cf_types.specs.declared.tables.WarnKind.TheVariants as warns
 use Rattle.cf_types.specs.declared.tables.Warning.{Warning}
 use Rattle.cf_types.specs.declared.tables.Tables.{Tables}
+use Rattle.cf_types.specs.Lines.{text_of}
 use Rattle.cf_types.specs.Offers.{interfaces}
 use Rattle.cf_types.specs.Locators.{locators_at}
 
@@ -37,21 +38,27 @@ place_name t (At a) = attr_name t a
 abbrev pub spaced : List (List ℕ) → List ℕ
 spaced words = flat_map (λ w. 32 ∷ w) words
 
--- `loc`, `loc=V` or `[loc=V]`
+-- `loc=V` or `[loc=V]`
+abbrev pub default_text : Locator → ℤ → List ℕ
+default_text l v =
+    if l.optional then codes "[" ++ l.name ++ codes "=" ++ signed_decimal v ++ codes "]" else l.name ++ codes "=" ++ signed_decimal v
+
+-- `loc`, where there is no default
 abbrev pub locator_text : Locator → List ℕ
-locator_text l =
-    option_map_or (λ v. if l.optional then codes "[" ++ l.name ++ codes "=" ++ signed_decimal v ++ codes "]" else l.name ++ codes "=" ++ signed_decimal v)
-    l.default l.name
+locator_text l = option_map_or (default_text l) l.default l.name
 
 abbrev pub attr_line : Attr → List ℕ
 attr_line a = if a.iface then codes "iattr " ++ a.name ++ spaced (map locator_text a.locs) else codes "attr " ++ a.name
 
+-- the attributes of an interface list
 abbrev pub offers_text : Tables → List ℕ → List ℕ
-offers_text t [] = []
-offers_text t (a ∷ as_more) = codes " offers" ++ spaced (map (attr_name t) (a ∷ as_more))
+offers_text t offered = if nat_lt 0 (length offered) then codes " offers" ++ spaced (map (attr_name t) offered) else []
+
+abbrev pub device_text : Tables → Device → List ℕ → List ℕ
+device_text t d offered = codes "device " ++ d.name ++ offers_text t offered
 
 abbrev pub device_line : Tables → ℕ × Device → List ℕ
-device_line t e = codes "device " ++ e.1.name ++ offers_text t (interfaces t.attrs t.devices e.0)
+device_line t e = device_text t e.1 (interfaces t.attrs t.devices e.0)
 
 abbrev pub attach_line : Tables → Attach → List ℕ
 attach_line t a = codes "attach " ++ a.name ++ codes " of " ++ device_name t a.device ++ codes " at" ++ spaced (map (place_name t) a.places)
@@ -60,28 +67,53 @@ abbrev pub unit_text : Option ℕ → List ℕ
 unit_text None = codes "?"
 unit_text (Some unit) = decimal unit
 
--- `root`, the parent with its unit or `?`, or the attribute with `?`
+-- the parent with its unit or `?`, or the attribute with `?`
+abbrev pub parent_text : Tables → ℕ → Option ParentSpec → List ℕ
+parent_text t a None = attr_name t a ++ codes "?"
+parent_text t a (Some p) = device_name t p.device ++ unit_text p.unit
+
 abbrev pub at_text : Tables → Place → Option ParentSpec → List ℕ
 at_text t Root parent = codes "root"
-at_text t (At a) None = attr_name t a ++ codes "?"
-at_text t (At a) (Some p) = device_name t p.device ++ unit_text p.unit
+at_text t (At a) parent = parent_text t a parent
 
 abbrev pub row_name : Tables → Row → List ℕ
 row_name t r = device_name t r.device ++ (if r.star then codes "* from " ++ decimal r.unit else decimal r.unit)
 
--- each locator with its value
+abbrev pub locator_name : List Locator → ℕ → List ℕ
+locator_name locs n = option_map_or (λ l. l.name) (slice_get locs n) []
+
+-- a locator, by its place, with its value
+abbrev pub value_text : List Locator → ℕ × ℤ → List ℕ
+value_text locs e = locator_name locs e.0 ++ codes "=" ++ signed_decimal e.1
+
 abbrev pub values_text : Tables → Row → List (List ℕ)
-values_text t r = map (λ e. option_map_or (λ l. l.name) (slice_get (locators_at t.attrs r.place) e.0) [] ++ codes "=" ++ signed_decimal e.1) (enumerate_from 0 r.locs)
+values_text t r = map (value_text (locators_at t.attrs r.place)) (enumerate_from 0 r.locs)
+
+-- what a row is, and what it attaches to
+abbrev pub row_head : Tables → ℕ × Row → List ℕ
+row_head t e = codes "row " ++ decimal e.0 ++ codes " " ++ row_name t e.1 ++ codes " at " ++ at_text t e.1.place e.1.parent
+
+-- by which attachment, on what, with which values
+abbrev pub row_tail : Tables → Row → List ℕ
+row_tail t r =
+    codes " by " ++ attach_name t r.attach ++ codes " on " ++ place_name t r.place ++ spaced (values_text t r)
+    ++ codes " flags " ++ signed_decimal r.flags
 
 abbrev pub row_line : Tables → ℕ × Row → List ℕ
-row_line t e =
-    codes "row " ++ decimal e.0 ++ codes " " ++ row_name t e.1 ++ codes " at " ++ at_text t e.1.place e.1.parent
-    ++ codes " by " ++ attach_name t e.1.attach ++ codes " on " ++ place_name t e.1.place
-    ++ spaced (values_text t e.1) ++ codes " flags " ++ signed_decimal e.1.flags
+row_line t e = row_head t e ++ row_tail t e.1
+
+abbrev pub pseudo_line : Pseudo → List ℕ
+pseudo_line p = codes "pseudo " ++ p.name ++ codes " " ++ decimal p.count
+
+-- `=VALUE` or `+=VALUE`, or nothing
+abbrev pub item_value : Item → List ℕ
+item_value i = option_map_or (λ v. (if i.plus then codes "+=" else codes "=") ++ v) i.value []
 
 abbrev pub item_line : List ℕ → Item → List ℕ
-item_line word i =
-    word ++ codes " " ++ i.name ++ option_map_or (λ v. (if i.plus then codes "+=" else codes "=") ++ v) i.value []
+item_line word i = word ++ codes " " ++ i.name ++ item_value i
+
+abbrev pub file_system_line : List ℕ → List ℕ
+file_system_line name = codes "file-system " ++ name
 
 abbrev pub kind_text : WarnKind → List ℕ
 kind_text warns.Nothing = codes "nothing taken back"
@@ -90,18 +122,42 @@ kind_text warns.Orphan = codes "orphan"
 abbrev pub warning_line : Warning → List ℕ
 warning_line w = codes "warning " ++ w.file ++ codes ":" ++ decimal w.line ++ codes " " ++ kind_text w.kind
 
-abbrev pub lines : Tables → List (List ℕ)
-lines t =
-    (codes "tables" ∷ map attr_line t.attrs)
-    ++ map (device_line t) (enumerate_from 0 t.devices)
-    ++ map (attach_line t) t.attaches
-    ++ map (row_line t) (enumerate_from 0 t.rows)
-    ++ map (λ p. codes "pseudo " ++ p.name ++ codes " " ++ decimal p.count) t.pseudos
-    ++ map (item_line (codes "options")) t.options
-    ++ map (item_line (codes "makeoptions")) t.makeoptions
-    ++ map (λ name. codes "file-system " ++ name) t.file_systems
-    ++ map warning_line t.warnings
+-- the lines of devices and attachments
+abbrev pub driver_lines : Tables → List (List ℕ)
+driver_lines t = map (device_line t) (enumerate_from 0 t.devices) ++ map (attach_line t) t.attaches
 
--- each line with its newline
+-- the lines of attributes, devices and attachments
+abbrev pub definition_lines : Tables → List (List ℕ)
+definition_lines t = map attr_line t.attrs ++ driver_lines t
+
+-- the lines of rows and pseudo-devices
+abbrev pub instance_lines : Tables → List (List ℕ)
+instance_lines t = map (row_line t) (enumerate_from 0 t.rows) ++ map pseudo_line t.pseudos
+
+-- the lines of options and makeoptions
+abbrev pub option_lines : Tables → List (List ℕ)
+option_lines t = map (item_line (codes "options")) t.options ++ map (item_line (codes "makeoptions")) t.makeoptions
+
+-- the lines of file systems and warnings
+abbrev pub rest_lines : Tables → List (List ℕ)
+rest_lines t = map file_system_line t.file_systems ++ map warning_line t.warnings
+
+-- the lines of all items and of warnings
+abbrev pub end_lines : Tables → List (List ℕ)
+end_lines t = option_lines t ++ rest_lines t
+
+-- the lines behind those of definitions
+abbrev pub tail_lines : Tables → List (List ℕ)
+tail_lines t = instance_lines t ++ end_lines t
+
+-- the lines behind the first
+abbrev pub entry_lines : Tables → List (List ℕ)
+entry_lines t = definition_lines t ++ tail_lines t
+
+-- the lines of the listing
+abbrev pub lines : Tables → List (List ℕ)
+lines t = codes "tables" ∷ entry_lines t
+
+-- the listing: each line with its newline
 abbrev pub listing : Tables → List ℕ
-listing t = flat_map (λ line. line ++ 10 ∷ []) (lines t)
+listing t = text_of (lines t)

@@ -1,0 +1,2 @@
+pub mod Seeking
+pub use Rattle.config_rules.specs.Listing

@@ -1,0 +1,218 @@
+ghost use Rattle.std.specs.Prelude.{◌≡◌, ◌++◌, ◌<◌, ◌^◌, [], map, length, slice_get, codes, IfOk, OnErr};
+ghost use Rattle.std.specs.List.{enumerate_from};
+ghost use Rattle.config_rules.specs.Listing.{attr_line, device_line, attach_line, row_line, pseudo_line, item_line, file_system_line, warning_line, driver_lines, definition_lines, instance_lines, option_lines, rest_lines, end_lines, tail_lines, entry_lines, lines};
+ghost use Rattle.ioconf_text.specs.Seeking.{Seeks, PutsLine};
+
+use crate::definition::{put_attach, put_attr, put_device};
+use crate::item::{put_file_system, put_item, put_pseudo, put_warning};
+use crate::row::put_row;
+use cf_types::{Item, Memory, Tables};
+
+// Each `seek_` puts line `n` of a section of the listing and answers `None`, or answers how far `n` lies behind it.
+
+fn seek_attr(out: &mut Vec<u8>, tables: &Tables, n: usize) -> Result<Option<usize>, Memory>
+    ensures { IfOk result (λ left. Seeks (map attr_line tables.now.attrs) n left out.old.items out.new.items) }
+{
+    let attrs = tables.attrs.items();
+    match attrs.get(n) {
+        Some(attr) => {
+            put_attr(out, attr)?;
+            Ok(None)
+        }
+        None => Ok(Some(n - attrs.len())),
+    }
+}
+
+fn seek_device(out: &mut Vec<u8>, tables: &Tables, n: usize) -> Result<Option<usize>, Memory>
+    requires { tables.now.attrs ≡ [] }
+    ensures { IfOk result (λ left. Seeks (map (device_line tables.now) (enumerate_from 0 tables.now.devices)) n left out.old.items out.new.items) }
+{
+    let devices = tables.devices.items();
+    if n >= devices.len() {
+        return Ok(Some(n - devices.len()));
+    }
+    put_device(out, tables, &devices[n], &[])?;
+    Ok(None)
+}
+
+fn seek_attach(out: &mut Vec<u8>, tables: &Tables, n: usize) -> Result<Option<usize>, Memory>
+    ensures { IfOk result (λ left. Seeks (map (attach_line tables.now) tables.now.attaches) n left out.old.items out.new.items) }
+{
+    let attaches = tables.attaches.items();
+    match attaches.get(n) {
+        Some(attach) => {
+            put_attach(out, tables, attach)?;
+            Ok(None)
+        }
+        None => Ok(Some(n - attaches.len())),
+    }
+}
+
+fn seek_row(out: &mut Vec<u8>, tables: &Tables, n: usize) -> Result<Option<usize>, Memory>
+    ensures { IfOk result (λ left. Seeks (map (row_line tables.now) (enumerate_from 0 tables.now.rows)) n left out.old.items out.new.items) }
+{
+    let rows = tables.rows.items();
+    if n >= rows.len() {
+        return Ok(Some(n - rows.len()));
+    }
+    put_row(out, tables, n, &rows[n])?;
+    Ok(None)
+}
+
+fn seek_pseudo(out: &mut Vec<u8>, tables: &Tables, n: usize) -> Result<Option<usize>, Memory>
+    ensures { IfOk result (λ left. Seeks (map pseudo_line tables.now.pseudos) n left out.old.items out.new.items) }
+{
+    let pseudos = tables.pseudos.items();
+    match pseudos.get(n) {
+        Some(pseudo) => {
+            put_pseudo(out, pseudo)?;
+            Ok(None)
+        }
+        None => Ok(Some(n - pseudos.len())),
+    }
+}
+
+fn seek_item(
+    out: &mut Vec<u8>,
+    word: &[u8],
+    items: &[Item],
+    n: usize,
+) -> Result<Option<usize>, Memory>
+    ensures { IfOk result (λ left. Seeks (map (item_line word.now) items.now) n left out.old.items out.new.items) }
+{
+    match items.get(n) {
+        Some(item) => {
+            put_item(out, word, item)?;
+            Ok(None)
+        }
+        None => Ok(Some(n - items.len())),
+    }
+}
+
+fn seek_file_system(out: &mut Vec<u8>, tables: &Tables, n: usize) -> Result<Option<usize>, Memory>
+    ensures { IfOk result (λ left. Seeks (map file_system_line tables.now.file_systems) n left out.old.items out.new.items) }
+{
+    let names = tables.file_systems.items();
+    match names.get(n) {
+        Some(name) => {
+            put_file_system(out, name)?;
+            Ok(None)
+        }
+        None => Ok(Some(n - names.len())),
+    }
+}
+
+fn seek_warning(out: &mut Vec<u8>, tables: &Tables, n: usize) -> Result<Option<usize>, Memory>
+    ensures { IfOk result (λ left. Seeks (map warning_line tables.now.warnings) n left out.old.items out.new.items) }
+{
+    let warnings = tables.warnings.items();
+    match warnings.get(n) {
+        Some(warning) => {
+            put_warning(out, warning)?;
+            Ok(None)
+        }
+        None => Ok(Some(n - warnings.len())),
+    }
+}
+
+fn seek_driver(out: &mut Vec<u8>, tables: &Tables, n: usize) -> Result<Option<usize>, Memory>
+    requires { tables.now.attrs ≡ [] }
+    ensures { IfOk result (λ left. Seeks (driver_lines tables.now) n left out.old.items out.new.items) }
+{
+    let Some(n) = seek_device(out, tables, n)? else {
+        return Ok(None);
+    };
+    seek_attach(out, tables, n)
+}
+
+fn seek_definition(out: &mut Vec<u8>, tables: &Tables, n: usize) -> Result<Option<usize>, Memory>
+    requires { tables.now.attrs ≡ [] }
+    ensures { IfOk result (λ left. Seeks (definition_lines tables.now) n left out.old.items out.new.items) }
+{
+    let Some(n) = seek_attr(out, tables, n)? else {
+        return Ok(None);
+    };
+    seek_driver(out, tables, n)
+}
+
+fn seek_instance(out: &mut Vec<u8>, tables: &Tables, n: usize) -> Result<Option<usize>, Memory>
+    ensures { IfOk result (λ left. Seeks (instance_lines tables.now) n left out.old.items out.new.items) }
+{
+    let Some(n) = seek_row(out, tables, n)? else {
+        return Ok(None);
+    };
+    seek_pseudo(out, tables, n)
+}
+
+fn seek_option(out: &mut Vec<u8>, tables: &Tables, n: usize) -> Result<Option<usize>, Memory>
+    ensures { IfOk result (λ left. Seeks (option_lines tables.now) n left out.old.items out.new.items) }
+{
+    let Some(n) = seek_item(out, b"options", tables.options.items(), n)? else {
+        return Ok(None);
+    };
+    seek_item(out, b"makeoptions", tables.makeoptions.items(), n)
+}
+
+fn seek_rest(out: &mut Vec<u8>, tables: &Tables, n: usize) -> Result<Option<usize>, Memory>
+    ensures { IfOk result (λ left. Seeks (rest_lines tables.now) n left out.old.items out.new.items) }
+{
+    let Some(n) = seek_file_system(out, tables, n)? else {
+        return Ok(None);
+    };
+    seek_warning(out, tables, n)
+}
+
+/// A line of an item or a warning.
+fn seek_end(out: &mut Vec<u8>, tables: &Tables, n: usize) -> Result<Option<usize>, Memory>
+    ensures { IfOk result (λ left. Seeks (end_lines tables.now) n left out.old.items out.new.items) }
+{
+    let Some(n) = seek_option(out, tables, n)? else {
+        return Ok(None);
+    };
+    seek_rest(out, tables, n)
+}
+
+fn seek_tail(out: &mut Vec<u8>, tables: &Tables, n: usize) -> Result<Option<usize>, Memory>
+    ensures { IfOk result (λ left. Seeks (tail_lines tables.now) n left out.old.items out.new.items) }
+{
+    let Some(n) = seek_instance(out, tables, n)? else {
+        return Ok(None);
+    };
+    seek_end(out, tables, n)
+}
+
+/// A line behind the first.
+fn seek_line(out: &mut Vec<u8>, tables: &Tables, n: usize) -> Result<Option<usize>, Memory>
+    requires { tables.now.attrs ≡ [] }
+    ensures { IfOk result (λ left. Seeks (entry_lines tables.now) n left out.old.items out.new.items) }
+{
+    let Some(n) = seek_definition(out, tables, n)? else {
+        return Ok(None);
+    };
+    seek_tail(out, tables, n)
+}
+
+fn put_entry(out: &mut Vec<u8>, tables: &Tables, n: u32) -> Result<bool, Memory>
+    requires { tables.now.attrs ≡ [] }
+    ensures { IfOk result (λ more. PutsLine (slice_get (lines tables.now) n) more out.old.items out.new.items) }
+{
+    if n == 0 {
+        out.extend_from_slice(b"tables")?;
+        return Ok(true);
+    }
+    let left = seek_line(out, tables, n as usize - 1)?;
+    Ok(left.is_none())
+}
+
+/// Appends line `n` of the listing of the tables, counted from 0 and without its newline, and answers whether there is
+/// one. Where there is none, or memory runs out, nothing is appended. So far the tables may have no attributes.
+pub fn put_line(tables: &Tables, n: u32, out: &mut Vec<u8>) -> Result<bool, Memory>
+    requires { tables.now.attrs ≡ [] }
+    ensures ok { IfOk result (λ more. PutsLine (slice_get (lines tables.now) n) more out.old.items out.new.items) }
+    ensures err { OnErr result (out.new.items ≡ out.old.items) }
+{
+    let mut line = Vec::new(*out.allocator());
+    let more = put_entry(&mut line, tables, n)?;
+    out.extend_from_slice(&line)?;
+    Ok(more)
+}

@@ -1,0 +1,10 @@
+//! The listing of compiled tables, line by line.
+#![tactic(auto)]
+
+mod definition;
+mod entry;
+mod item;
+mod row;
+mod word;
+
+pub use entry::put_line;
