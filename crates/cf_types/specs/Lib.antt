@@ -1,3 +1,4 @@
+pub mod Gather
 pub mod Lines
 pub mod Locators
 pub mod Offers

@@ -1,0 +1,2 @@
+pub mod Reach
+pub use Rattle.cf_types.specs.Offers

@@ -1,0 +1,108 @@
+ghost use Rattle.std.specs.Prelude.{◌≡◌, ◌<◌, [], ◌++◌, length, All, IfOk};
+ghost use Rattle.std.specs.List.{slice_index_or};
+ghost use Rattle.std.specs.Option.{option_to_list};
+ghost use Rattle.cf_types.specs.Gather.{is_in};
+ghost use Rattle.cf_types.specs.Offers.{interfaces_of};
+ghost use Rattle.attr_graph.specs.Reach.{AddsAttr, AddsDevice};
+
+use crate::entry::{AttrEntry, DeviceEntry};
+use crate::gather::GraphStop;
+use crate::prepare::{attr_entry, device_entry};
+use cf_types::List;
+use std::alloc::{AllocError, Global};
+use std::marker::Model;
+
+/// Which interface attributes attributes and devices offer: their own, and those that they name, directly or by other
+/// attributes, each once, in the order in which a walk along the names meets them. See config(5).
+#[derive(Drop)]
+pub struct Graph {
+    attrs: Vec<AttrEntry>,
+    devices: Vec<DeviceEntry>,
+    marks: Vec<bool>,
+}
+
+impl Model for Graph {
+    ghost use Rattle.attr_graph.specs.Reach.{KeptAttrs, KeptDevices, Shape, shape_of};
+
+    ghost Value = { Shape };
+
+    ghost view = { λ it. shape_of it.attrs.items it.devices.items };
+
+    ghost invariant = { λ it. KeptAttrs it.attrs.items it.marks.items × KeptDevices it.attrs.items it.devices.items };
+}
+
+/// The names of a device: its own interface attribute, and then the attributes behind its `:`.
+fn device_names(alloc: Global, own: Option<u32>, needs: &[u32]) -> Result<List<u32>, AllocError>
+    ensures { IfOk result (λ names. names ≡ option_to_list own ++ needs.now) }
+{
+    let mut names = Vec::new(alloc);
+    if let Some(own) = own {
+        names.push(own)?;
+    }
+    names.extend_from_slice(needs)?;
+    Ok(List::from_vec(names))
+}
+
+impl Graph {
+    /// A graph without attributes and devices. It takes no memory.
+    pub fn make(alloc: Global) -> Graph
+        ensures { result ≡ record { attrs = []; devices = [] } }
+    {
+        Graph {
+            attrs: Vec::new(alloc),
+            devices: Vec::new(alloc),
+            marks: Vec::new(alloc),
+        }
+    }
+
+    /// Adds an attribute that names earlier ones, of fewer than 65,536, and answers its number. At `TooMany` and
+    /// `Memory` the graph is as before.
+    pub fn add_attr(&mut self, iface: bool, needs: &[u32]) -> Result<u32, GraphStop>
+        requires known { All (λ a. a < length self.old.attrs) needs.now }
+        requires few { length self.old.attrs < 65536 }
+        ensures { AddsAttr self.old self.new (record { iface = iface; needs = needs.now }) result }
+    {
+        let alloc = *self.attrs.allocator();
+        let entry = match attr_entry(alloc, &self.attrs, &mut self.marks, iface, needs) {
+            Ok(entry) => entry,
+            Err(stop) => return Err(stop),
+        };
+        let number = self.attrs.len() as u32;
+        self.attrs.push(entry)?;
+        Ok(number)
+    }
+
+    /// Adds a device with its own interface attribute, where it has one, and the attributes that it names, of fewer than
+    /// 65,536, and answers its number. At `TooMany` and `Memory` the graph is as before.
+    pub fn add_device(&mut self, own: Option<u32>, needs: &[u32]) -> Result<u32, GraphStop>
+        requires known { All (λ a. a < length self.old.attrs) (option_to_list own ++ needs.now) }
+        requires few { length self.old.devices < 65536 }
+        ensures { AddsDevice self.old self.new (option_to_list own ++ needs.now) result }
+    {
+        let alloc = *self.attrs.allocator();
+        let names = device_names(alloc, own, needs)?;
+        let entry = match device_entry(alloc, &self.attrs, &mut self.marks, names) {
+            Ok(entry) => entry,
+            Err(stop) => return Err(stop),
+        };
+        let number = self.devices.len() as u32;
+        self.devices.push(entry)?;
+        Ok(number)
+    }
+
+    /// The interface list of a device, of at most 64 entries. It takes no memory.
+    pub fn interfaces(&self, device: u32) -> &[u32]
+        requires { device < length self.now.devices }
+        ensures { result.now ≡ interfaces_of self.now.attrs (slice_index_or self.now.devices device []) }
+    {
+        self.devices[device as usize].reach.items()
+    }
+
+    /// Whether a device offers an attribute. It takes no memory.
+    pub fn offers(&self, device: u32, attr: u32) -> bool
+        requires { device < length self.now.devices }
+        ensures { result ≡ is_in attr (interfaces_of self.now.attrs (slice_index_or self.now.devices device [])) }
+    {
+        self.interfaces(device).contains(&attr)
+    }
+}

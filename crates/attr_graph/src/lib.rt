@@ -1,0 +1,11 @@
+//! Which device offers which interface attribute.
+#![tactic(auto)]
+
+mod entry;
+mod gather;
+mod graph;
+mod merge;
+mod prepare;
+
+pub use gather::{GraphStop, MAX_INTERFACES};
+pub use graph::Graph;

@@ -1,0 +1,80 @@
+ghost use Rattle.std.specs.Prelude.{◌≡◌, ◌<◌, ◌≤◌, [], ◌∷◌, ◌++◌, length, All, OnOk, if◌then◌else◌};
+ghost use Rattle.std.specs.List.{list_any, slice_index_or};
+ghost use Rattle.std.specs.Option.{option_to_list};
+ghost use Rattle.cf_types.specs.Offers.{interfaces_of};
+ghost use Rattle.attr_graph.specs.Reach.{AreMarks, KeptAttrs, MakesAttr, MakesDevice};
+
+use crate::entry::{AttrEntry, DeviceEntry};
+use crate::gather::{GraphStop, gather};
+use cf_types::List;
+use std::alloc::{AllocError, Global};
+
+/// Makes the number markable.
+fn make_room(marks: &mut Vec<bool>, number: usize) -> Result<(), AllocError>
+    requires room { number ≤ length marks.old.items }
+    requires marked { AreMarks [] marks.old.items }
+    ensures ok { OnOk result (number < length marks.new.items) }
+    ensures grows { length marks.old.items ≤ length marks.new.items }
+    ensures marked { AreMarks [] marks.new.items }
+{
+    if marks.len() == number {
+        marks.push(false)?;
+    }
+    Ok(())
+}
+
+/// An attribute's own number, where it is an interface attribute.
+fn own_number(iface: bool, number: u32) -> Option<u32>
+    ensures { option_to_list result ≡ (if iface then number ∷ [] else []) }
+{
+    if iface { Some(number) } else { None }
+}
+
+/// The entry of a new attribute, which is to get the next number.
+pub fn attr_entry(
+    alloc: Global,
+    attrs: &[AttrEntry],
+    marks: &mut Vec<bool>,
+    iface: bool,
+    needs: &[u32],
+) -> Result<AttrEntry, GraphStop>
+    requires known { All (λ a. a < length attrs.now) needs.now }
+    requires few { length attrs.now < 65536 }
+    requires kept { KeptAttrs attrs.now marks.old.items }
+    ensures entry { MakesAttr attrs.now (record { iface = iface; needs = needs.now }) marks.new.items result }
+    ensures kept { KeptAttrs attrs.now marks.new.items }
+{
+    make_room(marks, attrs.len())?;
+    let own = own_number(iface, attrs.len() as u32);
+    let reach = match gather(alloc, marks, attrs, own, needs) {
+        Ok(reach) => reach,
+        Err(stop) => return Err(stop),
+    };
+    let needs = Vec::from_slice(alloc, needs)?;
+    Ok(AttrEntry {
+        iface,
+        needs: List::from_vec(needs),
+        reach: List::from_vec(reach),
+    })
+}
+
+/// The entry of a new device, which names these attributes.
+pub fn device_entry(
+    alloc: Global,
+    attrs: &[AttrEntry],
+    marks: &mut Vec<bool>,
+    names: List<u32>,
+) -> Result<DeviceEntry, GraphStop>
+    requires known { All (λ a. a < length attrs.now) names }
+    requires kept { KeptAttrs attrs.now marks.old.items }
+    ensures entry { MakesDevice attrs.now names result }
+    ensures kept { KeptAttrs attrs.now marks.new.items }
+{
+    match gather(alloc, marks, attrs, None, names.items()) {
+        Ok(reach) => Ok(DeviceEntry {
+            names,
+            reach: List::from_vec(reach),
+        }),
+        Err(stop) => Err(stop),
+    }
+}
