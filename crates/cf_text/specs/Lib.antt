@@ -1,2 +1,3 @@
+pub mod NumberRead
 pub mod Shapes
 pub mod Split

@@ -24,6 +24,7 @@ is_name (c ∷ cs) = begins_name c && list_all continues_name cs
 abbrev pub is_written : List ℕ → Bool
 is_written name = nat_le (length name) 63 && is_name name
 
+-- the last byte is a digit
 abbrev pub ends_with_digit : List ℕ → Bool
 ends_with_digit name = is_ascii_digit (slice_index name (length name - 1))
 

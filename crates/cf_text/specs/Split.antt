@@ -1,6 +1,5 @@
 -- How a unit chunk falls into its base and its unit.
-use Rattle.std.specs.Prelude.{◌≡◌, ℕ, ◌-◌, ◌<◌, ◌≤◌, Bool, true, ◌&&◌, ◌==◌, nat_le, if◌then◌else◌, List, length, take, drop, slice_index, ◌++◌, codes, IsTrue, ⊤}
-use Rattle.std.specs.Char.{is_ascii_digit}
+use Rattle.std.specs.Prelude.{◌≡◌, ℕ, ◌-◌, ◌<◌, ◌≤◌, Bool, ◌&&◌, ◌==◌, nat_le, if◌then◌else◌, List, length, take, drop, slice_index, ◌++◌, codes, IsTrue, ⊤}
 use Rattle.std.specs.Str.Parse.{digits_value}
 use Rattle.cf_text.specs.declared.unit.Split.{Split}
 use Rattle.cf_text.specs.declared.unit.Split.TheVariants.{Not, Unit, Star, Any, TooGreat}
@@ -33,7 +32,3 @@ Spells chunk (Star cut) = (chunk ≡ take cut chunk ++ codes "*") × IsTrue (is_
 Spells chunk (Any cut) = (chunk ≡ take cut chunk ++ codes "?") × IsTrue (is_name (take cut chunk))
 Spells chunk TooGreat = (cut : ℕ) × IsTrue (is_name (take cut chunk)) × IsTrue (is_decimal (drop cut chunk)) × (MAX_UNIT < digits_value 10 (drop cut chunk))
 Spells chunk Not = ⊤
-
--- each byte from this place on is a digit
-abbrev pub EachDigitFrom : ℕ → List ℕ → Type 0
-EachDigitFrom cut chunk = (k : ℕ) → cut ≤ k → k < length chunk → is_ascii_digit (slice_index chunk k) ≡ true

@@ -1,11 +1,9 @@
-ghost use Rattle.std.specs.Prelude.{◌≡◌, ◌-◌, ◌<◌, ◌≤◌, [], ◌∷◌, ◌++◌, length, take, IsTrue, IfSome, IfNone};
-ghost use Rattle.std.specs.Char.{is_digit};
-ghost use Rattle.std.specs.List.{list_all};
-ghost use Rattle.std.specs.Str.Parse.{digits_value};
-ghost use Rattle.cf_text.specs.Shapes.{base_len, is_decimal};
-ghost use Rattle.cf_text.specs.Split.{EachDigitFrom, Spells, fixed_of, is_marked, split_of};
+ghost use Rattle.std.specs.Prelude.{◌≡◌, ◌-◌, ◌≤◌, [], ◌∷◌, ◌++◌, length, take, IsTrue};
+ghost use Rattle.cf_text.specs.Shapes.{base_len};
+ghost use Rattle.cf_text.specs.Split.{Spells, fixed_of, is_marked, split_of};
 
 use crate::is_name;
+use crate::number::read_decimal;
 
 /// The greatest unit that may be written.
 pub const MAX_UNIT: u32 = 65_535;
@@ -29,48 +27,12 @@ pub enum Split {
 fn base_len(chunk: &[u8]) -> usize
     ensures len { result ≡ base_len chunk.now }
     ensures within { result ≤ length chunk.now }
-    ensures digits { EachDigitFrom result chunk.now }
 {
     let mut cut = chunk.len();
     while cut > 0 && chunk[cut - 1].is_ascii_digit() {
         cut -= 1;
     }
     cut
-}
-
-fn is_digit(byte: u8) -> bool
-    ensures { result ≡ is_digit byte 10 }
-{
-    char::from(byte).is_digit(10)
-}
-
-fn all_digits(bytes: &[u8]) -> bool
-    ensures { result ≡ list_all (λ c. is_digit c 10) bytes.now }
-{
-    bytes.iter().all(|&byte| is_digit(byte))
-}
-
-fn is_decimal(bytes: &[u8]) -> bool
-    ensures { result ≡ is_decimal bytes.now }
-{
-    !bytes.is_empty() && all_digits(bytes) && (bytes[0] != b'0' || bytes.len() == 1)
-}
-
-/// The unit that the digits spell, or `None` where it is too great.
-fn unit_value(digits: &[u8]) -> Option<u32>
-    requires { EachDigitFrom 0 digits.now }
-    ensures some { IfSome result (λ unit. (unit ≡ digits_value 10 digits.now)) }
-    ensures fits { IfSome result (λ unit. unit ≤ MAX_UNIT) }
-    ensures none { IfNone result (MAX_UNIT < digits_value 10 digits.now) }
-{
-    let mut unit = 0;
-    for digit in digits {
-        unit = unit * 10 + u32::from(*digit - b'0');
-        if unit > MAX_UNIT {
-            return None;
-        }
-    }
-    Some(unit)
 }
 
 /// Splits off the digits at the end.
@@ -80,12 +42,21 @@ fn split_fixed(chunk: &[u8]) -> Split
 {
     let cut = base_len(chunk);
     let (base, digits) = chunk.split_at(cut);
-    if !(is_name(base) && is_decimal(digits)) {
+    if !is_name(base) {
         return Split::Not;
     }
-    match unit_value(digits) {
-        Some(unit) => Split::Unit { cut, unit },
-        None => Split::TooGreat,
+    match read_decimal(digits) {
+        None => Split::Not,
+        Some(unit) => {
+            if unit > u64::from(MAX_UNIT) {
+                Split::TooGreat
+            } else {
+                Split::Unit {
+                    cut,
+                    unit: unit as u32,
+                }
+            }
+        }
     }
 }
 

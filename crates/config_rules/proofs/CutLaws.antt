@@ -1,13 +1,12 @@
 -- A line has at most one cut, or one fault, and the function finds it.
-use Rattle.std.proofs.Common.{◌≡◌, ℕ, zero, suc, ◌+◌, ◌-◌, ◌<◌, ◌≤◌, ◌⊎◌, inl, inr, Bool, true, false, cond, not, ◌&&◌, ◌||◌, List, [], ◌∷◌, ◌++◌, length, get_or, take, drop, refl, ap, sym, ◌∙◌, subst, arith, Result, Ok, Err, length-append, length-drop, append_assoc, append-nil, one-add, codes}
+use Rattle.std.proofs.Common.{◌≡◌, ℕ, zero, suc, ◌+◌, ◌≤◌, ◌⊎◌, inl, inr, Bool, true, false, cond, not, ◌&&◌, ◌||◌, List, [], ◌∷◌, ◌++◌, length, take, drop, refl, ap, sym, ◌∙◌, subst, arith, Result, Ok, Err, length-append, length-drop, append_assoc, append-nil, one-add, codes}
 use Rattle.std.specs.Prelude.{IfOk, ◌==◌, take_while, slice_index, ⊤}
 use Rattle.std.specs.List.{prefix_len, list_all, list_any}
 use Rattle.std.proofs.lemmas.Bool.{eqb-true}
-use Rattle.std.proofs.lemmas.List.{take-append-drop, drop_all}
-use Rattle.std.proofs.Math.Seq.{take-append_seam, drop-append_seam}
-use Rattle.std.proofs.lemmas.List.Folds.{length-prefix_len}
-use Rattle.config_rules.specs.Cut.{Part, Space, Comment, Quoted, Chunk, Mark, spelling, spellings, is_part, may_precede, are_parts, is_space, is_chunk_byte, is_text_byte, is_mark_byte, is_mark, is_comment, begins_part, quoted_part, first_part, parts_within, parts_of, ◌>>=◌, LineCut, LineFault, Stuck, NoQuote}
-use Rattle.config_rules.proofs.Parts.{cond_both, first_cases, first_len, bind_same, ok_is, parts_step, parts_enough}
+use Rattle.std.proofs.lemmas.List.{take-append-drop}
+use Rattle.std.proofs.Math.Seq.{drop-append_seam}
+use Rattle.config_rules.specs.Cut.{Part, Space, Comment, Quoted, Chunk, Mark, spelling, spellings, is_part, may_precede, are_parts, is_space, is_chunk_byte, is_text_byte, is_mark_byte, quoted_part, first_part, parts_within, parts_of, ◌>>=◌, LineCut}
+use Rattle.config_rules.proofs.Parts.{cond_both, first_cases, first_len, ok_is}
 
 -- ---- truth values
 

@@ -1,6 +1,6 @@
 -- A text has at most one cut, or one fault, and the function finds it.
-use Rattle.std.proofs.Common.{◌≡◌, ℕ, zero, suc, ◌+◌, ◌<◌, ◌≤◌, List, [], ◌∷◌, ◌++◌, length, get_or, take, drop, refl, ap, sym, ◌∙◌, subst, arith, Result, Ok, Err}
-use Rattle.std.specs.Prelude.{IfOk, IfErr, ⊤}
+use Rattle.std.proofs.Common.{◌≡◌, ℕ, zero, suc, ◌+◌, ◌<◌, List, [], ◌∷◌, length, get_or, take, refl, ap, sym, ◌∙◌, arith, Result, Ok, Err}
+use Rattle.std.specs.Prelude.{IfOk, IfErr}
 use Rattle.std.specs.List.{AllZip}
 use Rattle.cf_types.specs.declared.stmt.Token.{Token}
 use Rattle.config_rules.specs.Cut.{Part, parts_of, at_line, all_parts, cut_of, lines_of, lines_tokens, LineCut, LineFault, Cut, CutFault, ◌>>=◌}

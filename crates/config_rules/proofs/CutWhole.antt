@@ -1,13 +1,13 @@
 -- Every cut and every fault of a line is the one that the function finds.
-use Rattle.std.proofs.Common.{◌≡◌, ℕ, zero, suc, ◌+◌, ◌-◌, ◌<◌, ◌≤◌, ◌⊎◌, inl, inr, Bool, true, false, cond, not, ◌&&◌, ◌||◌, List, [], ◌∷◌, ◌++◌, length, get_or, take, drop, refl, ap, sym, ◌∙◌, subst, arith, Result, Ok, Err, length-append, length-drop, append_assoc, append-nil, codes}
-use Rattle.std.specs.Prelude.{IfOk, IfErr, ◌==◌, take_while, slice_index, ⊤}
+use Rattle.std.proofs.Common.{◌≡◌, ℕ, zero, suc, ◌≤◌, inl, inr, Bool, true, false, ◌&&◌, ◌||◌, List, [], ◌∷◌, ◌++◌, length, take, drop, refl, ap, sym, ◌∙◌, subst, arith, Result, Ok, Err, length-append, length-drop, append_assoc, append-nil}
+use Rattle.std.specs.Prelude.{IfErr, ◌==◌, take_while, slice_index, ⊤}
 use Rattle.std.specs.List.{prefix_len, list_all, list_any}
 use Rattle.std.proofs.lemmas.Bool.{eqb-true}
 use Rattle.std.proofs.lemmas.List.{take-append-drop}
 use Rattle.std.proofs.Math.Seq.{take-append_seam, drop-append_seam}
-use Rattle.config_rules.specs.Cut.{Part, Space, Comment, Quoted, Chunk, Mark, spelling, spellings, is_part, may_precede, are_parts, is_space, is_chunk, is_chunk_byte, is_text_byte, is_mark_byte, is_mark, is_comment, begins_part, quoted_part, first_part, parts_within, parts_of, ◌>>=◌, LineCut, LineFault, Stuck, NoQuote}
-use Rattle.config_rules.proofs.Parts.{cond_both, first_cases, first_len, bind_same, ok_is, parts_step, parts_enough}
-use Rattle.config_rules.proofs.CutLaws.{both_left, both_right, either, not_true, false_from, space_no_chunk, chunk_no_space, chunk_is_not, mark_is, run_all, MayFollow, Begins, first_begins, all_taken, run_end, may_precede_is, parts_sound}
+use Rattle.config_rules.specs.Cut.{Part, Space, Comment, Quoted, Chunk, Mark, spelling, spellings, is_part, may_precede, are_parts, is_space, is_chunk_byte, is_text_byte, is_mark_byte, is_comment, begins_part, quoted_part, first_part, parts_within, parts_of, ◌>>=◌, LineCut, LineFault, Stuck, NoQuote}
+use Rattle.config_rules.proofs.Parts.{cond_both, first_cases, first_len, ok_is, parts_step}
+use Rattle.config_rules.proofs.CutLaws.{both_left, both_right, space_no_chunk, chunk_no_space, chunk_is_not, mark_is, run_all, MayFollow, Begins, first_begins, all_taken, run_end, may_precede_is}
 
 -- ---- a part at the front is found
 

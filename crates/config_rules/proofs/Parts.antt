@@ -1,8 +1,8 @@
 -- The parts of a line, one after the other.
-use Rattle.std.proofs.Common.{◌≡◌, ℕ, zero, suc, ◌+◌, ◌-◌, ◌<◌, ◌≤◌, Bool, true, false, cond, not, ◌&&◌, ◌||◌, List, [], ◌∷◌, ◌++◌, length, get_or, take, drop, refl, ap, sym, ◌∙◌, subst, arith, Result, Ok, Err, length-append, length-drop}
-use Rattle.std.specs.Prelude.{IfOk, ◌==◌, take_while, slice_index, ⊤}
-use Rattle.std.specs.List.{prefix_len, list_all}
-use Rattle.config_rules.specs.Cut.{Part, Space, Comment, Quoted, Chunk, Mark, spelling, spellings, is_space, is_chunk_byte, is_text_byte, is_mark_byte, begins_part, quoted_part, first_part, parts_within, parts_of, ◌>>=◌}
+use Rattle.std.proofs.Common.{◌≡◌, ℕ, zero, suc, ◌≤◌, Bool, true, false, cond, ◌&&◌, ◌||◌, List, [], ◌∷◌, length, drop, refl, ap, subst, arith, Result, Ok, Err, length-drop}
+use Rattle.std.specs.Prelude.{IfOk, ◌==◌, take_while, slice_index}
+use Rattle.std.specs.List.{prefix_len}
+use Rattle.config_rules.specs.Cut.{Part, Space, Comment, Quoted, Chunk, Mark, spelling, is_space, is_chunk_byte, is_text_byte, is_mark_byte, begins_part, quoted_part, first_part, parts_within, parts_of, ◌>>=◌}
 
 pub cond_both : {A : Type 0} (Q : A → Type 0) (b : Bool) (x y : A) → (b ≡ true → Q x) → (b ≡ false → Q y) → Q (cond b x y)
 cond_both Q true x y f g = f refl

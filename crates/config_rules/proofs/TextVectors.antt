@@ -1,5 +1,5 @@
 -- Small machine files, scripts and order files, and what the definitions say of them.
-use Rattle.std.proofs.Common.{◌≡◌, ℕ, Some, None, Result, Ok, Err, List, [], ◌∷◌, ◌++◌, refl, codes, true, false}
+use Rattle.std.proofs.Common.{◌≡◌, Some, None, Ok, Err, [], ◌∷◌, ◌++◌, refl, codes, true, false}
 use Rattle.std.specs.Prelude.{pos, negsuc}
 use Rattle.cf_types.specs.declared.machine.Command.TheVariants as command
 use Rattle.cf_types.specs.declared.tables.Tables.{Tables}
@@ -21,10 +21,12 @@ small = record {
   warnings = [];
 }
 
+-- a parent has to stand in an earlier line
 machine_parent : machine_of small (codes "spot a b root") ≡ Err (1, 3)
 unfolding machine_of
 machine_parent = refl
 
+-- each kind of line but a style
 machine_whole : machine_of small (codes "spot a root root" ++ 10 ∷ codes "spot b a isa port=0x3f8 absent # c" ++ 10 ∷ codes "match com b 7" ++ 10 ∷ codes "driver com final defer") ≡ Ok (record {
   spots = record { name = codes "a"; parent = None; place = Root; found = []; late = false; absent = false; bad = false }
       ∷ record { name = codes "b"; parent = Some 0; place = At 0; found = pos 1016 ∷ negsuc 0 ∷ []; late = false; absent = true; bad = false } ∷ [];
@@ -35,30 +37,77 @@ machine_whole : machine_of small (codes "spot a root root" ++ 10 ∷ codes "spot
 unfolding machine_of
 machine_whole = refl
 
+-- no locator is given twice
 machine_twice : machine_of small (codes "spot a root root" ++ 10 ∷ codes "spot b a isa port=1 port=2") ≡ Err (2, 1)
 unfolding machine_of
 machine_twice = refl
 
+-- a match value is at most 65535
 machine_range : machine_of small (codes "match com * 65536") ≡ Err (1, 7)
 unfolding machine_of
 machine_range = refl
 
+-- the name of a locator is what stands before the first `=`: there has to be one, and the rest is a number
+machine_locator_names : (machine_of small (codes "spot a root root =5") ≡ Err (1, 1))
+    × (machine_of small (codes "spot a root root 9=5") ≡ Err (1, 5))
+    × (machine_of small (codes "spot a root root a=b=5") ≡ Err (1, 1))
+unfolding machine_of
+machine_locator_names = (refl, refl, refl)
+
+-- only the name of the spot itself is judged by its shape; other names are looked up
+machine_other_names : (machine_of small (codes "spot 9x root root") ≡ Err (1, 1))
+    × (machine_of small (codes "spot a 9x isa") ≡ Err (1, 3))
+    × (machine_of small (codes "match 9x * 1") ≡ Err (1, 6))
+    × (machine_of small (codes "style com ? direct") ≡ Err (1, 4))
+unfolding machine_of
+machine_other_names = (refl, refl, refl, refl)
+
+-- a policy may be written twice
+machine_policy_twice : machine_of small (codes "driver com final final") ≡ Ok (record {
+  spots = [];
+  matches = [];
+  styles = [];
+  policies = record no_policy { finaliser = true } ∷ [];
+})
+unfolding machine_of
+machine_policy_twice = refl
+
+-- a byte that is not allowed comes before all other faults of the file
+machine_bytes_first : machine_of small (codes "fly" ++ 10 ∷ codes "spot " ++ 1 ∷ []) ≡ Err (2, 1)
+unfolding machine_of
+machine_bytes_first = refl
+
+-- no command
 script_fly : commands_of (codes "fly com0") ≡ Err (1, 1)
 unfolding commands_of commands
 script_fly = refl
 
+-- blank lines and octal numbers
 script_whole : commands_of (codes "open com0" ++ 10 ∷ 10 ∷ codes "io com0 010") ≡ Ok (command.OpenDev (codes "com0") ∷ command.Io (codes "com0") 8 ∷ [])
 unfolding commands_of commands
 script_whole = refl
 
+-- a value is not negative
 script_range : commands_of (codes "io com0 -1") ≡ Err (1, 3)
 unfolding commands_of commands
 script_range = refl
 
+-- but in a script before the other faults of its line alone
+script_bytes : (commands_of (codes "fly " ++ 1 ∷ []) ≡ Err (1, 2)) × (commands_of (codes "fly" ++ 10 ∷ 1 ∷ []) ≡ Err (1, 1))
+unfolding commands_of commands
+script_bytes = (refl, refl)
+
+-- there are two callers
 order_range : order_of 2 (codes "1 3") ≡ Err (1, 3)
 unfolding order_of
 order_range = refl
 
+-- turns over several lines
 order_whole : order_of 2 (codes "1 2 2 1 # x" ++ 10 ∷ codes "0x2") ≡ Ok (1 ∷ 2 ∷ 2 ∷ 1 ∷ 2 ∷ [])
 unfolding order_of
 order_whole = refl
+
+-- in one line the shape of each word is looked at before any value
+order_shape_first : (order_of 2 (codes "9 x") ≡ Err (1, 2)) × (order_of 2 (codes "9" ++ 10 ∷ codes "x") ≡ Err (1, 3))
+unfolding order_of
+order_shape_first = (refl, refl)

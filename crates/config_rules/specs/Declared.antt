@@ -1,7 +1,6 @@
--- What statements declare: attributes, devices and attachments, each in order.
-use Rattle.std.specs.Prelude.{ℕ, suc, zero, ◌+◌, Bool, true, false, not, ◌&&◌, ◌||◌, ◌==◌, nat_lt, nat_le, if◌then◌else◌, List, [], ◌∷◌, ◌++◌, length, take, drop, map, filter, filter_map, flat_map, find, position, slice_get, bytes_eq, codes, Option, Some, None, is_some, option_map, option_and_then, unwrap_or}
-use Rattle.std.specs.List.{list_all, list_any}
-use Rattle.std.specs.Option.{option_map_or}
+-- What statements declare: attributes, devices and attachments, each in order, after config(5).
+use Rattle.std.specs.Prelude.{ℕ, Bool, true, false, if◌then◌else◌, List, [], map, filter_map, find, position, bytes_eq, codes, Option, Some, None, is_some, option_map, option_and_then, unwrap_or}
+use Rattle.std.specs.List.{list_any}
 use Rattle.cf_types.specs.declared.stmt.Stmt.{Stmt}
 use Rattle.cf_types.specs.declared.stmt.Stmt.TheVariants as stmt
 use Rattle.cf_types.specs.declared.tables.Locator.{Locator}
@@ -11,6 +10,7 @@ use Rattle.cf_types.specs.declared.tables.Attach.{Attach}
 use Rattle.cf_types.specs.declared.tables.Place.{Place}
 use Rattle.cf_types.specs.declared.tables.Place.TheVariants.{Root, At}
 
+-- the attributes, devices and attachments, each in order; a pseudo-device is an attribute that is marked so
 pub record Declared : Type 0 where
   pub attrs : List Attr
   pub devices : List Device
@@ -18,6 +18,7 @@ pub record Declared : Type 0 where
 
 -- ---- names and their numbers
 
+-- `root` names no attribute, device or attachment
 abbrev pub is_root : List ℕ → Bool
 is_root name = bytes_eq name (codes "root")
 
@@ -25,6 +26,7 @@ is_root name = bytes_eq name (codes "root")
 abbrev pub place_in : List (List ℕ) → List ℕ → Option ℕ
 place_in names name = position (λ n. bytes_eq n name) names
 
+-- the numbers of these names
 abbrev pub numbers_in : List (List ℕ) → List (List ℕ) → List ℕ
 numbers_in names wanted = map (λ name. unwrap_or (place_in names name) 0) wanted
 
@@ -36,15 +38,18 @@ attr_name (stmt.DefPseudo name locs needs) = Some name
 attr_name (stmt.Device name locs needs) = option_map (λ l. name) locs
 attr_name _ = None
 
+-- the device that a statement declares
 abbrev pub device_name : Stmt → Option (List ℕ)
 device_name (stmt.Device name locs needs) = Some name
 device_name _ = None
 
 -- ---- what a statement declares, where these are the names of all attributes and devices
 
+-- an attribute of this name
 abbrev pub attr : List ℕ → Bool → Bool → Bool → List Locator → List ℕ → Attr
 attr name iface class pseudo locs needs = record { name = name; iface = iface; class = class; pseudo = pseudo; locs = locs; needs = needs }
 
+-- a device with braces declares an interface attribute that needs no other
 abbrev pub attr_of : List (List ℕ) → Stmt → Option Attr
 attr_of attrs (stmt.Define name locs needs) = Some (attr name (is_some locs) false false (unwrap_or locs []) (numbers_in attrs needs))
 attr_of attrs (stmt.Class name) = Some (attr name false true false [] [])
@@ -52,19 +57,23 @@ attr_of attrs (stmt.DefPseudo name locs needs) = Some (attr name (is_some locs) 
 attr_of attrs (stmt.Device name locs needs) = option_map (λ l. attr name true false false l []) locs
 attr_of attrs _ = None
 
+-- a device, with the number of the attribute of its own, if it has braces
 abbrev pub device_of : List (List ℕ) → Stmt → Option Device
 device_of attrs (stmt.Device name locs needs) =
     Some (record { name = name; own = option_and_then (λ l. place_in attrs name) locs; needs = numbers_in attrs needs })
 device_of attrs _ = None
 
+-- the root, or the interface attribute of this name
 abbrev pub place_of : List (List ℕ) → List ℕ → Place
 place_of attrs name = if is_root name then Root else At (unwrap_or (place_in attrs name) 0)
 
+-- an attachment has the name behind `with`, or else that of its device
 abbrev pub attach_of : List (List ℕ) → List (List ℕ) → Stmt → Option Attach
 attach_of attrs devices (stmt.Attach device places name needs) =
     Some (record { name = unwrap_or name device; device = unwrap_or (place_in devices device) 0; places = map (place_of attrs) places; needs = numbers_in attrs needs })
 attach_of attrs devices _ = None
 
+-- each list, in the order of the statements
 abbrev pub declared_with : List (List ℕ) → List (List ℕ) → List Stmt → Declared
 declared_with attrs devices stmts = record {
   attrs = filter_map (attr_of attrs) stmts;
@@ -78,14 +87,18 @@ declared stmts = declared_with (filter_map attr_name stmts) (filter_map device_n
 
 -- ---- looking up
 
+-- the number of an attribute
 abbrev pub attr_number : Declared → List ℕ → Option ℕ
 attr_number d name = position (λ a. bytes_eq a.name name) d.attrs
 
+-- the number of a device
 abbrev pub device_number : Declared → List ℕ → Option ℕ
 device_number d name = position (λ x. bytes_eq x.name name) d.devices
 
+-- an attachment has this name
 abbrev pub has_attach : Declared → List ℕ → Bool
 has_attach d name = list_any (λ a. bytes_eq a.name name) d.attaches
 
+-- the attribute of this name
 abbrev pub attr_named : Declared → List ℕ → Option Attr
 attr_named d name = find (λ a. bytes_eq a.name name) d.attrs

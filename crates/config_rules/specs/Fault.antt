@@ -1,6 +1,7 @@
--- The first fault of a statement after those before it, and of a configuration.
-use Rattle.std.specs.Prelude.{◌≡◌, ℕ, ◌+◌, Bool, true, false, not, ◌&&◌, ◌||◌, ◌==◌, nat_lt, nat_le, if◌then◌else◌, List, [], ◌∷◌, ◌++◌, length, map, filter, find, count_by, slice_index_or, slice_get, bytes_eq, Option, Some, None, is_some, is_none, option_map, option_and_then, unwrap_or, Result, Ok, Err}
-use Rattle.std.specs.List.{list_all, list_any}
+-- The first fault of a statement after those before it, and of a configuration. The codes and the order in which they
+-- are looked for are this project's profile.
+use Rattle.std.specs.Prelude.{◌≡◌, ℕ, ◌+◌, Bool, true, false, not, ◌&&◌, ◌||◌, nat_lt, nat_le, if◌then◌else◌, List, [], ◌∷◌, ◌++◌, length, map, filter, count_by, slice_index_or, slice_get, bytes_eq, Option, Some, None, is_some, option_map, unwrap_or, Result, Ok, Err}
+use Rattle.std.specs.List.{list_any}
 use Rattle.std.specs.Option.{option_map_or}
 use Rattle.cf_types.specs.declared.stmt.Placed.{Placed}
 use Rattle.cf_types.specs.declared.stmt.Stmt.{Stmt}
@@ -10,8 +11,8 @@ use Rattle.cf_types.specs.declared.tables.Refusal.{Refusal}
 use Rattle.config_rules.specs.Form.{given, ◌or◌}
 use Rattle.config_rules.specs.Reading.{Files, Reading, reading}
 use Rattle.config_rules.specs.Declared.{Declared, declared, is_root, attr_number, device_number, attr_named, has_attach}
-use Rattle.cf_types.specs.Offers.{interfaces_of, firsts}
-use Rattle.config_rules.specs.Joined.{Joined, join}
+use Rattle.cf_types.specs.Offers.{nodes_of, interfaces_of, firsts}
+use Rattle.config_rules.specs.Joined.{join}
 
 -- ---- words of the table
 
@@ -20,25 +21,31 @@ abbrev pub repeats : List (List ℕ) → Bool
 repeats [] = false
 repeats (name ∷ names) = list_any (λ n. bytes_eq n name) names || repeats names
 
+-- a locator that is given twice in a list
 abbrev pub repeats_locator : Option (List Locator) → Bool
 repeats_locator locs = repeats (map (λ l. l.name) (unwrap_or locs []))
 
+-- an attribute has this name
 abbrev pub has_attr : Declared → List ℕ → Bool
 has_attr d name = is_some (attr_number d name)
 
+-- a device has this name
 abbrev pub has_device : Declared → List ℕ → Bool
 has_device d name = is_some (device_number d name)
 
+-- one of these names is no attribute
 abbrev pub lacks_attr : Declared → List (List ℕ) → Bool
 lacks_attr d names = list_any (λ name. not (has_attr d name)) names
 
+-- the numbers of these attributes
 abbrev pub attr_numbers : Declared → List (List ℕ) → List ℕ
 attr_numbers d names = map (λ name. unwrap_or (attr_number d name) 0) names
 
 -- an interface list of its own attribute, where there is one, and those of these names would be too long
 abbrev pub offers_too_much : Declared → Option (List Locator) → List (List ℕ) → Bool
-offers_too_much d locs needs = nat_lt 64 (option_map_or (λ l. 1) locs 0 + length (interfaces_of d.attrs (attr_numbers d needs)))
+offers_too_much d locs needs = nat_lt 64 (option_map_or (λ l. 1) locs 0 + length (interfaces_of (nodes_of d.attrs) (attr_numbers d needs)))
 
+-- the attribute is a device class
 abbrev pub is_class : Declared → ℕ → Bool
 is_class d a = option_map_or (λ x. x.class) (slice_get d.attrs a) false
 
@@ -46,10 +53,12 @@ is_class d a = option_map_or (λ x. x.class) (slice_get d.attrs a) false
 abbrev pub has_classes : Declared → List (List ℕ) → Bool
 has_classes d needs = nat_lt 1 (length (firsts (filter (is_class d) (attr_numbers d needs))))
 
+-- a device instance
 abbrev pub is_instance : Stmt → Bool
 is_instance (stmt.Inst base mark at pairs flags) = true
 is_instance _ = false
 
+-- the attribute of this name is that of a pseudo-device
 abbrev pub is_pseudo : Declared → List ℕ → Bool
 is_pseudo d name = option_map_or (λ x. x.pseudo) (attr_named d name) false
 
@@ -63,6 +72,7 @@ define_fault d name locs needs =
     or (given (lacks_attr d needs) 8
     or given (offers_too_much d locs needs) 25))
 
+-- a device; only one with braces needs its name to be free among the attributes
 abbrev pub device_fault : Declared → List ℕ → Option (List Locator) → List (List ℕ) → Option ℕ
 device_fault d name locs needs =
     given (is_root name || has_device d name || (is_some locs && has_attr d name)) 18
@@ -79,6 +89,7 @@ places_fault d (place ∷ places) =
     else option_map_or (λ a. given (not a.iface) 9) (attr_named d place) (Some 8))
     or places_fault d places
 
+-- an attachment: its device, its places, its name, its attributes
 abbrev pub attach_fault : Declared → List ℕ → List (List ℕ) → List ℕ → List (List ℕ) → Option ℕ
 attach_fault d device places name needs =
     given (not (has_device d device)) 10
@@ -86,6 +97,7 @@ attach_fault d device places name needs =
     or (given (is_root name || has_attach d name) 18
     or given (lacks_attr d needs) 8))
 
+-- the code of a result
 abbrev pub err_of : {A : Type 0} → Result A ℕ → Option ℕ
 err_of (Ok x) = None
 err_of (Err code) = Some code
@@ -101,14 +113,17 @@ code_of d instances (stmt.Inst base mark at pairs flags) = given (nat_le 8192 in
 code_of d instances (stmt.PseudoDevice name count) = given (not (is_pseudo d name)) 10
 code_of d instances _ = None
 
+-- the first code that a statement has after those before it
 unfoldable pub fault_of : List Stmt → Stmt → Option ℕ
 fault_of before s = code_of (declared before) (count_by is_instance before) s
 
 -- ---- the first fault of a configuration
 
+-- the statements without their places
 abbrev pub stmts_of : List Placed → List Stmt
 stmts_of placed = map (λ p. p.stmt) placed
 
+-- a code at the file and line of a statement
 abbrev pub refusal : List (List ℕ) → Placed → ℕ → Refusal
 refusal files p code = record { file = slice_index_or files p.file []; line = p.line; code = code }
 
@@ -122,8 +137,10 @@ first_code files before (p ∷ placed) =
 unfoldable pub fault_in : Reading → Option Refusal
 fault_in r = first_code r.files [] r.placed or r.fault
 
+-- the first fault of a configuration in reading order
 unfoldable pub first_fault : Files → List ℕ → Option Refusal
 first_fault files name = fault_in (reading files name)
 
+-- a configuration without a fault
 abbrev pub Accepted : Files → List ℕ → Type 0
 Accepted files name = first_fault files name ≡ None

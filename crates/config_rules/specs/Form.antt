@@ -1,5 +1,6 @@
--- The statement that a list of tokens is, one case for each row of the table of statements.
-use Rattle.std.specs.Prelude.{◌≡◌, ℕ, ◌+◌, ◌-◌, Bool, true, false, not, ◌&&◌, ◌||◌, ◌==◌, nat_lt, nat_le, if◌then◌else◌, List, [], ◌∷◌, length, take, drop, map, slice_index, slice_index_or, bytes_eq, codes, Option, Some, None, is_some, is_none, option_map, option_and_then, unwrap_or, ℤ, pos, nat_abs, int_le}
+-- The statement that a list of tokens is, one case for each row of the table of statements. The statements are those
+-- of config(5). Their exact forms, the limits on lengths and numbers, and the codes are this project's profile.
+use Rattle.std.specs.Prelude.{◌≡◌, ℕ, ◌-◌, Bool, true, false, not, ◌&&◌, ◌||◌, ◌==◌, nat_lt, nat_le, if◌then◌else◌, List, [], ◌∷◌, length, take, drop, map, bytes_eq, codes, Option, Some, None, is_some, is_none, option_map, option_and_then, ℤ, pos, nat_abs, int_le}
 use Rattle.std.specs.List.{list_all, list_any, slice_split, before_first, after_first}
 use Rattle.cf_types.specs.declared.stmt.TokenKind.{TokenKind}
 use Rattle.cf_types.specs.declared.stmt.TokenKind.TheVariants as kind
@@ -11,7 +12,6 @@ use Rattle.cf_types.specs.declared.stmt.AtSpec.TheVariants.{Root, Named}
 use Rattle.cf_types.specs.declared.stmt.GivenLoc.{GivenLoc}
 use Rattle.cf_types.specs.declared.stmt.CondWord.{CondWord}
 use Rattle.cf_types.specs.declared.stmt.CondWord.TheVariants as word
-use Rattle.cf_types.specs.declared.stmt.ItemKind.{ItemKind}
 use Rattle.cf_types.specs.declared.stmt.ItemKind.TheVariants as of_kind
 use Rattle.cf_types.specs.declared.stmt.Item.{Item}
 use Rattle.cf_types.specs.declared.stmt.Stmt.{Stmt}
@@ -21,6 +21,7 @@ use Rattle.cf_text.specs.Shapes.{is_name, is_written, ends_with_digit, number, i
 
 -- ---- single tokens
 
+-- a chunk
 abbrev pub is_chunk : Piece → Bool
 is_chunk p = is_chunk_kind p.kind
   where
@@ -28,6 +29,7 @@ is_chunk p = is_chunk_kind p.kind
     is_chunk_kind kind.Chunk = true
     is_chunk_kind _ = false
 
+-- a string
 abbrev pub is_text : Piece → Bool
 is_text p = is_text_kind p.kind
   where
@@ -35,6 +37,7 @@ is_text p = is_text_kind p.kind
     is_text_kind kind.Text = true
     is_text_kind _ = false
 
+-- the mark of this spelling
 abbrev pub is_mark : List ℕ → Piece → Bool
 is_mark mark p = is_mark_kind p.kind && bytes_eq p.text mark
   where
@@ -42,9 +45,11 @@ is_mark mark p = is_mark_kind p.kind && bytes_eq p.text mark
     is_mark_kind kind.Mark = true
     is_mark_kind _ = false
 
+-- the chunk of this spelling
 abbrev pub is_word : List ℕ → Piece → Bool
 is_word word p = is_chunk p && bytes_eq p.text word
 
+-- a chunk that is one of these words
 abbrev pub is_among : List (List ℕ) → Piece → Bool
 is_among words p = list_any (λ w. is_word w p) words
 
@@ -76,9 +81,11 @@ bytes_of p = given (is_chunk p || is_text p) p.text
 abbrev pub path_of : Piece → Option (List ℕ)
 path_of p = given ((is_chunk p || is_text p) && nat_lt 0 (length p.text)) p.text
 
+-- a base and a unit up to 65535
 abbrev pub fixed_of : Bool → Piece → Option (List ℕ × ℕ)
 fixed_of sized p = if is_chunk p then option_and_then (λ u. within sized (nat_le u.1 65535) u (u.0, 0)) (unit_of p.text) else None
 
+-- a base before this mark
 abbrev pub marked_of : ℕ → Piece → Option (List ℕ)
 marked_of mark p = if is_chunk p then base_before mark p.text else None
 
@@ -106,6 +113,7 @@ abbrev pub each : {A B : Type 0} → (A → Option B) → List A → Option (Lis
 each f [] = Some []
 each f (x ∷ xs) = option_and_then (λ y. option_map (λ ys. y ∷ ys) (each f xs)) (f x)
 
+-- the parts between commas
 abbrev pub parted : List Piece → List (List Piece)
 parted ps = slice_split (is_mark (codes ",")) ps
 
@@ -124,9 +132,11 @@ name_row ps = if nat_lt 0 (length ps) then each name_of ps else None
 
 -- ---- locators
 
+-- the name of a locator: `flags` is none
 abbrev pub locator_name : Piece → Option (List ℕ)
 locator_name p = if is_word (codes "flags") p then None else name_of p
 
+-- a locator of this name
 abbrev pub locator : List ℕ → Option ℤ → Bool → Locator
 locator name default optional = record { name = name; default = default; optional = optional }
 
@@ -234,6 +244,7 @@ no_stmt sized (p ∷ ps) =
     no_inst sized base mark [] = Some (stmt.NoInst base mark None)
     no_inst sized base mark (p ∷ ps) = option_map (λ at. stmt.NoInst base mark (Some at)) (at_place sized (p ∷ ps))
 
+-- an option or makeoption of this name
 abbrev pub item : List ℕ → Bool → Option (List ℕ) → Item
 item name plus value = record { name = name; plus = plus; value = value }
 
@@ -268,6 +279,7 @@ pseudo_stmt sized _ = None
 abbrev pub checked : List ℕ → Bool → Option Stmt
 checked word holds = given holds (stmt.Checked word)
 
+-- each is a number
 abbrev pub are_values : Bool → List Piece → Bool
 are_values sized ps = list_all (λ p. is_some (value_of sized p)) ps
 
@@ -277,16 +289,20 @@ is_config (n ∷ root ∷ on ∷ ps) =
     is_some (name_of n) && is_word (codes "root") root && is_word (codes "on") on && nat_lt 0 (length ps) && list_all is_chunk ps
 is_config _ = false
 
+-- a condition word that takes a name
 abbrev pub cond_stmt : CondWord → List Piece → Option Stmt
 cond_stmt word ps = option_map (λ name. stmt.Cond word (Some name)) (alone name_of ps)
 
+-- a condition word that stands alone
 abbrev pub cond_word : CondWord → List Piece → Option Stmt
 cond_word word ps = given (length ps == 0) (stmt.Cond word None)
 
+-- `prefix` alone takes the top prefix away
 abbrev pub prefix_stmt : List Piece → Option Stmt
 prefix_stmt [] = Some (stmt.Prefix None)
 prefix_stmt (p ∷ ps) = option_map (λ path. stmt.Prefix (Some path)) (alone path_of (p ∷ ps))
 
+-- the name of a device does not end with a digit
 abbrev pub device_stmt : Bool → List Piece → Option Stmt
 device_stmt sized [] = None
 device_stmt sized (n ∷ ps) = if ends_with_digit n.text then None else defining sized stmt.Device (n ∷ ps)
@@ -296,12 +312,15 @@ pub record TableRow : Type 0 where
   pub word : List ℕ
   pub form : Bool → List Piece → Option Stmt
 
+-- a row of the table
 abbrev pub row : List ℕ → (Bool → List Piece → Option Stmt) → TableRow
 row word form = record { word = word; form = form }
 
+-- the words of the statements that may have any tokens
 abbrev pub free_words : List (List ℕ)
 free_words = codes "defflag" ∷ codes "defparam" ∷ codes "deffs" ∷ codes "file" ∷ codes "device-major" ∷ codes "version" ∷ codes "obsolete" ∷ []
 
+-- such a statement has one or more further tokens
 abbrev pub free_row : List ℕ → TableRow
 free_row word = row word (λ sized ps. given (nat_lt 0 (length ps)) (stmt.Free word ps))
 
@@ -352,6 +371,7 @@ form_of sized (p ∷ ps) =
 
 -- ---- the faults
 
+-- statements of config(5) that this project leaves out
 abbrev pub left_out_words : List (List ℕ)
 left_out_words = codes "package" ∷ codes "object" ∷ codes "ioconf" ∷ codes "select" ∷ codes "pseudo-root" ∷ codes "buildprefix" ∷ []
 
@@ -374,6 +394,7 @@ has_text_or_size _ = false
 abbrev pub braced : List Piece → List Piece
 braced ps = before_first (is_mark (codes "}")) (after_first (is_mark (codes "{")) ps)
 
+-- a statement that may have a list of locators
 abbrev pub is_defining : Piece → Bool
 is_defining p = is_among (codes "define" ∷ codes "defpseudo" ∷ codes "device" ∷ []) p
 

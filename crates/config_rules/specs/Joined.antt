@@ -1,6 +1,7 @@
--- The attachment, the place, the parent and the locator values of an instance, or the first code that it has.
-use Rattle.std.specs.Prelude.{ℕ, ◌+◌, Bool, true, false, not, ◌&&◌, ◌||◌, ◌==◌, nat_lt, nat_le, if◌then◌else◌, List, [], ◌∷◌, ◌++◌, length, take, drop, map, filter, filter_map, flat_map, find, slice_get, bytes_eq, Option, Some, None, is_some, is_none, option_map, option_and_then, unwrap_or, ok_or, Result, Ok, Err, ℤ, pos}
-use Rattle.std.specs.List.{list_all, list_any, enumerate_from}
+-- The attachment, the place, the parent and the locator values of an instance, or the first code that it has. Which
+-- attachment is taken, and what brackets and defaults of locators mean, is this project's profile after config(5).
+use Rattle.std.specs.Prelude.{ℕ, Bool, true, false, not, ◌&&◌, ◌==◌, if◌then◌else◌, List, [], ◌∷◌, ◌++◌, map, flat_map, find, bytes_eq, Option, Some, None, is_some, is_none, option_and_then, unwrap_or, ok_or, Result, Ok, Err, ℤ, pos}
+use Rattle.std.specs.List.{list_any, enumerate_from}
 use Rattle.std.specs.Option.{option_map_or}
 use Rattle.cf_types.specs.declared.stmt.AtSpec.{AtSpec}
 use Rattle.cf_types.specs.declared.stmt.AtSpec.TheVariants as written
@@ -17,9 +18,11 @@ use Rattle.cf_types.specs.Locators.{locators_at}
 
 -- ---- locators
 
+-- the locator of this name
 abbrev pub locator_named : List Locator → List ℕ → Option Locator
 locator_named locs name = find (λ l. bytes_eq l.name name) locs
 
+-- what an instance gives for this name
 abbrev pub given_named : List GivenLoc → List ℕ → Option GivenLoc
 given_named pairs name = find (λ g. bytes_eq g.name name) pairs
 
@@ -30,6 +33,7 @@ pair_fault locs before g =
     or (given (is_some (given_named before g.name)) 15
     or given (is_none g.value && is_none (option_and_then (λ l. l.default) (locator_named locs g.name))) 16)
 
+-- the first code of these pairs, behind those before
 abbrev pub pairs_fault : List Locator → List GivenLoc → List GivenLoc → Option ℕ
 pairs_fault locs before [] = None
 pairs_fault locs before (g ∷ pairs) = pair_fault locs before g or pairs_fault locs (before ++ g ∷ []) pairs
@@ -38,6 +42,7 @@ pairs_fault locs before (g ∷ pairs) = pair_fault locs before g or pairs_fault 
 abbrev pub is_wanting : List GivenLoc → Locator → Bool
 is_wanting pairs l = not l.optional && is_none (given_named pairs l.name)
 
+-- the pairs first, then the locators that are not written
 unfoldable pub fill_fault : List Locator → List GivenLoc → Option ℕ
 fill_fault locs pairs = pairs_fault locs [] pairs or given (list_any (is_wanting pairs) locs) 13
 
@@ -45,6 +50,7 @@ fill_fault locs pairs = pairs_fault locs [] pairs or given (list_any (is_wanting
 abbrev pub filled : List GivenLoc → Locator → ℤ
 filled pairs l = unwrap_or (option_and_then (λ g. g.value) (given_named pairs l.name) or l.default) (pos 0)
 
+-- the values of the locators of a place, in order, or the first code
 unfoldable pub fill : List Locator → List GivenLoc → Result (List ℤ) ℕ
 fill locs pairs = option_map_or (λ code. Err code) (fill_fault locs pairs) (Ok (map (filled pairs) locs))
 
@@ -67,6 +73,7 @@ pub data Target : Type 0 where
   Below : (parent : ParentSpec) → Target
   On : (attr : ℕ) → Target
 
+-- a place is what an instance joins: the root, an attribute that the parent offers, or the attribute itself
 abbrev pub suits : Declared → Target → Place → Bool
 suits d AtRoot Root = true
 suits d AtRoot (At a) = false
@@ -88,6 +95,7 @@ target_of d (written.Named base unit) =
     option_map_or (λ device. Ok (Below (record { device = device; unit = unit }))) (device_number d base)
     (attr_target d unit (attr_number d base))
 
+-- what an instance joins, and its locator values
 pub record Joined : Type 0 where
   pub device : ℕ
   pub attach : ℕ
@@ -95,11 +103,13 @@ pub record Joined : Type 0 where
   pub parent : Option ParentSpec
   pub locs : List ℤ
 
+-- the parent device that is named, if one is
 abbrev pub parent_of : Target → Option ParentSpec
 parent_of AtRoot = None
 parent_of (Below parent) = Some parent
 parent_of (On a) = None
 
+-- the device of an instance
 abbrev pub device_or : Declared → List ℕ → Result ℕ ℕ
 device_or d name = ok_or (device_number d name) 10
 

@@ -1,5 +1,5 @@
--- What the lines of a machine file mean, or the first bad line and its code.
-use Rattle.std.specs.Prelude.{◌≡◌, ℕ, zero, suc, ◌+◌, ◌-◌, Bool, true, false, not, ◌&&◌, ◌||◌, ◌==◌, nat_lt, nat_le, if◌then◌else◌, List, [], ◌∷◌, ◌++◌, length, take, drop, map, filter, filter_map, find, position, slice_get, slice_index_or, bytes_eq, codes, Option, Some, None, is_some, is_none, option_map, option_and_then, unwrap_or, Result, Ok, Err, ℤ, pos, negsuc, nat_abs, int_le}
+-- What the lines of a machine file mean, or the first bad line and its code. The format is this project's own.
+use Rattle.std.specs.Prelude.{ℕ, zero, suc, Bool, true, false, not, ◌&&◌, ◌||◌, ◌==◌, nat_lt, nat_le, if◌then◌else◌, List, [], ◌∷◌, ◌++◌, length, drop, map, filter, find, position, slice_get, bytes_eq, codes, Option, Some, None, is_some, is_none, option_map, option_and_then, unwrap_or, Result, Ok, Err, ℤ, pos, negsuc, nat_abs, int_le}
 use Rattle.std.specs.List.{list_all, list_any, slice_split, before_first, after_first, enumerate_from}
 use Rattle.std.specs.Option.{option_map_or}
 use Rattle.cf_types.specs.declared.machine.Machine.{Machine}
@@ -7,14 +7,13 @@ use Rattle.cf_types.specs.declared.machine.Spot.{Spot}
 use Rattle.cf_types.specs.declared.machine.MatchLine.{MatchLine}
 use Rattle.cf_types.specs.declared.machine.StyleLine.{StyleLine}
 use Rattle.cf_types.specs.declared.machine.Policy.{Policy}
-use Rattle.cf_types.specs.declared.tables.Attach.{Attach}
 use Rattle.cf_types.specs.declared.tables.Locator.{Locator}
 use Rattle.cf_types.specs.declared.tables.Place.{Place}
 use Rattle.cf_types.specs.declared.tables.Place.TheVariants.{Root, At}
 use Rattle.cf_types.specs.declared.tables.Tables.{Tables}
 use Rattle.cf_types.specs.Locators.{locators_at}
 use Rattle.cf_text.specs.Shapes.{is_written, number, in_range}
-use Rattle.config_rules.specs.Cut.{lines_of, is_space, ◌>>=◌}
+use Rattle.config_rules.specs.Cut.{lines_of, is_space, at_line, ◌>>=◌}
 use Rattle.config_rules.specs.Form.{given, each, ◌or◌}
 
 -- ---- lines and words
@@ -31,6 +30,7 @@ words_of line = filter (λ w. nat_lt 0 (length w)) (slice_split is_space (uncomm
 abbrev pub is_allowed : ℕ → Bool
 is_allowed c = c == 9 || (nat_le 32 c && nat_le c 126)
 
+-- a byte that is not allowed stands outside the comment
 abbrev pub has_bad_byte : List ℕ → Bool
 has_bad_byte line = list_any (λ c. not (is_allowed c)) (uncommented line)
 
@@ -48,15 +48,13 @@ word_lines text =
 abbrev pub bad_line : List ℕ → Option ℕ
 bad_line text = option_map (λ e. e.0) (find (λ e. has_bad_byte e.1) (enumerate_from 1 (lines_of text)))
 
+-- the lines that have words, unless some line has a byte that is not allowed
 abbrev pub records_of : List ℕ → Result (List WordLine) (ℕ × ℕ)
 records_of text = option_map_or (λ line. Err (line, 1)) (bad_line text) (Ok (word_lines text))
 
 -- ---- the forms of the lines
 
--- a number word, whatever its size
-abbrev pub whole : List ℕ → Option ℤ
-whole word = number word
-
+-- a value that a spot gives for a locator
 pub record GivenValue : Type 0 where
   pub name : List ℕ
   pub value : ℤ
@@ -65,12 +63,14 @@ pub record GivenValue : Type 0 where
 abbrev pub given_value : List ℕ → Option GivenValue
 given_value word =
     if list_any (λ c. c == 61) word && nat_lt 0 (length (before_first (λ c. c == 61) word))
-    then option_map (λ v. record { name = before_first (λ c. c == 61) word; value = v }) (whole (after_first (λ c. c == 61) word))
+    then option_map (λ v. record { name = before_first (λ c. c == 61) word; value = v }) (number (after_first (λ c. c == 61) word))
     else None
 
+-- the marks of a spot
 abbrev pub mark_words : List (List ℕ)
 mark_words = codes "late" ∷ codes "absent" ∷ codes "bad" ∷ []
 
+-- the word is among these
 abbrev pub is_one : List (List ℕ) → List ℕ → Bool
 is_one words word = list_any (λ w. bytes_eq w word) words
 
@@ -83,6 +83,7 @@ differ (w ∷ ws) = not (is_one ws w) && differ ws
 abbrev pub is_free_name : List ℕ → Bool
 is_free_name name = is_written name && not (bytes_eq name (codes "root"))
 
+-- the lines of a machine file by their forms
 pub data LineForm : Type 0 where
   SpotLine : (name parent attr : List ℕ) (found : List GivenValue) (marks : List (List ℕ)) → LineForm
   MatchOf : (attach : List ℕ) (spot : Option (List ℕ)) (value : ℤ) → LineForm
@@ -94,6 +95,7 @@ abbrev pub located : List (List ℕ) → List (List ℕ)
 located [] = []
 located (w ∷ ws) = if list_any (λ c. c == 61) w then w ∷ located ws else []
 
+-- `spot NAME PARENT ATTR`, then locators, then marks, none of them twice
 abbrev pub spot_form : List ℕ → List ℕ → List ℕ → List (List ℕ) → Option LineForm
 spot_form name parent attr rest =
     let marks = drop (length (located rest)) rest in
@@ -102,22 +104,27 @@ spot_form name parent attr rest =
     (SpotLine name parent attr found marks))
     (each given_value (located rest))
 
+-- `match ATTACHMENT SPOT V`, or `*` for every spot
 abbrev pub match_form : List ℕ → List ℕ → List ℕ → Option LineForm
 match_form attach spot value =
-    option_map (λ v. MatchOf attach (if bytes_eq spot (codes "*") then None else Some spot) v) (whole value)
+    option_map (λ v. MatchOf attach (if bytes_eq spot (codes "*") then None else Some spot) v) (number value)
 
+-- `style ATTACHMENT ATTR direct` or `indirect`
 abbrev pub style_form : List ℕ → List ℕ → List ℕ → Option LineForm
 style_form attach attr style =
     given (is_one (codes "direct" ∷ codes "indirect" ∷ []) style)
     (StyleOf attach attr (bytes_eq style (codes "indirect")))
 
+-- the policies of a driver
 abbrev pub policy_words : List (List ℕ)
 policy_words = codes "nodetach" ∷ codes "norescan" ∷ codes "nopower" ∷ codes "failsuspend" ∷ codes "defer" ∷ codes "interrupts" ∷ codes "final" ∷ []
 
+-- `driver ATTACHMENT` and one or more policies
 abbrev pub driver_form : List ℕ → List (List ℕ) → Option LineForm
 driver_form attach policies =
     given (nat_lt 0 (length policies) && list_all (is_one policy_words) policies) (DriverOf attach policies)
 
+-- the form of a line of these words
 abbrev pub line_form : List (List ℕ) → Option LineForm
 line_form (word ∷ a ∷ b ∷ c ∷ rest) =
     if bytes_eq word (codes "spot") then spot_form a b c rest
@@ -131,16 +138,20 @@ line_form _ = None
 
 -- ---- what a line means after those before it
 
+-- the number of an attribute of the tables
 abbrev pub attr_number : Tables → List ℕ → Option ℕ
 attr_number t name = position (λ a. bytes_eq a.name name) t.attrs
 
+-- the number of an attachment of the tables
 abbrev pub attach_number : Tables → List ℕ → Option ℕ
 attach_number t name = position (λ a. bytes_eq a.name name) t.attaches
 
+-- the number of an interface attribute
 abbrev pub interface_number : Tables → List ℕ → Option ℕ
 interface_number t name =
     option_and_then (λ a. given (option_map_or (λ x. x.iface) (slice_get t.attrs a) false) a) (attr_number t name)
 
+-- the number of an earlier spot
 abbrev pub spot_number : List Spot → List ℕ → Option ℕ
 spot_number spots name = position (λ s. bytes_eq s.name name) spots
 
@@ -166,6 +177,7 @@ depth_of zero spots parent = 1
 depth_of (suc n) spots None = 1
 depth_of (suc n) spots (Some x) = suc (depth_of n spots (option_and_then (λ s. s.parent) (slice_get spots x)))
 
+-- the spot of a line after these, or its first code
 abbrev pub new_spot : Tables → List Spot → List ℕ → List ℕ → List ℕ → List GivenValue → List (List ℕ) → Result Spot ℕ
 new_spot t spots name parent attr found marks =
     let at_root = bytes_eq parent (codes "root") in
@@ -187,9 +199,11 @@ new_spot t spots name parent attr found marks =
       bad = is_one marks (codes "bad");
     }))
 
+-- a match value is from 0 to 65535
 abbrev pub in_match_range : ℤ → Bool
 in_match_range v = int_le (pos 0) v && int_le v (pos 65535)
 
+-- the match line, or its first code
 abbrev pub new_match : Tables → List Spot → List ℕ → Option (List ℕ) → ℤ → Result MatchLine ℕ
 new_match t spots attach spot value =
     option_map_or (λ code. Err code)
@@ -198,6 +212,7 @@ new_match t spots attach spot value =
     or given (not (in_match_range value)) 7))
     (Ok (record { attach = unwrap_or (attach_number t attach) 0; spot = option_and_then (spot_number spots) spot; value = nat_abs value }))
 
+-- the style line, or its first code
 abbrev pub new_style : Tables → List ℕ → List ℕ → Bool → Result StyleLine ℕ
 new_style t attach attr indirect =
     option_map_or (λ code. Err code)
@@ -216,11 +231,13 @@ with_policies words p = record {
   finaliser = p.finaliser || is_one words (codes "final");
 }
 
+-- the policies with those of a line added, or its code
 abbrev pub new_policies : Tables → List ℕ → List (List ℕ) → List Policy → Result (List Policy) ℕ
 new_policies t attach words policies =
     option_map_or (λ a. Ok (map (λ e. if e.0 == a then with_policies words e.1 else e.1) (enumerate_from 0 policies)))
     (attach_number t attach) (Err 6)
 
+-- the machine after a line of this form, or its first code
 abbrev pub after_line : Tables → Machine → Option LineForm → Result Machine ℕ
 after_line t m None = Err 1
 after_line t m (Some (SpotLine name parent attr found marks)) =
@@ -229,18 +246,16 @@ after_line t m (Some (MatchOf attach spot value)) = new_match t m.spots attach s
 after_line t m (Some (StyleOf attach attr indirect)) = new_style t attach attr indirect >>= λ l. Ok (record m { styles = m.styles ++ l ∷ [] })
 after_line t m (Some (DriverOf attach words)) = new_policies t attach words m.policies >>= λ ps. Ok (record m { policies = ps })
 
-abbrev pub at_number : {A : Type 0} → ℕ → Result A ℕ → Result A (ℕ × ℕ)
-at_number n (Ok x) = Ok x
-at_number n (Err code) = Err (n, code)
-
 -- the machine after these lines
 abbrev pub after_lines : Tables → List WordLine → Machine → Result Machine (ℕ × ℕ)
 after_lines t [] m = Ok m
-after_lines t (l ∷ ls) m = at_number l.number (after_line t m (line_form l.words)) >>= λ n. after_lines t ls n
+after_lines t (l ∷ ls) m = at_line l.number (after_line t m (line_form l.words)) >>= λ n. after_lines t ls n
 
+-- a driver without policies
 abbrev pub no_policy : Policy
 no_policy = record { nodetach = false; norescan = false; nopower = false; failsuspend = false; defer = false; interrupts = false; finaliser = false }
 
+-- a machine without spots, for attachments that have no policies
 abbrev pub no_machine : Tables → Machine
 no_machine t = record { spots = []; matches = []; styles = []; policies = map (λ a. no_policy) t.attaches }
 

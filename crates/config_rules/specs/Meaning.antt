@@ -1,6 +1,7 @@
--- The tables that a configuration means.
-use Rattle.std.specs.Prelude.{◌≡◌, ℕ, suc, zero, ◌+◌, Bool, true, false, not, ◌&&◌, ◌||◌, ◌==◌, nat_lt, nat_le, max, if◌then◌else◌, List, [], ◌∷◌, ◌++◌, length, map, filter, filter_map, flat_map, fold, slice_index_or, bytes_eq, Option, Some, None, is_some, option_map, option_and_then, unwrap_or, Result, Ok, Err, ℤ}
-use Rattle.std.specs.List.{list_all, list_any, zip}
+-- The tables that a configuration means, after those that config(1) makes. The order of the rows, the first units of
+-- starred rows and the warnings are this project's profile.
+use Rattle.std.specs.Prelude.{◌≡◌, ℕ, suc, zero, ◌+◌, Bool, true, false, not, ◌==◌, max, if◌then◌else◌, List, [], ◌∷◌, ◌++◌, length, map, filter, filter_map, flat_map, fold, slice_index_or, Option, Some, None, is_some, unwrap_or, Result, Ok, Err, ℤ}
+use Rattle.std.specs.List.{list_any, zip}
 use Rattle.std.specs.Option.{option_map_or}
 use Rattle.cf_types.specs.declared.stmt.Item.{Item}
 use Rattle.cf_types.specs.declared.stmt.ItemKind.TheVariants as of_kind
@@ -31,6 +32,7 @@ pub record Instance : Type 0 where
   pub mark : UnitMark
   pub flags : ℤ
 
+-- the instance, where it joins something
 abbrev pub if_joined : ℕ → UnitMark → ℤ → Result Joined ℕ → Option Instance
 if_joined n mark flags (Ok j) = Some (record { stmt = n; joined = j; mark = mark; flags = flags })
 if_joined n mark flags (Err code) = None
@@ -46,6 +48,7 @@ surviving before [] = []
 surviving before (s ∷ later) =
     (if survives s later then option_map_or (λ i. i ∷ []) (instance_of before s) [] else []) ++ surviving (before ++ s ∷ []) later
 
+-- what matters of an instance for being rooted
 abbrev pub inst_of : Instance → Inst
 inst_of i = record { device = i.joined.device; mark = i.mark; place = i.joined.place; parent = i.joined.parent }
 
@@ -55,6 +58,7 @@ marked wanted insts marks = map (λ e. e.0) (filter (λ e. if e.1 then wanted el
 
 -- ---- the rows
 
+-- the number of an instance that is not starred
 abbrev pub unit_of : Instance → Option ℕ
 unit_of i = number i.mark
   where
@@ -66,6 +70,7 @@ unit_of i = number i.mark
 abbrev pub first_unit : List ℕ → ℕ
 first_unit units = fold (λ n unit. max n (unit + 1)) 0 units
 
+-- the row of an instance, where this is the first unit of a starred one
 abbrev pub row : ℕ → Instance → Row
 row first i = record {
   device = i.joined.device;
@@ -84,6 +89,7 @@ in_order insts =
     flat_map (λ unit. filter (λ i. same_mark i.mark (Fixed unit)) insts) (firsts (filter_map unit_of insts))
     ++ filter (λ i. same_mark i.mark Star) insts
 
+-- the rows of one device, from those of its instances that are rooted
 abbrev pub device_rows : List Instance → ℕ → List Row
 device_rows insts device =
     let own = filter (λ i. i.joined.device == device) insts in
@@ -94,23 +100,28 @@ abbrev pub below : ℕ → List ℕ
 below zero = []
 below (suc n) = below n ++ n ∷ []
 
+-- the rows of all devices, in the order of their definitions
 unfoldable pub rows_of : ℕ → List Instance → List Row
 rows_of devices insts = flat_map (device_rows insts) (below devices)
 
 -- ---- the items
 
+-- the options of a statement
 abbrev pub options_in : Stmt → List Item
 options_in (stmt.Options items) = items
 options_in _ = []
 
+-- the makeoptions of a statement
 abbrev pub makeoptions_in : Stmt → List Item
 makeoptions_in (stmt.MakeOptions items) = items
 makeoptions_in _ = []
 
+-- the file systems of a statement
 abbrev pub file_systems_in : Stmt → List (List ℕ)
 file_systems_in (stmt.FileSystems names) = names
 file_systems_in _ = []
 
+-- the pseudo-device of a statement
 abbrev pub pseudos_in : Stmt → List Pseudo
 pseudos_in (stmt.PseudoDevice name count) = record { name = name; count = count } ∷ []
 pseudos_in _ = []
@@ -128,6 +139,7 @@ idle before _ = []
 abbrev pub orphan : List Instance → ℕ → List WarnKind
 orphan orphans n = if list_any (λ i. i.stmt == n) orphans then warns.Orphan ∷ [] else []
 
+-- a warning at the file and line of a statement
 abbrev pub warning : List (List ℕ) → Placed → WarnKind → Warning
 warning files p kind = record { file = slice_index_or files p.file []; line = p.line; kind = kind }
 
@@ -153,6 +165,7 @@ tables_with r stmts d insts marks = record {
   warnings = warnings r.files (marked false insts marks) [] r.placed;
 }
 
+-- the tables of what was read, given which of the surviving instances are rooted
 abbrev pub tables_of : Reading → List Bool → Tables
 tables_of r marks = tables_with r (stmts_of r.placed) (declared (stmts_of r.placed)) (surviving [] (stmts_of r.placed)) marks
 

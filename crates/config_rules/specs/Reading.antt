@@ -1,12 +1,12 @@
--- The statements that are placed: the named file with its includes, without the parts that are left out.
-use Rattle.std.specs.Prelude.{◌≡◌, ℕ, zero, suc, ◌+◌, ◌-◌, Bool, true, false, not, ◌&&◌, ◌||◌, ◌==◌, nat_lt, nat_le, if◌then◌else◌, List, [], ◌∷◌, ◌++◌, length, take, drop, map, slice_index, slice_index_or, bytes_eq, codes, Option, Some, None, is_some, is_none, option_map, option_and_then, unwrap_or, Result, Ok, Err}
-use Rattle.std.specs.List.{list_all, list_any}
+-- The statements that are placed: the named file with its includes, without the parts that are left out. Includes,
+-- prefixes and conditions follow config(5). How a path is joined to a prefix, what balances in which file, the limits
+-- and the codes are this project's profile.
+use Rattle.std.specs.Prelude.{ℕ, zero, suc, ◌+◌, Bool, true, false, not, ◌&&◌, ◌||◌, ◌==◌, nat_le, if◌then◌else◌, List, [], ◌∷◌, ◌++◌, length, take, drop, map, slice_index, bytes_eq, codes, Option, Some, None, is_some, Result, Ok, Err}
+use Rattle.std.specs.List.{list_any}
 use Rattle.std.specs.Option.{option_map_or}
 use Rattle.cf_types.specs.declared.stmt.Piece.{Piece}
 use Rattle.cf_types.specs.declared.stmt.Placed.{Placed}
 use Rattle.cf_types.specs.declared.stmt.Token.{Token}
-use Rattle.cf_types.specs.declared.stmt.CondWord.{CondWord}
-use Rattle.cf_types.specs.declared.stmt.CondWord.TheVariants as word
 use Rattle.cf_types.specs.declared.stmt.Stmt.{Stmt}
 use Rattle.cf_types.specs.declared.stmt.Stmt.TheVariants as stmt
 use Rattle.cf_types.specs.declared.tables.Refusal.{Refusal}
@@ -22,10 +22,12 @@ pub record Line : Type 0 where
   pub number : ℕ
   pub pieces : List Piece
 
+-- the line of a statement is that of its first token
 abbrev pub line_at : List Token → ℕ
 line_at [] = 0
 line_at (t ∷ ts) = t.line
 
+-- the statements of a text
 abbrev pub lines_in : List ℕ → List Token → List Line
 lines_in text tokens = map (λ ts. record { number = line_at ts; pieces = pieces text ts }) (statements tokens)
 
@@ -45,6 +47,7 @@ pub record Reading : Type 0 where
   pub prefixes : List (List ℕ)
   pub fault : Option Refusal
 
+-- before anything is read
 abbrev pub nothing_read : Reading
 nothing_read = record { placed = []; files = []; prefixes = []; fault = None }
 
@@ -58,21 +61,27 @@ declares name (stmt.DefPseudo n locs needs) = bytes_eq n name
 declares name (stmt.Device n locs needs) = bytes_eq n name
 declares name _ = false
 
+-- one of the placed statements declares this name
 abbrev pub is_declared : List Placed → List ℕ → Bool
 is_declared placed name = list_any (λ p. declares name p.stmt) placed
 
+-- a statement that opens a condition
 abbrev pub opens : Line → Bool
 opens s = list_any (is_among (codes "ifdef" ∷ codes "ifndef" ∷ [])) (take 1 s.pieces)
 
+-- a statement that begins another branch of the open condition
 abbrev pub branches : Line → Bool
 branches s = list_any (is_among (codes "elifdef" ∷ codes "elifndef" ∷ codes "else" ∷ [])) (take 1 s.pieces)
 
+-- a statement that ends the open condition
 abbrev pub closes : Line → Bool
 closes s = list_any (is_word (codes "endif")) (take 1 s.pieces)
 
+-- a condition that holds where the name was not declared
 abbrev pub is_negated : Line → Bool
 is_negated s = list_any (is_among (codes "ifndef" ∷ codes "elifndef" ∷ [])) (take 1 s.pieces)
 
+-- the branch that needs no name
 abbrev pub is_else : Line → Bool
 is_else s = list_any (is_word (codes "else")) (take 1 s.pieces)
 
@@ -103,10 +112,12 @@ is_misplaced around levels s =
     || ((branches s || closes s) && length levels == 0)
     || (branches s && list_any (λ l. l.last) (take 1 levels))
 
+-- the condition that a statement opens within these
 abbrev pub opened : List Placed → Line → List Level → Level
 opened placed s levels =
     record { line = s.number; outer = is_live levels; taken = is_live levels && holds placed s; live = is_live levels && holds placed s; last = false }
 
+-- a condition whose next branch this statement begins; it is taken where no earlier one was
 abbrev pub next_branch : List Placed → Line → Level → Level
 next_branch placed s l =
     record l { taken = l.taken || (l.outer && holds placed s); live = l.outer && not l.taken && holds placed s; last = is_else s }
@@ -139,9 +150,11 @@ pub record Here : Type 0 where
 abbrev pub Reader : Type 0
 Reader = ℕ → List ℕ → List ℕ → Reading → Reading
 
+-- the fault that ends the reading
 abbrev pub refused : List ℕ → ℕ → ℕ → Reading → Reading
 refused file line code r = record r { fault = Some (record { file = file; line = line; code = code }) }
 
+-- a statement is placed
 abbrev pub place : Here → Line → Stmt → Reading → Reading
 place here s form r = record r { placed = r.placed ++ record { stmt = form; file = here.number; line = s.number } ∷ [] }
 
@@ -151,11 +164,13 @@ by_load below here s form around path optional None r = if optional then place h
 by_load below here s form around path optional (Some text) r =
     if nat_le (length text) 1048576 then below around path text (place here s form r) else refused here.file s.number 2 r
 
+-- a file too deep or too many is not asked for
 abbrev pub include : Files → Reader → Here → List Level → Line → List ℕ → Bool → Reading → Reading
 include files below here levels s path optional r =
     if here.deepest || nat_le 4096 (length r.files) then refused here.file s.number 20 r
     else by_load below here s (stmt.Include path optional) (here.around + length levels) (under_prefix r.prefixes path) optional (files (under_prefix r.prefixes path)) r
 
+-- the top prefix goes, where there is one
 abbrev pub pop_prefix : Here → Line → List (List ℕ) → Reading → Reading
 pop_prefix here s [] r = refused here.file s.number 22 r
 pop_prefix here s (top ∷ prefixes) r = place here s (stmt.Prefix None) (record r { prefixes = prefixes })
@@ -177,6 +192,7 @@ read_placed files below here levels s r =
     else option_map_or (λ code. refused here.file s.number code r) (form_fault s.pieces)
     (option_map_or (λ form. treat files below here levels s form r) (form_of true s.pieces) r)
 
+-- in a part that is left out only the first word is looked at, for the nesting
 abbrev pub read_line : Files → Reader → Here → List Level → Line → Reading → Reading
 read_line files below here levels s r =
     if is_placed levels s then read_placed files below here levels s r
@@ -213,5 +229,6 @@ read_first files name None = refused name 0 1 nothing_read
 read_first files name (Some text) =
     if nat_le (length text) 1048576 then reader 17 files 0 name text nothing_read else refused name 0 2 nothing_read
 
+-- what the named file reads as: its placed statements, its files and its first fault
 unfoldable pub reading : Files → List ℕ → Reading
 reading files name = read_first files name (files name)

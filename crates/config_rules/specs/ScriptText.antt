@@ -1,14 +1,14 @@
--- The commands of a script and the turns of an order file, or the first bad line and its code.
-use Rattle.std.specs.Prelude.{◌≡◌, ℕ, ◌+◌, Bool, true, false, not, ◌&&◌, ◌||◌, ◌==◌, nat_lt, nat_le, if◌then◌else◌, List, [], ◌∷◌, ◌++◌, length, map, find, bytes_eq, codes, Option, Some, None, is_some, is_none, option_map, option_and_then, unwrap_or, Result, Ok, Err, ℤ, pos, nat_abs, int_le}
-use Rattle.std.specs.List.{list_all, list_any, enumerate_from, before_first, after_first}
-use Rattle.std.specs.Option.{option_map_or}
+-- The commands of a script and the turns of an order file, or the first bad line and its code. The formats are this
+-- project's own.
+use Rattle.std.specs.Prelude.{ℕ, ◌+◌, Bool, true, not, ◌&&◌, nat_le, if◌then◌else◌, List, [], ◌∷◌, ◌++◌, length, map, bytes_eq, codes, Option, Some, None, option_map, option_and_then, Result, Ok, Err, ℤ, pos, nat_abs, int_le}
+use Rattle.std.specs.List.{list_all}
 use Rattle.cf_types.specs.declared.machine.Command.{Command}
 use Rattle.cf_types.specs.declared.machine.Command.TheVariants as command
 use Rattle.cf_types.specs.declared.machine.Given.{Given}
 use Rattle.cf_text.specs.Shapes.{is_name, number, in_range}
-use Rattle.config_rules.specs.Cut.{lines_of, ◌>>=◌}
-use Rattle.config_rules.specs.Form.{given, each, ◌or◌}
-use Rattle.config_rules.specs.MachineText.{words_of, has_bad_byte, at_number}
+use Rattle.config_rules.specs.Cut.{lines_of, at_line, ◌>>=◌}
+use Rattle.config_rules.specs.Form.{given, each}
+use Rattle.config_rules.specs.MachineText.{words_of, has_bad_byte}
 
 -- an operand: a name of at most 80 bytes
 abbrev pub operand : List ℕ → Option (List ℕ)
@@ -19,6 +19,7 @@ pub record Read : Type 0 where
   pub command : Command
   pub fits : Bool
 
+-- a command that was read
 abbrev pub read : Command → Bool → Read
 read c fits = record { command = c; fits = fits }
 
@@ -26,6 +27,7 @@ read c fits = record { command = c; fits = fits }
 abbrev pub is_value : ℤ → Bool
 is_value v = int_le (pos 0) v && int_le v (pos 4294967295)
 
+-- a pair of a locator and a number word
 abbrev pub given_of : List ℕ → List ℕ → Option Given
 given_of name value = option_and_then (λ n. option_map (λ v. record { name = n; value = v }) (number value)) (operand name)
 
@@ -35,6 +37,7 @@ pairs_of [] = Some []
 pairs_of (name ∷ []) = None
 pairs_of (name ∷ value ∷ ws) = option_and_then (λ g. option_map (λ gs. g ∷ gs) (pairs_of ws)) (given_of name value)
 
+-- exactly one operand
 abbrev pub one_operand : (List ℕ → Command) → List (List ℕ) → Option Read
 one_operand make (w ∷ []) = option_map (λ name. read (make name) true) (operand w)
 one_operand make _ = None
@@ -44,10 +47,12 @@ abbrev pub operand_or_none : (Option (List ℕ) → Command) → List (List ℕ)
 operand_or_none make [] = Some (read (make None) true)
 operand_or_none make ws = one_operand (λ name. make (Some name)) ws
 
+-- `io D V`
 abbrev pub io_form : List (List ℕ) → Option Read
 io_form (d ∷ v ∷ []) = option_and_then (λ name. option_map (λ value. read (command.Io name (nat_abs value)) (is_value value)) (number v)) (operand d)
 io_form _ = None
 
+-- `rescan D`, `rescan D A`, or that with up to 16 pairs
 abbrev pub rescan_form : List (List ℕ) → Option Read
 rescan_form [] = None
 rescan_form (d ∷ []) = option_map (λ name. read (command.Rescan name None []) true) (operand d)
@@ -61,9 +66,11 @@ pub record CommandRow : Type 0 where
   pub word : List ℕ
   pub form : List (List ℕ) → Option Read
 
+-- a row of the table of commands
 abbrev pub row : List ℕ → (List (List ℕ) → Option Read) → CommandRow
 row word form = record { word = word; form = form }
 
+-- the commands by their words, after drvctl(8)
 unfoldable pub commands : List CommandRow
 commands =
     row (codes "open") (one_operand command.OpenDev)
@@ -80,6 +87,7 @@ commands =
     ∷ row (codes "unplug") (one_operand command.Unplug)
     ∷ []
 
+-- the row of this word
 abbrev pub row_of : List CommandRow → List ℕ → Option CommandRow
 row_of [] word = None
 row_of (r ∷ rows) word = if bytes_eq r.word word then Some r else row_of rows word
@@ -89,14 +97,17 @@ abbrev pub by_form : ℕ → Option Read → Result Command ℕ
 by_form before None = Err 2
 by_form before (Some r) = if not r.fits then Err 3 else (if nat_le 500 before then Err 4 else Ok r.command)
 
+-- a word that no row has is no command
 abbrev pub by_row : ℕ → List (List ℕ) → Option CommandRow → Result Command ℕ
 by_row before ws None = Err 1
 by_row before ws (Some r) = by_form before (r.form ws)
 
+-- the command of a line after so many; a line without words has none
 abbrev pub command_of : ℕ → List (List ℕ) → Result (List Command) ℕ
 command_of before [] = Ok []
 command_of before (w ∷ ws) = by_row before ws (row_of commands w) >>= λ c. Ok (c ∷ [])
 
+-- a byte that is not allowed comes before the other codes of its line
 abbrev pub line_commands : ℕ → List ℕ → Result (List Command) ℕ
 line_commands before line = if has_bad_byte line then Err 2 else command_of before (words_of line)
 
@@ -104,7 +115,7 @@ line_commands before line = if has_bad_byte line then Err 2 else command_of befo
 abbrev pub commands_from : ℕ → List Command → List (List ℕ) → Result (List Command) (ℕ × ℕ)
 commands_from n before [] = Ok before
 commands_from n before (line ∷ lines) =
-    at_number n (line_commands (length before) line) >>= λ cs. commands_from (n + 1) (before ++ cs) lines
+    at_line n (line_commands (length before) line) >>= λ cs. commands_from (n + 1) (before ++ cs) lines
 
 -- the commands of a script, or the first bad line and its code
 unfoldable pub commands_of : List ℕ → Result (List Command) (ℕ × ℕ)
@@ -112,6 +123,7 @@ commands_of text = commands_from 1 [] (lines_of text)
 
 -- ---- order files
 
+-- the number of a caller
 abbrev pub is_turn : ℕ → ℤ → Bool
 is_turn callers v = int_le (pos 1) v && int_le v (pos callers)
 
@@ -120,13 +132,15 @@ abbrev pub in_turn : ℕ → Option (List ℤ) → Result (List ℕ) ℕ
 in_turn callers None = Err 2
 in_turn callers (Some vs) = if list_all (is_turn callers) vs then Ok (map nat_abs vs) else Err 3
 
+-- the turns of a line of these words
 abbrev pub turns_of : ℕ → List (List ℕ) → Result (List ℕ) ℕ
 turns_of callers ws = in_turn callers (each number ws)
 
+-- the turns of these lines, numbered from n, or the first bad line
 abbrev pub order_from : ℕ → ℕ → List (List ℕ) → Result (List ℕ) (ℕ × ℕ)
 order_from callers n [] = Ok []
 order_from callers n (line ∷ lines) =
-    at_number n (if has_bad_byte line then Err 2 else turns_of callers (words_of line)) >>= λ ts. order_from callers (n + 1) lines >>= λ more. Ok (ts ++ more)
+    at_line n (if has_bad_byte line then Err 2 else turns_of callers (words_of line)) >>= λ ts. order_from callers (n + 1) lines >>= λ more. Ok (ts ++ more)
 
 -- the turns of an order file, or the first bad line and its code
 unfoldable pub order_of : ℕ → List ℕ → Result (List ℕ) (ℕ × ℕ)

@@ -1,6 +1,7 @@
 -- Which instances and items stand: those that no later negation takes back, and the instances that are rooted.
-use Rattle.std.specs.Prelude.{◌≡◌, ℕ, ◌+◌, ◌<◌, Bool, true, false, not, ◌&&◌, ◌||◌, ◌==◌, ◌↔◌, nat_lt, nat_le, if◌then◌else◌, List, [], ◌∷◌, ◌++◌, length, map, filter, slice_get, slice_index_or, bytes_eq, Option, Some, None, IsTrue}
-use Rattle.std.specs.List.{list_all, list_any}
+-- Negations are those of config(5). What a negation names, and that orphans are dropped, is this project's profile.
+use Rattle.std.specs.Prelude.{◌≡◌, ℕ, ◌<◌, Bool, true, false, not, ◌&&◌, ◌||◌, ◌==◌, List, [], ◌∷◌, ◌++◌, length, map, filter, slice_get, slice_index_or, bytes_eq, Option, Some}
+use Rattle.std.specs.List.{list_any}
 use Rattle.std.specs.Option.{option_map_or, option_eq}
 use Rattle.cf_types.specs.declared.stmt.AtSpec.{AtSpec}
 use Rattle.cf_types.specs.declared.stmt.AtSpec.TheVariants as written
@@ -19,15 +20,18 @@ use Rattle.config_rules.specs.Fault.{is_instance}
 
 -- ---- as written
 
+-- the same unit, or both starred
 abbrev pub same_mark : UnitMark → UnitMark → Bool
 same_mark (Fixed u) (Fixed v) = u == v
 same_mark Star Star = true
 same_mark (Fixed u) Star = false
 same_mark Star (Fixed v) = false
 
+-- the same unit, or none on both sides
 abbrev pub same_number : Option ℕ → Option ℕ → Bool
 same_number a b = option_eq (λ x y. x == y) a b
 
+-- the same attachment as it is written
 abbrev pub same_at : AtSpec → AtSpec → Bool
 same_at written.Root written.Root = true
 same_at (written.Named a u) (written.Named b v) = bytes_eq a b && same_number u v
@@ -64,6 +68,7 @@ pub record Survives (stmts : List Stmt) (i : ℕ) (s : Stmt) : Type 0 where
 
 -- ---- items
 
+-- the same kind of items
 abbrev pub same_kind : ItemKind → ItemKind → Bool
 same_kind of_kind.Options of_kind.Options = true
 same_kind of_kind.MakeOptions of_kind.MakeOptions = true
@@ -71,6 +76,7 @@ same_kind of_kind.PseudoDevice of_kind.PseudoDevice = true
 same_kind of_kind.FileSystem of_kind.FileSystem = true
 same_kind _ _ = false
 
+-- the name is among these
 abbrev pub has_name : List (List ℕ) → List ℕ → Bool
 has_name ns name = list_any (λ n. bytes_eq n name) ns
 
@@ -111,6 +117,7 @@ pub record Inst : Type 0 where
 abbrev pub is_parent : ParentSpec → Inst → Bool
 is_parent p j = p.device == j.device && option_map_or (λ unit. same_mark j.mark Star || same_mark j.mark (Fixed unit)) p.unit true
 
+-- the device offers the attribute of a place
 abbrev pub offers_place : Declared → ℕ → Place → Bool
 offers_place d device Root = false
 offers_place d device (At a) = offers d.attrs d.devices device a
@@ -119,6 +126,7 @@ offers_place d device (At a) = offers d.attrs d.devices device a
 abbrev pub carries : Declared → Inst → Inst → Bool
 carries d j i = offers_place d j.device i.place && option_map_or (λ p. is_parent p j) i.parent true
 
+-- an instance at the root
 abbrev pub is_at_root : Inst → Bool
 is_at_root i = at_root i.place
   where
@@ -130,6 +138,7 @@ is_at_root i = at_root i.place
 abbrev pub carries_at : Declared → List Inst → ℕ → ℕ → Bool
 carries_at d insts j i = option_map_or (λ x. option_map_or (λ y. carries d x y) (slice_get insts i) false) (slice_get insts j) false
 
+-- the instance at this place of the list is at the root
 abbrev pub is_at_root_at : List Inst → ℕ → Bool
 is_at_root_at insts i = option_map_or is_at_root (slice_get insts i) false
 
@@ -140,6 +149,7 @@ abbrev pub LeadsToRoot : (ℕ → Bool) → (ℕ → ℕ → Bool) → ℕ → �
 LeadsToRoot at_root carries n i [] = (i < n) × (at_root i ≡ true)
 LeadsToRoot at_root carries n i (j ∷ chain) = (i < n) × (carries j i ≡ true) × LeadsToRoot at_root carries n j chain
 
+-- some chain leads to the root
 abbrev pub Rooted : (ℕ → Bool) → (ℕ → ℕ → Bool) → ℕ → ℕ → Type 0
 Rooted at_root carries n i = (chain : List ℕ) × LeadsToRoot at_root carries n i chain
 

@@ -1,0 +1,146 @@
+ghost use Rattle.std.specs.Prelude.{◌≡◌, ◌+◌, ◌==◌, ◌&&◌, slice_index, ◌≤◌, length, drop, take_while, Some, IfOk};
+ghost use Rattle.std.specs.List.{prefix_len};
+ghost use Rattle.config_rules.specs.Cut.{is_space, is_chunk_byte, is_text_byte, is_mark_byte, quoted_part};
+ghost use Rattle.cf_lexer.specs.Front.{IsWithin, front, front_at, front_result, span};
+
+use cf_types::TokenKind;
+
+/// The code of a byte that is not allowed.
+pub const BAD_BYTE: u8 = 3;
+
+/// The code of a string that is open at the end of its line.
+pub const OPEN_STRING: u8 = 4;
+
+/// A token by its place in the part of the line that it is.
+#[derive(Clone, Copy)]
+pub struct Span {
+    pub kind: TokenKind,
+    pub start: usize,
+    pub end: usize,
+}
+
+/// The part at the front of a line: how long it is, and its token, if it has one.
+#[derive(Clone, Copy)]
+pub struct Front {
+    pub len: usize,
+    pub token: Option<Span>,
+}
+
+pub fn is_space(byte: u8) -> bool
+    ensures { result ≡ is_space byte }
+{
+    byte == b' ' || byte == b'\t'
+}
+
+fn is_chunk_byte(byte: u8) -> bool
+    ensures { result ≡ is_chunk_byte byte }
+{
+    byte.is_ascii_alphanumeric() || matches!(byte, b'_' | b'-' | b'.' | b'/' | b'*' | b'?' | b'$')
+}
+
+fn is_text_byte(byte: u8) -> bool
+    ensures { result ≡ is_text_byte byte }
+{
+    matches!(byte, b'\t' | b' '..=b'~') && byte != b'"'
+}
+
+fn is_mark_byte(byte: u8) -> bool
+    ensures { result ≡ is_mark_byte byte }
+{
+    matches!(
+        byte,
+        b',' | b'=' | b':' | b'{' | b'}' | b'[' | b']' | b'(' | b')' | b'!' | b'&' | b'|'
+    )
+}
+
+/// How many bytes of a chunk stand at the front.
+fn chunk_len(bytes: &[u8]) -> usize
+    ensures len { result ≡ prefix_len is_chunk_byte bytes.now }
+    ensures within { result ≤ length bytes.now }
+{
+    bytes
+        .iter()
+        .take_while(|&&byte| is_chunk_byte(byte))
+        .count()
+}
+
+/// How many bytes of a string stand at the front.
+fn text_len(bytes: &[u8]) -> usize
+    ensures { result ≡ prefix_len is_text_byte bytes.now }
+{
+    bytes.iter().take_while(|&&byte| is_text_byte(byte)).count()
+}
+
+/// The string behind its first quote, or the code of the byte in the place of its second.
+fn quoted(bytes: &[u8]) -> Result<Front, u8>
+    ensures front { result ≡ front_result (quoted_part (take_while is_text_byte bytes.now) (drop (prefix_len is_text_byte bytes.now) bytes.now)) }
+    ensures within { IfOk result (λ f. IsWithin f (length bytes.now + 1)) }
+{
+    let len = text_len(bytes);
+    match bytes.get(len) {
+        None => Err(OPEN_STRING),
+        Some(b'"') => Ok(Front {
+            len: len + 2,
+            token: Some(Span {
+                kind: TokenKind::Text,
+                start: 1,
+                end: len + 1,
+            }),
+        }),
+        Some(_) => Err(BAD_BYTE),
+    }
+}
+
+/// A part that is a token as a whole.
+fn token(kind: TokenKind, len: usize) -> Front
+    ensures { result ≡ front len (Some (span kind 0 len)) }
+{
+    Front {
+        len,
+        token: Some(Span {
+            kind,
+            start: 0,
+            end: len,
+        }),
+    }
+}
+
+/// Whether these begin with `+=`.
+fn is_plus_equals(first: u8, more: &[u8]) -> bool
+    ensures { result ≡ (first == 43 && slice_index more.now 0 == 61) }
+{
+    first == b'+' && !more.is_empty() && more[0] == b'='
+}
+
+/// The part at the front of the rest of a line, by its first byte and the bytes behind it, or the code of that byte.
+#[tactic(auto, using(crate::proofs::FrontLemmas::length_chunk))]
+pub fn front_part(first: u8, more: &[u8]) -> Result<Front, u8>
+    ensures front { result ≡ front_at first more.now }
+    ensures within { IfOk result (λ f. IsWithin f (length more.now + 1)) }
+{
+    if is_space(first) {
+        return Ok(Front {
+            len: 1,
+            token: None,
+        });
+    }
+    if first == b'#' {
+        return Ok(Front {
+            len: more.len() + 1,
+            token: None,
+        });
+    }
+    if first == b'"' {
+        return quoted(more);
+    }
+    if is_chunk_byte(first) {
+        return Ok(token(TokenKind::Chunk, chunk_len(more) + 1));
+    }
+    if is_mark_byte(first) {
+        return Ok(token(TokenKind::Mark, 1));
+    }
+    if is_plus_equals(first, more) {
+        return Ok(token(TokenKind::Mark, 2));
+    }
+    Err(BAD_BYTE)
+}

@@ -1,0 +1,72 @@
+ghost use Rattle.std.specs.Prelude.{◌≡◌, ◌+◌, ◌<◌, ◌++◌, ◌^◌, length, IfSome, OnOk};
+ghost use Rattle.config_rules.specs.Cut.{parts_of};
+ghost use Rattle.cf_lexer.specs.Line.{Leaves, span_tokens, with_line};
+
+use crate::front::{Span, front_part};
+use cf_types::{List, Memory as NoMemory, Token};
+
+/// Why a text can't be cut into tokens.
+#[derive(Clone, Copy, Debug, PartialEq, Eq)]
+pub enum LexStop {
+    /// The line of the first faulty byte, counted from 1, and its code: 3 for a byte that is not allowed, 4 for the end
+    /// of the line within a string.
+    Fault { line: u32, code: u8 },
+    /// Memory ran out.
+    Memory,
+}
+
+impl From<NoMemory> for LexStop {
+    ghost use Rattle.std.specs.Prelude.{◌≡◌};
+    ghost use Rattle.cf_lexer.specs.declared.line.LexStop.TheVariants.{Memory};
+
+    ghost from_gives = { λ _ e. e ≡ Memory };
+
+    fn from(_error: NoMemory) -> LexStop {
+        LexStop::Memory
+    }
+}
+
+/// Appends the token of a part that begins at this place of the text, if it has one.
+fn push_span(
+    tokens: &mut List<Token>,
+    line: u32,
+    at: u32,
+    span: Option<Span>,
+) -> Result<(), NoMemory>
+    requires { IfSome span (λ s. (at + s.start < 2 ^ 32) × (at + s.end < 2 ^ 32)) }
+    ensures { OnOk result (tokens.new ≡ tokens.old ++ span_tokens line at span) }
+{
+    if let Some(span) = span {
+        tokens.push(Token {
+            kind: span.kind,
+            start: at + span.start as u32,
+            end: at + span.end as u32,
+            line,
+        })?;
+    }
+    Ok(())
+}
+
+/// Appends the tokens of the line with this number, which begins at this place of the text.
+pub fn cut_line(
+    tokens: &mut List<Token>,
+    line: u32,
+    start: u32,
+    bytes: &[u8],
+) -> Result<(), LexStop>
+    requires { start + length bytes.now < 2 ^ 32 }
+    ensures { Leaves (with_line tokens.old line start (parts_of bytes.now)) line result tokens.new }
+{
+    let mut rest = bytes;
+    let mut at = start;
+    while let Some((&first, more)) = rest.split_first() {
+        let front = match front_part(first, more) {
+            Ok(front) => front,
+            Err(code) => return Err(LexStop::Fault { line, code }),
+        };
+        push_span(tokens, line, at, front.token)?;
+        at += front.len as u32;
+        rest = &rest[front.len..];
+    }
+    Ok(())
+}

@@ -1,0 +1,65 @@
+ghost use Rattle.std.specs.Prelude.{◌≡◌, ◌++◌, ◌≤◌, cond, length, IfOk, IfErr, OnOk};
+ghost use Rattle.config_rules.specs.Cut.{Cut, cut_of, stop_behind};
+ghost use Rattle.cf_lexer.specs.Line.{begins, IsFaultOf, Shows};
+
+use crate::front::is_space;
+use crate::line::{LexStop, cut_line};
+use cf_types::{List, Memory as NoMemory, Token, TokenKind};
+use std::alloc::Global;
+
+/// Whether a line that is not blank begins a statement: it begins with no space, tab or comment.
+fn begins(line: &[u8]) -> bool
+    ensures { result ≡ begins line.now }
+{
+    match line {
+        [first, ..] => !is_space(*first) && *first != b'#',
+        [] => false,
+    }
+}
+
+/// Appends a stop behind the last token, if there is one.
+fn push_stop(tokens: &mut List<Token>) -> Result<(), NoMemory>
+    ensures { OnOk result (tokens.new ≡ tokens.old ++ stop_behind tokens.old) }
+{
+    if let Some(last) = tokens.items().last() {
+        let stop = Token {
+            kind: TokenKind::Stop,
+            start: last.end,
+            end: last.end,
+            line: last.line,
+        };
+        tokens.push(stop)?;
+    }
+    Ok(())
+}
+
+/// Ends the statement so far where this line begins another.
+fn end_statement(tokens: &mut List<Token>, line: &[u8]) -> Result<(), NoMemory>
+    ensures { OnOk result (tokens.new ≡ cond (begins line.now) (tokens.old ++ stop_behind tokens.old) tokens.old) }
+{
+    if begins(line) {
+        push_stop(tokens)?;
+    }
+    Ok(())
+}
+
+/// The tokens of a configuration file of at most 1,048,576 bytes, with a `Stop` behind those of each statement, or the
+/// fault of the first byte that no token, comment or blank can take. See config(5).
+pub fn cut(alloc: Global, text: &[u8]) -> Result<List<Token>, LexStop>
+    requires { length text.now ≤ 1048576 }
+    ensures cut { IfOk result (λ tokens. Cut text.now tokens) }
+    ensures fault { IfErr result (λ stop. IsFaultOf text.now stop) }
+    ensures exact { Shows (cut_of text.now) result }
+{
+    let mut tokens = List::make(alloc);
+    let mut number = 1;
+    let mut at = 0;
+    for line in text.split(|&byte| byte == b'\n') {
+        end_statement(&mut tokens, line)?;
+        cut_line(&mut tokens, number, at, line)?;
+        number += 1;
+        at += line.len() as u32 + 1;
+    }
+    push_stop(&mut tokens)?;
+    Ok(tokens)
+}
