@@ -23,8 +23,8 @@ pub enum Split {
     TooGreat,
 }
 
-/// How much of the chunk stands before the digits at its end.
-fn base_len(chunk: &[u8]) -> usize
+/// How much of a chunk stands before the digits at its end, from 0 to its length. It takes no memory.
+pub fn base_len(chunk: &[u8]) -> usize
     ensures len { result ≡ base_len chunk.now }
     ensures within { result ≤ length chunk.now }
 {

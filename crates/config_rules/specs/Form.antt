@@ -186,6 +186,20 @@ defining sized make (n ∷ ps) = option_and_then (λ name. with_body sized (make
 
 -- ---- one case for each row
 
+-- a word, the last but one token, with no comma before it and something before that
+abbrev pub is_before_last : List ℕ → List Piece → Bool
+is_before_last word ps =
+    nat_lt 2 (length ps) && list_any (is_word word) (take 1 (drop (length ps - 2) ps))
+    && not (list_any (is_mark (codes ",")) (take 1 (drop (length ps - 3) ps)))
+
+-- the places, and where they end with `with N`, the attachment's name
+abbrev pub attached : List ℕ → List (List ℕ) → List Piece → Option Stmt
+attached device needs ps =
+    if is_before_last (codes "with") ps
+    then option_and_then (λ places. option_map (λ name. stmt.Attach device places (Some name) needs) (alone name_of (drop (length ps - 1) ps)))
+    (names_of (take (length ps - 2) ps))
+    else option_map (λ places. stmt.Attach device places None needs) (names_of ps)
+
 -- `attach N at N-or-root, .. [with N] [: N, ..]`, behind its word
 abbrev pub attach_stmt : List Piece → Option Stmt
 attach_stmt (d ∷ at ∷ ps) =
@@ -194,16 +208,15 @@ attach_stmt (d ∷ at ∷ ps) =
     option_and_then (λ needs. attached device needs (before_first (is_mark (codes ":")) ps)) (needs_of (drop (length (before_first (is_mark (codes ":")) ps)) ps)))
     (name_of d)
     else None
-  where
-    -- where they end with `with N`, that is the attachment's name
-    attached : List ℕ → List (List ℕ) → List Piece → Option Stmt
-    attached device needs ps =
-        if nat_lt 2 (length ps) && list_any (is_word (codes "with")) (take 1 (drop (length ps - 2) ps))
-        && not (list_any (is_mark (codes ",")) (take 1 (drop (length ps - 3) ps)))
-        then option_and_then (λ places. option_map (λ name. stmt.Attach device places (Some name) needs) (alone name_of (drop (length ps - 1) ps)))
-        (names_of (take (length ps - 2) ps))
-        else option_map (λ places. stmt.Attach device places None needs) (names_of ps)
 attach_stmt _ = None
+
+-- `V` or `?`
+abbrev pub given_value : Bool → Piece → Option (Option ℤ)
+given_value sized v = given (is_word (codes "?") v) None or option_map (λ value. Some value) (value_of sized v)
+
+-- `N V` or `N ?`
+abbrev pub pair_of : Bool → Piece → Piece → Option GivenLoc
+pair_of sized n v = option_and_then (λ name. option_map (λ value. record { name = name; value = value }) (given_value sized v)) (name_of n)
 
 -- the pairs `N V` and `N ?`, then optionally `flags V`
 abbrev pub pairs_of : Bool → List Piece → Option (List GivenLoc × ℤ)
@@ -211,9 +224,7 @@ pairs_of sized [] = Some ([], pos 0)
 pairs_of sized (n ∷ []) = None
 pairs_of sized (n ∷ v ∷ ps) =
     if is_word (codes "flags") n then option_and_then (λ value. given (length ps == 0) ([], value)) (value_of sized v)
-    else option_and_then (λ name. option_and_then (λ value.
-    option_map (λ rest. (record { name = name; value = value } ∷ rest.0, rest.1)) (pairs_of sized ps))
-    (given (is_word (codes "?") v) None or option_map (λ value. Some value) (value_of sized v))) (name_of n)
+    else option_and_then (λ pair. option_map (λ rest. (pair ∷ rest.0, rest.1)) (pairs_of sized ps)) (pair_of sized n v)
 
 -- `U at X` and the pairs
 abbrev pub inst_stmt : Bool → List Piece → Option Stmt
@@ -225,6 +236,16 @@ inst_stmt sized (u ∷ at ∷ x ∷ ps) =
     else None
 inst_stmt sized _ = None
 
+-- `at X`
+abbrev pub at_place : Bool → List Piece → Option AtSpec
+at_place sized (at ∷ x ∷ []) = if is_word (codes "at") at then place_of sized x else None
+at_place sized _ = None
+
+-- `U` or `U at X`, behind the unit
+abbrev pub no_inst : Bool → List ℕ → UnitMark → List Piece → Option Stmt
+no_inst sized base mark [] = Some (stmt.NoInst base mark None)
+no_inst sized base mark (p ∷ ps) = option_map (λ at. stmt.NoInst base mark (Some at)) (at_place sized (p ∷ ps))
+
 -- `no` and what it takes back
 abbrev pub no_stmt : Bool → List Piece → Option Stmt
 no_stmt sized [] = None
@@ -235,14 +256,6 @@ no_stmt sized (p ∷ ps) =
     else (if is_word (codes "pseudo-device") p then option_map (λ name. stmt.NoItems of_kind.PseudoDevice (name ∷ [])) (alone name_of ps)
     else (if is_word (codes "device") p then option_map stmt.NoDevice (at_place sized ps)
     else option_and_then (λ u. no_inst sized u.0 u.1 ps) (unit_chunk sized p)))))
-  where
-    at_place : Bool → List Piece → Option AtSpec
-    at_place sized (at ∷ x ∷ []) = if is_word (codes "at") at then place_of sized x else None
-    at_place sized _ = None
-
-    no_inst : Bool → List ℕ → UnitMark → List Piece → Option Stmt
-    no_inst sized base mark [] = Some (stmt.NoInst base mark None)
-    no_inst sized base mark (p ∷ ps) = option_map (λ at. stmt.NoInst base mark (Some at)) (at_place sized (p ∷ ps))
 
 -- an option or makeoption of this name
 abbrev pub item : List ℕ → Bool → Option (List ℕ) → Item
@@ -283,10 +296,13 @@ checked word holds = given holds (stmt.Checked word)
 abbrev pub are_values : Bool → List Piece → Bool
 are_values sized ps = list_all (λ p. is_some (value_of sized p)) ps
 
+-- one or more chunks
+abbrev pub are_chunks : List Piece → Bool
+are_chunks ps = nat_lt 0 (length ps) && list_all is_chunk ps
+
 -- `config N root on` and one or more chunks
 abbrev pub is_config : List Piece → Bool
-is_config (n ∷ root ∷ on ∷ ps) =
-    is_some (name_of n) && is_word (codes "root") root && is_word (codes "on") on && nat_lt 0 (length ps) && list_all is_chunk ps
+is_config (n ∷ root ∷ on ∷ ps) = (is_some (name_of n) && is_word (codes "root") root && is_word (codes "on") on) && are_chunks ps
 is_config _ = false
 
 -- a condition word that takes a name

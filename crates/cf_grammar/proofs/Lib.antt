@@ -1,0 +1,11 @@
+pub mod PairLemmas
+pub mod AttachLemmas
+pub mod InstanceLemmas
+pub mod KeywordLemmas
+pub mod NegationLemmas
+pub mod ItemLemmas
+pub mod CheckedLemmas
+pub mod FormLemmas
+pub mod FaultLemmas
+pub mod GrammarLemmas
+pub mod CutWithin

@@ -1,0 +1,13 @@
+use Rattle.std.proofs.Common.{◌∙◌, ◌≢◌, map, length, sym, arith}
+use Rattle.std.proofs.lemmas.Bool.{eqb-false}
+use Rattle.std.proofs.lemmas.List.{length-map}
+use Rattle.config_rules.specs.Form.{is_chunk}
+use Rattle.cf_words.specs.Words.{piece_of}
+use Rattle.cf_words.proofs.ListLemmas.{list_all-map}
+use Rattle.cf_grammar.proofs.CheckedLemmas.{some_chunks}
+use Rattle.cf_grammar.proofs.checked.are_chunks.Goals as goal
+
+pub returns-then-not-is_empty : goal.returns-then-not-is_empty
+returns-then-not-is_empty c =
+    let some : length c.args.words.now ≢ 0 = eqb-false (length c.args.words.now) 0 (sym c.if-not-is_empty.ensures) in
+    c.all_chunks.ensures ∙ list_all-map is_chunk piece_of c.args.words.now ∙ some_chunks (map piece_of c.args.words.now) (omega (arith, length-map c.args.words.now piece_of))

@@ -1,0 +1,8 @@
+use Rattle.std.proofs.Common.{map, arith}
+use Rattle.std.proofs.lemmas.List.{length-map}
+use Rattle.cf_words.specs.Words.{piece_of}
+use Rattle.cf_grammar.proofs.InstanceLemmas.{instance_short}
+use Rattle.cf_grammar.proofs.instance.instance.Goals as goal
+
+pub returns-in_default : goal.returns-in_default
+returns-in_default c = instance_short c.args.sized (map piece_of c.args.words.now) (omega (arith, length-map c.args.words.now piece_of))

@@ -1,0 +1,7 @@
+pub mod Define
+pub mod Items
+pub mod Keyword
+pub mod LeftOut
+pub mod Negation
+pub mod Pairs
+pub mod Statement

@@ -1,0 +1,19 @@
+-- What a caller of `statement` owes, and what the errors mean.
+use Rattle.std.specs.Prelude.{◌≡◌, ℕ, ◌≤◌, List, length, All, Some, ⊤}
+use Rattle.cf_types.specs.declared.stmt.Piece.{Piece}
+use Rattle.cf_types.specs.declared.stmt.Token.{Token}
+use Rattle.config_rules.specs.Form.{form_fault}
+use Rattle.cf_grammar.specs.declared.grammar.GrammarStop.{GrammarStop}
+use Rattle.cf_grammar.specs.declared.grammar.GrammarStop.TheVariants.{Fault, Memory}
+
+-- a token's span lies within the text
+abbrev pub IsWithin : List ℕ → Token → Type 0
+IsWithin text t = (t.start ≤ t.end) × (t.end ≤ length text)
+
+abbrev pub AreWithin : List ℕ → List Token → Type 0
+AreWithin text tokens = All (IsWithin text) tokens
+
+-- the fault of these tokens; want of memory says nothing
+abbrev pub IsFaultOf : List Piece → GrammarStop → Type 0
+IsFaultOf ps (Fault code) = form_fault ps ≡ Some code
+IsFaultOf ps Memory = ⊤

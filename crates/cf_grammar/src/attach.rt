@@ -1,0 +1,72 @@
+ghost use Rattle.std.specs.Prelude.{◌≡◌, IfOk, codes, map};
+ghost use Rattle.config_rules.specs.Form.{attach_stmt, attached, is_before_last};
+ghost use Rattle.cf_words.specs.Words.{piece_of};
+
+use crate::define::needs_of;
+use cf_types::{List, Memory, Name, Stmt};
+use cf_words::{Word, alone_name, name_of, names_of, split_before};
+use std::alloc::Global;
+
+/// Whether a statement's places end with `with` and one word more.
+fn is_named(words: &[Word]) -> bool
+    ensures { result ≡ is_before_last (codes "with") (map piece_of words.now) }
+{
+    match words {
+        [.., before, with, _] => with.is_word(b"with") && !before.is_mark(b","),
+        _ => false,
+    }
+}
+
+/// The places, and the attachment's name behind `with`, where one is written.
+fn attached(
+    alloc: Global,
+    device: Name,
+    needs: List<Name>,
+    words: &[Word],
+) -> Result<Option<Stmt>, Memory>
+    ensures { IfOk result (λ s. s ≡ attached device needs (map piece_of words.now)) }
+{
+    if !is_named(words) {
+        return match names_of(alloc, words)? {
+            Some(places) => Ok(Some(Stmt::Attach {
+                device,
+                places,
+                attach_name: None,
+                needs,
+            })),
+            None => Ok(None),
+        };
+    }
+    let Some(places) = names_of(alloc, &words[..words.len() - 2])? else {
+        return Ok(None);
+    };
+    match alone_name(alloc, &words[words.len() - 1..])? {
+        Some(name) => Ok(Some(Stmt::Attach {
+            device,
+            places,
+            attach_name: Some(name),
+            needs,
+        })),
+        None => Ok(None),
+    }
+}
+
+/// `attach`: a device, `at`, one or more places, perhaps `with` and a name, and perhaps attributes behind a colon.
+pub fn attach(alloc: Global, words: &[Word]) -> Result<Option<Stmt>, Memory>
+    ensures { IfOk result (λ s. s ≡ attach_stmt (map piece_of words.now)) }
+{
+    let [device, at, rest @ ..] = words else {
+        return Ok(None);
+    };
+    if !at.is_word(b"at") {
+        return Ok(None);
+    }
+    let Some(device) = name_of(alloc, *device)? else {
+        return Ok(None);
+    };
+    let (places, needs) = split_before(rest, b":");
+    match needs_of(alloc, needs)? {
+        Some(needs) => attached(alloc, device, needs, places),
+        None => Ok(None),
+    }
+}

@@ -1,0 +1,206 @@
+ghost use Rattle.std.specs.Prelude.{◌≡◌, ◌||◌, ◌&&◌, ◌==◌, IfOk, codes, is_some, length, map, true};
+ghost use Rattle.std.specs.List.{list_all};
+ghost use Rattle.config_rules.specs.Form.{alone, are_chunks, are_values, checked, each, is_chunk, is_config, is_word, name_of, name_row, path_of, pseudo_stmt, value_of};
+ghost use Rattle.cf_words.specs.Words.{piece_of};
+ghost use Rattle.cf_grammar.specs.Keyword.{form_by, free_form, spelling_of};
+
+use crate::keyword::{Keyword, spelling};
+use cf_types::{List, Memory, Name, Piece, Stmt, Text};
+use cf_words::{Word, count_of, is_name_word, is_path_word, name_of, value_of};
+use std::alloc::Global;
+
+/// `pseudo-device`: a name, perhaps with a count from 1 to 65,535.
+pub fn pseudo_device(alloc: Global, sized: bool, words: &[Word]) -> Result<Option<Stmt>, Memory>
+    ensures { IfOk result (λ s. s ≡ pseudo_stmt sized (map piece_of words.now)) }
+{
+    match words {
+        [name] => match name_of(alloc, *name)? {
+            Some(name) => Ok(Some(Stmt::PseudoDevice { name, count: 1 })),
+            None => Ok(None),
+        },
+        [name, count] => {
+            let Some(name) = name_of(alloc, *name)? else {
+                return Ok(None);
+            };
+            match count_of(sized, *count) {
+                Some(count) => Ok(Some(Stmt::PseudoDevice { name, count })),
+                None => Ok(None),
+            }
+        }
+        _ => Ok(None),
+    }
+}
+
+fn is_value(sized: bool, word: Word) -> bool
+    ensures { result ≡ is_some (value_of sized (piece_of word.entry)) }
+{
+    value_of(sized, word).is_some()
+}
+
+fn all_values(sized: bool, words: &[Word]) -> bool
+    ensures { result ≡ list_all (λ word. is_some (value_of sized (piece_of word))) words.now }
+{
+    words.iter().all(|&word| is_value(sized, word))
+}
+
+fn are_values(sized: bool, words: &[Word]) -> bool
+    ensures { result ≡ are_values sized (map piece_of words.now) }
+{
+    all_values(sized, words)
+}
+
+fn all_chunks(words: &[Word]) -> bool
+    ensures { result ≡ list_all (λ word. is_chunk (piece_of word)) words.now }
+{
+    words.iter().all(|word| word.is_chunk())
+}
+
+/// One or more chunks.
+fn are_chunks(words: &[Word]) -> bool
+    ensures { result ≡ are_chunks (map piece_of words.now) }
+{
+    !words.is_empty() && all_chunks(words)
+}
+
+fn all_names(words: &[Word]) -> bool
+    ensures { result ≡ list_all (λ word. is_some (name_of (piece_of word))) words.now }
+{
+    words.iter().all(|&word| is_name_word(word))
+}
+
+fn are_names(words: &[Word]) -> bool
+    ensures { result ≡ is_some (each name_of (map piece_of words.now)) }
+{
+    all_names(words)
+}
+
+fn is_one_or_three(count: usize) -> bool
+    ensures { result ≡ (count == 1 || count == 3) }
+{
+    count == 1 || count == 3
+}
+
+fn is_max_users(sized: bool, words: &[Word]) -> bool
+    ensures { result ≡ ((length (map piece_of words.now) == 1 || length (map piece_of words.now) == 3) && are_values sized (map piece_of words.now)) }
+{
+    is_one_or_three(words.len()) && are_values(sized, words)
+}
+
+fn is_max_partitions(sized: bool, words: &[Word]) -> bool
+    ensures { result ≡ (length (map piece_of words.now) == 1 && are_values sized (map piece_of words.now)) }
+{
+    words.len() == 1 && are_values(sized, words)
+}
+
+fn is_machine(words: &[Word]) -> bool
+    ensures { result ≡ is_some (name_row (map piece_of words.now)) }
+{
+    !words.is_empty() && are_names(words)
+}
+
+fn is_ident(words: &[Word]) -> bool
+    ensures { result ≡ is_some (alone path_of (map piece_of words.now)) }
+{
+    match words {
+        [word] => is_path_word(*word),
+        _ => false,
+    }
+}
+
+/// Whether these are a name, `root` and `on`.
+fn names_root(name: Word, root: Word, on: Word) -> bool
+    ensures { result ≡ (is_some (name_of (piece_of name.entry)) && is_word (codes "root") (piece_of root.entry) && is_word (codes "on") (piece_of on.entry)) }
+{
+    is_name_word(name) && root.is_word(b"root") && on.is_word(b"on")
+}
+
+fn is_config(words: &[Word]) -> bool
+    ensures { result ≡ is_config (map piece_of words.now) }
+{
+    match words {
+        [name, root, on, rest @ ..] => names_root(*name, *root, *on) && are_chunks(rest),
+        _ => false,
+    }
+}
+
+/// A statement whose form alone is looked at.
+fn checked(alloc: Global, keyword: Keyword, holds: bool) -> Result<Option<Stmt>, Memory>
+    ensures { IfOk result (λ s. s ≡ checked (spelling_of keyword) holds) }
+{
+    if !holds {
+        return Ok(None);
+    }
+    let word = Name::make(alloc, spelling(keyword))?;
+    Ok(Some(Stmt::Checked { word }))
+}
+
+/// `maxusers`: one number or three.
+pub fn max_users(alloc: Global, sized: bool, words: &[Word]) -> Result<Option<Stmt>, Memory>
+    ensures { IfOk result (λ s. s ≡ form_by Keyword.MaxUsers sized (map piece_of words.now)) }
+{
+    checked(alloc, Keyword::MaxUsers, is_max_users(sized, words))
+}
+
+/// `maxpartitions`: a number.
+pub fn max_partitions(alloc: Global, sized: bool, words: &[Word]) -> Result<Option<Stmt>, Memory>
+    ensures { IfOk result (λ s. s ≡ form_by Keyword.MaxPartitions sized (map piece_of words.now)) }
+{
+    checked(
+        alloc,
+        Keyword::MaxPartitions,
+        is_max_partitions(sized, words),
+    )
+}
+
+/// `machine`: one or more names.
+pub fn machine(alloc: Global, words: &[Word]) -> Result<Option<Stmt>, Memory>
+    ensures { IfOk result (λ s. s ≡ form_by Keyword.Machine true (map piece_of words.now)) }
+{
+    checked(alloc, Keyword::Machine, is_machine(words))
+}
+
+/// `ident`: a path.
+pub fn ident(alloc: Global, words: &[Word]) -> Result<Option<Stmt>, Memory>
+    ensures { IfOk result (λ s. s ≡ form_by Keyword.Ident true (map piece_of words.now)) }
+{
+    checked(alloc, Keyword::Ident, is_ident(words))
+}
+
+/// `config`: a name, `root`, `on` and one or more chunks.
+pub fn config(alloc: Global, words: &[Word]) -> Result<Option<Stmt>, Memory>
+    ensures { IfOk result (λ s. s ≡ form_by Keyword.Config true (map piece_of words.now)) }
+{
+    checked(alloc, Keyword::Config, is_config(words))
+}
+
+fn piece(alloc: Global, word: Word) -> Result<Piece, Memory>
+    ensures { IfOk result (λ piece. piece ≡ piece_of word.entry) }
+{
+    let text = Text::copied(alloc, word.text)?;
+    Ok(Piece {
+        kind: word.kind,
+        text,
+    })
+}
+
+fn pieces(alloc: Global, words: &[Word]) -> Result<List<Piece>, Memory>
+    ensures { IfOk result (λ pieces. pieces ≡ map piece_of words.now) }
+{
+    let mut pieces = List::make(alloc);
+    for &word in words {
+        pieces.push(piece(alloc, word)?)?;
+    }
+    Ok(pieces)
+}
+
+/// A statement that may have any words, one at least.
+pub fn free(alloc: Global, keyword: Keyword, words: &[Word]) -> Result<Option<Stmt>, Memory>
+    ensures { IfOk result (λ s. s ≡ free_form (spelling_of keyword) true (map piece_of words.now)) }
+{
+    if words.is_empty() {
+        return Ok(None);
+    }
+    let rest = pieces(alloc, words)?;
+    let word = Name::make(alloc, spelling(keyword))?;
+    Ok(Some(Stmt::Free { word, rest }))
+}

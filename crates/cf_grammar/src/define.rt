@@ -1,0 +1,126 @@
+ghost use Rattle.std.specs.Prelude.{◌≡◌, IfOk, Some, codes, map, option_and_then, option_map};
+ghost use Rattle.cf_text.specs.Shapes.{ends_with_digit};
+ghost use Rattle.config_rules.specs.Form.{defining, device_stmt, locators_of, needs_of, parted_at, with_body};
+ghost use Rattle.cf_words.specs.Words.{piece_of};
+ghost use Rattle.cf_grammar.specs.Define.{made};
+
+use cf_types::{List, Locator, Memory, Name, Stmt};
+use cf_words::{Word, locators_of, name_of, names_of, parted_at};
+use std::alloc::Global;
+
+/// What a statement with a list of locators and of attributes defines.
+#[derive(Clone, Copy)]
+pub enum Defines {
+    Attribute,
+    PseudoDevice,
+    Device,
+}
+
+fn make(defines: Defines, name: Name, locs: Option<List<Locator>>, needs: List<Name>) -> Stmt
+    ensures { result ≡ made defines name locs needs }
+{
+    match defines {
+        Defines::Attribute => Stmt::Define { name, locs, needs },
+        Defines::PseudoDevice => Stmt::DefPseudo { name, locs, needs },
+        Defines::Device => Stmt::Device { name, locs, needs },
+    }
+}
+
+/// The attributes behind a colon, or none.
+pub fn needs_of(alloc: Global, words: &[Word]) -> Result<Option<List<Name>>, Memory>
+    ensures { IfOk result (λ needs. needs ≡ needs_of (map piece_of words.now)) }
+{
+    match words {
+        [] => Ok(Some(List::make(alloc))),
+        [colon, names @ ..] => {
+            if !colon.is_mark(b":") {
+                return Ok(None);
+            }
+            names_of(alloc, names)
+        }
+    }
+}
+
+/// The locators up to the closing brace, and the attributes behind it.
+fn with_locators(
+    alloc: Global,
+    sized: bool,
+    defines: Defines,
+    name: Name,
+    words: &[Word],
+) -> Result<Option<Stmt>, Memory>
+    ensures { IfOk result (λ s. s ≡ option_and_then (λ parts.
+        option_and_then (λ locs. option_map (made defines name (Some locs)) (needs_of parts.1)) (locators_of sized parts.0))
+        (parted_at (codes "}") (map piece_of words.now))) }
+{
+    let Some((locs, needs)) = parted_at(words, b"}") else {
+        return Ok(None);
+    };
+    let Some(locs) = locators_of(alloc, sized, locs)? else {
+        return Ok(None);
+    };
+    match needs_of(alloc, needs)? {
+        Some(needs) => Ok(Some(make(defines, name, Some(locs), needs))),
+        None => Ok(None),
+    }
+}
+
+/// The locators in braces, where there are any, and the attributes behind a colon.
+fn with_body(
+    alloc: Global,
+    sized: bool,
+    defines: Defines,
+    name: Name,
+    words: &[Word],
+) -> Result<Option<Stmt>, Memory>
+    ensures { IfOk result (λ s. s ≡ with_body sized (made defines name) (map piece_of words.now)) }
+{
+    if let [brace, rest @ ..] = words {
+        if brace.is_mark(b"{") {
+            return with_locators(alloc, sized, defines, name, rest);
+        }
+    }
+    match needs_of(alloc, words)? {
+        Some(needs) => Ok(Some(make(defines, name, None, needs))),
+        None => Ok(None),
+    }
+}
+
+/// `define` or `defpseudo`: a name, perhaps locators in braces, and perhaps attributes behind a colon.
+pub fn defining(
+    alloc: Global,
+    sized: bool,
+    defines: Defines,
+    words: &[Word],
+) -> Result<Option<Stmt>, Memory>
+    ensures { IfOk result (λ s. s ≡ defining sized (made defines) (map piece_of words.now)) }
+{
+    let [name, body @ ..] = words else {
+        return Ok(None);
+    };
+    match name_of(alloc, *name)? {
+        Some(name) => with_body(alloc, sized, defines, name, body),
+        None => Ok(None),
+    }
+}
+
+fn ends_with_digit(name: &[u8]) -> bool
+    ensures { result ≡ ends_with_digit name.now }
+{
+    match name {
+        [.., last] => last.is_ascii_digit(),
+        [] => false,
+    }
+}
+
+/// `device`: as `define`, with a name that does not end with a digit.
+pub fn device(alloc: Global, sized: bool, words: &[Word]) -> Result<Option<Stmt>, Memory>
+    ensures { IfOk result (λ s. s ≡ device_stmt sized (map piece_of words.now)) }
+{
+    if let [name, ..] = words {
+        if ends_with_digit(name.text) {
+            return Ok(None);
+        }
+    }
+    defining(alloc, sized, Defines::Device, words)
+}

@@ -1,0 +1,192 @@
+ghost use Rattle.std.specs.Prelude.{◌≡◌, ◌||◌, ◌&&◌, drop, is_none, map};
+ghost use Rattle.config_rules.specs.Form.{braced, has_named_text, has_text_or_size, is_chunk, is_defining, is_left_out, is_word, may_name_locator, row_of, table};
+ghost use Rattle.cf_words.specs.Words.{piece_of};
+ghost use Rattle.cf_grammar.specs.LeftOut.{begins_named_text, begins_size_or_text, begins_text, begins_text_or_size, defines_text_or_size, gives_text, is_left_out_statement, is_left_out_word, left_out_spelling};
+
+use crate::keyword::keyword_of;
+use cf_text::is_name;
+use cf_words::{Word, behind_first, split_before};
+
+/// The first word of a statement that is left out of the language.
+#[derive(Clone, Copy)]
+pub enum LeftOut {
+    Package,
+    Object,
+    IoConf,
+    Select,
+    PseudoRoot,
+    BuildPrefix,
+}
+
+pub const LEFT_OUT: [LeftOut; 6] = [
+    LeftOut::Package,
+    LeftOut::Object,
+    LeftOut::IoConf,
+    LeftOut::Select,
+    LeftOut::PseudoRoot,
+    LeftOut::BuildPrefix,
+];
+
+fn left_out_spelling(left_out: LeftOut) -> &'static [u8]
+    ensures { result.now ≡ left_out_spelling left_out }
+{
+    match left_out {
+        LeftOut::Package => b"package",
+        LeftOut::Object => b"object",
+        LeftOut::IoConf => b"ioconf",
+        LeftOut::Select => b"select",
+        LeftOut::PseudoRoot => b"pseudo-root",
+        LeftOut::BuildPrefix => b"buildprefix",
+    }
+}
+
+fn spells_left_out(word: Word, left_out: LeftOut) -> bool
+    ensures { result ≡ is_word (left_out_spelling left_out) (piece_of word.entry) }
+{
+    word.is_word(left_out_spelling(left_out))
+}
+
+fn is_left_out_word(word: Word) -> bool
+    ensures { result ≡ is_left_out_word (piece_of word.entry) }
+{
+    LEFT_OUT
+        .iter()
+        .any(|&left_out| spells_left_out(word, left_out))
+}
+
+/// A chunk with the shape of a name, of any length, other than `flags`.
+fn may_name_locator(word: Word) -> bool
+    ensures { result ≡ may_name_locator (piece_of word.entry) }
+{
+    word.is_chunk() && is_name(word.text) && word.text != b"flags".as_slice()
+}
+
+/// Whether the first word is a string.
+fn begins_text(words: &[Word]) -> bool
+    ensures { result ≡ begins_text (map piece_of words.now) }
+{
+    match words {
+        [word, ..] => word.is_text(),
+        [] => false,
+    }
+}
+
+/// Whether the first word may name a locator and a string follows it.
+fn begins_named_text(words: &[Word]) -> bool
+    ensures { result ≡ begins_named_text (map piece_of words.now) }
+{
+    match words {
+        [name, rest @ ..] => may_name_locator(*name) && begins_text(rest),
+        [] => false,
+    }
+}
+
+/// Whether `[` follows, or `=` and a string.
+fn begins_size_or_text(words: &[Word]) -> bool
+    ensures { result ≡ begins_size_or_text (map piece_of words.now) }
+{
+    match words {
+        [sign, rest @ ..] => sign.is_mark(b"[") || (sign.is_mark(b"=") && begins_text(rest)),
+        [] => false,
+    }
+}
+
+/// Whether the first word may name a locator, and a size or a string is written behind it.
+fn begins_text_or_size(words: &[Word]) -> bool
+    ensures { result ≡ begins_text_or_size (map piece_of words.now) }
+{
+    match words {
+        [name, rest @ ..] => may_name_locator(*name) && begins_size_or_text(rest),
+        [] => false,
+    }
+}
+
+/// Whether somewhere a string directly follows the name of a locator.
+fn has_named_text(words: &[Word]) -> bool
+    ensures { result ≡ has_named_text (map piece_of words.now) }
+{
+    for place in 0..words.len() {
+        if begins_named_text(&words[place..]) {
+            return true;
+        }
+    }
+    false
+}
+
+/// Whether somewhere a size or a string is written behind the name of a locator.
+fn has_text_or_size(words: &[Word]) -> bool
+    ensures { result ≡ has_text_or_size (map piece_of words.now) }
+{
+    for place in 0..words.len() {
+        if begins_text_or_size(&words[place..]) {
+            return true;
+        }
+    }
+    false
+}
+
+/// What stands between the first `{` and the next `}`, or the end.
+fn braced<'w, 'a>(words: &'w [Word<'a>]) -> &'w [Word<'a>]
+    ensures { map piece_of result.now ≡ braced (map piece_of words.now) }
+{
+    split_before(behind_first(words, b"{"), b"}").0
+}
+
+/// Whether a statement with this first word may have a list of locators.
+fn is_defining(word: Word) -> bool
+    ensures { result ≡ is_defining (piece_of word.entry) }
+{
+    word.is_word(b"define") || word.is_word(b"defpseudo") || word.is_word(b"device")
+}
+
+/// Whether a word begins an instance: a chunk that is no keyword.
+fn begins_instance(word: Word) -> bool
+    ensures { result ≡ (is_chunk (piece_of word.entry) && is_none (row_of table (piece_of word.entry))) }
+{
+    if !word.is_chunk() {
+        return false;
+    }
+    match keyword_of(word) {
+        Some(_) => false,
+        None => true,
+    }
+}
+
+/// Whether an instance gives a locator a string.
+fn gives_text(first: Word, rest: &[Word]) -> bool
+    ensures { result ≡ gives_text (piece_of first.entry) (map piece_of rest.now) }
+{
+    begins_instance(first) && has_named_text(behind_two(rest))
+}
+
+/// Whether a definition gives a locator a string or a size.
+fn defines_text_or_size(first: Word, rest: &[Word]) -> bool
+    ensures { result ≡ defines_text_or_size (piece_of first.entry) (map piece_of rest.now) }
+{
+    is_defining(first) && has_text_or_size(braced(rest))
+}
+
+fn behind_two<'w, 'a>(words: &'w [Word<'a>]) -> &'w [Word<'a>]
+    ensures { map piece_of result.now ≡ drop 2 (map piece_of words.now) }
+{
+    match words {
+        [_, _, rest @ ..] => rest,
+        _ => &[],
+    }
+}
+
+fn is_left_out_statement(first: Word, rest: &[Word]) -> bool
+    ensures { result ≡ is_left_out_statement (piece_of first.entry) (map piece_of rest.now) }
+{
+    is_left_out_word(first) || gives_text(first, rest) || defines_text_or_size(first, rest)
+}
+
+/// Whether the words are a statement that is left out: by its first word, or as a locator of it has a string or a size.
+pub fn is_left_out(words: &[Word]) -> bool
+    ensures { result ≡ is_left_out (map piece_of words.now) }
+{
+    match words {
+        [first, rest @ ..] => is_left_out_statement(*first, rest),
+        [] => false,
+    }
+}

@@ -1,0 +1,93 @@
+ghost use Rattle.std.specs.Prelude.{◌≡◌, IfOk, length, map, nat_le};
+ghost use Rattle.std.specs.List.{list_all};
+ghost use Rattle.config_rules.specs.Form.{form_of};
+ghost use Rattle.cf_words.specs.Words.{piece_of};
+ghost use Rattle.cf_grammar.specs.Keyword.{form_by};
+
+use crate::attach::attach;
+use crate::checked::{config, free, ident, machine, max_partitions, max_users, pseudo_device};
+use crate::define::{Defines, defining, device};
+use crate::directive::{bare_condition, class, file_systems, include, named_condition, prefix};
+use crate::instance::instance;
+use crate::item::{make_options, options};
+use crate::keyword::{Keyword, keyword_of};
+use crate::negation::negation;
+use cf_types::{CondWord, Memory, Stmt};
+use cf_words::Word;
+use std::alloc::Global;
+
+/// The greatest length of a token, in bytes.
+const MAX_TOKEN: usize = 1023;
+
+fn all_short(words: &[Word]) -> bool
+    ensures { result ≡ list_all (λ word. nat_le (length (piece_of word).text) 1023) words.now }
+{
+    words.iter().all(|word| word.text.len() <= MAX_TOKEN)
+}
+
+/// Whether no word is longer than a token may be.
+fn are_short(words: &[Word]) -> bool
+    ensures { result ≡ list_all (λ q. nat_le (length q.text) 1023) (map piece_of words.now) }
+{
+    all_short(words)
+}
+
+/// The statement that a keyword and the words behind it are.
+fn by_keyword(
+    alloc: Global,
+    sized: bool,
+    keyword: Keyword,
+    words: &[Word],
+) -> Result<Option<Stmt>, Memory>
+    ensures { IfOk result (λ s. s ≡ form_by keyword sized (map piece_of words.now)) }
+{
+    match keyword {
+        Keyword::Include => include(alloc, false, words),
+        Keyword::CInclude => include(alloc, true, words),
+        Keyword::Prefix => prefix(alloc, words),
+        Keyword::IfDef => named_condition(alloc, CondWord::IfDef, words),
+        Keyword::IfNDef => named_condition(alloc, CondWord::IfNDef, words),
+        Keyword::ElifDef => named_condition(alloc, CondWord::ElifDef, words),
+        Keyword::ElifNDef => named_condition(alloc, CondWord::ElifNDef, words),
+        Keyword::Else => Ok(bare_condition(CondWord::Else, words)),
+        Keyword::EndIf => Ok(bare_condition(CondWord::EndIf, words)),
+        Keyword::Define => defining(alloc, sized, Defines::Attribute, words),
+        Keyword::DevClass => class(alloc, words),
+        Keyword::DefPseudo => defining(alloc, sized, Defines::PseudoDevice, words),
+        Keyword::Device => device(alloc, sized, words),
+        Keyword::Attach => attach(alloc, words),
+        Keyword::No => negation(alloc, sized, words),
+        Keyword::Options => options(alloc, words),
+        Keyword::MakeOptions => make_options(alloc, words),
+        Keyword::FileSystem => file_systems(alloc, words),
+        Keyword::PseudoDevice => pseudo_device(alloc, sized, words),
+        Keyword::MaxUsers => max_users(alloc, sized, words),
+        Keyword::MaxPartitions => max_partitions(alloc, sized, words),
+        Keyword::Machine => machine(alloc, words),
+        Keyword::Ident => ident(alloc, words),
+        Keyword::Config => config(alloc, words),
+        Keyword::DefFlag
+        | Keyword::DefParam
+        | Keyword::DefFs
+        | Keyword::File
+        | Keyword::DeviceMajor
+        | Keyword::Version
+        | Keyword::Obsolete => free(alloc, keyword, words),
+    }
+}
+
+/// The statement that these words are. Where sizes don't count, a number out of its range stands for 0.
+pub fn form_of(alloc: Global, sized: bool, words: &[Word]) -> Result<Option<Stmt>, Memory>
+    ensures { IfOk result (λ s. s ≡ form_of sized (map piece_of words.now)) }
+{
+    let [first, rest @ ..] = words else {
+        return Ok(None);
+    };
+    if !are_short(words) {
+        return Ok(None);
+    }
+    match keyword_of(*first) {
+        Some(keyword) => by_keyword(alloc, sized, keyword, rest),
+        None => instance(alloc, sized, words),
+    }
+}

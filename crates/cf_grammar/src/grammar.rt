@@ -1,0 +1,116 @@
+ghost use Rattle.std.specs.Prelude.{◌≡◌, IfErr, IfOk, false, is_some, map};
+ghost use Rattle.config_rules.specs.Cut.{piece, pieces};
+ghost use Rattle.config_rules.specs.Form.{Form, form_of};
+ghost use Rattle.cf_words.specs.Words.{piece_of};
+ghost use Rattle.cf_grammar.specs.Statement.{AreWithin, IsFaultOf, IsWithin};
+
+use crate::fault::is_left_out;
+use crate::form::form_of;
+use cf_types::{Memory, Stmt, Token};
+use cf_words::Word;
+use std::alloc::{AllocError, Global};
+
+/// The code of a statement or a locator that is left out.
+const LEFT_OUT_CODE: u8 = 7;
+
+/// The code of tokens that have none of the forms.
+const FORM_CODE: u8 = 6;
+
+/// The code of a number, a unit or a count that is out of its range.
+const RANGE_CODE: u8 = 5;
+
+/// Why tokens gave no statement.
+#[derive(Clone, Copy, Debug, PartialEq, Eq)]
+pub enum GrammarStop {
+    /// The tokens have none of the forms of config(5), with the code of the fault: 5 for a number, unit or count out of
+    /// its range, 6 for any other form, 7 for a statement or a locator that is left out.
+    Fault { code: u8 },
+    /// Want of memory.
+    Memory,
+}
+
+impl From<Memory> for GrammarStop {
+    ghost use Rattle.cf_grammar.specs.declared.grammar.GrammarStop.TheVariants as stops;
+
+    ghost from_gives = { λ _ stop. stop ≡ stops.Memory };
+
+    fn from(_memory: Memory) -> GrammarStop {
+        GrammarStop::Memory
+    }
+}
+
+impl From<AllocError> for GrammarStop {
+    ghost use Rattle.cf_grammar.specs.declared.grammar.GrammarStop.TheVariants as stops;
+
+    ghost from_gives = { λ _ stop. stop ≡ stops.Memory };
+
+    fn from(_error: AllocError) -> GrammarStop {
+        GrammarStop::Memory
+    }
+}
+
+fn word_of<'a>(text: &'a [u8], token: Token) -> Word<'a>
+    requires { IsWithin text.now token }
+    ensures { piece_of result ≡ piece text.now token }
+{
+    Word {
+        kind: token.kind,
+        text: &text[token.start as usize..token.end as usize],
+    }
+}
+
+fn words_of<'a>(
+    alloc: Global,
+    text: &'a [u8],
+    tokens: &[Token],
+) -> Result<Vec<Word<'a>>, AllocError>
+    requires { AreWithin text.now tokens.now }
+    ensures { IfOk result (λ words. map piece_of words.items ≡ pieces text.now tokens.now) }
+{
+    let mut words = Vec::new(alloc);
+    for &token in tokens {
+        words.push(word_of(text, token))?;
+    }
+    Ok(words)
+}
+
+/// Whether words are a statement, whatever its numbers.
+fn has_form(alloc: Global, words: &[Word]) -> Result<bool, Memory>
+    ensures { IfOk result (λ holds. holds ≡ is_some (form_of false (map piece_of words.now))) }
+{
+    match form_of(alloc, false, words)? {
+        Some(_) => Ok(true),
+        None => Ok(false),
+    }
+}
+
+/// The statement that words are.
+fn read(alloc: Global, words: &[Word]) -> Result<Stmt, GrammarStop>
+    ensures form { IfOk result (λ s. Form (map piece_of words.now) s) }
+    ensures fault { IfErr result (λ stop. IsFaultOf (map piece_of words.now) stop) }
+{
+    if is_left_out(words) {
+        return Err(GrammarStop::Fault {
+            code: LEFT_OUT_CODE,
+        });
+    }
+    if !has_form(alloc, words)? {
+        return Err(GrammarStop::Fault { code: FORM_CODE });
+    }
+    match form_of(alloc, true, words)? {
+        Some(stmt) => Ok(stmt),
+        None => Err(GrammarStop::Fault { code: RANGE_CODE }),
+    }
+}
+
+/// Reads the tokens of one statement, without its `Stop`, as the statement that they are. Their spans lie within the
+/// text, as those that `cut` gives do. The error is the first of the codes 7, 6 and 5 that the tokens have, as the grammar
+/// of config(5) is read here, or want of memory.
+pub fn statement(alloc: Global, text: &[u8], tokens: &[Token]) -> Result<Stmt, GrammarStop>
+    requires { AreWithin text.now tokens.now }
+    ensures form { IfOk result (λ s. Form (pieces text.now tokens.now) s) }
+    ensures fault { IfErr result (λ stop. IsFaultOf (pieces text.now tokens.now) stop) }
+{
+    let words = words_of(alloc, text, tokens)?;
+    read(alloc, &words)
+}

@@ -1,0 +1,105 @@
+ghost use Rattle.std.specs.Prelude.{◌≡◌, IfOk, map, option_and_then, option_map, ◌==◌};
+ghost use Rattle.config_rules.specs.Form.{given, given_value, inst_stmt, pair_of, pairs_of, value_of};
+ghost use Rattle.cf_words.specs.Words.{piece_of};
+ghost use Rattle.cf_grammar.specs.Pairs.{parts_of};
+
+use cf_types::{GivenLoc, List, Memory, Stmt};
+use cf_words::{MarkedUnit, Word, name_of, place_of, unit_chunk, value_of};
+use std::alloc::Global;
+
+/// What an instance gives behind its place: the locators in written order, and the flags.
+#[derive(Drop)]
+pub struct Pairs {
+    pub pairs: List<GivenLoc>,
+    pub flags: i64,
+}
+
+/// The value of a locator: a number, or `None` where `?` is written.
+fn given_value(sized: bool, word: Word) -> Option<Option<i64>>
+    ensures { result ≡ given_value sized (piece_of word.entry) }
+{
+    if word.is_word(b"?") {
+        return Some(None);
+    }
+    match value_of(sized, word) {
+        Some(value) => Some(Some(value)),
+        None => None,
+    }
+}
+
+/// A name and its value.
+fn pair_of(alloc: Global, sized: bool, name: Word, value: Word) -> Result<Option<GivenLoc>, Memory>
+    ensures { IfOk result (λ pair. pair ≡ pair_of sized (piece_of name.entry) (piece_of value.entry)) }
+{
+    let Some(name) = name_of(alloc, name)? else {
+        return Ok(None);
+    };
+    match given_value(sized, value) {
+        Some(value) => Ok(Some(GivenLoc { name, value })),
+        None => Ok(None),
+    }
+}
+
+/// The value behind `flags`, where this many words follow it: it has to be the last.
+fn flags_of(sized: bool, value: Word, behind: usize) -> Option<i64>
+    ensures { result ≡ option_and_then (λ value. given (behind == 0) value) (value_of sized (piece_of value.entry)) }
+{
+    let value = value_of(sized, value)?;
+    if behind == 0 { Some(value) } else { None }
+}
+
+/// Names with their values, and perhaps `flags` with its own at the end.
+fn pairs_of(alloc: Global, sized: bool, words: &[Word]) -> Result<Option<Pairs>, Memory>
+    ensures { IfOk result (λ pairs. option_map parts_of pairs ≡ pairs_of sized (map piece_of words.now)) }
+{
+    let mut pairs = List::make(alloc);
+    let mut place = 0;
+    while place + 1 < words.len() {
+        let name = words[place];
+        let value = words[place + 1];
+        if name.is_word(b"flags") {
+            return match flags_of(sized, value, words.len() - (place + 2)) {
+                Some(flags) => Ok(Some(Pairs { pairs, flags })),
+                None => Ok(None),
+            };
+        }
+        match pair_of(alloc, sized, name, value)? {
+            Some(pair) => pairs.push(pair)?,
+            None => return Ok(None),
+        }
+        place += 2;
+    }
+    if place == words.len() {
+        Ok(Some(Pairs { pairs, flags: 0 }))
+    } else {
+        Ok(None)
+    }
+}
+
+/// A device instance: a unit, `at`, what it attaches to, and values of locators.
+pub fn instance(alloc: Global, sized: bool, words: &[Word]) -> Result<Option<Stmt>, Memory>
+    ensures { IfOk result (λ s. s ≡ inst_stmt sized (map piece_of words.now)) }
+{
+    let [unit, at, place, rest @ ..] = words else {
+        return Ok(None);
+    };
+    if !at.is_word(b"at") {
+        return Ok(None);
+    }
+    let Some(MarkedUnit { base, mark }) = unit_chunk(alloc, sized, *unit)? else {
+        return Ok(None);
+    };
+    let Some(at) = place_of(alloc, sized, *place)? else {
+        return Ok(None);
+    };
+    match pairs_of(alloc, sized, rest)? {
+        Some(Pairs { pairs, flags }) => Ok(Some(Stmt::Inst {
+            base,
+            mark,
+            at,
+            pairs,
+            flags,
+        })),
+        None => Ok(None),
+    }
+}

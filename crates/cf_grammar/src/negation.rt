@@ -1,0 +1,174 @@
+ghost use Rattle.std.specs.Prelude.{◌≡◌, IfOk, [], ◌∷◌, map, option_map};
+ghost use Rattle.config_rules.specs.Form.{alone, at_place, is_word, name_of, names_of, no_inst, no_stmt};
+ghost use Rattle.cf_words.specs.Words.{piece_of};
+ghost use Rattle.cf_grammar.specs.Negation.{negated_of, negated_spelling, no_by_unit, no_by_word};
+
+use cf_types::{AtSpec, ItemKind, List, Memory, Name, Stmt, UnitMark};
+use cf_words::{MarkedUnit, Word, alone_name, names_of, place_of, unit_chunk};
+use std::alloc::Global;
+
+/// `at` and what an instance attaches to.
+fn at_place(alloc: Global, sized: bool, words: &[Word]) -> Result<Option<AtSpec>, Memory>
+    ensures { IfOk result (λ at. at ≡ at_place sized (map piece_of words.now)) }
+{
+    let [at, place] = words else {
+        return Ok(None);
+    };
+    if !at.is_word(b"at") {
+        return Ok(None);
+    }
+    place_of(alloc, sized, *place)
+}
+
+/// An instance that is taken back, perhaps with what it attaches to.
+fn no_instance(
+    alloc: Global,
+    sized: bool,
+    base: Name,
+    mark: UnitMark,
+    words: &[Word],
+) -> Result<Option<Stmt>, Memory>
+    ensures { IfOk result (λ s. s ≡ no_inst sized base mark (map piece_of words.now)) }
+{
+    if words.is_empty() {
+        return Ok(Some(Stmt::NoInst {
+            base,
+            mark,
+            at: None,
+        }));
+    }
+    match at_place(alloc, sized, words)? {
+        Some(at) => Ok(Some(Stmt::NoInst {
+            base,
+            mark,
+            at: Some(at),
+        })),
+        None => Ok(None),
+    }
+}
+
+/// Items that are taken back by name.
+fn no_items(alloc: Global, kind: ItemKind, words: &[Word]) -> Result<Option<Stmt>, Memory>
+    ensures { IfOk result (λ s. s ≡ option_map (Stmt.NoItems kind) (names_of (map piece_of words.now))) }
+{
+    match names_of(alloc, words)? {
+        Some(names) => Ok(Some(Stmt::NoItems { kind, names })),
+        None => Ok(None),
+    }
+}
+
+/// A pseudo-device that is taken back.
+fn no_pseudo_device(alloc: Global, words: &[Word]) -> Result<Option<Stmt>, Memory>
+    ensures { IfOk result (λ s. s ≡ option_map (λ name. Stmt.NoItems ItemKind.PseudoDevice (name ∷ [])) (alone name_of (map piece_of words.now))) }
+{
+    let Some(name) = alone_name(alloc, words)? else {
+        return Ok(None);
+    };
+    let mut names = List::make(alloc);
+    names.push(name)?;
+    Ok(Some(Stmt::NoItems {
+        kind: ItemKind::PseudoDevice,
+        names,
+    }))
+}
+
+/// All instances at a place that are taken back.
+fn no_device(alloc: Global, sized: bool, words: &[Word]) -> Result<Option<Stmt>, Memory>
+    ensures { IfOk result (λ s. s ≡ option_map Stmt.NoDevice (at_place sized (map piece_of words.now))) }
+{
+    match at_place(alloc, sized, words)? {
+        Some(at) => Ok(Some(Stmt::NoDevice { at })),
+        None => Ok(None),
+    }
+}
+
+/// What follows `no` by a word of its own.
+#[derive(Clone, Copy)]
+pub enum Negated {
+    Options,
+    MakeOptions,
+    FileSystem,
+    PseudoDevice,
+    Device,
+}
+
+pub const NEGATED: [Negated; 5] = [
+    Negated::Options,
+    Negated::MakeOptions,
+    Negated::FileSystem,
+    Negated::PseudoDevice,
+    Negated::Device,
+];
+
+fn negated_spelling(negated: Negated) -> &'static [u8]
+    ensures { result.now ≡ negated_spelling negated }
+{
+    match negated {
+        Negated::Options => b"options",
+        Negated::MakeOptions => b"makeoptions",
+        Negated::FileSystem => b"file-system",
+        Negated::PseudoDevice => b"pseudo-device",
+        Negated::Device => b"device",
+    }
+}
+
+fn spells_negated(word: Word, negated: Negated) -> bool
+    ensures { result ≡ is_word (negated_spelling negated) (piece_of word.entry) }
+{
+    word.is_word(negated_spelling(negated))
+}
+
+fn negated_of(word: Word) -> Option<Negated>
+    ensures { result ≡ negated_of (piece_of word.entry) }
+{
+    NEGATED
+        .iter()
+        .copied()
+        .find(|&negated| spells_negated(word, negated))
+}
+
+/// What is taken back by a word of its own.
+fn no_by_word(
+    alloc: Global,
+    sized: bool,
+    negated: Negated,
+    words: &[Word],
+) -> Result<Option<Stmt>, Memory>
+    ensures { IfOk result (λ s. s ≡ no_by_word negated sized (map piece_of words.now)) }
+{
+    match negated {
+        Negated::Options => no_items(alloc, ItemKind::Options, words),
+        Negated::MakeOptions => no_items(alloc, ItemKind::MakeOptions, words),
+        Negated::FileSystem => no_items(alloc, ItemKind::FileSystem, words),
+        Negated::PseudoDevice => no_pseudo_device(alloc, words),
+        Negated::Device => no_device(alloc, sized, words),
+    }
+}
+
+/// What is taken back by its unit.
+fn no_by_unit(
+    alloc: Global,
+    sized: bool,
+    unit: Word,
+    words: &[Word],
+) -> Result<Option<Stmt>, Memory>
+    ensures { IfOk result (λ s. s ≡ no_by_unit sized (piece_of unit.entry) (map piece_of words.now)) }
+{
+    match unit_chunk(alloc, sized, unit)? {
+        Some(MarkedUnit { base, mark }) => no_instance(alloc, sized, base, mark, words),
+        None => Ok(None),
+    }
+}
+
+/// `no` and what it takes back: items by name, instances at a place, or an instance.
+pub fn negation(alloc: Global, sized: bool, words: &[Word]) -> Result<Option<Stmt>, Memory>
+    ensures { IfOk result (λ s. s ≡ no_stmt sized (map piece_of words.now)) }
+{
+    let [first, rest @ ..] = words else {
+        return Ok(None);
+    };
+    match negated_of(*first) {
+        Some(negated) => no_by_word(alloc, sized, negated, rest),
+        None => no_by_unit(alloc, sized, *first, rest),
+    }
+}

@@ -1,0 +1,5 @@
+pub mod ListLemmas
+pub mod UnitLemmas
+pub mod LocatorLemmas
+pub mod ValueLemmas
+pub mod MarkLemmas

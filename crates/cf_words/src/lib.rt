@@ -1,0 +1,14 @@
+//! Reads the parts of a statement: its words, names, paths, numbers, units and locators. See config(5).
+#![tactic(auto)]
+
+mod locator;
+mod name;
+mod unit;
+mod value;
+mod word;
+
+pub use locator::locators_of;
+pub use name::{alone_name, alone_path, bytes_of, is_name_word, is_path_word, name_of, names_of};
+pub use unit::{MarkedUnit, place_of, unit_chunk};
+pub use value::{count_of, value_of};
+pub use word::{Word, behind_first, parted, parted_at, split_before};

@@ -1,0 +1,115 @@
+ghost use Rattle.std.specs.Prelude.{◌≡◌, ◌&&◌, IfOk, codes, map, Some};
+ghost use Rattle.config_rules.specs.Form.{each, is_mark, locator_name, locator_of, locators_of, parted, with_default};
+ghost use Rattle.cf_words.specs.Words.{piece_of};
+
+use crate::name::name_of;
+use crate::value::value_of;
+use crate::word::{Word, parted};
+use cf_types::{List, Locator, Memory, Name};
+use std::alloc::Global;
+
+/// The most locators of an attribute.
+const MAX_LOCATORS: usize = 16;
+
+/// A name other than `flags`.
+fn locator_name(alloc: Global, word: Word) -> Result<Option<Name>, Memory>
+    ensures { IfOk result (λ name. name ≡ locator_name (piece_of word.entry)) }
+{
+    if word.is_word(b"flags") {
+        return Ok(None);
+    }
+    name_of(alloc, word)
+}
+
+/// A locator with a default: a name, `=` and a number.
+fn with_default(
+    alloc: Global,
+    sized: bool,
+    optional: bool,
+    name: Word,
+    equals: Word,
+    value: Word,
+) -> Result<Option<Locator>, Memory>
+    ensures { IfOk result (λ l. l ≡ with_default sized optional (piece_of name.entry) (piece_of equals.entry) (piece_of value.entry)) }
+{
+    if !equals.is_mark(b"=") {
+        return Ok(None);
+    }
+    let Some(name) = locator_name(alloc, name)? else {
+        return Ok(None);
+    };
+    let Some(value) = value_of(sized, value) else {
+        return Ok(None);
+    };
+    Ok(Some(Locator {
+        name,
+        default: Some(value),
+        optional,
+    }))
+}
+
+fn is_bracketed(first: Word, last: Word) -> bool
+    ensures { result ≡ (is_mark (codes "[") (piece_of first.entry) && is_mark (codes "]") (piece_of last.entry)) }
+{
+    first.is_mark(b"[") && last.is_mark(b"]")
+}
+
+/// A locator: a name, a name with a default, or both in brackets, where it is optional.
+fn locator_of(alloc: Global, sized: bool, words: &[Word]) -> Result<Option<Locator>, Memory>
+    ensures { IfOk result (λ l. l ≡ locator_of sized (map piece_of words.now)) }
+{
+    match words {
+        [name] => match locator_name(alloc, *name)? {
+            Some(name) => Ok(Some(Locator {
+                name,
+                default: None,
+                optional: false,
+            })),
+            None => Ok(None),
+        },
+        [name, equals, value] => with_default(alloc, sized, false, *name, *equals, *value),
+        [open_bracket, name, equals, value, close_bracket] => {
+            if !is_bracketed(*open_bracket, *close_bracket) {
+                return Ok(None);
+            }
+            with_default(alloc, sized, true, *name, *equals, *value)
+        }
+        _ => Ok(None),
+    }
+}
+
+/// The locators between commas.
+fn each_locator(alloc: Global, sized: bool, words: &[Word]) -> Result<Option<List<Locator>>, Memory>
+    ensures { IfOk result (λ locs. locs ≡ each (locator_of sized) (parted (map piece_of words.now))) }
+{
+    let parts = parted(alloc, words)?;
+    let mut locs = List::make(alloc);
+    for part in &parts {
+        match locator_of(alloc, sized, part)? {
+            Some(loc) => locs.push(loc)?,
+            None => return Ok(None),
+        }
+    }
+    Ok(Some(locs))
+}
+
+/// Reads what stands between braces: nothing, or up to 16 locators, parted by commas.
+pub fn locators_of(
+    alloc: Global,
+    sized: bool,
+    words: &[Word],
+) -> Result<Option<List<Locator>>, Memory>
+    ensures { IfOk result (λ locs. locs ≡ locators_of sized (map piece_of words.now)) }
+{
+    if words.is_empty() {
+        return Ok(Some(List::make(alloc)));
+    }
+    match each_locator(alloc, sized, words)? {
+        Some(locs) => if locs.len() <= MAX_LOCATORS {
+            Ok(Some(locs))
+        } else {
+            Ok(None)
+        },
+        None => Ok(None),
+    }
+}

@@ -1,0 +1,102 @@
+ghost use Rattle.std.specs.Prelude.{◌≡◌, IfOk, codes, drop, length, map, not, option_map, take_while};
+ghost use Rattle.std.specs.List.{after_first, before_first};
+ghost use Rattle.config_rules.specs.Form.{is_mark, parted, parted_at};
+ghost use Rattle.cf_words.specs.Words.{piece_of};
+
+use cf_types::TokenKind;
+use std::alloc::{AllocError, Global};
+
+/// A token of a statement with its bytes, lent from the text.
+#[derive(Clone, Copy, Debug)]
+pub struct Word<'a> {
+    pub kind: TokenKind,
+    pub text: &'a [u8],
+}
+
+impl<'a> Word<'a> {
+    ghost use Rattle.config_rules.specs.Form.{is_chunk, is_text, is_word};
+
+    /// Whether it is a chunk.
+    pub fn is_chunk(self) -> bool
+        ensures { result ≡ is_chunk (piece_of self.entry) }
+    {
+        self.kind == TokenKind::Chunk
+    }
+
+    /// Whether it is a string.
+    pub fn is_text(self) -> bool
+        ensures { result ≡ is_text (piece_of self.entry) }
+    {
+        self.kind == TokenKind::Text
+    }
+
+    /// Whether it is this mark.
+    pub fn is_mark(self, mark: &[u8]) -> bool
+        ensures { result ≡ is_mark mark.now (piece_of self.entry) }
+    {
+        self.kind == TokenKind::Mark && self.text == mark
+    }
+
+    /// Whether it is a chunk with this spelling.
+    pub fn is_word(self, spelling: &[u8]) -> bool
+        ensures { result ≡ is_word spelling.now (piece_of self.entry) }
+    {
+        self.is_chunk() && self.text == spelling
+    }
+}
+
+fn is_comma(word: Word) -> bool
+    ensures { result ≡ is_mark (codes ",") (piece_of word.entry) }
+{
+    word.is_mark(b",")
+}
+
+/// The parts between commas; one part more than there are commas.
+pub fn parted<'w, 'a>(
+    alloc: Global,
+    words: &'w [Word<'a>],
+) -> Result<Vec<&'w [Word<'a>]>, AllocError>
+    ensures { IfOk result (λ v. map (λ part. map piece_of part.now) v.items ≡ parted (map piece_of words.now)) }
+{
+    words.split(|&word| is_comma(word)).collect(alloc)
+}
+
+/// How many words stand before the first of these marks; all of them where there is none.
+fn count_before(words: &[Word], mark: &[u8]) -> usize
+    ensures { result ≡ length (take_while (λ word. not (is_mark mark.now (piece_of word))) words.now) }
+{
+    words.iter().take_while(|word| !word.is_mark(mark)).count()
+}
+
+/// The words before the first of these marks, and those from it on.
+pub fn split_before<'w, 'a>(words: &'w [Word<'a>], mark: &[u8]) -> (&'w [Word<'a>], &'w [Word<'a>])
+    ensures before { map piece_of result.0.now ≡ before_first (is_mark mark.now) (map piece_of words.now) }
+    ensures from { map piece_of result.1.now ≡ drop (length (before_first (is_mark mark.now) (map piece_of words.now))) (map piece_of words.now) }
+{
+    words.split_at(count_before(words, mark))
+}
+
+/// The words before the first of these marks and those behind it; `None` where there is none.
+pub fn parted_at<'w, 'a>(
+    words: &'w [Word<'a>],
+    mark: &[u8],
+) -> Option<(&'w [Word<'a>], &'w [Word<'a>])>
+    ensures { option_map (λ parts. (map piece_of parts.0.now, map piece_of parts.1.now)) result ≡ parted_at mark.now (map piece_of words.now) }
+{
+    let (before, from) = split_before(words, mark);
+    match from {
+        [_, behind @ ..] => Some((before, behind)),
+        [] => None,
+    }
+}
+
+/// The words behind the first of these marks; none where there is none.
+pub fn behind_first<'w, 'a>(words: &'w [Word<'a>], mark: &[u8]) -> &'w [Word<'a>]
+    ensures { map piece_of result.now ≡ after_first (is_mark mark.now) (map piece_of words.now) }
+{
+    let (_, from) = split_before(words, mark);
+    match from {
+        [_, behind @ ..] => behind,
+        [] => from,
+    }
+}
