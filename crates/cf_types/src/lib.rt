@@ -2,6 +2,7 @@
 #![tactic(auto)]
 
 mod decimal;
+mod instance;
 mod list;
 mod locs;
 mod machine;
@@ -12,6 +13,7 @@ mod tables;
 mod tree;
 
 pub use decimal::put_decimal;
+pub use instance::{Instance, Joined};
 pub use list::{List, Text};
 pub use locs::Locs;
 pub use machine::{Command, Given, Machine, MatchLine, Policy, Script, Spot, StyleLine, Ticket};

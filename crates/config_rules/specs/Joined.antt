@@ -5,6 +5,7 @@ use Rattle.std.specs.List.{list_any, enumerate_from}
 use Rattle.std.specs.Option.{option_map_or}
 use Rattle.cf_types.specs.declared.stmt.AtSpec.{AtSpec}
 use Rattle.cf_types.specs.declared.stmt.AtSpec.TheVariants as written
+use Rattle.cf_types.specs.declared.instance.Joined.{Joined}
 use Rattle.cf_types.specs.declared.stmt.GivenLoc.{GivenLoc}
 use Rattle.cf_types.specs.declared.tables.Locator.{Locator}
 use Rattle.cf_types.specs.declared.tables.ParentSpec.{ParentSpec}
@@ -94,14 +95,6 @@ target_of d written.Root = Ok AtRoot
 target_of d (written.Named base unit) =
     option_map_or (λ device. Ok (Below (record { device = device; unit = unit }))) (device_number d base)
     (attr_target d unit (attr_number d base))
-
--- what an instance joins, and its locator values
-pub record Joined : Type 0 where
-  pub device : ℕ
-  pub attach : ℕ
-  pub place : Place
-  pub parent : Option ParentSpec
-  pub locs : List ℤ
 
 -- the parent device that is named, if one is
 abbrev pub parent_of : Target → Option ParentSpec

@@ -19,18 +19,13 @@ use Rattle.cf_types.specs.declared.tables.Tables.{Tables}
 use Rattle.config_rules.specs.Reading.{Files, Reading, reading}
 use Rattle.config_rules.specs.Declared.{Declared, declared}
 use Rattle.cf_types.specs.Offers.{firsts}
-use Rattle.config_rules.specs.Joined.{Joined, join}
+use Rattle.cf_types.specs.declared.instance.Instance.{Instance}
+use Rattle.cf_types.specs.declared.instance.Joined.{Joined}
+use Rattle.config_rules.specs.Joined.{join}
 use Rattle.config_rules.specs.Fault.{Accepted, stmts_of}
 use Rattle.config_rules.specs.Select.{Inst, RootedInsts, survives, takes_back, kept_items, takes_item, same_mark}
 
 -- ---- the instances
-
--- an instance that survives: the place of its statement, what it joins, its mark and flags
-pub record Instance : Type 0 where
-  pub stmt : ℕ
-  pub joined : Joined
-  pub mark : UnitMark
-  pub flags : ℤ
 
 -- the instance, where it joins something
 abbrev pub if_joined : ℕ → UnitMark → ℤ → Result Joined ℕ → Option Instance

@@ -1,0 +1,21 @@
+use crate::{Locs, ParentSpec, Place, UnitMark};
+
+/// What a device instance joins: its device, the attachment and the place of it that are taken, the parent device that
+/// it names, and one value for each locator of the place.
+#[derive(Drop)]
+pub struct Joined {
+    pub device: u32,
+    pub attach: u32,
+    pub place: Place,
+    pub parent: Option<ParentSpec>,
+    pub locs: Locs,
+}
+
+/// A device instance: the place of its statement among those that are placed, what it joins, its unit and its flags.
+#[derive(Drop)]
+pub struct Instance {
+    pub stmt: u32,
+    pub joined: Joined,
+    pub mark: UnitMark,
+    pub flags: i64,
+}
