@@ -1,0 +1,2 @@
+//! What the statements of a configuration declare, and the first code of each.
+#![tactic(auto)]
