@@ -1,11 +1,11 @@
--- The truth values of the surviving instances are the relation by places.
-use Rattle.std.proofs.Common.{◌≡◌, ℕ, zero, suc, ◌<◌, Bool, true, false, ◌||◌, Some, List, [], ◌∷◌, refl, sym, ap, ◌∙◌, subst, arith}
+-- The truth values of the surviving instances, and of the negations that take back something, are the relations by places.
+use Rattle.std.proofs.Common.{not, ◌&&◌, ◌≡◌, ℕ, zero, suc, ◌<◌, Bool, true, false, ◌||◌, Some, List, [], ◌∷◌, refl, sym, ap, ◌∙◌, subst, arith, inl, inr}
 use Rattle.std.specs.Prelude.{slice_get, slice_index_or}
 use Rattle.std.specs.List.{list_any}
 use Rattle.cf_types.specs.declared.stmt.Stmt.{Stmt}
 use Rattle.config_rules.specs.Fault.{is_instance}
-use Rattle.config_rules.specs.Select.{names, survives, kept, Survives}
-use Rattle.config_rules.proofs.CutLaws.{both_left, both_right, false_from}
+use Rattle.config_rules.specs.Select.{names, survives, kept, Survives, takes_back, TakesBack}
+use Rattle.config_rules.proofs.CutLaws.{both_left, both_right, either, false_from}
 
 neither : (a b : Bool) → (a || b) ≡ false → (a ≡ false) × (b ≡ false)
 neither true b h = absurd (cc)
@@ -63,3 +63,42 @@ survives_kept (x ∷ later) zero s h =
     ap (λ y. survives y later) same ∙ rw (instance, free) refl
 survives_kept (x ∷ later) (suc i) s h =
     survives_kept later i s (record { here = h.here; instance = h.instance; not_named = λ j n lt e. h.not_named (suc j) n (omega arith) e })
+
+-- ---- what a negation takes back
+
+takes_first : (n x : Stmt) (between : List Stmt) → (names n x && not (list_any (λ m. names m x) between)) ≡ true → TakesBack (x ∷ between) n 0 x
+takes_first n x between h = record {
+  here = refl;
+  named = both_left (names n x) _ h;
+  not_named = behind_first x x between (false_from (list_any (λ m. names m x) between) (both_right (names n x) _ h));
+}
+
+takes_further : (n x s : Stmt) (between : List Stmt) (i : ℕ) → TakesBack between n i s → TakesBack (x ∷ between) n (suc i) s
+takes_further n x s between i t = record { here = t.here; named = t.named; not_named = one_further s x between i t.not_named }
+
+-- where the truth value says so, it takes back some statement
+pub takes_back_sound : (n : Stmt) (before : List Stmt) → takes_back n before ≡ true → (i : ℕ) × (s : Stmt) × TakesBack before n i s
+unfolding takes_back
+takes_back_sound n [] h = absurd (cc)
+takes_back_sound n (x ∷ between) h =
+    elim (either (names n x && not (list_any (λ m. names m x) between)) (takes_back n between) h) [
+      | inl here ↦ (0, x, takes_first n x between here)
+      | inr more ↦ let t = takes_back_sound n between more in (suc t.0, t.1, takes_further n x t.1 between t.0 t.2)
+    ]
+
+or_right : (a b : Bool) → b ≡ true → (a || b) ≡ true
+or_right true b h = refl
+or_right false b h = h
+
+-- and the other way round
+pub takes_back_complete : (n : Stmt) (before : List Stmt) (i : ℕ) (s : Stmt) → TakesBack before n i s → takes_back n before ≡ true
+unfolding takes_back
+takes_back_complete n [] i s t = absurd (let none = t.here in cc)
+takes_back_complete n (x ∷ between) zero s t =
+    let at = t.here in
+    let same : x ≡ s = cc in
+    let named : names n s ≡ true = t.named in
+    let free : list_any (λ m. names m s) between ≡ false = no_names s between (λ j m e. t.not_named (suc j) m (omega arith) e) in
+    ap (λ y. (names n y && not (list_any (λ m. names m y) between)) || takes_back n between) same ∙ rw (named, free) refl
+takes_back_complete n (x ∷ between) (suc i) s t =
+    or_right _ _ (takes_back_complete n between i s (record { here = t.here; named = t.named; not_named = λ j m lt e. t.not_named (suc j) m (omega arith) e }))

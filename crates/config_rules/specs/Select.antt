@@ -66,6 +66,12 @@ pub record Survives (stmts : List Stmt) (i : ℕ) (s : Stmt) : Type 0 where
   pub instance : is_instance s ≡ true
   pub not_named : (j : ℕ) (n : Stmt) → i < j → slice_get stmts j ≡ Some n → names n s ≡ false
 
+-- behind these statements, a negation takes back the one at this place
+pub record TakesBack (before : List Stmt) (n : Stmt) (i : ℕ) (s : Stmt) : Type 0 where
+  pub here : slice_get before i ≡ Some s
+  pub named : names n s ≡ true
+  pub not_named : (j : ℕ) (m : Stmt) → i < j → slice_get before j ≡ Some m → names m s ≡ false
+
 -- ---- items
 
 -- the same kind of items
