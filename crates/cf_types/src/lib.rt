@@ -2,6 +2,7 @@
 #![tactic(auto)]
 
 mod decimal;
+mod declared;
 mod instance;
 mod list;
 mod locs;
@@ -13,6 +14,7 @@ mod tables;
 mod tree;
 
 pub use decimal::put_decimal;
+pub use declared::Declared;
 pub use instance::{Instance, Joined};
 pub use list::{List, Text};
 pub use locs::Locs;

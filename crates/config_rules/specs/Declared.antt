@@ -1,6 +1,7 @@
 -- What statements declare: attributes, devices and attachments, each in order, after config(5).
 use Rattle.std.specs.Prelude.{ℕ, Bool, true, false, if◌then◌else◌, List, [], map, filter_map, find, position, bytes_eq, codes, Option, Some, None, is_some, option_map, option_and_then, unwrap_or}
 use Rattle.std.specs.List.{list_any}
+use Rattle.cf_types.specs.declared.declared.Declared as lists
 use Rattle.cf_types.specs.declared.stmt.Stmt.{Stmt}
 use Rattle.cf_types.specs.declared.stmt.Stmt.TheVariants as stmt
 use Rattle.cf_types.specs.declared.tables.Locator.{Locator}
@@ -11,10 +12,8 @@ use Rattle.cf_types.specs.declared.tables.Place.{Place}
 use Rattle.cf_types.specs.declared.tables.Place.TheVariants.{Root, At}
 
 -- the attributes, devices and attachments, each in order; a pseudo-device is an attribute that is marked so
-pub record Declared : Type 0 where
-  pub attrs : List Attr
-  pub devices : List Device
-  pub attaches : List Attach
+abbrev pub Declared : Type 0
+Declared = lists.Declared
 
 -- ---- names and their numbers
 
