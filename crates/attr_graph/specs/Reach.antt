@@ -1,5 +1,5 @@
 -- What contracts see of a graph of attributes and devices, and what it keeps.
-use Rattle.std.specs.Prelude.{◌≡◌, ℕ, ◌<◌, ◌≤◌, Bool, false, List, [], ◌∷◌, ◌++◌, length, map, slice_get, Result, Ok, Err, Vec}
+use Rattle.std.specs.Prelude.{◌≡◌, ℕ, Option, Some, None, ◌<◌, ◌≤◌, Bool, false, List, [], ◌∷◌, ◌++◌, length, map, slice_get, Result, Ok, Err, Vec}
 use Rattle.std.specs.List.{slice_index_or, All}
 use Rattle.std.specs.Option.{option_map_or}
 use Rattle.cf_types.specs.Gather.{is_in}
@@ -99,3 +99,8 @@ AddsDevice old new names (Ok n) =
     × (length (interfaces_of old.attrs names) ≤ MAX_INTERFACES)
 AddsDevice old new names (Err TooMany) = (new ≡ old) × (MAX_INTERFACES < length (interfaces_of old.attrs names))
 AddsDevice old new names (Err Memory) = new ≡ old
+
+-- how many there are, or that they are too many
+abbrev pub CountsReach : List ℕ → Option ℕ → Type 0
+CountsReach list (Some n) = (n ≡ length list) × (n ≤ MAX_INTERFACES)
+CountsReach list None = MAX_INTERFACES < length list

@@ -1,13 +1,13 @@
-ghost use Rattle.std.specs.Prelude.{◌≡◌, ◌<◌, [], ◌++◌, length, All, IfOk};
+ghost use Rattle.std.specs.Prelude.{◌≡◌, ◌<◌, ◌+◌, ◌≤◌, nat_le, false, if◌then◌else◌, [], ◌++◌, length, All, IfOk};
 ghost use Rattle.std.specs.List.{slice_index_or};
-ghost use Rattle.std.specs.Option.{option_to_list};
+ghost use Rattle.std.specs.Option.{option_to_list, option_map_or, ForSome};
 ghost use Rattle.cf_types.specs.Gather.{is_in};
 ghost use Rattle.cf_types.specs.Offers.{interfaces_of};
 ghost use Rattle.attr_graph.specs.Reach.{AddsAttr, AddsDevice};
 
 use crate::entry::{AttrEntry, DeviceEntry};
-use crate::gather::GraphStop;
-use crate::prepare::{attr_entry, device_entry};
+use crate::gather::{GraphStop, MAX_INTERFACES};
+use crate::prepare::{attr_entry, device_entry, reach_count};
 use cf_types::List;
 use std::alloc::{AllocError, Global};
 use std::marker::Model;
@@ -41,6 +41,17 @@ fn device_names(alloc: Global, own: Option<u32>, needs: &[u32]) -> Result<List<u
     }
     names.extend_from_slice(needs)?;
     Ok(List::from_vec(names))
+}
+
+/// Whether a count, with one more for itself, is within the limit.
+fn is_few(own: bool, count: Option<usize>) -> bool
+    requires { ForSome count (λ n. n ≤ MAX_INTERFACES) }
+    ensures { result ≡ option_map_or (λ n. nat_le ((if own then 1 else 0) + n) MAX_INTERFACES) count false }
+{
+    match count {
+        Some(count) => count + usize::from(own) <= MAX_INTERFACES,
+        None => false,
+    }
 }
 
 impl Graph {
@@ -88,6 +99,18 @@ impl Graph {
         let number = self.devices.len() as u32;
         self.devices.push(entry)?;
         Ok(number)
+    }
+
+    /// Whether an attribute or device with these needs would offer no more than `MAX_INTERFACES`, itself included where
+    /// `own` is true.
+    pub fn fits(&mut self, own: bool, names: &[u32]) -> Result<bool, AllocError>
+        requires { All (λ a. a < length self.old.attrs) names.now }
+        ensures fits { IfOk result (λ fits. fits ≡ nat_le ((if own then 1 else 0) + length (interfaces_of self.old.attrs names.now)) MAX_INTERFACES) }
+        ensures same { self.new ≡ self.old }
+    {
+        let alloc = *self.attrs.allocator();
+        let count = reach_count(alloc, &self.attrs, &mut self.marks, names)?;
+        Ok(is_few(own, count))
     }
 
     /// The interface list of a device, of at most 64 entries. It takes no memory.

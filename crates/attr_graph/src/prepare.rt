@@ -1,8 +1,8 @@
-ghost use Rattle.std.specs.Prelude.{◌≡◌, ◌<◌, ◌≤◌, [], ◌∷◌, ◌++◌, length, All, OnOk, if◌then◌else◌};
+ghost use Rattle.std.specs.Prelude.{◌≡◌, ◌<◌, ◌≤◌, [], ◌∷◌, ◌++◌, length, All, OnOk, IfOk, if◌then◌else◌};
 ghost use Rattle.std.specs.List.{list_any, slice_index_or};
 ghost use Rattle.std.specs.Option.{option_to_list};
 ghost use Rattle.cf_types.specs.Offers.{interfaces_of};
-ghost use Rattle.attr_graph.specs.Reach.{AreMarks, KeptAttrs, MakesAttr, MakesDevice};
+ghost use Rattle.attr_graph.specs.Reach.{AreMarks, CountsReach, KeptAttrs, MakesAttr, MakesDevice, nodes_of};
 
 use crate::entry::{AttrEntry, DeviceEntry};
 use crate::gather::{GraphStop, gather};
@@ -76,5 +76,28 @@ pub fn device_entry(
             reach: List::from_vec(reach),
         }),
         Err(stop) => Err(stop),
+    }
+}
+
+/// How many interface attributes these attributes offer, or `None` where they are more than `MAX_INTERFACES`.
+pub fn reach_count(
+    alloc: Global,
+    attrs: &[AttrEntry],
+    marks: &mut Vec<bool>,
+    names: &[u32],
+) -> Result<Option<usize>, AllocError>
+    requires known { All (λ a. a < length attrs.now) names.now }
+    requires kept { KeptAttrs attrs.now marks.old.items }
+    ensures counted { IfOk result (CountsReach (interfaces_of (nodes_of attrs.now) names.now)) }
+    ensures kept { KeptAttrs attrs.now marks.new.items }
+{
+    match gather(alloc, marks, attrs, None, names) {
+        Ok(reach) => {
+            let list = List::from_vec(reach);
+            let count = list.len();
+            Ok(Some(count))
+        }
+        Err(GraphStop::TooMany) => Ok(None),
+        Err(GraphStop::Memory) => Err(AllocError),
     }
 }

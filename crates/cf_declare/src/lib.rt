@@ -1,2 +1,6 @@
 //! What the statements of a configuration declare, and the first code of each.
 #![tactic(auto)]
+
+mod define;
+mod fault;
+mod lookup;

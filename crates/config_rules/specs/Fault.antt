@@ -81,13 +81,14 @@ device_fault d name locs needs =
     or (given (has_classes d needs) 19
     or given (offers_too_much d locs needs) 25)))
 
--- the places in order, each unknown or no interface attribute
+-- a place that is unknown, or no interface attribute
+abbrev pub place_fault : Declared → List ℕ → Option ℕ
+place_fault d place = if is_root place then None else option_map_or (λ a. given (not a.iface) 9) (attr_named d place) (Some 8)
+
+-- the places in order
 abbrev pub places_fault : Declared → List (List ℕ) → Option ℕ
 places_fault d [] = None
-places_fault d (place ∷ places) =
-    (if is_root place then None
-    else option_map_or (λ a. given (not a.iface) 9) (attr_named d place) (Some 8))
-    or places_fault d places
+places_fault d (place ∷ places) = place_fault d place or places_fault d places
 
 -- an attachment: its device, its places, its name, its attributes
 abbrev pub attach_fault : Declared → List ℕ → List (List ℕ) → List ℕ → List (List ℕ) → Option ℕ

@@ -1,0 +1,150 @@
+ghost use Rattle.std.specs.Prelude.{◌≡◌, ◌==◌, ◌≤◌, ◌<◌, ◌&&◌, not, nat_lt, false, length, filter, find, All, IfOk};
+ghost use Rattle.std.specs.List.{list_any};
+ghost use Rattle.cf_types.specs.Offers.{firsts, nodes_of};
+ghost use Rattle.config_rules.specs.Fault.{attr_numbers, is_class, has_classes, lacks_attr, offers_too_much, define_fault, device_fault};
+
+use crate::fault::{attr_numbers, has_attr, has_device, lacks_attr, repeats_locator};
+use crate::lookup::is_root;
+use attr_graph::Graph;
+use cf_types::{Declared, List, Locator, Memory, Name};
+use std::alloc::Global;
+
+/// The numbers of attributes that are all there.
+fn known_numbers(alloc: Global, declared: &Declared, names: &[Name]) -> Result<List<u32>, Memory>
+    requires few { length declared.now.attrs ≤ 65536 }
+    requires known { lacks_attr declared.now names.now ≡ false }
+    ensures numbers { IfOk result (λ numbers. numbers ≡ attr_numbers declared.now names.now) }
+    ensures within { IfOk result (All (λ a. a < length declared.now.attrs)) }
+{
+    let numbers = attr_numbers(alloc, declared, names)?;
+    Ok(numbers)
+}
+
+/// Whether an interface list would have more than 64 entries.
+fn offers_too_much(
+    alloc: Global,
+    declared: &Declared,
+    graph: &mut Graph,
+    locators: &Option<List<Locator>>,
+    needs: &[Name],
+) -> Result<bool, Memory>
+    requires few { length declared.now.attrs ≤ 65536 }
+    requires known { lacks_attr declared.now needs.now ≡ false }
+    requires graph { graph.old.attrs ≡ nodes_of declared.now.attrs }
+    ensures many { IfOk result (λ many. many ≡ offers_too_much declared.now locators.now needs.now) }
+    ensures same { graph.new ≡ graph.old }
+{
+    let numbers = known_numbers(alloc, declared, needs)?;
+    let fits = graph.fits(locators.is_some(), numbers.items())?;
+    Ok(!fits)
+}
+
+/// The first code of an attribute.
+pub fn define_fault(
+    alloc: Global,
+    declared: &Declared,
+    graph: &mut Graph,
+    name: &[u8],
+    locators: &Option<List<Locator>>,
+    needs: &[Name],
+) -> Result<Option<u8>, Memory>
+    requires few { length declared.now.attrs ≤ 65536 }
+    requires graph { graph.old.attrs ≡ nodes_of declared.now.attrs }
+    ensures code { IfOk result (λ code. code ≡ define_fault declared.now name.now locators.now needs.now) }
+    ensures same { graph.new ≡ graph.old }
+{
+    if is_root(name) || has_attr(declared, name) {
+        return Ok(Some(18));
+    }
+    if repeats_locator(locators) {
+        return Ok(Some(15));
+    }
+    if lacks_attr(declared, needs) {
+        return Ok(Some(8));
+    }
+    if offers_too_much(alloc, declared, graph, locators, needs)? {
+        return Ok(Some(25));
+    }
+    Ok(None)
+}
+
+/// Whether one of these numbers is a device class other than this one.
+fn has_other_class(declared: &Declared, numbers: &[u32], class: u32) -> bool
+    ensures { result ≡ list_any (λ a. is_class declared.now a && not (a == class)) numbers.now }
+{
+    numbers
+        .iter()
+        .any(|&number| is_class(declared, number) && number != class)
+}
+
+fn is_class(declared: &Declared, attr: u32) -> bool
+    ensures { result ≡ is_class declared.now attr }
+{
+    match declared.attrs.items().get(attr as usize) {
+        Some(attr) => attr.class,
+        None => false,
+    }
+}
+
+fn first_class(declared: &Declared, numbers: &[u32]) -> Option<u32>
+    ensures { result ≡ find (is_class declared.now) numbers.now }
+{
+    numbers
+        .iter()
+        .copied()
+        .find(|&number| is_class(declared, number))
+}
+
+/// Whether these attributes are of two device classes.
+fn has_classes(declared: &Declared, numbers: &[u32]) -> bool
+    ensures { result ≡ nat_lt 1 (length (firsts (filter (is_class declared.now) numbers.now))) }
+{
+    match first_class(declared, numbers) {
+        Some(class) => has_other_class(declared, numbers, class),
+        None => false,
+    }
+}
+
+/// Whether the attributes of a device are of two device classes.
+fn names_classes(alloc: Global, declared: &Declared, needs: &[Name]) -> Result<bool, Memory>
+    requires { length declared.now.attrs ≤ 65536 }
+    ensures { IfOk result (λ two. two ≡ has_classes declared.now needs.now) }
+{
+    let numbers = attr_numbers(alloc, declared, needs)?;
+    Ok(has_classes(declared, numbers.items()))
+}
+
+/// The first code of a device.
+pub fn device_fault(
+    alloc: Global,
+    declared: &Declared,
+    graph: &mut Graph,
+    name: &[u8],
+    locators: &Option<List<Locator>>,
+    needs: &[Name],
+) -> Result<Option<u8>, Memory>
+    requires few { length declared.now.attrs ≤ 65536 }
+    requires graph { graph.old.attrs ≡ nodes_of declared.now.attrs }
+    ensures code { IfOk result (λ code. code ≡ device_fault declared.now name.now locators.now needs.now) }
+    ensures same { graph.new ≡ graph.old }
+{
+    if is_root(name)
+        || has_device(declared, name)
+        || (locators.is_some() && has_attr(declared, name))
+    {
+        return Ok(Some(18));
+    }
+    if repeats_locator(locators) {
+        return Ok(Some(15));
+    }
+    if lacks_attr(declared, needs) {
+        return Ok(Some(8));
+    }
+    if names_classes(alloc, declared, needs)? {
+        return Ok(Some(19));
+    }
+    if offers_too_much(alloc, declared, graph, locators, needs)? {
+        return Ok(Some(25));
+    }
+    Ok(None)
+}
