@@ -1,2 +1,3 @@
 pub mod ClassLemmas
 pub mod FaultLemmas
+pub mod JoinLemmas

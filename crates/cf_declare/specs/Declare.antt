@@ -1,17 +1,15 @@
 -- What one more statement adds to what is declared.
-use Rattle.std.specs.Prelude.{◌≡◌, ℕ, ◌+◌, ◌≤◌, Bool, true, false, not, List, [], ◌∷◌, ◌++◌, length, map, bytes_eq, Option, Some, None, is_some, option_map, unwrap_or, if◌then◌else◌}
-use Rattle.std.specs.List.{list_any}
-use Rattle.std.specs.Option.{option_map_or, option_to_list}
+use Rattle.std.specs.Prelude.{ℕ, true, false, List, [], ◌++◌, length, map, Option, Some, None, is_some, option_map, unwrap_or, if◌then◌else◌}
+use Rattle.std.specs.Option.{option_to_list}
 use Rattle.cf_types.specs.declared.stmt.Stmt.{Stmt}
 use Rattle.cf_types.specs.declared.stmt.Stmt.TheVariants as stmt
 use Rattle.cf_types.specs.declared.tables.Attr.{Attr}
 use Rattle.cf_types.specs.declared.tables.Device.{Device}
 use Rattle.cf_types.specs.declared.tables.Attach.{Attach}
-use Rattle.cf_types.specs.declared.tables.Locator.{Locator}
 use Rattle.cf_types.specs.declared.tables.Place.{Place}
 use Rattle.cf_types.specs.declared.tables.Place.TheVariants.{Root, At}
 use Rattle.config_rules.specs.Declared.{Declared, attr, is_root, attr_number, device_number}
-use Rattle.config_rules.specs.Fault.{attr_numbers, is_instance}
+use Rattle.config_rules.specs.Fault.{attr_numbers}
 
 -- the attribute that a statement adds
 abbrev pub new_attr : Declared → Stmt → Option Attr

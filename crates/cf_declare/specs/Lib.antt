@@ -1,1 +1,2 @@
 pub mod Declare
+pub mod Graphs

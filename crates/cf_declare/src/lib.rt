@@ -3,4 +3,5 @@
 
 mod define;
 mod fault;
+mod join;
 mod lookup;

@@ -19,3 +19,19 @@ pub struct Instance {
     pub mark: UnitMark,
     pub flags: i64,
 }
+
+/// What an instance attaches to, once its words are looked up: the root, a parent device with a unit or any, or an
+/// interface attribute with `?`.
+#[derive(Clone, Copy)]
+pub enum Target {
+    AtRoot,
+    Below(ParentSpec),
+    On(u32),
+}
+
+/// An attachment with one of its places.
+#[derive(Clone, Copy)]
+pub struct AttachPlace {
+    pub attach: u32,
+    pub place: Place,
+}

@@ -15,7 +15,7 @@ mod tree;
 
 pub use decimal::put_decimal;
 pub use declared::Declared;
-pub use instance::{Instance, Joined};
+pub use instance::{AttachPlace, Instance, Joined, Target};
 pub use list::{List, Text};
 pub use locs::Locs;
 pub use machine::{Command, Given, Machine, MatchLine, Policy, Script, Spot, StyleLine, Ticket};

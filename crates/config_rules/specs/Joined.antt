@@ -5,7 +5,10 @@ use Rattle.std.specs.List.{list_any, enumerate_from}
 use Rattle.std.specs.Option.{option_map_or}
 use Rattle.cf_types.specs.declared.stmt.AtSpec.{AtSpec}
 use Rattle.cf_types.specs.declared.stmt.AtSpec.TheVariants as written
+use Rattle.cf_types.specs.declared.instance.AttachPlace.{AttachPlace}
 use Rattle.cf_types.specs.declared.instance.Joined.{Joined}
+use Rattle.cf_types.specs.declared.instance.Target.{Target}
+use Rattle.cf_types.specs.declared.instance.Target.TheVariants.{AtRoot, Below, On}
 use Rattle.cf_types.specs.declared.stmt.GivenLoc.{GivenLoc}
 use Rattle.cf_types.specs.declared.tables.Locator.{Locator}
 use Rattle.cf_types.specs.declared.tables.ParentSpec.{ParentSpec}
@@ -57,22 +60,11 @@ fill locs pairs = option_map_or (λ code. Err code) (fill_fault locs pairs) (Ok 
 
 -- ---- the attachment
 
--- an attachment with one of its places
-pub record Spot : Type 0 where
-  pub attach : ℕ
-  pub place : Place
-
 -- the attachments of a device with their places, in the order of attachments, then of places
-abbrev pub spots_of : Declared → ℕ → List Spot
+abbrev pub spots_of : Declared → ℕ → List AttachPlace
 spots_of d device =
     flat_map (λ a. if a.1.device == device then map (λ place. record { attach = a.0; place = place }) a.1.places else [])
     (enumerate_from 0 d.attaches)
-
--- what an instance joins: the root, a device with a unit or any, or an attribute
-pub data Target : Type 0 where
-  AtRoot : Target
-  Below : (parent : ParentSpec) → Target
-  On : (attr : ℕ) → Target
 
 -- a place is what an instance joins: the root, an attribute that the parent offers, or the attribute itself
 abbrev pub suits : Declared → Target → Place → Bool

@@ -1,0 +1,210 @@
+ghost use Rattle.std.specs.Prelude.{◌≡◌, ◌==◌, ◌<◌, ◌≤◌, [], length, find};
+ghost use Rattle.std.specs.List.{list_any};
+ghost use Rattle.cf_types.specs.Locators.{locators_at};
+ghost use Rattle.cf_types.specs.Offers.{offers};
+ghost use Rattle.config_rules.specs.Declared.{attr_number};
+ghost use Rattle.config_rules.specs.Joined.{attr_target, target_of, suits, spots_of, fill, join, parent_of};
+ghost use Rattle.cf_declare.specs.Graphs.{IsGraphOf, LocatorsFit, placed_of};
+
+use crate::lookup::{attr_number, device_number};
+use attr_graph::Graph;
+use cf_types::{
+    AtSpec, Attach, AttachPlace, Declared, GivenLoc, Joined, Locs, ParentSpec, Place, Target,
+};
+use locator_rules::fill;
+
+/// An attribute that an instance attaches to: unknown, no interface attribute, or written with a unit.
+fn attr_target(declared: &Declared, name: &[u8], unit: Option<u32>) -> Result<Target, u8>
+    requires { length declared.now.attrs ≤ 65536 }
+    ensures { result ≡ attr_target declared.now unit (attr_number declared.now name.now) }
+{
+    let Some(number) = attr_number(declared, name) else {
+        return Err(8);
+    };
+    if !declared.attrs.items()[number].iface {
+        return Err(9);
+    }
+    if unit.is_some() {
+        return Err(17);
+    }
+    Ok(Target::On(number as u32))
+}
+
+/// What an instance attaches to. A name that is a device and an attribute is read as the device.
+fn target_of(declared: &Declared, at: &AtSpec) -> Result<Target, u8>
+    requires attrs { length declared.now.attrs ≤ 65536 }
+    requires devices { length declared.now.devices ≤ 65536 }
+    ensures { result ≡ target_of declared.now at.now }
+{
+    match at {
+        AtSpec::Root => Ok(Target::AtRoot),
+        AtSpec::Named { base, unit } => match device_number(declared, base.bytes()) {
+            Some(device) => Ok(Target::Below(ParentSpec {
+                device: device as u32,
+                unit: *unit,
+            })),
+            None => attr_target(declared, base.bytes(), *unit),
+        },
+    }
+}
+
+/// Whether a device offers an attribute.
+fn offers(declared: &Declared, graph: &Graph, device: u32, attr: u32) -> bool
+    requires { IsGraphOf declared.now graph.now }
+    ensures { result ≡ offers declared.now.attrs declared.now.devices device attr }
+{
+    if device as usize >= declared.devices.len() {
+        return false;
+    }
+    graph.offers(device, attr)
+}
+
+/// Whether a place is what an instance attaches to.
+fn suits(declared: &Declared, graph: &Graph, target: Target, place: Place) -> bool
+    requires { IsGraphOf declared.now graph.now }
+    ensures { result ≡ suits declared.now target place }
+{
+    match (target, place) {
+        (Target::AtRoot, Place::Root) => true,
+        (Target::Below(parent), Place::At(attr)) => offers(declared, graph, parent.device, attr),
+        (Target::On(wanted), Place::At(attr)) => attr == wanted,
+        (Target::AtRoot, Place::At(_)) => false,
+        (Target::Below(_), Place::Root) => false,
+        (Target::On(_), Place::Root) => false,
+    }
+}
+
+/// The first of these places that suits.
+fn suitable(declared: &Declared, graph: &Graph, target: Target, places: &[Place]) -> Option<Place>
+    requires { IsGraphOf declared.now graph.now }
+    ensures { result ≡ find (suits declared.now target) places.now }
+{
+    for place in places {
+        if suits(declared, graph, target, *place) {
+            return Some(*place);
+        }
+    }
+    None
+}
+
+/// The first place of an attachment that suits, where it is one of the device.
+fn place_of(
+    declared: &Declared,
+    graph: &Graph,
+    target: Target,
+    device: u32,
+    number: u32,
+    attach: &Attach,
+) -> Option<AttachPlace>
+    requires { IsGraphOf declared.now graph.now }
+    ensures { result ≡ placed_of declared.now target device number attach.now }
+{
+    if attach.device != device {
+        return None;
+    }
+    let place = suitable(declared, graph, target, attach.places.items())?;
+    Some(AttachPlace {
+        attach: number,
+        place,
+    })
+}
+
+/// The first attachment of a device, with its first place, that suits.
+fn attach_place(
+    declared: &Declared,
+    graph: &Graph,
+    target: Target,
+    device: u32,
+) -> Option<AttachPlace>
+    requires graph { IsGraphOf declared.now graph.now }
+    requires few { length declared.now.attaches ≤ 65536 }
+    ensures { result ≡ find (λ s. suits declared.now target s.place) (spots_of declared.now device) }
+{
+    for (number, attach) in declared.attaches.items().iter().enumerate() {
+        match place_of(declared, graph, target, device, number as u32, attach) {
+            Some(place) => return Some(place),
+            None => {}
+        }
+    }
+    None
+}
+
+/// Whether a device has an attachment.
+fn is_attached(declared: &Declared, device: u32) -> bool
+    ensures { result ≡ list_any (λ a. a.device == device) declared.now.attaches }
+{
+    let attaches = declared.attaches.items();
+    attaches.iter().any(|attach| attach.device == device)
+}
+
+/// The locator values of an instance at a place.
+fn fill_at(declared: &Declared, place: Place, pairs: &[GivenLoc]) -> Result<Locs, u8>
+    requires { LocatorsFit declared.now }
+    ensures { result ≡ fill (locators_at declared.now.attrs place) pairs.now }
+{
+    match place {
+        Place::Root => fill_nothing(pairs),
+        Place::At(attr) => match declared.attrs.items().get(attr as usize) {
+            Some(attr) => fill(attr, pairs),
+            None => fill_nothing(pairs),
+        },
+    }
+}
+
+/// The values of no locators: whatever is written is unknown.
+fn fill_nothing(pairs: &[GivenLoc]) -> Result<Locs, u8>
+    ensures { result ≡ fill [] pairs.now }
+{
+    if pairs.is_empty() {
+        return Ok(Locs::make());
+    }
+    Err(14)
+}
+
+/// What an instance joins, or its first code.
+#[tactic(auto, unfolding(config_rules::specs::Joined::join))]
+pub fn join(
+    declared: &Declared,
+    graph: &Graph,
+    base: &[u8],
+    at: &AtSpec,
+    pairs: &[GivenLoc],
+) -> Result<Joined, u8>
+    requires attrs { length declared.now.attrs ≤ 65536 }
+    requires devices { length declared.now.devices ≤ 65536 }
+    requires attaches { length declared.now.attaches ≤ 65536 }
+    requires graph { IsGraphOf declared.now graph.now }
+    requires locators { LocatorsFit declared.now }
+    ensures { result ≡ join declared.now base.now at.now pairs.now }
+{
+    let Some(device) = device_number(declared, base) else {
+        return Err(10);
+    };
+    let device = device as u32;
+    if !is_attached(declared, device) {
+        return Err(11);
+    }
+    let target = target_of(declared, at)?;
+    let Some(spot) = attach_place(declared, graph, target, device) else {
+        return Err(12);
+    };
+    let locs = fill_at(declared, spot.place, pairs)?;
+    Ok(Joined {
+        device,
+        attach: spot.attach,
+        place: spot.place,
+        parent: parent_of(target),
+        locs,
+    })
+}
+
+/// The parent device that is named, if one is.
+fn parent_of(target: Target) -> Option<ParentSpec>
+    ensures { result ≡ parent_of target }
+{
+    match target {
+        Target::Below(parent) => Some(parent),
+        Target::AtRoot => None,
+        Target::On(_) => None,
+    }
+}

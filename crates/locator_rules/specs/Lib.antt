@@ -1,0 +1,2 @@
+pub use Rattle.cf_types.specs.Locators
+pub use Rattle.config_rules.specs.Joined
