@@ -22,3 +22,9 @@ pub record LocatorsFit (d : Declared) : Type 0 where
 -- an attachment with its first place that suits, where it is one of the device
 abbrev pub placed_of : Declared → Target → ℕ → ℕ → Attach → Option AttachPlace
 placed_of d target device n a = if a.device == device then option_map (λ place. record { attach = n; place = place }) (find (suits d target) a.places) else None
+
+-- the lists are within their limits
+pub record FitsDeclared (d : Declared) : Type 0 where
+  pub attrs : length d.attrs ≤ 65536
+  pub devices : length d.devices ≤ 65536
+  pub attaches : length d.attaches ≤ 65536

@@ -2,6 +2,8 @@
 #![tactic(auto)]
 
 mod define;
+mod entry;
 mod fault;
 mod join;
+mod judge;
 mod lookup;

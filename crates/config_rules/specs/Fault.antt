@@ -3,6 +3,8 @@
 use Rattle.std.specs.Prelude.{◌≡◌, ℕ, ◌+◌, Bool, true, false, not, ◌&&◌, ◌||◌, nat_lt, nat_le, if◌then◌else◌, List, [], ◌∷◌, ◌++◌, length, map, filter, count_by, slice_index_or, slice_get, bytes_eq, Option, Some, None, is_some, option_map, unwrap_or, Result, Ok, Err}
 use Rattle.std.specs.List.{list_any}
 use Rattle.std.specs.Option.{option_map_or}
+use Rattle.cf_types.specs.declared.stmt.AtSpec.{AtSpec}
+use Rattle.cf_types.specs.declared.stmt.GivenLoc.{GivenLoc}
 use Rattle.cf_types.specs.declared.stmt.Placed.{Placed}
 use Rattle.cf_types.specs.declared.stmt.Stmt.{Stmt}
 use Rattle.cf_types.specs.declared.stmt.Stmt.TheVariants as stmt
@@ -103,15 +105,27 @@ abbrev pub err_of : {A : Type 0} → Result A ℕ → Option ℕ
 err_of (Ok x) = None
 err_of (Err code) = Some code
 
+-- a device class
+abbrev pub class_fault : Declared → List ℕ → Option ℕ
+class_fault d name = given (is_root name || has_attr d name) 18
+
+-- an instance behind so many others
+abbrev pub instance_fault : Declared → ℕ → List ℕ → AtSpec → List GivenLoc → Option ℕ
+instance_fault d instances base at pairs = given (nat_le 8192 instances) 24 or err_of (join d base at pairs)
+
+-- a pseudo-device
+abbrev pub pseudo_fault : Declared → List ℕ → Option ℕ
+pseudo_fault d name = given (not (is_pseudo d name)) 10
+
 -- the first code of a statement after what was declared and so many instances
 abbrev pub code_of : Declared → ℕ → Stmt → Option ℕ
 code_of d instances (stmt.Define name locs needs) = define_fault d name locs needs
-code_of d instances (stmt.Class name) = given (is_root name || has_attr d name) 18
+code_of d instances (stmt.Class name) = class_fault d name
 code_of d instances (stmt.DefPseudo name locs needs) = define_fault d name locs needs
 code_of d instances (stmt.Device name locs needs) = device_fault d name locs needs
 code_of d instances (stmt.Attach device places name needs) = attach_fault d device places (unwrap_or name device) needs
-code_of d instances (stmt.Inst base mark at pairs flags) = given (nat_le 8192 instances) 24 or err_of (join d base at pairs)
-code_of d instances (stmt.PseudoDevice name count) = given (not (is_pseudo d name)) 10
+code_of d instances (stmt.Inst base mark at pairs flags) = instance_fault d instances base at pairs
+code_of d instances (stmt.PseudoDevice name count) = pseudo_fault d name
 code_of d instances _ = None
 
 -- the first code that a statement has after those before it

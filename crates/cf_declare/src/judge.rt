@@ -1,0 +1,105 @@
+ghost use Rattle.std.specs.Prelude.{◌≡◌, IfOk};
+ghost use Rattle.config_rules.specs.Fault.{class_fault, instance_fault, pseudo_fault, code_of};
+ghost use Rattle.cf_declare.specs.Graphs.{FitsDeclared, IsGraphOf, LocatorsFit};
+
+use crate::define::{define_fault, device_fault};
+use crate::fault::{attach_fault, has_attr, is_pseudo};
+use crate::join::join;
+use crate::lookup::is_root;
+use attr_graph::Graph;
+use cf_types::{AtSpec, Declared, GivenLoc, Memory, Stmt};
+use std::alloc::Global;
+
+/// How many instance statements there may be.
+const MAX_INSTANCES: usize = 8_192;
+
+/// The code of a device class.
+fn class_fault(declared: &Declared, name: &[u8]) -> Option<u8>
+    ensures { result ≡ class_fault declared.now name.now }
+{
+    if is_root(name) || has_attr(declared, name) {
+        return Some(18);
+    }
+    None
+}
+
+/// The first code of an instance behind so many others.
+fn instance_fault(
+    declared: &Declared,
+    graph: &Graph,
+    instances: usize,
+    base: &[u8],
+    at: &AtSpec,
+    pairs: &[GivenLoc],
+) -> Option<u8>
+    requires fits { FitsDeclared declared.now }
+    requires graph { IsGraphOf declared.now graph.now }
+    requires locators { LocatorsFit declared.now }
+    ensures { result ≡ instance_fault declared.now instances base.now at.now pairs.now }
+{
+    if instances >= MAX_INSTANCES {
+        return Some(24);
+    }
+    match join(declared, graph, base, at, pairs) {
+        Ok(_) => None,
+        Err(code) => Some(code),
+    }
+}
+
+/// The code of a pseudo-device.
+fn pseudo_fault(declared: &Declared, name: &[u8]) -> Option<u8>
+    ensures { result ≡ pseudo_fault declared.now name.now }
+{
+    if is_pseudo(declared, name) {
+        return None;
+    }
+    Some(10)
+}
+
+/// The first code of a statement behind what is declared and so many instances.
+pub fn code_of(
+    alloc: Global,
+    declared: &Declared,
+    graph: &mut Graph,
+    instances: usize,
+    stmt: &Stmt,
+) -> Result<Option<u8>, Memory>
+    requires fits { FitsDeclared declared.now }
+    requires graph { IsGraphOf declared.now graph.old }
+    requires locators { LocatorsFit declared.now }
+    ensures code { IfOk result (λ code. code ≡ code_of declared.now instances stmt.now) }
+    ensures same { graph.new ≡ graph.old }
+{
+    match stmt {
+        Stmt::Define { name, locs, needs } | Stmt::DefPseudo { name, locs, needs } => {
+            define_fault(alloc, declared, graph, name.bytes(), locs, needs.items())
+        }
+        Stmt::Class { name } => Ok(class_fault(declared, name.bytes())),
+        Stmt::Device { name, locs, needs } => {
+            device_fault(alloc, declared, graph, name.bytes(), locs, needs.items())
+        }
+        Stmt::Attach {
+            device,
+            places,
+            attach_name,
+            needs,
+        } => {
+            let name = attach_name.as_ref().unwrap_or(device);
+            Ok(attach_fault(
+                declared,
+                device.bytes(),
+                places.items(),
+                name.bytes(),
+                needs.items(),
+            ))
+        }
+        Stmt::Inst {
+            base,
+            at,
+            pairs,
+            ..
+        } => { Ok(instance_fault(declared, graph, instances, base.bytes(), at, pairs.items())) }
+        Stmt::PseudoDevice { name, .. } => Ok(pseudo_fault(declared, name.bytes())),
+        _ => Ok(None),
+    }
+}
