@@ -1,3 +1,17 @@
+pub mod AcceptedLaws
 pub mod ClassLemmas
+pub mod CodeLaws
+pub mod DeclareLaws
 pub mod FaultLemmas
+pub mod FirstLaws
+pub mod GrowLemmas
 pub mod JoinLemmas
+pub mod LimitLaws
+pub mod ListFacts
+pub mod NameFacts
+pub mod NumberLaws
+pub mod OfferFacts
+pub mod SettledLaws
+pub mod SoundFacts
+pub mod SoundLaws
+pub mod SurvivingLaws

@@ -1,2 +1,5 @@
 pub mod Declare
 pub mod Graphs
+pub mod Limits
+pub mod Settled
+pub mod Sound

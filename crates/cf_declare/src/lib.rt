@@ -1,9 +1,13 @@
 //! What the statements of a configuration declare, and the first code of each.
 #![tactic(auto)]
 
+mod declarations;
 mod define;
 mod entry;
 mod fault;
+mod grow;
 mod join;
 mod judge;
 mod lookup;
+
+pub use declarations::Declarations;

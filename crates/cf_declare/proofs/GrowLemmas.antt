@@ -1,0 +1,71 @@
+-- What a statement without a code adds fits what is declared.
+use Rattle.std.proofs.Common.{◌≡◌, ℕ, ◌+◌, ◌<◌, ◌≤◌, Bool, true, false, Option, Some, None, List, [], ◌∷◌, ◌++◌, length, map, refl, ap, sym, ◌∙◌, subst, arith, length-append, All, get_or}
+use Rattle.std.specs.Prelude.{unwrap_or, IfSome}
+use Rattle.std.specs.Option.{option_to_list, option_map_or}
+use Rattle.std.proofs.lemmas.List.Elements.{All-cons, All-nil, All-append}
+use Rattle.cf_types.specs.declared.stmt.Stmt.{Stmt}
+use Rattle.cf_types.specs.declared.stmt.Stmt.TheVariants as stmt
+use Rattle.cf_types.specs.declared.tables.Attr.{Attr}
+use Rattle.cf_types.specs.declared.tables.Locator.{Locator}
+use Rattle.cf_types.specs.Offers.{named_by}
+use Rattle.config_rules.specs.Declared.{Declared, attr}
+use Rattle.config_rules.specs.Fault.{attr_numbers, repeats, repeats_locator, lacks_attr, code_of}
+use Rattle.cf_declare.specs.Declare.{new_attr, new_device, declare}
+use Rattle.cf_declare.specs.Graphs.{LocatorsFit}
+use Rattle.cf_declare.specs.Limits.{HasFewLocators}
+use Rattle.cf_declare.proofs.ClassLemmas.{numbers_within}
+use Rattle.cf_declare.proofs.CodeLaws.{no_code}
+use Rattle.cf_declare.proofs.LimitLaws.{few_locators_more}
+
+abbrev pub Differ : Attr → Type 0
+Differ a = repeats (map (λ l. l.name) a.locs) ≡ false
+
+single : (a : Attr) → Differ a → All Differ (a ∷ [])
+single a h = All-cons Differ a [] h (All-nil Differ)
+
+-- the locators of a new attribute differ
+new_differ : (d : Declared) (n : ℕ) (s : Stmt) → code_of d n s ≡ None → All Differ (option_to_list (new_attr d s))
+new_differ d n (stmt.Define name locs needs) h =
+    single (attr name _ false false (unwrap_or locs []) (attr_numbers d needs)) (no_code (repeats_locator locs) 15 _ (no_code _ 18 _ h).1).0
+new_differ d n (stmt.Class name) h = single (attr name false true false [] []) refl
+new_differ d n (stmt.DefPseudo name locs needs) h =
+    single (attr name _ false true (unwrap_or locs []) (attr_numbers d needs)) (no_code (repeats_locator locs) 15 _ (no_code _ 18 _ h).1).0
+new_differ d n (stmt.Device name None needs) h = All-nil Differ
+new_differ d n (stmt.Device name (Some locs) needs) h =
+    single (attr name true false false locs []) (no_code (repeats_locator (Some locs)) 15 _ (no_code _ 18 _ h).1).0
+new_differ d n _ h = All-nil Differ
+
+-- the locators of each attribute still fit
+pub locators_more : (d : Declared) (n : ℕ) (s : Stmt) → LocatorsFit d → code_of d n s ≡ None → HasFewLocators s → LocatorsFit (declare d s)
+locators_more d n s fit h few = record {
+  few = few_locators_more d s fit.few few;
+  differ = All-append Differ d.attrs (option_to_list (new_attr d s)) fit.differ (new_differ d n s h);
+}
+
+-- a new attribute names attributes that are there
+pub new_needs : (d : Declared) (n : ℕ) (s : Stmt) → code_of d n s ≡ None → IfSome (new_attr d s) (λ a. All (λ b. b < length d.attrs) a.needs)
+new_needs d n (stmt.Define name locs needs) h = numbers_within d needs (no_code (lacks_attr d needs) 8 _ (no_code _ 15 _ (no_code _ 18 _ h).1).1).0
+new_needs d n (stmt.Class name) h = All-nil (λ b. b < length d.attrs)
+new_needs d n (stmt.DefPseudo name locs needs) h = numbers_within d needs (no_code (lacks_attr d needs) 8 _ (no_code _ 15 _ (no_code _ 18 _ h).1).1).0
+new_needs d n (stmt.Device name None needs) h = tt
+new_needs d n (stmt.Device name (Some locs) needs) h = All-nil (λ b. b < length d.attrs)
+new_needs d n _ h = tt
+
+below_more : (xs : List ℕ) (n m : ℕ) → n ≤ m → All (λ b. b < n) xs → All (λ b. b < m) xs
+below_more xs n m h below k x p = let q : get_or xs k x < n = below k x p in omega arith
+
+device_needs : (d : Declared) (n : ℕ) (name : List ℕ) (locs : Option (List Locator)) (needs : List (List ℕ)) → code_of d n (stmt.Device name locs needs) ≡ None → All (λ b. b < length d.attrs) (attr_numbers d needs)
+device_needs d n name locs needs h = numbers_within d needs (no_code (lacks_attr d needs) 8 _ (no_code (repeats_locator locs) 15 _ (no_code _ 18 _ h).1).1).0
+
+-- a new device names its own attribute and attributes that are there
+pub new_names : (d : Declared) (n : ℕ) (s : Stmt) → code_of d n s ≡ None → IfSome (new_device d s) (λ x. All (λ b. b < length (d.attrs ++ option_to_list (new_attr d s))) (named_by x))
+new_names d n (stmt.Device name None needs) h =
+    below_more (attr_numbers d needs) (length d.attrs) _ (omega (arith, length-append d.attrs (option_to_list (new_attr d (stmt.Device name None needs)))))
+    (device_needs d n name None needs h)
+new_names d n (stmt.Device name (Some locs) needs) h =
+    let m = length (d.attrs ++ option_to_list (new_attr d (stmt.Device name (Some locs) needs))) in
+    let size : m ≡ length d.attrs + 1 = length-append d.attrs (option_to_list (new_attr d (stmt.Device name (Some locs) needs))) in
+    All-cons (λ b. b < m) (length d.attrs) (attr_numbers d needs) (omega (arith, size))
+    (below_more (attr_numbers d needs) (length d.attrs) m (omega (arith, size))
+    (numbers_within d needs (no_code (lacks_attr d needs) 8 _ (no_code _ 15 _ (no_code _ 18 _ h).1).1).0))
+new_names d n _ h = tt

@@ -1,0 +1,14 @@
+use Rattle.std.proofs.Common.{◌≡◌, None, sym, subst}
+use Rattle.config_rules.specs.Declared.{Declared}
+use Rattle.config_rules.specs.Fault.{code_of}
+use Rattle.cf_declare.specs.Graphs.{LocatorsFit}
+use Rattle.cf_declare.proofs.GrowLemmas.{locators_more}
+use Rattle.cf_declare.proofs.declarations.Declarations.declare.Goals as goal
+
+pub invariant_of-result : goal.invariant_of-result
+invariant_of-result c =
+    let accepted : code_of c.self.inside.lists 0 c.args.stmt.now ≡ None =
+    subst (λ (d : Declared). code_of d 0 c.args.stmt.now ≡ None) (sym c.self.view_is) c.requires.accepted in (
+      c.in_ok-grow.ensures.graph,
+      subst (λ (d : Declared). LocatorsFit d) (sym c.in_ok-grow.ensures.added) (locators_more c.self.inside.lists 0 c.args.stmt.now c.self.invariant.1 accepted c.requires.few),
+    )

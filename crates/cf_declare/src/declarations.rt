@@ -1,0 +1,97 @@
+ghost use Rattle.std.specs.Prelude.{◌≡◌, ◌<◌, ◌≤◌, [], None, length, IfOk};
+ghost use Rattle.config_rules.specs.Fault.{code_of};
+ghost use Rattle.config_rules.specs.Joined.{join};
+ghost use Rattle.cf_declare.specs.Declare.{declare};
+ghost use Rattle.cf_declare.specs.Graphs.{FitsDeclared, IsGraphOf};
+ghost use Rattle.cf_declare.specs.Limits.{HasFewLocators};
+
+use crate::grow::grow;
+use crate::join::join;
+use crate::judge::code_of;
+use attr_graph::Graph;
+use cf_types::{AtSpec, Declared, GivenLoc, Joined, List, Memory, Stmt};
+use std::alloc::Global;
+use std::marker::Model;
+
+/// What the statements of a configuration declare so far, with the graph of what devices offer. Contracts see the lists
+/// of attributes, devices and attachments. See config(5).
+#[derive(Drop)]
+pub struct Declarations {
+    lists: Declared,
+    graph: Graph,
+}
+
+impl Model for Declarations {
+    ghost use Rattle.cf_types.specs.declared.declared.Declared.{Declared as Lists};
+    ghost use Rattle.cf_declare.specs.Graphs.{IsGraphOf, LocatorsFit};
+
+    ghost Value = { Lists };
+
+    ghost view = { λ it. it.lists };
+
+    ghost invariant = { λ it. IsGraphOf it.lists it.graph × LocatorsFit it.lists };
+}
+
+impl Declarations {
+    /// Nothing is declared yet. It takes no memory.
+    pub fn make(alloc: Global) -> Declarations
+        ensures { result ≡ record { attrs = []; devices = []; attaches = [] } }
+    {
+        Declarations {
+            lists: Declared {
+                attrs: List::make(alloc),
+                devices: List::make(alloc),
+                attaches: List::make(alloc),
+            },
+            graph: Graph::make(alloc),
+        }
+    }
+
+    /// The first code, 8 to 19, 24 or 25, of a statement behind what is declared and so many instances; `None` where it
+    /// is accepted.
+    pub fn code_of(
+        &mut self,
+        alloc: Global,
+        instances: usize,
+        stmt: &Stmt,
+    ) -> Result<Option<u8>, Memory>
+        requires { FitsDeclared self.old }
+        ensures code { IfOk result (λ code. code ≡ code_of self.old instances stmt.now) }
+        ensures same { self.new ≡ self.old }
+    {
+        code_of(alloc, &self.lists, &mut self.graph, instances, stmt)
+    }
+
+    /// What an instance joins, or its first code, 8 to 17.
+    pub fn join(&self, base: &[u8], at: &AtSpec, pairs: &[GivenLoc]) -> Result<Joined, u8>
+        requires { FitsDeclared self.now }
+        ensures { result ≡ join self.now base.now at.now pairs.now }
+    {
+        join(&self.lists, &self.graph, base, at, pairs)
+    }
+
+    /// Declares what an accepted statement adds. Where memory runs out, all is dropped.
+    pub fn declare(self, alloc: Global, stmt: &Stmt) -> Result<Declarations, Memory>
+        requires accepted { code_of self 0 stmt.now ≡ None }
+        requires few { HasFewLocators stmt.now }
+        requires attrs { length self.attrs < 65536 }
+        requires devices { length self.devices < 65536 }
+        ensures { IfOk result (λ d. d ≡ declare self stmt.now) }
+    {
+        let Declarations {
+            mut lists,
+            mut graph,
+        } = self;
+        grow(alloc, &mut lists, &mut graph, stmt)?;
+        Ok(Declarations { lists, graph })
+    }
+
+    /// The lists and the graph of them.
+    pub fn into_parts(self) -> (Declared, Graph)
+        ensures lists { result.0 ≡ self }
+        ensures graph { IsGraphOf result.0 result.1 }
+    {
+        let Declarations { lists, graph } = self;
+        (lists, graph)
+    }
+}
