@@ -58,7 +58,7 @@ accepted_at files placed i p h is none = (none_here files placed i p h is (none_
 -- ---- what all declare
 
 -- the first statements are settled, and what they declare is sound
-sound_so_far : (files : List (List ℕ)) (placed : List Placed) → first_code files [] placed ≡ None → (i : ℕ) → i ≤ length placed
+pub sound_so_far : (files : List (List ℕ)) (placed : List Placed) → first_code files [] placed ≡ None → (i : ℕ) → i ≤ length placed
     → Settled (stmts_of (take i placed)) × SoundDeclared (declared (stmts_of (take i placed)))
 unfolding declared
 sound_so_far files placed none zero h = (settled_nothing, sound_nothing)

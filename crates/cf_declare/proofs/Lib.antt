@@ -5,8 +5,11 @@ pub mod DeclareLaws
 pub mod FaultLemmas
 pub mod FirstLaws
 pub mod GrowLemmas
+pub mod InstanceLaws
+pub mod JoinLaws
 pub mod JoinLemmas
 pub mod LimitLaws
+pub mod LoopLaws
 pub mod ListFacts
 pub mod NameFacts
 pub mod NumberLaws

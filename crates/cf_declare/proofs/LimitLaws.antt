@@ -1,5 +1,5 @@
 -- How much one more statement declares at most.
-use Rattle.std.proofs.Common.{◌+◌, ◌≤◌, Option, Some, None, List, [], ◌++◌, length, length-append, arith}
+use Rattle.std.proofs.Common.{◌+◌, ◌≤◌, Some, None, [], length, arith}
 use Rattle.std.specs.Prelude.{unwrap_or, is_some, true, false}
 use Rattle.std.specs.Option.{option_to_list}
 use Rattle.std.proofs.lemmas.List.Elements.{All-cons, All-append}
@@ -9,18 +9,9 @@ use Rattle.config_rules.specs.Declared.{Declared, attr}
 use Rattle.config_rules.specs.Fault.{attr_numbers}
 use Rattle.cf_declare.specs.Declare.{new_attr, new_device, new_attach, declare}
 use Rattle.cf_declare.specs.Limits.{HasFewLocators, HaveFewLocators}
-use Rattle.cf_declare.proofs.ListFacts.{all_of_none}
+use Rattle.cf_declare.proofs.ListFacts.{with_option, all_of_none}
 
 -- ---- at most one of each
-
--- an option as a list has at most one element
-one_at_most : {X : Type 0} (o : Option X) → length (option_to_list o) ≤ 1
-one_at_most None = omega arith
-one_at_most (Some x) = omega arith
-
--- a list with what an option adds
-with_option : {X : Type 0} (xs : List X) (o : Option X) → length (xs ++ option_to_list o) ≤ length xs + 1
-with_option xs o = omega (arith, length-append xs (option_to_list o), one_at_most o)
 
 -- at most one attribute
 pub attrs_at_most : (d : Declared) (s : Stmt) → length (declare d s).attrs ≤ length d.attrs + 1

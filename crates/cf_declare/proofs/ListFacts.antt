@@ -1,12 +1,15 @@
 -- Facts about lists: the place of what passes a test, what is kept, and tests of all elements.
-use Rattle.std.proofs.Common.{◌≡◌, ℕ, ◌+◌, ◌<◌, zero, suc, Bool, true, false, cond, ◌||◌, Option, Some, None, List, [], ◌∷◌, ◌++◌, length, map, refl, ap, sym, ◌∙◌, subst, append-nil, arith}
-use Rattle.std.specs.Prelude.{unwrap_or, not, nat_lt, filter_map, find, position, slice_get, is_some, option_map}
-use Rattle.std.specs.List.{All, list_any, list_all, prefix_len}
+use Rattle.std.proofs.Common.{◌≡◌, ℕ, ◌+◌, ◌-◌, ◌<◌, ◌≤◌, zero, suc, Bool, true, false, cond, ◌||◌, Option, Some, None, List, [], ◌∷◌, ◌++◌, length, map, refl, ap, sym, ◌∙◌, subst, append-nil, append_assoc, length-append, arith}
+use Rattle.std.specs.Prelude.{flat_map, unwrap_or, not, nat_lt, filter_map, find, position, slice_get, is_some, option_map}
+use Rattle.std.specs.List.{enumerate_from, All, list_any, list_all, prefix_len}
 use Rattle.std.specs.Option.{option_to_list}
 use Rattle.std.specs.List.{cons_option}
 use Rattle.std.proofs.lemmas.Bool.{lt-ltb, and_parts, and_from, or_parts, or_left, or_right, not-false}
 use Rattle.std.proofs.lemmas.Bool.Decides.{nat_tests}
-use Rattle.std.proofs.lemmas.List.Elements.{filter_map-append, All-cons}
+use Rattle.std.proofs.lemmas.List.Elements.{filter_map-append, All-cons, All-head, All-tail, All-append}
+use Rattle.std.proofs.lemmas.List.{length_push}
+use Rattle.std.proofs.lemmas.Option.{get_or_from_slice_get, slice_get_within}
+use Rattle.cf_types.proofs.ListLemmas.{slice_get-append_back}
 
 -- ---- the place of the first element that passes
 
@@ -193,3 +196,50 @@ all_of_none P = λ k d q. absurd (omega arith)
 -- nothing is added
 pub with_nothing : {X : Type 0} (xs : List X) → xs ≡ xs ++ []
 with_nothing xs = sym (append-nil xs)
+
+-- what holds of all holds of the element at a place
+pub all_at : {X : Type 0} (P : X → Type 0) (xs : List X) (i : ℕ) (x : X) → All P xs → slice_get xs i ≡ Some x → P x
+all_at P xs i x h at = subst P (get_or_from_slice_get xs i x x at) (h i x (slice_get_within xs i x at))
+
+-- one element further
+found_one : {X : Type 0} (P : X → Type 0) (b : Bool) (x y : X) (o : Option X) → cond b (Some x) o ≡ Some y → P x → (o ≡ Some y → P y) → P y
+found_one P true x y o h here ih = let e : x ≡ y = cc in subst P e here
+found_one P false x y o h here ih = ih h
+
+-- and of the first that passes
+pub all_found : {X : Type 0} (P : X → Type 0) (p : X → Bool) (xs : List X) (y : X) → All P xs → find p xs ≡ Some y → P y
+all_found P p [] y h e = absurd (cc)
+all_found P p (x ∷ xs) y h e = found_one P (p x) x y (find p xs) e (All-head P x xs h) (all_found P p xs y (All-tail P x xs h))
+
+-- what holds of all in each piece
+pub all_pieces : {X Y : Type 0} (P : Y → Type 0) (f : X → List Y) (xs : List X) → All (λ x. All P (f x)) xs → All P (flat_map f xs)
+all_pieces P f [] h = all_of_none P
+all_pieces P f (x ∷ xs) h = All-append P (f x) (flat_map f xs) (All-head (λ z. All P (f z)) x xs h) (all_pieces P f xs (All-tail (λ z. All P (f z)) x xs h))
+
+-- an element with its number stands at that place
+pub all_numbered : {X : Type 0} (before xs : List X) → All (λ e. slice_get (before ++ xs) e.0 ≡ Some e.1) (enumerate_from (length before) xs)
+all_numbered before [] = all_of_none (λ e. slice_get (before ++ []) e.0 ≡ Some e.1)
+all_numbered {X} before (x ∷ xs) =
+    let none : length before - length before ≡ 0 = omega arith in
+    let here : slice_get (before ++ x ∷ xs) (length before) ≡ Some x = slice_get-append_back before (x ∷ xs) (length before) (omega arith) ∙ ap (slice_get (x ∷ xs)) none in
+    All-cons (λ e. slice_get (before ++ x ∷ xs) e.0 ≡ Some e.1) (length before, x) (enumerate_from (length before + 1) xs) here
+    (subst (λ (n : ℕ). All (λ e. slice_get (before ++ x ∷ xs) e.0 ≡ Some e.1) (enumerate_from n xs)) (length_push before x)
+    (subst (λ (zs : List X). All (λ e. slice_get zs e.0 ≡ Some e.1) (enumerate_from (length (before ++ x ∷ [])) xs)) (append_assoc before (x ∷ []) xs) (all_numbered (before ++ x ∷ []) xs)))
+
+-- a place that was found is within the list
+pub found_within : {X : Type 0} (p : X → Bool) (xs : List X) (k : ℕ) → position p xs ≡ Some k → k < length xs
+found_within p xs k h = subst (λ (o : Option ℕ). unwrap_or o 0 < length xs) h (position_within p xs (ap is_some h))
+
+-- what holds of what an option gives
+pub all_of_option : {X : Type 0} (P : X → Type 0) (o : Option X) → ((x : X) → o ≡ Some x → P x) → All P (option_to_list o)
+all_of_option P None h = all_of_none P
+all_of_option P (Some x) h = All-cons P x [] (h x refl) (all_of_none P)
+
+-- an option as a list has at most one element
+one_at_most : {X : Type 0} (o : Option X) → length (option_to_list o) ≤ 1
+one_at_most None = omega arith
+one_at_most (Some x) = omega arith
+
+-- a list with what an option adds
+pub with_option : {X : Type 0} (xs : List X) (o : Option X) → length (xs ++ option_to_list o) ≤ length xs + 1
+with_option xs o = omega (arith, length-append xs (option_to_list o), one_at_most o)

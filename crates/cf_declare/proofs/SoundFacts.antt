@@ -55,10 +55,10 @@ open_within (x ∷ attrs) zero h = omega arith
 open_within (x ∷ attrs) (suc a) h = let p : a < length attrs = open_within attrs a h in omega arith
 
 -- an interface attribute stays one
-open_more : (attrs : List Attr) (x : Attr) (a : ℕ) → is_interface attrs a ≡ true → is_interface (attrs ++ x ∷ []) a ≡ true
-open_more [] x a h = absurd (cc)
-open_more (y ∷ attrs) x zero h = h
-open_more (y ∷ attrs) x (suc a) h = open_more attrs x a h
+pub open_more : (attrs more : List Attr) (a : ℕ) → is_interface attrs a ≡ true → is_interface (attrs ++ more) a ≡ true
+open_more [] more a h = absurd (cc)
+open_more (y ∷ attrs) more zero h = h
+open_more (y ∷ attrs) more (suc a) h = open_more attrs more a h
 
 -- the new attribute has the next number
 pub open_new : (attrs : List Attr) (x : Attr) → is_interface (attrs ++ x ∷ []) (length attrs) ≡ x.iface
@@ -66,9 +66,9 @@ open_new [] x = refl
 open_new (y ∷ attrs) x = open_new attrs x
 
 -- a place that is open stays open
-place_more : (attrs : List Attr) (x : Attr) (p : Place) → IsOpen attrs p → IsOpen (attrs ++ x ∷ []) p
-place_more attrs x Root h = h
-place_more attrs x (At a) h = open_more attrs x a h
+pub place_more : (attrs more : List Attr) (p : Place) → IsOpen attrs p → IsOpen (attrs ++ more) p
+place_more attrs more Root h = h
+place_more attrs more (At a) h = open_more attrs more a h
 
 -- what attributes offer stays
 pub offers_kept : (attrs : List Attr) (x : Attr) → AreEarlier (nodes_of attrs) → (names : List ℕ) → AreAttrs attrs names → interfaces_of (nodes_of (attrs ++ x ∷ [])) names ≡ interfaces_of (nodes_of attrs) names
@@ -82,7 +82,7 @@ own_within attrs (Some a) h = All-cons (λ b. b < length attrs) a [] (open_withi
 -- the own attribute of a device stays an interface attribute
 own_more : (attrs : List Attr) (x : Attr) (own : Option ℕ) → IfSome own (λ a. is_interface attrs a ≡ true) → IfSome own (λ a. is_interface (attrs ++ x ∷ []) a ≡ true)
 own_more attrs x None h = h
-own_more attrs x (Some a) h = open_more attrs x a h
+own_more attrs x (Some a) h = open_more attrs (x ∷ []) a h
 
 -- a device stays sound with one more attribute
 device_more : (attrs : List Attr) (x : Attr) → AreEarlier (nodes_of attrs) → (y : Device) → SoundDevice attrs y → SoundDevice (attrs ++ x ∷ []) y
@@ -98,7 +98,7 @@ device_more attrs x e y s =
 attach_more_attrs : (attrs : List Attr) (x : Attr) (devices : List Device) (y : Attach) → SoundAttach attrs devices y → SoundAttach (attrs ++ x ∷ []) devices y
 attach_more_attrs attrs x devices y s = record {
   has_device = s.has_device;
-  places_are_open = All-weaker (IsOpen attrs) (IsOpen (attrs ++ x ∷ [])) (place_more attrs x) y.places s.places_are_open;
+  places_are_open = All-weaker (IsOpen attrs) (IsOpen (attrs ++ x ∷ [])) (place_more attrs (x ∷ [])) y.places s.places_are_open;
   names_attrs = attrs_more attrs x y.needs s.names_attrs;
 }
 

@@ -123,12 +123,30 @@ pseudos_in _ = []
 
 -- ---- the warnings
 
+-- a negation of instances that takes back nothing
+abbrev pub is_idle : List Stmt → Stmt → Bool
+is_idle before (stmt.NoInst base mark at) = not (takes_back (stmt.NoInst base mark at) before)
+is_idle before (stmt.NoDevice at) = not (takes_back (stmt.NoDevice at) before)
+is_idle before _ = false
+
+-- the names in a negation of items that take back nothing
+abbrev pub idle_names : List Stmt → Stmt → List (List ℕ)
+idle_names before (stmt.NoItems kind names) = filter (λ name. not (takes_item kind name before)) names
+idle_names before _ = []
+
+-- the places of the negations of instances that take back nothing, among these statements, after those before
+unfoldable pub idle_insts : List Stmt → List Stmt → List ℕ
+idle_insts before [] = []
+idle_insts before (s ∷ later) = (if is_idle before s then length before ∷ [] else []) ++ idle_insts (before ++ s ∷ []) later
+
+-- the place of a negation of items, once for each of its names that takes back nothing
+unfoldable pub idle_items : List Stmt → List Stmt → List ℕ
+idle_items before [] = []
+idle_items before (s ∷ later) = map (λ name. length before) (idle_names before s) ++ idle_items (before ++ s ∷ []) later
+
 -- a warning for each name of a negation that takes back nothing
 abbrev pub idle : List Stmt → Stmt → List WarnKind
-idle before (stmt.NoInst base mark at) = if takes_back (stmt.NoInst base mark at) before then [] else warns.Nothing ∷ []
-idle before (stmt.NoDevice at) = if takes_back (stmt.NoDevice at) before then [] else warns.Nothing ∷ []
-idle before (stmt.NoItems kind names) = map (λ n. warns.Nothing) (filter (λ name. not (takes_item kind name before)) names)
-idle before _ = []
+idle before s = (if is_idle before s then warns.Nothing ∷ [] else []) ++ map (λ name. warns.Nothing) (idle_names before s)
 
 -- and one for a surviving instance that isn't rooted
 abbrev pub orphan : List Instance → ℕ → List WarnKind

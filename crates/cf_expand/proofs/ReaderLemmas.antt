@@ -1,0 +1,40 @@
+-- A file that is read, from its text on.
+use Rattle.std.proofs.Common.{◌≡◌, ℕ, ◌+◌, ◌==◌, List, [], ◌∷◌, ◌++◌, length, refl, ap, sym, ◌∙◌, subst, add-one}
+use Rattle.std.specs.Prelude.{Ok, Err}
+use Rattle.cf_types.specs.declared.stmt.Token.{Token}
+use Rattle.config_rules.specs.Cut.{Cut, cut_of}
+use Rattle.config_rules.specs.Reading.{Files, Here, Reading, lines_in, read_cut, read_lines, reader, refused}
+use Rattle.cf_grammar.specs.Statement.{AreWithin}
+use Rattle.cf_grammar.proofs.CutWithin.{within_cut}
+
+-- the tokens that `cut` gives lie within the text
+pub within_text : (a b : List ℕ) (tokens : List Token) → a ≡ b → Cut a tokens → AreWithin b tokens
+within_text a b tokens e k = subst (λ (x : List ℕ). AreWithin x tokens) e (within_cut a tokens k)
+
+abbrev pub first_here : ℕ → ℕ → List ℕ → Reading → Here
+first_here n around name r = record { file = name; number = length r.files; around = around; deepest = n == 0 }
+
+abbrev pub with_file : List ℕ → Reading → Reading
+with_file name r = record r { files = r.files ++ name ∷ [] }
+
+pub reader_more : (n : ℕ) (files : Files) (around : ℕ) (name text : List ℕ) (r : Reading) → reader (n + 1) files around name text r ≡ read_cut files (reader n files) (first_here n around name r) text (cut_of text) (with_file name r)
+unfolding reader
+reader_more n files around name text r = rw add-one refl
+
+-- a file that was cut
+pub opened_reads : (n : ℕ) (files : Files) (around : ℕ) (name text shown lent listed : List ℕ) (tokens : List Token) (number : ℕ) (old new : Reading) → number ≡ length old.files → shown ≡ text → lent ≡ text → listed ≡ name
+    → new ≡ with_file listed old → cut_of lent ≡ Ok tokens
+    → read_lines files (reader n files) (record { file = name; number = number; around = around; deepest = n == 0 }) [] (lines_in shown tokens) new ≡ reader (n + 1) files around name text old
+opened_reads n files around name text shown lent listed tokens number old new ek es el en ew ec =
+    let whole : reader (n + 1) files around name text old ≡ read_lines files (reader n files) (first_here n around name old) [] (lines_in text tokens) (with_file name old) =
+    reader_more n files around name text old ∙ ap (λ c. read_cut files (reader n files) (first_here n around name old) text c (with_file name old)) (ap cut_of (sym el) ∙ ec) in
+    rw (ek, es, ew, en) (sym whole)
+
+-- a file that can't be cut
+pub uncut_reads : (n : ℕ) (files : Files) (around : ℕ) (name text lent listed again : List ℕ) (line code : ℕ) (old between new : Reading) → lent ≡ text → listed ≡ name → again ≡ name
+    → between ≡ with_file listed old → cut_of lent ≡ Err (line, code) → new ≡ refused again line code between
+    → new ≡ reader (n + 1) files around name text old
+uncut_reads n files around name text lent listed again line code old between new el en ea ew ec er =
+    let whole : reader (n + 1) files around name text old ≡ refused name line code (with_file name old) =
+    reader_more n files around name text old ∙ ap (λ c. read_cut files (reader n files) (first_here n around name old) text c (with_file name old)) (ap cut_of (sym el) ∙ ec) in
+    rw (er, ew, en, ea) (sym whole)

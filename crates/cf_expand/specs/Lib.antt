@@ -1,0 +1,6 @@
+pub mod Lines
+pub mod Conditions
+pub mod Prefixes
+pub mod Stop
+pub mod Steps
+pub use Rattle.config_rules.specs.Reading

@@ -1,0 +1,14 @@
+//! Reads a configuration file with all that it includes, without the parts that its conditions leave out. See config(5).
+#![tactic(auto)]
+
+mod conditions;
+mod lines;
+mod open;
+mod progress;
+mod reading;
+mod source;
+mod steps;
+mod stop;
+
+pub use reading::expand;
+pub use stop::ExpandStop;

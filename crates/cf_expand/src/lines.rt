@@ -1,0 +1,104 @@
+ghost use Rattle.std.specs.Prelude.{◌≡◌, [], MatchOption, find};
+ghost use Rattle.std.specs.List.{position_or_len};
+ghost use Rattle.cf_words.specs.Words.{piece_of};
+ghost use Rattle.cf_grammar.specs.Statement.{AreWithin, IsWithin};
+ghost use Rattle.config_rules.specs.Cut.{is_stop, piece};
+ghost use Rattle.config_rules.specs.Form.{is_word};
+ghost use Rattle.config_rules.specs.Reading.{line_at};
+ghost use Rattle.cf_expand.specs.Conditions.{Begins, spelling};
+ghost use Rattle.cf_expand.specs.Lines.{Parts, line_of};
+
+use cf_types::{CondWord, Token, TokenKind};
+use cf_words::Word;
+
+const CONDITION_WORDS: [CondWord; 6] = [
+    CondWord::IfDef,
+    CondWord::IfNDef,
+    CondWord::ElifDef,
+    CondWord::ElifNDef,
+    CondWord::Else,
+    CondWord::EndIf,
+];
+
+fn spelling(word: CondWord) -> &'static [u8]
+    ensures { result.now ≡ spelling word }
+{
+    match word {
+        CondWord::IfDef => b"ifdef",
+        CondWord::IfNDef => b"ifndef",
+        CondWord::ElifDef => b"elifdef",
+        CondWord::ElifNDef => b"elifndef",
+        CondWord::Else => b"else",
+        CondWord::EndIf => b"endif",
+    }
+}
+
+fn spells(word: Word, condition: CondWord) -> bool
+    ensures { result ≡ is_word (spelling condition) (piece_of word.entry) }
+{
+    word.is_word(spelling(condition))
+}
+
+fn condition_of(word: Word) -> Option<CondWord>
+    ensures { result ≡ find (λ condition. is_word (spelling condition) (piece_of word.entry)) CONDITION_WORDS }
+{
+    CONDITION_WORDS
+        .iter()
+        .copied()
+        .find(|&condition| spells(word, condition))
+}
+
+/// A token with its bytes.
+pub fn word_of<'a>(text: &'a [u8], token: Token) -> Word<'a>
+    requires { IsWithin text.now token }
+    ensures { piece_of result ≡ piece text.now token }
+{
+    Word {
+        kind: token.kind,
+        text: &text[token.start as usize..token.end as usize],
+    }
+}
+
+/// The condition word with which a statement begins, if it does.
+pub fn condition_word(text: &[u8], tokens: &[Token]) -> Option<CondWord>
+    requires { AreWithin text.now tokens.now }
+    ensures { Begins (line_of text.now tokens.now) result }
+{
+    match tokens {
+        [first, ..] => condition_of(word_of(text, *first)),
+        [] => None,
+    }
+}
+
+/// The line of a statement: that of its first token.
+pub fn line_number(tokens: &[Token]) -> u32
+    ensures { result ≡ line_at tokens.now }
+{
+    match tokens {
+        [first, ..] => first.line,
+        [] => 0,
+    }
+}
+
+fn count_before_stop(tokens: &[Token]) -> usize
+    ensures { result ≡ position_or_len is_stop tokens.now }
+{
+    tokens
+        .iter()
+        .take_while(|token| token.kind != TokenKind::Stop)
+        .count()
+}
+
+/// The tokens of the first statement, and those behind its stop; `None` where there is no token.
+pub fn first_statement(tokens: &[Token]) -> Option<(&[Token], &[Token])>
+    ensures { MatchOption result (tokens.now ≡ []) (λ parts. Parts tokens.now parts.0.now parts.1.now) }
+{
+    if tokens.is_empty() {
+        return None;
+    }
+    let (statement, from) = tokens.split_at(count_before_stop(tokens));
+    match from {
+        [_, rest @ ..] => Some((statement, rest)),
+        [] => Some((statement, from)),
+    }
+}

@@ -1,0 +1,166 @@
+ghost use Rattle.std.specs.Prelude.{◌≡◌, ℕ, ◌+◌, ◌-◌, ◌≤◌, ◌<◌, IfOk, IfSome, OnOk, length};
+ghost use Rattle.config_rules.specs.Reading.{Files as Told, Line, include, nothing_read, read_first, reader};
+ghost use Rattle.cf_expand.specs.Stop.{Counted};
+ghost use Rattle.cf_expand.specs.Steps.{IsBelow, WhereTold, entered, here_of, when_absent};
+
+use crate::conditions::Conditions;
+use crate::progress::Progress;
+use crate::source::{Include, Source};
+use crate::stop::ExpandStop;
+use cf_io::{Files, Load};
+use cf_lexer::{LexStop, cut};
+use cf_types::{List, Memory, Stmt, Text};
+use std::alloc::Global;
+
+/// The most files that are loaded.
+const MAX_FILES: usize = 4_096;
+
+/// The most levels of files below the named one.
+const MAX_LEVELS: u32 = 16;
+
+/// The most conditions that are open at once, over all files.
+const MAX_CONDITIONS: usize = 16;
+
+/// The code of a file that is absent.
+const ABSENT_CODE: u8 = 1;
+
+/// The code of a file that is too long.
+const LENGTH_CODE: u8 = 2;
+
+/// The code of an include that is too deep, or whose file is one too many.
+const DEPTH_CODE: u8 = 20;
+
+/// Opens a file that was loaded. `None` where it can't be cut into tokens, which is then the fault.
+fn open(
+    alloc: Global,
+    progress: &mut Progress,
+    name: Text,
+    text: Vec<u8>,
+    room: usize,
+    levels: u32,
+) -> Result<Option<Source>, Memory>
+    requires short { length text.items ≤ 1048576 }
+    requires few { length progress.old.files < 4096 }
+    ensures below { IfOk result (λ opened. IsBelow room levels opened) }
+    ensures read { IfOk result (λ opened. (files : Told) (around : ℕ) → entered files around opened progress.new ≡ reader (levels + 1) files around name text.items progress.old) }
+{
+    let number = progress.files_len() as u32;
+    progress.push_file(alloc, name.items())?;
+    match cut(alloc, &text) {
+        Ok(tokens) => Ok(Some(Source {
+            name,
+            number,
+            text: List::from_vec(text),
+            tokens,
+            room,
+            levels,
+        })),
+        Err(LexStop::Fault { line, code }) => {
+            progress.refuse(alloc, name.items(), line, code)?;
+            Ok(None)
+        }
+        Err(LexStop::Memory) => Err(Memory),
+    }
+}
+
+/// Opens the named file.
+pub fn open_first<F: Files>(
+    alloc: Global,
+    files: &mut F,
+    progress: &mut Progress,
+    name: &[u8],
+) -> Result<Option<Source>, ExpandStop>
+    requires { progress.old ≡ nothing_read }
+    ensures told { F.told files.new ≡ F.told files.old }
+    ensures counted { Counted (F.faults files.old) (F.faults files.new) result }
+    ensures below { IfOk result (λ opened. IsBelow 16 16 opened) }
+    ensures read { WhereTold (F.told files.old) (λ named. IfOk result (λ opened. entered named 0 opened progress.new ≡ read_first named name.now (named name.now))) }
+{
+    let mut text = Vec::new(alloc);
+    match files.load(name, &mut text) {
+        Load::Whole => {
+            let name = List::copied(alloc, name)?;
+            Ok(open(alloc, progress, name, text, MAX_CONDITIONS, MAX_LEVELS)?)
+        }
+        Load::Absent => {
+            progress.refuse(alloc, name, 0, ABSENT_CODE)?;
+            Ok(None)
+        }
+        Load::TooLong => {
+            progress.refuse(alloc, name, 0, LENGTH_CODE)?;
+            Ok(None)
+        }
+        Load::Failed => Err(ExpandStop::ReadFault),
+        Load::Memory => Err(ExpandStop::Memory),
+    }
+}
+
+/// Places an include whose file is absent, where that may be.
+fn absent(
+    alloc: Global,
+    progress: &mut Progress,
+    source: &Source,
+    line: u32,
+    wanted: Include,
+) -> Result<(), Memory>
+    ensures { OnOk result (progress.new ≡ when_absent source.now line wanted.path wanted.optional progress.old) }
+{
+    if wanted.optional {
+        let Include { path, optional } = wanted;
+        return progress.place(source.number, line, Stmt::Include { path, optional });
+    }
+    progress.refuse(alloc, source.name.items(), line, ABSENT_CODE)
+}
+
+/// Loads and opens the file of an include, unless that is too deep, one too many, absent or too long.
+pub fn open_include<F: Files>(
+    alloc: Global,
+    files: &mut F,
+    progress: &mut Progress,
+    source: &Source,
+    conditions: &Conditions,
+    line: u32,
+    wanted: Include,
+) -> Result<Option<Source>, ExpandStop>
+    ensures told { F.told files.new ≡ F.told files.old }
+    ensures counted { Counted (F.faults files.old) (F.faults files.new) result }
+    ensures below { IfOk result (λ opened. IfSome opened (λ _. 1 ≤ source.now.levels) × IsBelow (source.now.room - length conditions.now) (source.now.levels - 1) opened) }
+    ensures read { WhereTold (F.told files.old) (λ named. IfOk result (λ opened. (around : ℕ) (s : Line) → s.number ≡ line
+        → entered named (around + length conditions.now) opened progress.new
+        ≡ include named (reader source.now.levels named) (here_of around source.now) conditions.now s wanted.path wanted.optional progress.old)) }
+{
+    if source.levels == 0 || progress.files_len() >= MAX_FILES {
+        progress.refuse(alloc, source.name.items(), line, DEPTH_CODE)?;
+        return Ok(None);
+    }
+    let path = progress.under_prefix(alloc, wanted.path.items())?;
+    let mut text = Vec::new(alloc);
+    match files.load(path.items(), &mut text) {
+        Load::Whole => {
+            let Include {
+                path: written,
+                optional,
+            } = wanted;
+            progress.place(
+                source.number,
+                line,
+                Stmt::Include {
+                    path: written,
+                    optional,
+                },
+            )?;
+            let room = source.room.saturating_sub(conditions.len());
+            Ok(open(alloc, progress, path, text, room, source.levels - 1)?)
+        }
+        Load::Absent => {
+            absent(alloc, progress, source, line, wanted)?;
+            Ok(None)
+        }
+        Load::TooLong => {
+            progress.refuse(alloc, source.name.items(), line, LENGTH_CODE)?;
+            Ok(None)
+        }
+        Load::Failed => Err(ExpandStop::ReadFault),
+        Load::Memory => Err(ExpandStop::Memory),
+    }
+}

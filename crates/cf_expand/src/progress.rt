@@ -1,0 +1,166 @@
+ghost use Rattle.std.specs.Prelude.{◌≡◌, [], ◌∷◌, ◌++◌, IfOk, OnOk, Some, is_some, length};
+ghost use Rattle.config_rules.specs.Cut.{pieces};
+ghost use Rattle.config_rules.specs.Reading.{declares, is_declared, nothing_read, refused, under_prefix};
+ghost use Rattle.cf_expand.specs.Prefixes.{Pops};
+ghost use Rattle.cf_expand.specs.Steps.{expanded};
+
+use cf_types::{Expanded, List, Memory, Placed, Refusal, Stmt, Text};
+use std::alloc::Global;
+use std::collections::VecDeque;
+use std::marker::Model;
+
+/// What was read so far.
+#[derive(Drop)]
+pub struct Progress {
+    placed: List<Placed>,
+    files: List<Text>,
+    /// The prefixes that stand, the top one first.
+    prefixes: VecDeque<Text>,
+    fault: Option<Refusal>,
+}
+
+impl Model for Progress {
+    ghost use Rattle.config_rules.specs.Reading.{Reading};
+
+    ghost Value = { Reading };
+
+    ghost view = { λ it. record { placed = it.placed; files = it.files; prefixes = it.prefixes.items; fault = it.fault } };
+}
+
+/// Whether a statement declares an attribute or a device of this name.
+fn declares(stmt: &Stmt, name: &[u8]) -> bool
+    ensures { result ≡ declares name.now stmt.now }
+{
+    match stmt {
+        Stmt::Define { name: own, .. }
+        | Stmt::Class { name: own }
+        | Stmt::DefPseudo { name: own, .. }
+        | Stmt::Device { name: own, .. } => own.bytes() == name,
+        _ => false,
+    }
+}
+
+impl Progress {
+    /// Nothing was read.
+    pub fn make(alloc: Global) -> Progress
+        ensures { result ≡ nothing_read }
+    {
+        Progress {
+            placed: List::make(alloc),
+            files: List::make(alloc),
+            prefixes: VecDeque::new(alloc),
+            fault: None,
+        }
+    }
+
+    /// How many statements were placed.
+    pub fn placed_len(&self) -> usize
+        ensures { result ≡ length self.now.placed }
+    {
+        self.placed.len()
+    }
+
+    /// How many files were loaded.
+    pub fn files_len(&self) -> usize
+        ensures { result ≡ length self.now.files }
+    {
+        self.files.len()
+    }
+
+    /// Whether there is a fault.
+    pub fn has_fault(&self) -> bool
+        ensures { result ≡ is_some self.now.fault }
+    {
+        self.fault.is_some()
+    }
+
+    /// Whether one of the placed statements declares this name.
+    pub fn is_declared(&self, name: &[u8]) -> bool
+        ensures { result ≡ is_declared self.now.placed name.now }
+    {
+        self.placed
+            .items()
+            .iter()
+            .any(|placed| declares(&placed.stmt, name))
+    }
+
+    /// Notes a fault.
+    pub fn refuse(&mut self, alloc: Global, file: &[u8], line: u32, code: u8) -> Result<(), Memory>
+        ensures { OnOk result (self.new ≡ refused file.now line code self.old) }
+    {
+        let file = List::copied(alloc, file)?;
+        self.fault = Some(Refusal { file, line, code });
+        Ok(())
+    }
+
+    /// Appends a statement.
+    pub fn place(&mut self, file: u32, line: u32, stmt: Stmt) -> Result<(), Memory>
+        ensures { OnOk result (self.new ≡ record self.old { placed = self.old.placed ++ record { stmt = stmt; file = file; line = line } ∷ [] }) }
+    {
+        self.placed.push(Placed { stmt, file, line })
+    }
+
+    /// Appends the name of a file that was loaded.
+    pub fn push_file(&mut self, alloc: Global, name: &[u8]) -> Result<(), Memory>
+        ensures { OnOk result (self.new ≡ record self.old { files = self.old.files ++ name.now ∷ [] }) }
+    {
+        let name = List::copied(alloc, name)?;
+        self.files.push(name)
+    }
+
+    /// A path behind the top prefix, unless it begins with `/` or there is none.
+    pub fn under_prefix(&self, alloc: Global, path: &[u8]) -> Result<Text, Memory>
+        ensures { IfOk result (λ text. text ≡ under_prefix self.now.prefixes path.now) }
+    {
+        match self.prefixes.front() {
+            Some(top) => joined(alloc, top.items(), path),
+            None => List::copied(alloc, path),
+        }
+    }
+
+    /// Puts a path on top of the prefixes, itself behind the top one.
+    pub fn push_prefix(&mut self, alloc: Global, path: &[u8]) -> Result<(), Memory>
+        ensures { OnOk result (self.new ≡ record self.old { prefixes = under_prefix self.old.prefixes path.now ∷ self.old.prefixes }) }
+    {
+        let path = self.under_prefix(alloc, path)?;
+        self.prefixes.push_front(path)?;
+        Ok(())
+    }
+
+    /// Takes the top prefix away; `false` where there is none.
+    pub fn pop_prefix(&mut self) -> bool
+        ensures { Pops self.old result self.new }
+    {
+        self.prefixes.pop_front().is_some()
+    }
+
+    /// What was read, without the prefixes.
+    pub fn into_expanded(self) -> Expanded
+        ensures { result ≡ expanded self }
+    {
+        let Progress {
+            placed,
+            files,
+            fault,
+            ..
+        } = self;
+        Expanded {
+            placed,
+            files,
+            fault,
+        }
+    }
+}
+
+/// A path behind a prefix and one `/`, or a path that begins with `/` alone.
+fn joined(alloc: Global, top: &[u8], path: &[u8]) -> Result<Text, Memory>
+    ensures { IfOk result (λ text. text ≡ under_prefix (top.now ∷ []) path.now) }
+{
+    if let [b'/', ..] = path {
+        return List::copied(alloc, path);
+    }
+    let mut bytes = Vec::from_slice(alloc, top)?;
+    bytes.push(b'/')?;
+    bytes.extend_from_slice(path)?;
+    Ok(List::from_vec(bytes))
+}

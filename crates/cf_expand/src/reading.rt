@@ -1,0 +1,119 @@
+ghost use Rattle.std.specs.Prelude.{◌≡◌, ℕ, ◌-◌, IfOk, IfSome, OnOk, Some};
+ghost use Rattle.cf_grammar.specs.Statement.{AreWithin};
+ghost use Rattle.config_rules.specs.Reading.{nothing_read, read_end, read_line, reader, reading};
+ghost use Rattle.cf_expand.specs.Lines.{line_of};
+ghost use Rattle.cf_expand.specs.Stop.{Counted};
+ghost use Rattle.cf_expand.specs.Steps.{WhereTold, entered, expanded, here_of};
+
+use crate::conditions::Conditions;
+use crate::lines::{condition_word, first_statement, line_number};
+use crate::open::{open_first, open_include};
+use crate::progress::Progress;
+use crate::source::Source;
+use crate::steps::{NESTING_CODE, holds, read_statement};
+use crate::stop::ExpandStop;
+use cf_io::Files;
+use cf_types::{Expanded, Memory, Token};
+use std::alloc::Global;
+
+/// Ends a file: no condition may be open.
+fn read_end(
+    alloc: Global,
+    progress: &mut Progress,
+    source: &Source,
+    conditions: &Conditions,
+) -> Result<(), Memory>
+    ensures { OnOk result ((around : ℕ) → progress.new ≡ read_end (here_of around source.now) conditions.now progress.old) }
+{
+    match conditions.innermost() {
+        Some(line) => progress.refuse(alloc, source.name.items(), line, NESTING_CODE),
+        None => Ok(()),
+    }
+}
+
+/// Reads a statement, with the file that it includes.
+#[cycle(statements)]
+fn read_line<F: Files>(
+    alloc: Global,
+    files: &mut F,
+    progress: &mut Progress,
+    source: &Source,
+    conditions: &Conditions,
+    tokens: &[Token],
+) -> Result<(), ExpandStop>
+    requires { AreWithin source.now.text tokens.now }
+    ensures told { F.told files.new ≡ F.told files.old }
+    ensures counted { Counted (F.faults files.old) (F.faults files.new) result }
+    ensures read { WhereTold (F.told files.old) (λ named. OnOk result ((around : ℕ) → source.now.room ≡ 16 - around
+        → progress.new ≡ read_line named (reader source.now.levels named) (here_of around source.now) conditions.now (line_of source.now.text tokens.now) progress.old)) }
+{
+    let Some(wanted) = read_statement(alloc, progress, source, conditions, tokens)? else {
+        return Ok(());
+    };
+    let line = line_number(tokens);
+    let Some(below) = open_include(alloc, files, progress, source, conditions, line, wanted)? else {
+        return Ok(());
+    };
+    read_source(alloc, files, progress, &below)
+}
+
+/// Reads the statements of a file that was opened, up to the first fault.
+#[cycle(statements)]
+fn read_source<F: Files>(
+    alloc: Global,
+    files: &mut F,
+    progress: &mut Progress,
+    source: &Source,
+) -> Result<(), ExpandStop>
+    requires { AreWithin source.now.text source.now.tokens }
+    ensures told { F.told files.new ≡ F.told files.old }
+    ensures counted { Counted (F.faults files.old) (F.faults files.new) result }
+    ensures read { WhereTold (F.told files.old) (λ named. OnOk result ((around : ℕ) → source.now.room ≡ 16 - around
+        → progress.new ≡ entered named around (Some source.now) progress.old)) }
+{
+    let mut conditions = Conditions::make(alloc);
+    let mut tokens = source.tokens.items();
+    while let Some((statement, rest)) = first_statement(tokens) {
+        let word = condition_word(source.text.items(), statement);
+        let condition_holds = holds(progress, word, source.text.items(), statement);
+        read_line(alloc, files, progress, source, &conditions, statement)?;
+        if progress.has_fault() {
+            return Ok(());
+        }
+        conditions.follow(word, line_number(statement), condition_holds)?;
+        tokens = rest;
+    }
+    read_end(alloc, progress, source, &conditions)?;
+    Ok(())
+}
+
+fn read_named<F: Files>(
+    alloc: Global,
+    files: &mut F,
+    progress: &mut Progress,
+    name: &[u8],
+) -> Result<(), ExpandStop>
+    requires { progress.old ≡ nothing_read }
+    ensures told { F.told files.new ≡ F.told files.old }
+    ensures counted { Counted (F.faults files.old) (F.faults files.new) result }
+    ensures read { WhereTold (F.told files.old) (λ named. OnOk result (progress.new ≡ reading named name.now)) }
+{
+    let Some(source) = open_first(alloc, files, progress, name)? else {
+        return Ok(());
+    };
+    read_source(alloc, files, progress, &source)
+}
+
+/// Reads the named configuration file with all that it includes, as config(5) has it: the statements that stand in no
+/// part that is left out, the names of the files as they were loaded, and the first fault with its file, line and code.
+/// Each file is loaded where its `include` is read, and none after a fault. Where it answers `ReadFault`, a load of this
+/// call failed; where it answers `Memory`, nothing is known of what the files mean.
+pub fn expand<F: Files>(alloc: Global, files: &mut F, name: &[u8]) -> Result<Expanded, ExpandStop>
+    ensures told { F.told files.new ≡ F.told files.old }
+    ensures counted { Counted (F.faults files.old) (F.faults files.new) result }
+    ensures reading { IfSome (F.told files.old) (λ named. IfOk result (λ read. read ≡ expanded (reading named name.now))) }
+{
+    let mut progress = Progress::make(alloc);
+    read_named(alloc, files, &mut progress, name)?;
+    Ok(progress.into_expanded())
+}

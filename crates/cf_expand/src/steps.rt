@@ -1,0 +1,162 @@
+ghost use Rattle.std.specs.Prelude.{◌≡◌, ℕ, ◌-◌, OnOk};
+ghost use Rattle.cf_grammar.specs.Statement.{AreWithin};
+ghost use Rattle.config_rules.specs.Reading.{is_misplaced, is_placed, names_declared, read_line, read_placed, treat};
+ghost use Rattle.cf_expand.specs.Conditions.{holds_by};
+ghost use Rattle.cf_expand.specs.Lines.{line_of};
+ghost use Rattle.cf_expand.specs.Steps.{Steps, here_of, turned};
+
+use crate::conditions::Conditions;
+use crate::lines::{condition_word, line_number, word_of};
+use crate::progress::Progress;
+use crate::source::{Include, Source};
+use cf_grammar::{GrammarStop, statement};
+use cf_types::{CondWord, Memory, Stmt, Text, Token};
+use std::alloc::Global;
+
+/// The most statements that are placed.
+const MAX_PLACED: usize = 65_536;
+
+/// The code of a condition word that may not stand where it does, and of a condition that is not ended.
+pub const NESTING_CODE: u8 = 21;
+
+/// The code of a `prefix` that has nothing to take away.
+const PREFIX_CODE: u8 = 22;
+
+/// The code of a statement too many.
+const PLACED_CODE: u8 = 23;
+
+fn names_declared(progress: &Progress, text: &[u8], tokens: &[Token]) -> bool
+    requires { AreWithin text.now tokens.now }
+    ensures { result ≡ names_declared progress.now.placed (line_of text.now tokens.now) }
+{
+    match tokens {
+        [_, name, ..] => progress.is_declared(word_of(text, *name).text),
+        _ => false,
+    }
+}
+
+/// Whether the condition that a statement with this word names holds.
+pub fn holds(progress: &Progress, word: Option<CondWord>, text: &[u8], tokens: &[Token]) -> bool
+    requires { AreWithin text.now tokens.now }
+    ensures { result ≡ holds_by word (names_declared progress.now.placed (line_of text.now tokens.now)) }
+{
+    match word {
+        Some(CondWord::IfDef | CondWord::ElifDef) => names_declared(progress, text, tokens),
+        Some(CondWord::IfNDef | CondWord::ElifNDef) => !names_declared(progress, text, tokens),
+        Some(CondWord::Else) => true,
+        Some(CondWord::EndIf) | None => false,
+    }
+}
+
+fn is_placed(source: &Source, conditions: &Conditions, tokens: &[Token]) -> bool
+    requires { AreWithin source.now.text tokens.now }
+    ensures { result ≡ is_placed conditions.now (line_of source.now.text tokens.now) }
+{
+    conditions.is_placed(condition_word(source.text.items(), tokens))
+}
+
+fn is_misplaced(source: &Source, conditions: &Conditions, tokens: &[Token]) -> bool
+    requires { AreWithin source.now.text tokens.now }
+    ensures { (around : ℕ) → source.now.room ≡ 16 - around → result ≡ is_misplaced around conditions.now (line_of source.now.text tokens.now) }
+{
+    conditions.is_misplaced(source.room, condition_word(source.text.items(), tokens))
+}
+
+fn turn_prefix(
+    alloc: Global,
+    progress: &mut Progress,
+    source: &Source,
+    tokens: &[Token],
+    path: Option<Text>,
+) -> Result<(), Memory>
+    ensures { OnOk result ((around : ℕ) → progress.new ≡ turned (here_of around source.now) (line_of source.now.text tokens.now) path progress.old) }
+{
+    let line = line_number(tokens);
+    match path {
+        Some(path) => {
+            progress.push_prefix(alloc, path.items())?;
+            progress.place(source.number, line, Stmt::Prefix { path: Some(path) })
+        }
+        None => if progress.pop_prefix() {
+            progress.place(source.number, line, Stmt::Prefix { path: None })
+        } else {
+            progress.refuse(alloc, source.name.items(), line, PREFIX_CODE)
+        },
+    }
+}
+
+/// Reads a statement that has this form.
+fn treat(
+    alloc: Global,
+    progress: &mut Progress,
+    source: &Source,
+    conditions: &Conditions,
+    tokens: &[Token],
+    stmt: Stmt,
+) -> Result<Option<Include>, Memory>
+    requires { AreWithin source.now.text tokens.now }
+    ensures { Steps source.now conditions.now (line_of source.now.text tokens.now) (λ files below here. treat files below here conditions.now (line_of source.now.text tokens.now) stmt progress.old) result progress.new }
+{
+    let line = line_number(tokens);
+    match stmt {
+        Stmt::Include { path, optional } => return Ok(Some(Include { path, optional })),
+        Stmt::Prefix { path } => turn_prefix(alloc, progress, source, tokens, path)?,
+        Stmt::Cond { word, name } => if is_misplaced(source, conditions, tokens) {
+            progress.refuse(alloc, source.name.items(), line, NESTING_CODE)?
+        } else {
+            progress.place(source.number, line, Stmt::Cond { word, name })?
+        },
+        other => progress.place(source.number, line, other)?,
+    }
+    Ok(None)
+}
+
+/// Reads a statement of a part that is not left out.
+fn read_placed(
+    alloc: Global,
+    progress: &mut Progress,
+    source: &Source,
+    conditions: &Conditions,
+    tokens: &[Token],
+) -> Result<Option<Include>, Memory>
+    requires { AreWithin source.now.text tokens.now }
+    ensures { Steps source.now conditions.now (line_of source.now.text tokens.now) (λ files below here. read_placed files below here conditions.now (line_of source.now.text tokens.now) progress.old) result progress.new }
+{
+    if progress.placed_len() >= MAX_PLACED {
+        progress.refuse(alloc, source.name.items(), line_number(tokens), PLACED_CODE)?;
+        return Ok(None);
+    }
+    match statement(alloc, source.text.items(), tokens) {
+        Ok(stmt) => treat(alloc, progress, source, conditions, tokens, stmt),
+        Err(GrammarStop::Fault { code }) => {
+            progress.refuse(alloc, source.name.items(), line_number(tokens), code)?;
+            Ok(None)
+        }
+        Err(GrammarStop::Memory) => Err(Memory),
+    }
+}
+
+/// Reads a statement, up to the file that it includes. In a part that is left out only its first word is looked at.
+pub fn read_statement(
+    alloc: Global,
+    progress: &mut Progress,
+    source: &Source,
+    conditions: &Conditions,
+    tokens: &[Token],
+) -> Result<Option<Include>, Memory>
+    requires { AreWithin source.now.text tokens.now }
+    ensures { Steps source.now conditions.now (line_of source.now.text tokens.now) (λ files below here. read_line files below here conditions.now (line_of source.now.text tokens.now) progress.old) result progress.new }
+{
+    if is_placed(source, conditions, tokens) {
+        return read_placed(alloc, progress, source, conditions, tokens);
+    }
+    if is_misplaced(source, conditions, tokens) {
+        progress.refuse(
+            alloc,
+            source.name.items(),
+            line_number(tokens),
+            NESTING_CODE,
+        )?;
+    }
+    Ok(None)
+}

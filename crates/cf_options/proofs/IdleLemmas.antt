@@ -1,0 +1,87 @@
+-- One more statement, where it is asked which negations take back nothing.
+use Rattle.std.proofs.Common.{◌≡◌, ℕ, ◌+◌, ◌<◌, ◌≤◌, ◌||◌, ◌&&◌, not, Bool, true, false, suc, List, [], ◌∷◌, ◌++◌, length, get_or, take, drop, drop-cons, add-one, refl, ap, sym, ◌∙◌, append_assoc, map}
+use Rattle.std.specs.Prelude.{filter}
+use Rattle.std.specs.List.{list_any}
+use Rattle.std.proofs.lemmas.List.{drop_all, append-nil, map-append, length-map}
+use Rattle.std.proofs.lemmas.List.Folds.{list_any-append}
+use Rattle.cf_types.specs.declared.stmt.ItemKind.{ItemKind}
+use Rattle.cf_types.specs.declared.stmt.Placed.{Placed}
+use Rattle.cf_types.specs.declared.stmt.Stmt.{Stmt}
+use Rattle.config_rules.specs.Fault.{stmts_of}
+use Rattle.config_rules.specs.Meaning.{idle_items, idle_names}
+use Rattle.config_rules.specs.Select.{drops, has_name, item_names, takes_item}
+use Rattle.config_rules.proofs.PlacedLaws.{stmts_more}
+use Rattle.cf_options.specs.Parts.{idle_places}
+use Rattle.cf_options.proofs.KeptLemmas.{filter_step}
+
+no_item : (h d : Bool) → ((h && not false) || false) ≡ (h || (false && not d))
+no_item true d = refl
+no_item false d = refl
+
+one_item : (h a d n t : Bool) → ((h && not (a || (d || false))) || (n || (t && not d))) ≡ (n || (((h && not a) || t) && not d))
+one_item true true true n t = refl
+one_item true true false n t = refl
+one_item true false true true t = refl
+one_item true false true false true = refl
+one_item true false true false false = refl
+one_item true false false true t = refl
+one_item true false false false t = refl
+one_item false a true n t = refl
+one_item false a false n t = refl
+
+-- no item stands before the first statement
+pub takes_none : (kind : ItemKind) (name : List ℕ) → false ≡ takes_item kind name []
+unfolding takes_item
+takes_none kind name = refl
+
+-- an item stands after one more statement
+takes_last : (kind : ItemKind) (name : List ℕ) (xs : List Stmt) (s : Stmt) → takes_item kind name (xs ++ s ∷ []) ≡ (has_name (item_names kind s) name || (takes_item kind name xs && not (drops kind name s)))
+unfolding takes_item
+takes_last kind name [] s = no_item (has_name (item_names kind s) name) (drops kind name s)
+takes_last kind name (x ∷ xs) s =
+    let h = has_name (item_names kind x) name in
+    let more : takes_item kind name (xs ++ s ∷ []) ≡ (has_name (item_names kind s) name || (takes_item kind name xs && not (drops kind name s))) = takes_last kind name xs s in
+    ap (λ b. (h && not b) || takes_item kind name (xs ++ s ∷ [])) (list_any-append (drops kind name) xs (s ∷ []))
+    ∙ ap (λ b. (h && not (list_any (drops kind name) xs || (drops kind name s || false))) || b) more
+    ∙ one_item h (list_any (drops kind name) xs) (drops kind name s) (has_name (item_names kind s) name) (takes_item kind name xs)
+
+pub takes_more : (kind : ItemKind) (name : List ℕ) (placed : List Placed) (i : ℕ) (p : Placed) (now next : Bool) → i < length placed → p ≡ get_or placed i p → now ≡ takes_item kind name (stmts_of (take i placed))
+    → next ≡ (has_name (item_names kind p.stmt) name || (now && not (drops kind name p.stmt))) → next ≡ takes_item kind name (stmts_of (take (i + 1) placed))
+takes_more kind name placed i p now next h is so_far new =
+    new ∙ ap (λ b. has_name (item_names kind p.stmt) name || (b && not (drops kind name p.stmt))) so_far
+    ∙ sym (ap (takes_item kind name) (stmts_more placed i p h is) ∙ takes_last kind name (stmts_of (take i placed)) p.stmt)
+
+-- one more name
+pub idle_step : (kind : ItemKind) (before : List Placed) (names : List (List ℕ)) (i : ℕ) (name : List ℕ) (first now next : List ℕ) → i < length names → name ≡ get_or names i name
+    → now ≡ first ++ idle_places kind (take i names) before → next ≡ now ++ idle_places kind (name ∷ []) before → next ≡ first ++ idle_places kind (take (i + 1) names) before
+idle_step kind before names i name first now next h is so_far new =
+    let test = λ (n : List ℕ). not (takes_item kind n (stmts_of before)) in
+    let place = λ (n : List ℕ). length before in
+    let one : filter test (take (i + 1) names) ≡ filter test (take i names) ++ filter test (name ∷ []) =
+    sym (filter_step test names i name [] (filter test (take i names)) (filter test (take i names) ++ filter test (name ∷ [])) h is refl refl) in
+    new ∙ ap (λ xs. xs ++ map place (filter test (name ∷ []))) so_far ∙ append_assoc first (map place (filter test (take i names))) (map place (filter test (name ∷ [])))
+    ∙ ap (λ xs. first ++ xs) (sym (ap (map place) one ∙ map-append place (filter test (take i names)) (filter test (name ∷ []))))
+
+idle_front : (placed : List Placed) (i : ℕ) (p : Placed) → i < length placed → p ≡ get_or placed i p
+    → idle_items (stmts_of (take i placed)) (stmts_of (drop i placed)) ≡ map (λ name. length (stmts_of (take i placed))) (idle_names (stmts_of (take i placed)) p.stmt) ++ idle_items (stmts_of (take (i + 1) placed)) (stmts_of (drop (i + 1) placed))
+unfolding idle_items
+idle_front placed i p h is =
+    rw (stmts_more placed i p h is, add-one, drop-cons placed i p)
+    (ap (λ (q : Placed). map (λ name. length (stmts_of (take i placed))) (idle_names (stmts_of (take i placed)) q.stmt) ++ idle_items (stmts_of (take i placed) ++ q.stmt ∷ []) (stmts_of (drop (suc i) placed))) (sym is))
+
+-- the places so far, and those of the statements that are left
+pub idle_more : (placed : List Placed) (i : ℕ) (p : Placed) (before : List Placed) (now next all : List ℕ) → i < length placed → p ≡ get_or placed i p → before ≡ take i placed
+    → now ++ idle_items (stmts_of (take i placed)) (stmts_of (drop i placed)) ≡ all → next ≡ now ++ map (λ name. length before) (idle_names (stmts_of before) p.stmt)
+    → next ++ idle_items (stmts_of (take (i + 1) placed)) (stmts_of (drop (i + 1) placed)) ≡ all
+idle_more placed i p before now next all h is same so_far new =
+    let rest = idle_items (stmts_of (take (i + 1) placed)) (stmts_of (drop (i + 1) placed)) in
+    let names = idle_names (stmts_of (take i placed)) p.stmt in
+    let here : map (λ name. length before) (idle_names (stmts_of before) p.stmt) ≡ map (λ name. length (stmts_of (take i placed))) names =
+    ap (λ (b : List Placed). map (λ name. length b) (idle_names (stmts_of b) p.stmt)) same ∙ ap (λ n. map (λ name. n) names) (sym (length-map (take i placed) (λ q. q.stmt))) in
+    ap (λ xs. xs ++ rest) (new ∙ ap (λ xs. now ++ xs) here)
+    ∙ append_assoc now (map (λ name. length (stmts_of (take i placed))) names) rest ∙ ap (λ xs. now ++ xs) (sym (idle_front placed i p h is)) ∙ so_far
+
+-- no statement is left
+pub idle_ends : (placed : List Placed) (i : ℕ) (now all : List ℕ) → length placed ≤ i → now ++ idle_items (stmts_of (take i placed)) (stmts_of (drop i placed)) ≡ all → now ≡ all
+unfolding idle_items
+idle_ends placed i now all h so_far = let none : now ++ [] ≡ all = rw (drop_all i placed h) at so_far in sym (append-nil now) ∙ none

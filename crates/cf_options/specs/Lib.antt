@@ -1,0 +1,3 @@
+pub mod Parts
+pub use Rattle.config_rules.specs.Meaning
+pub use Rattle.config_rules.specs.Select

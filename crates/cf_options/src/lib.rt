@@ -1,0 +1,10 @@
+//! The options, makeoptions, file systems and pseudo-devices that no later negation takes back. See config(5).
+#![tactic(auto)]
+
+mod copies;
+mod idle;
+mod kept;
+mod lists;
+mod parts;
+
+pub use lists::{ItemLists, items};

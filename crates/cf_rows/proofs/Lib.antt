@@ -1,0 +1,4 @@
+pub mod GroupLemmas
+pub mod MarkLemmas
+pub mod RowLemmas
+pub mod WarnLemmas

@@ -1,0 +1,3 @@
+pub mod Idle
+pub mod Rows
+pub use Rattle.config_rules.specs.Meaning

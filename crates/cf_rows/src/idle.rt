@@ -1,0 +1,143 @@
+ghost use Rattle.std.specs.Prelude.{◌≡◌, ◌≤◌, ◌==◌, ◌++◌, [], drop, length, replicate, IfOk, OnOk};
+ghost use Rattle.std.specs.List.{prefix_len, slice_index_or};
+ghost use Rattle.cf_types.specs.declared.tables.WarnKind.TheVariants as warns;
+ghost use Rattle.config_rules.specs.Meaning.{warning, warnings};
+ghost use Rattle.cf_rows.specs.Idle.{ArePlacesOfNegations, ArePlacesOfNames, AreInOrder};
+
+use cf_types::{Instance, List, Memory, Placed, Text, WarnKind, Warning};
+use std::alloc::Global;
+
+/// The name of a file, by its place.
+fn file_name(alloc: Global, files: &[Text], file: u32) -> Result<Text, Memory>
+    ensures { IfOk result (λ name. name ≡ slice_index_or files.now file []) }
+{
+    match files.get(file as usize) {
+        Some(name) => Text::copied(alloc, name.items()),
+        None => Ok(List::make(alloc)),
+    }
+}
+
+/// A warning at the file and line of a statement.
+fn make_warning(
+    alloc: Global,
+    files: &[Text],
+    statement: &Placed,
+    kind: WarnKind,
+) -> Result<Warning, Memory>
+    ensures { IfOk result (λ made. made ≡ warning files.now statement.now kind) }
+{
+    Ok(Warning {
+        file: file_name(alloc, files, statement.file)?,
+        line: statement.line,
+        kind,
+    })
+}
+
+/// Appends so many warnings of one kind.
+fn push_warnings(
+    alloc: Global,
+    out: &mut List<Warning>,
+    files: &[Text],
+    statement: &Placed,
+    kind: WarnKind,
+    count: usize,
+) -> Result<(), Memory>
+    ensures { OnOk result (out.new ≡ out.old ++ replicate count (warning files.now statement.now kind)) }
+{
+    for _time in 0..count {
+        out.push(make_warning(alloc, files, statement, kind)?)?;
+    }
+    Ok(())
+}
+
+/// How often a place stands at the front.
+fn front_count(places: &[u32], place: usize) -> usize
+    ensures count { result ≡ prefix_len (λ p. p == place) places.now }
+    ensures within { result ≤ length places.now }
+{
+    let mut count = 0;
+    for other in places {
+        if *other as usize != place {
+            return count;
+        }
+        count += 1;
+    }
+    count
+}
+
+/// How many instances at the front are of the statement at this place.
+fn orphan_count(orphans: &[Instance], place: usize) -> usize
+    ensures count { result ≡ prefix_len (λ i. i.stmt == place) orphans.now }
+    ensures within { result ≤ length orphans.now }
+{
+    let mut count = 0;
+    for orphan in orphans {
+        if orphan.stmt as usize != place {
+            return count;
+        }
+        count += 1;
+    }
+    count
+}
+
+/// Appends a warning for each time that the place stands at the front, and answers the places behind.
+fn push_front<'a>(
+    alloc: Global,
+    out: &mut List<Warning>,
+    files: &[Text],
+    statement: &Placed,
+    place: usize,
+    places: &'a [u32],
+) -> Result<&'a [u32], Memory>
+    ensures pushed { OnOk result (out.new ≡ out.old ++ replicate (prefix_len (λ p. p == place) places.now) (warning files.now statement.now warns.Nothing)) }
+    ensures left { IfOk result (λ left. left.now ≡ drop (prefix_len (λ p. p == place) places.now) places.now) }
+{
+    let count = front_count(places, place);
+    push_warnings(alloc, out, files, statement, WarnKind::Nothing, count)?;
+    Ok(&places[count..])
+}
+
+/// Appends a warning where the first of the orphans is of this statement, and answers those behind.
+fn push_orphan<'a>(
+    alloc: Global,
+    out: &mut List<Warning>,
+    files: &[Text],
+    statement: &Placed,
+    place: usize,
+    orphans: &'a [Instance],
+) -> Result<&'a [Instance], Memory>
+    ensures pushed { OnOk result (out.new ≡ out.old ++ replicate (prefix_len (λ i. i.stmt == place) orphans.now) (warning files.now statement.now warns.Orphan)) }
+    ensures left { IfOk result (λ left. left.now ≡ drop (prefix_len (λ i. i.stmt == place) orphans.now) orphans.now) }
+{
+    let count = orphan_count(orphans, place);
+    push_warnings(alloc, out, files, statement, WarnKind::Orphan, count)?;
+    Ok(&orphans[count..])
+}
+
+/// The warnings of a configuration in the order of its statements: one for each negation of instances and for each name
+/// in a negation of items that takes back nothing, and one for each orphan. The places are those of such negations, in
+/// order; one of items stands once for each such name. See config(5).
+pub fn warnings(
+    alloc: Global,
+    files: &[Text],
+    placed: &[Placed],
+    idle_instances: &[u32],
+    idle_items: &[u32],
+    orphans: &[Instance],
+) -> Result<List<Warning>, Memory>
+    requires instances { ArePlacesOfNegations idle_instances.now placed.now }
+    requires items { ArePlacesOfNames idle_items.now placed.now }
+    requires orphans { AreInOrder orphans.now }
+    ensures { IfOk result (λ made. made ≡ warnings files.now orphans.now [] placed.now) }
+{
+    let mut made = List::make(alloc);
+    let mut instances = idle_instances;
+    let mut items = idle_items;
+    let mut left = orphans;
+    for (place, statement) in placed.iter().enumerate() {
+        instances = push_front(alloc, &mut made, files, statement, place, instances)?;
+        items = push_front(alloc, &mut made, files, statement, place, items)?;
+        left = push_orphan(alloc, &mut made, files, statement, place, left)?;
+    }
+    Ok(made)
+}

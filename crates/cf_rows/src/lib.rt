@@ -1,0 +1,12 @@
+//! The rows of a configuration and its warnings, from the instances that survive.
+#![tactic(auto)]
+
+mod device;
+mod idle;
+mod marks;
+mod rows;
+mod units;
+
+pub use idle::warnings;
+pub use marks::{Split, split_by_marks};
+pub use rows::rows_of;

@@ -1,0 +1,64 @@
+ghost use Rattle.std.specs.Prelude.{◌≡◌, ◌++◌, map, All, IfOk, OnOk};
+ghost use Rattle.std.specs.List.{filter_map};
+ghost use Rattle.config_rules.specs.Meaning.{unit_of, first_unit, in_order, row, rows_of};
+ghost use Rattle.cf_rows.specs.Rows.{seen, UnitFits};
+
+use crate::device::by_device;
+use crate::units::{first_unit, in_order, unit_of};
+use cf_types::{Instance, List, Locs, Memory, Row};
+use std::alloc::Global;
+
+fn copied(locs: &Locs) -> Locs
+    ensures { result ≡ locs.now }
+{
+    let mut copy = Locs::make();
+    for value in locs.items() {
+        copy.push(*value);
+    }
+    copy
+}
+
+/// The row of an instance, where this is the first unit of a starred one.
+fn row(first: u32, instance: &Instance) -> Row
+    ensures { result ≡ row first instance.now }
+{
+    let unit = unit_of(instance);
+    Row {
+        device: instance.joined.device,
+        unit: unit.unwrap_or(first),
+        star: unit.is_none(),
+        attach: instance.joined.attach,
+        place: instance.joined.place,
+        parent: instance.joined.parent,
+        locs: copied(&instance.joined.locs),
+        flags: instance.flags,
+    }
+}
+
+/// Appends the rows of a device, from its own instances.
+fn push_device(alloc: Global, rows: &mut List<Row>, own: &[&Instance]) -> Result<(), Memory>
+    requires { All UnitFits (seen own.now) }
+    ensures { OnOk result (rows.new ≡ rows.old ++ map (row (first_unit (filter_map unit_of (seen own.now)))) (in_order (seen own.now))) }
+{
+    let first = first_unit(own);
+    let ordered = in_order(alloc, own)?;
+    for instance in &ordered {
+        rows.push(row(first, instance))?;
+    }
+    Ok(())
+}
+
+/// The rows of so many devices, in the order of the devices, from the instances that lead to the root: those without
+/// star, equal units together at the place of the first, and then the starred ones, whose unit is one more than the
+/// greatest of the device. See config(5) and the cfdata rows of autoconf(9).
+pub fn rows_of(alloc: Global, devices: u32, instances: &[Instance]) -> Result<List<Row>, Memory>
+    requires { All UnitFits instances.now }
+    ensures { IfOk result (λ rows. rows ≡ rows_of devices instances.now) }
+{
+    let mut rows = List::make(alloc);
+    let lists = by_device(alloc, devices, instances)?;
+    for own in &lists {
+        push_device(alloc, &mut rows, own.items())?;
+    }
+    Ok(rows)
+}

@@ -1,0 +1,3 @@
+pub mod StandingLemmas
+pub mod RootedLemmas
+pub mod TableLaws

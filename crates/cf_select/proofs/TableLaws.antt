@@ -1,0 +1,57 @@
+-- Where the graph is that of the tables, what it says of carriers is what the tables say.
+use Rattle.std.proofs.Common.{◌≡◌, ℕ, ◌&&◌, zero, suc, Bool, true, false, List, [], ◌∷◌, length, map, refl, ap, sym, ◌∙◌}
+use Rattle.std.specs.Prelude.{Some, None, Option, slice_get}
+use Rattle.std.specs.List.{slice_index_or}
+use Rattle.std.specs.Option.{option_map_or}
+use Rattle.attr_graph.specs.Reach.{Shape}
+use Rattle.cf_types.specs.declared.tables.Device.{Device}
+use Rattle.cf_types.specs.declared.tables.Place.{Place}
+use Rattle.cf_types.specs.declared.tables.Place.TheVariants.{Root, At}
+use Rattle.cf_types.specs.Gather.{is_in}
+use Rattle.cf_types.specs.Offers.{Node, firsts, interfaces, interfaces_of, named_by, nodes_of, offers}
+use Rattle.config_rules.specs.Declared.{Declared}
+use Rattle.config_rules.specs.Select as select
+use Rattle.config_rules.specs.Select.{AreRooted, LeadsToRoot, RootedInsts, is_at_root_at, is_parent}
+use Rattle.cf_select.specs.Carried.{IsGraphOf, RootedIn, carries, carries_at, offers_place}
+
+device_list : (nodes : List Node) (devices : List Device) (d : ℕ) → interfaces_of nodes (slice_index_or (map named_by devices) d []) ≡ option_map_or (λ x. interfaces_of nodes (named_by x)) (slice_get devices d) []
+unfolding interfaces_of firsts
+device_list nodes [] d = refl
+device_list nodes (x ∷ devices) zero = refl
+device_list nodes (x ∷ devices) (suc d) = device_list nodes devices d
+
+place_offered : (d : Declared) (graph : Shape) → IsGraphOf d graph → (device : ℕ) (place : Place) → offers_place graph device place ≡ select.offers_place d device place
+unfolding offers interfaces
+place_offered d graph h device Root = refl
+place_offered d graph h device (At a) =
+    ap (λ (nodes : List Node). is_in a (interfaces_of nodes (slice_index_or graph.devices device []))) h.0
+    ∙ ap (λ (names : List (List ℕ)). is_in a (interfaces_of (nodes_of d.attrs) (slice_index_or names device []))) h.1
+    ∙ ap (is_in a) (device_list (nodes_of d.attrs) d.devices device)
+
+carried : (d : Declared) (graph : Shape) → IsGraphOf d graph → (j i : select.Inst) → carries graph j i ≡ select.carries d j i
+carried d graph h j i = ap (λ b. b && option_map_or (λ p. is_parent p j) i.parent true) (place_offered d graph h j.device i.place)
+
+carried_one : (d : Declared) (graph : Shape) → IsGraphOf d graph → (x : select.Inst) (o : Option select.Inst) → option_map_or (λ y. carries graph x y) o false ≡ option_map_or (λ y. select.carries d x y) o false
+carried_one d graph h x None = refl
+carried_one d graph h x (Some y) = carried d graph h x y
+
+carried_two : (d : Declared) (graph : Shape) → IsGraphOf d graph → (j i : Option select.Inst)
+    → option_map_or (λ x. option_map_or (λ y. carries graph x y) i false) j false ≡ option_map_or (λ x. option_map_or (λ y. select.carries d x y) i false) j false
+carried_two d graph h None i = refl
+carried_two d graph h (Some x) i = carried_one d graph h x i
+
+leads_along : (at_root : ℕ → Bool) (f g : ℕ → ℕ → Bool) (n : ℕ) → ((j i : ℕ) → f j i ≡ g j i) → (i : ℕ) (chain : List ℕ) → LeadsToRoot at_root f n i chain → LeadsToRoot at_root g n i chain
+leads_along at_root f g n same i [] h = h
+leads_along at_root f g n same i (j ∷ chain) h = (h.0, sym (same j i) ∙ h.1, leads_along at_root f g n same j chain h.2)
+
+rooted_along : (at_root : ℕ → Bool) (f g : ℕ → ℕ → Bool) (n : ℕ) (marks : List Bool) → ((j i : ℕ) → f j i ≡ g j i) → AreRooted at_root f n marks → AreRooted at_root g n marks
+rooted_along at_root f g n marks same h = record {
+  as_many = h.as_many;
+  sound = λ i lt m. let r = h.sound i lt m in (r.0, leads_along at_root f g n same i r.0 r.1);
+  complete = λ i r. h.complete i (r.0, leads_along at_root g f n (λ j k. sym (same j k)) i r.0 r.1);
+}
+
+-- what is rooted in the graph is rooted in the tables
+pub rooted_in_tables : (d : Declared) (graph : Shape) (insts : List select.Inst) (marks : List Bool) → IsGraphOf d graph → RootedIn graph insts marks → RootedInsts d insts marks
+rooted_in_tables d graph insts marks h r =
+    rooted_along (is_at_root_at insts) (carries_at graph insts) (select.carries_at d insts) (length insts) marks (λ j i. carried_two d graph h (slice_get insts j) (slice_get insts i)) r

@@ -1,0 +1,11 @@
+use Rattle.std.proofs.Common.{◌≡◌, ◌++◌, [], take, drop}
+use Rattle.config_rules.specs.Fault.{stmts_of}
+use Rattle.config_rules.specs.Meaning.{idle_insts}
+use Rattle.cf_select.specs.Selected.{free}
+use Rattle.cf_select.proofs.standing.survivors.Given as goal
+
+abbrev pub invariant-loop-i : goal.invariant-loop-i
+invariant-loop-i l = record {
+  marks : l.free.items ≡ free (stmts_of (take l.i l.placed));
+  places : l.idle ++ idle_insts (stmts_of (take l.i l.placed)) (stmts_of (drop l.i l.placed)) ≡ idle_insts [] (stmts_of l.placed);
+}
