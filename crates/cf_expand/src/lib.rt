@@ -4,6 +4,7 @@
 mod conditions;
 mod lines;
 mod open;
+mod placed;
 mod progress;
 mod reading;
 mod source;

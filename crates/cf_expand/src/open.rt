@@ -1,5 +1,6 @@
 ghost use Rattle.std.specs.Prelude.{◌≡◌, ℕ, ◌+◌, ◌-◌, ◌≤◌, ◌<◌, IfOk, IfSome, OnOk, length};
 ghost use Rattle.config_rules.specs.Reading.{Files as Told, Line, include, nothing_read, read_first, reader};
+ghost use Rattle.cf_expand.specs.Loaded.{IsLoaded, IsShort};
 ghost use Rattle.cf_expand.specs.Stop.{Counted};
 ghost use Rattle.cf_expand.specs.Steps.{IsBelow, WhereTold, entered, here_of, when_absent};
 
@@ -29,6 +30,31 @@ const LENGTH_CODE: u8 = 2;
 
 /// The code of an include that is too deep, or whose file is one too many.
 const DEPTH_CODE: u8 = 20;
+
+/// A file that was asked for.
+#[derive(Drop)]
+enum Loaded {
+    Text(Vec<u8>),
+    Absent,
+    TooLong,
+}
+
+/// Asks for a file.
+fn load<F: Files>(alloc: Global, files: &mut F, name: &[u8]) -> Result<Loaded, ExpandStop>
+    ensures told { F.told files.new ≡ F.told files.old }
+    ensures counted { Counted (F.faults files.old) (F.faults files.new) result }
+    ensures short { IfOk result IsShort }
+    ensures content { WhereTold (F.told files.old) (λ named. IfOk result (λ loaded. IsLoaded (named name.now) loaded)) }
+{
+    let mut text = Vec::new(alloc);
+    match files.load(name, &mut text) {
+        Load::Whole => Ok(Loaded::Text(text)),
+        Load::Absent => Ok(Loaded::Absent),
+        Load::TooLong => Ok(Loaded::TooLong),
+        Load::Failed => Err(ExpandStop::ReadFault),
+        Load::Memory => Err(ExpandStop::Memory),
+    }
+}
 
 /// Opens a file that was loaded. `None` where it can't be cut into tokens, which is then the fault.
 fn open(
@@ -76,22 +102,19 @@ pub fn open_first<F: Files>(
     ensures below { IfOk result (λ opened. IsBelow 16 16 opened) }
     ensures read { WhereTold (F.told files.old) (λ named. IfOk result (λ opened. entered named 0 opened progress.new ≡ read_first named name.now (named name.now))) }
 {
-    let mut text = Vec::new(alloc);
-    match files.load(name, &mut text) {
-        Load::Whole => {
+    match load(alloc, files, name)? {
+        Loaded::Text(text) => {
             let name = List::copied(alloc, name)?;
             Ok(open(alloc, progress, name, text, MAX_CONDITIONS, MAX_LEVELS)?)
         }
-        Load::Absent => {
+        Loaded::Absent => {
             progress.refuse(alloc, name, 0, ABSENT_CODE)?;
             Ok(None)
         }
-        Load::TooLong => {
+        Loaded::TooLong => {
             progress.refuse(alloc, name, 0, LENGTH_CODE)?;
             Ok(None)
         }
-        Load::Failed => Err(ExpandStop::ReadFault),
-        Load::Memory => Err(ExpandStop::Memory),
     }
 }
 
@@ -134,9 +157,8 @@ pub fn open_include<F: Files>(
         return Ok(None);
     }
     let path = progress.under_prefix(alloc, wanted.path.items())?;
-    let mut text = Vec::new(alloc);
-    match files.load(path.items(), &mut text) {
-        Load::Whole => {
+    match load(alloc, files, path.items())? {
+        Loaded::Text(text) => {
             let Include {
                 path: written,
                 optional,
@@ -152,15 +174,13 @@ pub fn open_include<F: Files>(
             let room = source.room.saturating_sub(conditions.len());
             Ok(open(alloc, progress, path, text, room, source.levels - 1)?)
         }
-        Load::Absent => {
+        Loaded::Absent => {
             absent(alloc, progress, source, line, wanted)?;
             Ok(None)
         }
-        Load::TooLong => {
+        Loaded::TooLong => {
             progress.refuse(alloc, source.name.items(), line, LENGTH_CODE)?;
             Ok(None)
         }
-        Load::Failed => Err(ExpandStop::ReadFault),
-        Load::Memory => Err(ExpandStop::Memory),
     }
 }

@@ -1,9 +1,10 @@
 ghost use Rattle.std.specs.Prelude.{◌≡◌, [], ◌∷◌, ◌++◌, IfOk, OnOk, Some, is_some, length};
 ghost use Rattle.config_rules.specs.Cut.{pieces};
-ghost use Rattle.config_rules.specs.Reading.{declares, is_declared, nothing_read, refused, under_prefix};
+ghost use Rattle.config_rules.specs.Reading.{is_declared, nothing_read, refused, under_prefix};
 ghost use Rattle.cf_expand.specs.Prefixes.{Pops};
 ghost use Rattle.cf_expand.specs.Steps.{expanded};
 
+use crate::placed::PlacedList;
 use cf_types::{Expanded, List, Memory, Placed, Refusal, Stmt, Text};
 use std::alloc::Global;
 use std::collections::VecDeque;
@@ -12,7 +13,7 @@ use std::marker::Model;
 /// What was read so far.
 #[derive(Drop)]
 pub struct Progress {
-    placed: List<Placed>,
+    placed: PlacedList,
     files: List<Text>,
     /// The prefixes that stand, the top one first.
     prefixes: VecDeque<Text>,
@@ -27,26 +28,13 @@ impl Model for Progress {
     ghost view = { λ it. record { placed = it.placed; files = it.files; prefixes = it.prefixes.items; fault = it.fault } };
 }
 
-/// Whether a statement declares an attribute or a device of this name.
-fn declares(stmt: &Stmt, name: &[u8]) -> bool
-    ensures { result ≡ declares name.now stmt.now }
-{
-    match stmt {
-        Stmt::Define { name: own, .. }
-        | Stmt::Class { name: own }
-        | Stmt::DefPseudo { name: own, .. }
-        | Stmt::Device { name: own, .. } => own.bytes() == name,
-        _ => false,
-    }
-}
-
 impl Progress {
     /// Nothing was read.
     pub fn make(alloc: Global) -> Progress
         ensures { result ≡ nothing_read }
     {
         Progress {
-            placed: List::make(alloc),
+            placed: PlacedList::make(alloc),
             files: List::make(alloc),
             prefixes: VecDeque::new(alloc),
             fault: None,
@@ -78,10 +66,7 @@ impl Progress {
     pub fn is_declared(&self, name: &[u8]) -> bool
         ensures { result ≡ is_declared self.now.placed name.now }
     {
-        self.placed
-            .items()
-            .iter()
-            .any(|placed| declares(&placed.stmt, name))
+        self.placed.declare(name)
     }
 
     /// Notes a fault.
@@ -145,7 +130,7 @@ impl Progress {
             ..
         } = self;
         Expanded {
-            placed,
+            placed: placed.into_list(),
             files,
             fault,
         }

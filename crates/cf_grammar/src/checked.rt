@@ -1,6 +1,5 @@
 ghost use Rattle.std.specs.Prelude.{◌≡◌, ◌||◌, ◌&&◌, ◌==◌, IfOk, codes, is_some, length, map, true};
-ghost use Rattle.std.specs.List.{list_all};
-ghost use Rattle.config_rules.specs.Form.{alone, are_chunks, are_values, checked, each, is_chunk, is_config, is_word, name_of, name_row, path_of, pseudo_stmt, value_of};
+ghost use Rattle.config_rules.specs.Form.{alone, are_chunks, are_values, checked, each, is_config, is_word, name_of, name_row, path_of, pseudo_stmt, value_of};
 ghost use Rattle.cf_words.specs.Words.{piece_of};
 ghost use Rattle.cf_grammar.specs.Keyword.{form_by, free_form, spelling_of};
 
@@ -37,41 +36,23 @@ fn is_value(sized: bool, word: Word) -> bool
     value_of(sized, word).is_some()
 }
 
-fn all_values(sized: bool, words: &[Word]) -> bool
-    ensures { result ≡ list_all (λ word. is_some (value_of sized (piece_of word))) words.now }
-{
-    words.iter().all(|&word| is_value(sized, word))
-}
-
 fn are_values(sized: bool, words: &[Word]) -> bool
     ensures { result ≡ are_values sized (map piece_of words.now) }
 {
-    all_values(sized, words)
-}
-
-fn all_chunks(words: &[Word]) -> bool
-    ensures { result ≡ list_all (λ word. is_chunk (piece_of word)) words.now }
-{
-    words.iter().all(|word| word.is_chunk())
+    words.iter().all(|&word| is_value(sized, word))
 }
 
 /// One or more chunks.
 fn are_chunks(words: &[Word]) -> bool
     ensures { result ≡ are_chunks (map piece_of words.now) }
 {
-    !words.is_empty() && all_chunks(words)
-}
-
-fn all_names(words: &[Word]) -> bool
-    ensures { result ≡ list_all (λ word. is_some (name_of (piece_of word))) words.now }
-{
-    words.iter().all(|&word| is_name_word(word))
+    !words.is_empty() && words.iter().all(|word| word.is_chunk())
 }
 
 fn are_names(words: &[Word]) -> bool
     ensures { result ≡ is_some (each name_of (map piece_of words.now)) }
 {
-    all_names(words)
+    words.iter().all(|&word| is_name_word(word))
 }
 
 fn is_one_or_three(count: usize) -> bool

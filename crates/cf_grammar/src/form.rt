@@ -19,17 +19,11 @@ use std::alloc::Global;
 /// The greatest length of a token, in bytes.
 const MAX_TOKEN: usize = 1023;
 
-fn all_short(words: &[Word]) -> bool
-    ensures { result ≡ list_all (λ word. nat_le (length (piece_of word).text) 1023) words.now }
-{
-    words.iter().all(|word| word.text.len() <= MAX_TOKEN)
-}
-
 /// Whether no word is longer than a token may be.
 fn are_short(words: &[Word]) -> bool
     ensures { result ≡ list_all (λ q. nat_le (length q.text) 1023) (map piece_of words.now) }
 {
-    all_short(words)
+    words.iter().all(|word| word.text.len() <= MAX_TOKEN)
 }
 
 /// The statement that a keyword and the words behind it are.

@@ -1,17 +1,18 @@
 -- One more statement, where it is asked which negations take back nothing.
-use Rattle.std.proofs.Common.{◌≡◌, ℕ, ◌+◌, ◌<◌, ◌≤◌, ◌||◌, ◌&&◌, not, Bool, true, false, suc, List, [], ◌∷◌, ◌++◌, length, get_or, take, drop, drop-cons, add-one, refl, ap, sym, ◌∙◌, append_assoc, map}
+use Rattle.std.proofs.Common.{◌≡◌, ℕ, ◌+◌, ◌<◌, ◌≤◌, ◌||◌, ◌&&◌, not, Bool, true, false, cond, suc, List, [], ◌∷◌, ◌++◌, length, get_or, take, drop, drop-cons, add-one, refl, ap, sym, ◌∙◌, append_assoc, map, arith}
 use Rattle.std.specs.Prelude.{filter}
 use Rattle.std.specs.List.{list_any}
-use Rattle.std.proofs.lemmas.List.{drop_all, append-nil, map-append, length-map}
+use Rattle.std.proofs.lemmas.List.{drop_all, append-nil, map-append, length-map, length-take-le}
 use Rattle.std.proofs.lemmas.List.Folds.{list_any-append}
 use Rattle.cf_types.specs.declared.stmt.ItemKind.{ItemKind}
 use Rattle.cf_types.specs.declared.stmt.Placed.{Placed}
 use Rattle.cf_types.specs.declared.stmt.Stmt.{Stmt}
+use Rattle.cf_types.specs.declared.stmt.Stmt.TheVariants as stmt
 use Rattle.config_rules.specs.Fault.{stmts_of}
 use Rattle.config_rules.specs.Meaning.{idle_items, idle_names}
 use Rattle.config_rules.specs.Select.{drops, has_name, item_names, takes_item}
 use Rattle.config_rules.proofs.PlacedLaws.{stmts_more}
-use Rattle.cf_options.specs.Parts.{idle_places}
+use Rattle.cf_options.specs.ItemFlags.{idle_of, idle_places}
 use Rattle.cf_options.proofs.KeptLemmas.{filter_step}
 
 no_item : (h d : Bool) → ((h && not false) || false) ≡ (h || (false && not d))
@@ -52,15 +53,43 @@ takes_more kind name placed i p now next h is so_far new =
     ∙ sym (ap (takes_item kind name) (stmts_more placed i p h is) ∙ takes_last kind name (stmts_of (take i placed)) p.stmt)
 
 -- one more name
-pub idle_step : (kind : ItemKind) (before : List Placed) (names : List (List ℕ)) (i : ℕ) (name : List ℕ) (first now next : List ℕ) → i < length names → name ≡ get_or names i name
-    → now ≡ first ++ idle_places kind (take i names) before → next ≡ now ++ idle_places kind (name ∷ []) before → next ≡ first ++ idle_places kind (take (i + 1) names) before
-idle_step kind before names i name first now next h is so_far new =
-    let test = λ (n : List ℕ). not (takes_item kind n (stmts_of before)) in
-    let place = λ (n : List ℕ). length before in
+pub idle_step : (stands : List ℕ → Bool) (names : List (List ℕ)) (place i : ℕ) (name : List ℕ) (first now next : List ℕ) → i < length names → name ≡ get_or names i name
+    → now ≡ first ++ idle_places stands (take i names) place → next ≡ now ++ idle_places stands (name ∷ []) place → next ≡ first ++ idle_places stands (take (i + 1) names) place
+idle_step stands names place i name first now next h is so_far new =
+    let test = λ (n : List ℕ). not (stands n) in
+    let put = λ (n : List ℕ). place in
     let one : filter test (take (i + 1) names) ≡ filter test (take i names) ++ filter test (name ∷ []) =
     sym (filter_step test names i name [] (filter test (take i names)) (filter test (take i names) ++ filter test (name ∷ [])) h is refl refl) in
-    new ∙ ap (λ xs. xs ++ map place (filter test (name ∷ []))) so_far ∙ append_assoc first (map place (filter test (take i names))) (map place (filter test (name ∷ [])))
-    ∙ ap (λ xs. first ++ xs) (sym (ap (map place) one ∙ map-append place (filter test (take i names)) (filter test (name ∷ []))))
+    new ∙ ap (λ xs. xs ++ map put (filter test (name ∷ []))) so_far ∙ append_assoc first (map put (filter test (take i names))) (map put (filter test (name ∷ [])))
+    ∙ ap (λ xs. first ++ xs) (sym (ap (map put) one ∙ map-append put (filter test (take i names)) (filter test (name ∷ []))))
+
+same_names : (kind : ItemKind) (stands : List ℕ → Bool) (before : List Stmt) (names : List (List ℕ)) → ((q : List ℕ) → stands q ≡ takes_item kind q before)
+    → filter (λ n. not (stands n)) names ≡ filter (λ n. not (takes_item kind n before)) names
+same_names kind stands before [] h = refl
+same_names kind stands before (n ∷ names) h =
+    ap (λ b. cond (not b) (n ∷ filter (λ m. not (stands m)) names) (filter (λ m. not (stands m)) names)) (h n)
+    ∙ ap (λ ms. cond (not (takes_item kind n before)) (n ∷ ms) ms) (same_names kind stands before names h)
+
+same_idle : (stands : ItemKind → List ℕ → Bool) (before : List Stmt) (place : ℕ) (s : Stmt) → ((kind : ItemKind) (q : List ℕ) → stands kind q ≡ takes_item kind q before)
+    → idle_of stands s place ≡ map (λ name. place) (idle_names before s)
+same_idle stands before place (stmt.Include path optional) h = refl
+same_idle stands before place (stmt.Prefix path) h = refl
+same_idle stands before place (stmt.Cond word name) h = refl
+same_idle stands before place (stmt.Define name locs needs) h = refl
+same_idle stands before place (stmt.Class name) h = refl
+same_idle stands before place (stmt.DefPseudo name locs needs) h = refl
+same_idle stands before place (stmt.Device name locs needs) h = refl
+same_idle stands before place (stmt.Attach device places attach_name needs) h = refl
+same_idle stands before place (stmt.Inst base mark at pairs flags) h = refl
+same_idle stands before place (stmt.NoInst base mark at) h = refl
+same_idle stands before place (stmt.NoDevice at) h = refl
+same_idle stands before place (stmt.NoItems kind names) h = ap (map (λ name. place)) (same_names kind (stands kind) before names (h kind))
+same_idle stands before place (stmt.Options items) h = refl
+same_idle stands before place (stmt.MakeOptions items) h = refl
+same_idle stands before place (stmt.FileSystems names) h = refl
+same_idle stands before place (stmt.PseudoDevice name count) h = refl
+same_idle stands before place (stmt.Checked word) h = refl
+same_idle stands before place (stmt.Free word rest) h = refl
 
 idle_front : (placed : List Placed) (i : ℕ) (p : Placed) → i < length placed → p ≡ get_or placed i p
     → idle_items (stmts_of (take i placed)) (stmts_of (drop i placed)) ≡ map (λ name. length (stmts_of (take i placed))) (idle_names (stmts_of (take i placed)) p.stmt) ++ idle_items (stmts_of (take (i + 1) placed)) (stmts_of (drop (i + 1) placed))
@@ -70,14 +99,16 @@ idle_front placed i p h is =
     (ap (λ (q : Placed). map (λ name. length (stmts_of (take i placed))) (idle_names (stmts_of (take i placed)) q.stmt) ++ idle_items (stmts_of (take i placed) ++ q.stmt ∷ []) (stmts_of (drop (suc i) placed))) (sym is))
 
 -- the places so far, and those of the statements that are left
-pub idle_more : (placed : List Placed) (i : ℕ) (p : Placed) (before : List Placed) (now next all : List ℕ) → i < length placed → p ≡ get_or placed i p → before ≡ take i placed
-    → now ++ idle_items (stmts_of (take i placed)) (stmts_of (drop i placed)) ≡ all → next ≡ now ++ map (λ name. length before) (idle_names (stmts_of before) p.stmt)
+pub idle_more : (placed : List Placed) (i : ℕ) (p : Placed) (stands : ItemKind → List ℕ → Bool) (now next all : List ℕ) → i < length placed → p ≡ get_or placed i p
+    → ((kind : ItemKind) (q : List ℕ) → stands kind q ≡ takes_item kind q (stmts_of (take i placed)))
+    → now ++ idle_items (stmts_of (take i placed)) (stmts_of (drop i placed)) ≡ all → next ≡ now ++ idle_of stands p.stmt i
     → next ++ idle_items (stmts_of (take (i + 1) placed)) (stmts_of (drop (i + 1) placed)) ≡ all
-idle_more placed i p before now next all h is same so_far new =
+idle_more placed i p stands now next all h is known so_far new =
     let rest = idle_items (stmts_of (take (i + 1) placed)) (stmts_of (drop (i + 1) placed)) in
     let names = idle_names (stmts_of (take i placed)) p.stmt in
-    let here : map (λ name. length before) (idle_names (stmts_of before) p.stmt) ≡ map (λ name. length (stmts_of (take i placed))) names =
-    ap (λ (b : List Placed). map (λ name. length b) (idle_names (stmts_of b) p.stmt)) same ∙ ap (λ n. map (λ name. n) names) (sym (length-map (take i placed) (λ q. q.stmt))) in
+    let place : i ≡ length (stmts_of (take i placed)) = omega (arith, length-map (take i placed) (λ q. q.stmt), length-take-le i placed (omega arith)) in
+    let here : idle_of stands p.stmt i ≡ map (λ name. length (stmts_of (take i placed))) names =
+    same_idle stands (stmts_of (take i placed)) i p.stmt known ∙ ap (λ n. map (λ name. n) names) place in
     ap (λ xs. xs ++ rest) (new ∙ ap (λ xs. now ++ xs) here)
     ∙ append_assoc now (map (λ name. length (stmts_of (take i placed))) names) rest ∙ ap (λ xs. now ++ xs) (sym (idle_front placed i p h is)) ∙ so_far
 

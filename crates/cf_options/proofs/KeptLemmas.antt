@@ -1,8 +1,8 @@
 -- The items of one more statement.
-use Rattle.std.proofs.Common.{◌≡◌, ℕ, ◌+◌, ◌-◌, ◌<◌, ◌≤◌, not, Bool, cond, suc, List, [], ◌∷◌, ◌++◌, length, get_or, take, drop, drop-cons, add-one, refl, ap, sym, ◌∙◌, append_assoc}
+use Rattle.std.proofs.Common.{◌≡◌, ℕ, ◌+◌, ◌<◌, ◌≤◌, not, Bool, cond, suc, List, [], ◌∷◌, ◌++◌, length, get_or, take, drop, drop-cons, add-one, refl, ap, sym, ◌∙◌, append_assoc}
 use Rattle.std.specs.Prelude.{filter}
 use Rattle.std.specs.List.{list_any}
-use Rattle.std.proofs.lemmas.List.{take_rest, drop_all, append-nil, take_more}
+use Rattle.std.proofs.lemmas.List.{drop_all, append-nil, take_more}
 use Rattle.std.proofs.lemmas.List.Elements.{filter-append}
 use Rattle.cf_types.specs.declared.stmt.ItemKind.{ItemKind}
 use Rattle.cf_types.specs.declared.stmt.Placed.{Placed}
@@ -10,33 +10,40 @@ use Rattle.cf_types.specs.declared.stmt.Stmt.{Stmt}
 use Rattle.config_rules.specs.Fault.{stmts_of}
 use Rattle.config_rules.specs.Select.{kept_items, drops}
 use Rattle.config_rules.proofs.PlacedLaws.{any_stmts}
-use Rattle.cf_options.specs.Parts.{not_dropped}
+use Rattle.cf_options.specs.Last.{not_dropped}
 
-dropped_same : {A : Type 0} (kind : ItemKind) (name_of : A → List ℕ) (later : List Placed) (items : List A) → filter (λ x. not (list_any (drops kind (name_of x)) (stmts_of later))) items ≡ not_dropped kind name_of later items
-dropped_same kind name_of later [] = refl
-dropped_same kind name_of later (x ∷ items) =
-    let e : list_any (drops kind (name_of x)) (stmts_of later) ≡ list_any (λ p. drops kind (name_of x) p.stmt) later = any_stmts (drops kind (name_of x)) later in
-    ap (λ b. cond (not b) (x ∷ filter (λ y. not (list_any (drops kind (name_of y)) (stmts_of later))) items) (filter (λ y. not (list_any (drops kind (name_of y)) (stmts_of later))) items)) e
-    ∙ ap (λ ys. cond (not (list_any (λ p. drops kind (name_of x) p.stmt) later)) (x ∷ ys) ys) (dropped_same kind name_of later items)
+dropped_same : {A : Type 0} (kind : ItemKind) (name_of : A → List ℕ) (dropped : List ℕ → Bool) (later : List Placed) (items : List A) → ((q : List ℕ) → dropped q ≡ list_any (λ p. drops kind q p.stmt) later)
+    → filter (λ x. not (list_any (drops kind (name_of x)) (stmts_of later))) items ≡ not_dropped dropped name_of items
+dropped_same kind name_of dropped later [] h = refl
+dropped_same kind name_of dropped later (x ∷ items) h =
+    let rest = filter (λ y. not (list_any (drops kind (name_of y)) (stmts_of later))) items in
+    let e : list_any (drops kind (name_of x)) (stmts_of later) ≡ dropped (name_of x) = any_stmts (drops kind (name_of x)) later ∙ sym (h (name_of x)) in
+    ap (λ b. cond (not b) (x ∷ rest) rest) e ∙ ap (λ ys. cond (not (dropped (name_of x))) (x ∷ ys) ys) (dropped_same kind name_of dropped later items h)
 
-kept_front : {A : Type 0} (kind : ItemKind) (items_of : Stmt → List A) (name_of : A → List ℕ) (placed : List Placed) (i : ℕ) (p : Placed) → i < length placed → p ≡ get_or placed i p
-    → kept_items kind items_of name_of (stmts_of (drop i placed)) ≡ not_dropped kind name_of (drop (i + 1) placed) (items_of p.stmt) ++ kept_items kind items_of name_of (stmts_of (drop (i + 1) placed))
+kept_next : {A : Type 0} (kind : ItemKind) (items_of : Stmt → List A) (name_of : A → List ℕ) (placed : List Placed) (i : ℕ) (p : Placed) → i < length placed → p ≡ get_or placed i p
+    → kept_items kind items_of name_of (stmts_of (drop i placed)) ≡ filter (λ x. not (list_any (drops kind (name_of x)) (stmts_of (drop (i + 1) placed)))) (items_of p.stmt) ++ kept_items kind items_of name_of (stmts_of (drop (i + 1) placed))
 unfolding kept_items
-kept_front kind items_of name_of placed i p h is =
+kept_next kind items_of name_of placed i p h is =
     rw (add-one, drop-cons placed i p)
-    (ap (λ (q : Placed). filter (λ x. not (list_any (drops kind (name_of x)) (stmts_of (drop (suc i) placed)))) (items_of q.stmt) ++ kept_items kind items_of name_of (stmts_of (drop (suc i) placed))) (sym is)
-    ∙ ap (λ xs. xs ++ kept_items kind items_of name_of (stmts_of (drop (suc i) placed))) (dropped_same kind name_of (drop (suc i) placed) (items_of p.stmt)))
+    (ap (λ (q : Placed). filter (λ x. not (list_any (drops kind (name_of x)) (stmts_of (drop (suc i) placed)))) (items_of q.stmt) ++ kept_items kind items_of name_of (stmts_of (drop (suc i) placed))) (sym is))
+
+kept_front : {A : Type 0} (kind : ItemKind) (items_of : Stmt → List A) (name_of : A → List ℕ) (dropped : List ℕ → Bool) (placed : List Placed) (i : ℕ) (p : Placed) → i < length placed → p ≡ get_or placed i p
+    → ((q : List ℕ) → dropped q ≡ list_any (λ x. drops kind q x.stmt) (drop (i + 1) placed))
+    → kept_items kind items_of name_of (stmts_of (drop i placed)) ≡ not_dropped dropped name_of (items_of p.stmt) ++ kept_items kind items_of name_of (stmts_of (drop (i + 1) placed))
+kept_front kind items_of name_of dropped placed i p h is later =
+    kept_next kind items_of name_of placed i p h is
+    ∙ ap (λ xs. xs ++ kept_items kind items_of name_of (stmts_of (drop (i + 1) placed))) (dropped_same kind name_of dropped (drop (i + 1) placed) (items_of p.stmt) later)
 
 -- the items kept so far, and those of the statements that are left
-pub kept_more : {A : Type 0} (kind : ItemKind) (items_of : Stmt → List A) (name_of : A → List ℕ) (placed : List Placed) (i : ℕ) (p : Placed) (items now next all : List A) → i < length placed → p ≡ get_or placed i p
-    → items ≡ items_of p.stmt → now ++ kept_items kind items_of name_of (stmts_of (drop i placed)) ≡ all
-    → next ≡ now ++ not_dropped kind name_of (take (length placed - (i + 1)) (drop (i + 1) placed)) items
+pub kept_more : {A : Type 0} (kind : ItemKind) (items_of : Stmt → List A) (name_of : A → List ℕ) (dropped : List ℕ → Bool) (placed : List Placed) (i : ℕ) (p : Placed) (items now next all : List A) → i < length placed → p ≡ get_or placed i p
+    → ((q : List ℕ) → dropped q ≡ list_any (λ x. drops kind q x.stmt) (drop (i + 1) placed)) → items ≡ items_of p.stmt
+    → now ++ kept_items kind items_of name_of (stmts_of (drop i placed)) ≡ all → next ≡ now ++ not_dropped dropped name_of items
     → next ++ kept_items kind items_of name_of (stmts_of (drop (i + 1) placed)) ≡ all
-kept_more kind items_of name_of placed i p items now next all h is of so_far new =
+kept_more kind items_of name_of dropped placed i p items now next all h is later of so_far new =
     let rest = kept_items kind items_of name_of (stmts_of (drop (i + 1) placed)) in
-    let here = not_dropped kind name_of (drop (i + 1) placed) (items_of p.stmt) in
-    ap (λ xs. xs ++ rest) (new ∙ ap (λ later. now ++ not_dropped kind name_of later items) (take_rest placed (i + 1)) ∙ ap (λ xs. now ++ not_dropped kind name_of (drop (i + 1) placed) xs) of)
-    ∙ append_assoc now here rest ∙ ap (λ xs. now ++ xs) (sym (kept_front kind items_of name_of placed i p h is)) ∙ so_far
+    let here = not_dropped dropped name_of (items_of p.stmt) in
+    ap (λ xs. xs ++ rest) (new ∙ ap (λ xs. now ++ not_dropped dropped name_of xs) of)
+    ∙ append_assoc now here rest ∙ ap (λ xs. now ++ xs) (sym (kept_front kind items_of name_of dropped placed i p h is later)) ∙ so_far
 
 -- no statement is left
 pub kept_ends : {A : Type 0} (kind : ItemKind) (items_of : Stmt → List A) (name_of : A → List ℕ) (placed : List Placed) (i : ℕ) (now all : List A) → length placed ≤ i

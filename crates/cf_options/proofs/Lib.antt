@@ -1,3 +1,4 @@
-pub mod PartLemmas
 pub mod KeptLemmas
 pub mod IdleLemmas
+pub mod LastLemmas
+pub mod FlagLemmas

@@ -1,70 +1,50 @@
-ghost use Rattle.std.specs.Prelude.{◌≡◌, ◌≤◌, ◌&&◌, ◌||◌, [], ◌∷◌, ◌++◌, map, not, length, IfOk, OnOk};
+ghost use Rattle.std.specs.Prelude.{◌≡◌, ◌≤◌, ◌<◌, [], ◌∷◌, ◌++◌, length, IfOk, OnOk};
 ghost use Rattle.config_rules.specs.Fault.{stmts_of};
-ghost use Rattle.config_rules.specs.Meaning.{idle_items, idle_names};
-ghost use Rattle.config_rules.specs.Select.{drops, has_name, item_names, takes_item};
-ghost use Rattle.cf_options.specs.Parts.{idle_places};
+ghost use Rattle.config_rules.specs.Meaning.{idle_items};
+ghost use Rattle.cf_options.specs.ItemFlags.{idle_of, idle_places, stands_in};
 
-use crate::parts::{drops, is_named_in};
+use crate::standing::{Flags, note_statement, nothing_stands, stands};
 use cf_types::{ItemKind, List, Memory, Name, Placed, Stmt};
 use std::alloc::Global;
 
-/// Whether an item of the kind and name stands after a statement, where it is told whether one stands before it.
-fn stands_after(stands: bool, kind: ItemKind, name: &Name, stmt: &Stmt) -> bool
-    ensures { result ≡ (has_name (item_names kind stmt.now) name.now || (stands && not (drops kind name.now stmt.now))) }
-{
-    is_named_in(kind, stmt, name) || (stands && !drops(kind, name, stmt))
-}
-
-/// Whether a negation behind these statements, of the kind and name, takes back an item of one of them.
-fn takes_item(kind: ItemKind, name: &Name, placed: &[Placed]) -> bool
-    ensures { result ≡ takes_item kind name.now (stmts_of placed.now) }
-{
-    let mut stands = false;
-    for p in placed {
-        stands = stands_after(stands, kind, name, &p.stmt);
-    }
-    stands
-}
-
-/// Appends the place of a negation behind these statements, if its name takes back nothing.
+/// Appends the place of a negation, if nothing of its kind and name stands.
 fn push_idle_name(
     idle: &mut List<u32>,
+    flags: &Flags,
     kind: ItemKind,
     name: &Name,
-    before: &[Placed],
+    place: u32,
 ) -> Result<(), Memory>
-    requires { length before.now ≤ 65536 }
-    ensures { OnOk result (idle.new ≡ idle.old ++ idle_places kind (name.now ∷ []) before.now) }
+    ensures { OnOk result (idle.new ≡ idle.old ++ idle_places (stands_in flags.now kind) (name.now ∷ []) place) }
 {
-    if takes_item(kind, name, before) {
+    if stands(flags, kind, name) {
         return Ok(());
     }
-    idle.push(before.len() as u32)
+    idle.push(place)
 }
 
-/// Appends the place of a negation behind these statements, once for each of its names that takes back nothing.
+/// Appends the place of a negation, once for each of its names of which nothing stands.
 fn push_idle_names(
     idle: &mut List<u32>,
+    flags: &Flags,
     kind: ItemKind,
     names: &[Name],
-    before: &[Placed],
+    place: u32,
 ) -> Result<(), Memory>
-    requires { length before.now ≤ 65536 }
-    ensures { OnOk result (idle.new ≡ idle.old ++ idle_places kind names.now before.now) }
+    ensures { OnOk result (idle.new ≡ idle.old ++ idle_places (stands_in flags.now kind) names.now place) }
 {
     for name in names {
-        push_idle_name(idle, kind, name, before)?;
+        push_idle_name(idle, flags, kind, name, place)?;
     }
     Ok(())
 }
 
-/// Appends the place of a statement behind these, once for each name of it that takes back nothing.
-fn push_idle(idle: &mut List<u32>, stmt: &Stmt, before: &[Placed]) -> Result<(), Memory>
-    requires { length before.now ≤ 65536 }
-    ensures { OnOk result (idle.new ≡ idle.old ++ map (λ name. length before.now) (idle_names (stmts_of before.now) stmt.now)) }
+/// Appends the place of a statement, once for each name of it that takes back nothing.
+fn push_idle(idle: &mut List<u32>, flags: &Flags, stmt: &Stmt, place: u32) -> Result<(), Memory>
+    ensures { OnOk result (idle.new ≡ idle.old ++ idle_of (stands_in flags.now) stmt.now place) }
 {
     match stmt {
-        Stmt::NoItems { kind, names } => push_idle_names(idle, *kind, names.items(), before),
+        Stmt::NoItems { kind, names } => push_idle_names(idle, flags, *kind, names.items(), place),
         _ => Ok(()),
     }
 }
@@ -74,9 +54,11 @@ pub fn idle_items(alloc: Global, placed: &[Placed]) -> Result<List<u32>, Memory>
     requires { length placed.now ≤ 65536 }
     ensures { IfOk result (λ idle. idle ≡ idle_items [] (stmts_of placed.now)) }
 {
+    let mut flags = nothing_stands(alloc);
     let mut idle = List::make(alloc);
     for (i, p) in placed.iter().enumerate() {
-        push_idle(&mut idle, &p.stmt, &placed[..i])?;
+        push_idle(&mut idle, &flags, &p.stmt, i as u32)?;
+        note_statement(&mut flags, &p.stmt)?;
     }
     Ok(idle)
 }

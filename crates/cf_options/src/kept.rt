@@ -3,72 +3,89 @@ ghost use Rattle.cf_types.specs.declared.stmt.ItemKind.TheVariants as of_kind;
 ghost use Rattle.config_rules.specs.Fault.{stmts_of};
 ghost use Rattle.config_rules.specs.Meaning.{file_systems_in, pseudos_in};
 ghost use Rattle.config_rules.specs.Select.{kept_items};
-ghost use Rattle.cf_options.specs.Parts.{items_in, not_dropped};
+ghost use Rattle.cf_options.specs.Last.{is_dropped, not_dropped};
+ghost use Rattle.cf_options.specs.Parts.{items_in};
 
 use crate::copies::item_copied;
-use crate::parts::{file_systems_in, is_dropped, items_in};
+use crate::last::{LastPlaces, is_dropped, last_negations};
+use crate::parts::{file_systems_in, items_in};
 use cf_types::{Item, ItemKind, List, Memory, Name, Placed, Pseudo, Stmt};
 use std::alloc::Global;
 
-/// Appends a copy of an item, if the later statements do not take it back.
+/// Appends a copy of an item, if no negation behind its place takes it back.
 fn push_item(
     alloc: Global,
     kept: &mut List<Item>,
-    kind: ItemKind,
     item: &Item,
-    later: &[Placed],
+    last: &LastPlaces,
+    place: usize,
 ) -> Result<(), Memory>
-    ensures { OnOk result (kept.new ≡ kept.old ++ not_dropped kind (λ i. i.name) later.now (item.now ∷ [])) }
+    ensures { OnOk result (kept.new ≡ kept.old ++ not_dropped (is_dropped last.now place) (λ i. i.name) (item.now ∷ [])) }
 {
-    if is_dropped(kind, &item.name, later) {
+    if is_dropped(last, &item.name, place) {
         return Ok(());
     }
     kept.push(item_copied(alloc, item)?)
 }
 
-/// Appends those of the items that the later statements do not take back.
+/// Appends those of the items that no negation behind their place takes back.
 fn push_items(
     alloc: Global,
     kept: &mut List<Item>,
-    kind: ItemKind,
     items: &[Item],
-    later: &[Placed],
+    last: &LastPlaces,
+    place: usize,
 ) -> Result<(), Memory>
-    ensures { OnOk result (kept.new ≡ kept.old ++ not_dropped kind (λ i. i.name) later.now items.now) }
+    ensures { OnOk result (kept.new ≡ kept.old ++ not_dropped (is_dropped last.now place) (λ i. i.name) items.now) }
 {
     for item in items {
-        push_item(alloc, kept, kind, item, later)?;
+        push_item(alloc, kept, item, last, place)?;
     }
     Ok(())
 }
 
-/// Appends a file system, if the later statements do not take it back.
-fn push_name(kept: &mut List<Name>, name: &Name, later: &[Placed]) -> Result<(), Memory>
-    ensures { OnOk result (kept.new ≡ kept.old ++ not_dropped of_kind.FileSystem (λ n. n) later.now (name.now ∷ [])) }
+/// Appends a file system, if no negation behind its place takes it back.
+fn push_name(
+    kept: &mut List<Name>,
+    name: &Name,
+    last: &LastPlaces,
+    place: usize,
+) -> Result<(), Memory>
+    ensures { OnOk result (kept.new ≡ kept.old ++ not_dropped (is_dropped last.now place) (λ n. n) (name.now ∷ [])) }
 {
-    if is_dropped(ItemKind::FileSystem, name, later) {
+    if is_dropped(last, name, place) {
         return Ok(());
     }
     kept.push(name.clone()?)
 }
 
-/// Appends those of the file systems that the later statements do not take back.
-fn push_names(kept: &mut List<Name>, names: &[Name], later: &[Placed]) -> Result<(), Memory>
-    ensures { OnOk result (kept.new ≡ kept.old ++ not_dropped of_kind.FileSystem (λ n. n) later.now names.now) }
+/// Appends those of the file systems that no negation behind their place takes back.
+fn push_names(
+    kept: &mut List<Name>,
+    names: &[Name],
+    last: &LastPlaces,
+    place: usize,
+) -> Result<(), Memory>
+    ensures { OnOk result (kept.new ≡ kept.old ++ not_dropped (is_dropped last.now place) (λ n. n) names.now) }
 {
     for name in names {
-        push_name(kept, name, later)?;
+        push_name(kept, name, last, place)?;
     }
     Ok(())
 }
 
-/// Appends the pseudo-device of a statement, if the later statements do not take it back.
-fn push_pseudo(kept: &mut List<Pseudo>, stmt: &Stmt, later: &[Placed]) -> Result<(), Memory>
-    ensures { OnOk result (kept.new ≡ kept.old ++ not_dropped of_kind.PseudoDevice (λ p. p.name) later.now (pseudos_in stmt.now)) }
+/// Appends the pseudo-device of a statement, if no negation behind its place takes it back.
+fn push_pseudo(
+    kept: &mut List<Pseudo>,
+    stmt: &Stmt,
+    last: &LastPlaces,
+    place: usize,
+) -> Result<(), Memory>
+    ensures { OnOk result (kept.new ≡ kept.old ++ not_dropped (is_dropped last.now place) (λ p. p.name) (pseudos_in stmt.now)) }
 {
     match stmt {
         Stmt::PseudoDevice { name, count } => {
-            if !is_dropped(ItemKind::PseudoDevice, name, later) {
+            if !is_dropped(last, name, place) {
                 kept.push(Pseudo {
                     name: name.clone()?,
                     count: *count,
@@ -84,15 +101,10 @@ fn push_pseudo(kept: &mut List<Pseudo>, stmt: &Stmt, later: &[Placed]) -> Result
 pub fn kept_items(alloc: Global, kind: ItemKind, placed: &[Placed]) -> Result<List<Item>, Memory>
     ensures { IfOk result (λ kept. kept ≡ kept_items kind (items_in kind) (λ i. i.name) (stmts_of placed.now)) }
 {
+    let last = last_negations(alloc, kind, placed)?;
     let mut kept = List::make(alloc);
     for (i, p) in placed.iter().enumerate() {
-        push_items(
-            alloc,
-            &mut kept,
-            kind,
-            items_in(kind, &p.stmt),
-            &placed[i + 1..],
-        )?;
+        push_items(alloc, &mut kept, items_in(kind, &p.stmt), &last, i)?;
     }
     Ok(kept)
 }
@@ -101,9 +113,10 @@ pub fn kept_items(alloc: Global, kind: ItemKind, placed: &[Placed]) -> Result<Li
 pub fn kept_file_systems(alloc: Global, placed: &[Placed]) -> Result<List<Name>, Memory>
     ensures { IfOk result (λ kept. kept ≡ kept_items of_kind.FileSystem file_systems_in (λ n. n) (stmts_of placed.now)) }
 {
+    let last = last_negations(alloc, ItemKind::FileSystem, placed)?;
     let mut kept = List::make(alloc);
     for (i, p) in placed.iter().enumerate() {
-        push_names(&mut kept, file_systems_in(&p.stmt), &placed[i + 1..])?;
+        push_names(&mut kept, file_systems_in(&p.stmt), &last, i)?;
     }
     Ok(kept)
 }
@@ -112,9 +125,10 @@ pub fn kept_file_systems(alloc: Global, placed: &[Placed]) -> Result<List<Name>,
 pub fn kept_pseudos(alloc: Global, placed: &[Placed]) -> Result<List<Pseudo>, Memory>
     ensures { IfOk result (λ kept. kept ≡ kept_items of_kind.PseudoDevice pseudos_in (λ p. p.name) (stmts_of placed.now)) }
 {
+    let last = last_negations(alloc, ItemKind::PseudoDevice, placed)?;
     let mut kept = List::make(alloc);
     for (i, p) in placed.iter().enumerate() {
-        push_pseudo(&mut kept, &p.stmt, &placed[i + 1..])?;
+        push_pseudo(&mut kept, &p.stmt, &last, i)?;
     }
     Ok(kept)
 }

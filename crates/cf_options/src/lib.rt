@@ -4,7 +4,9 @@
 mod copies;
 mod idle;
 mod kept;
+mod last;
 mod lists;
 mod parts;
+mod standing;
 
 pub use lists::{ItemLists, items};

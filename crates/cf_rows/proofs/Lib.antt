@@ -1,4 +1,5 @@
 pub mod GroupLemmas
 pub mod MarkLemmas
 pub mod RowLemmas
+pub mod SelectionLaws
 pub mod WarnLemmas

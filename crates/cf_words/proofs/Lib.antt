@@ -3,3 +3,4 @@ pub mod UnitLemmas
 pub mod LocatorLemmas
 pub mod ValueLemmas
 pub mod MarkLemmas
+pub mod Blank

@@ -1,7 +1,8 @@
 -- Small machine files, scripts and order files, and what the definitions say of them.
-use Rattle.std.proofs.Common.{◌≡◌, Some, None, Ok, Err, [], ◌∷◌, ◌++◌, refl, codes, true, false}
+use Rattle.std.proofs.Common.{◌≡◌, ℕ, Some, None, Ok, Err, List, Result, [], ◌∷◌, ◌++◌, refl, codes, true, false}
 use Rattle.std.specs.Prelude.{pos, negsuc}
 use Rattle.cf_types.specs.declared.machine.Command.TheVariants as command
+use Rattle.cf_types.specs.declared.machine.Machine.{Machine}
 use Rattle.cf_types.specs.declared.tables.Tables.{Tables}
 use Rattle.cf_types.specs.declared.tables.Place.TheVariants.{Root, At}
 use Rattle.config_rules.specs.MachineText.{machine_of, no_policy}
@@ -76,6 +77,53 @@ machine_policy_twice = refl
 machine_bytes_first : machine_of small (codes "fly" ++ 10 ∷ codes "spot " ++ 1 ∷ []) ≡ Err (2, 1)
 unfolding machine_of
 machine_bytes_first = refl
+
+-- two faults in one line: what the second line says after `spot a root root`
+abbrev second : List ℕ → Result Machine (ℕ × ℕ)
+second line = machine_of small (codes "spot a root root" ++ 10 ∷ line)
+
+-- the form of a line comes before all that it means
+machine_form_first : (second (codes "spot a root root late late") ≡ Err (2, 1))
+    × (second (codes "spot b x root late late") ≡ Err (2, 1))
+    × (second (codes "spot b a nosuch late late") ≡ Err (2, 1))
+    × (second (codes "spot b a isa z=1 z=1") ≡ Err (2, 1))
+    × (second (codes "spot b a isa port=4294967296 port=1") ≡ Err (2, 1))
+    × (second (codes "match nosuch a x") ≡ Err (2, 1))
+    × (second (codes "match com x y") ≡ Err (2, 1))
+    × (second (codes "style nosuch isa straight") ≡ Err (2, 1))
+    × (second (codes "style com nosuch straight") ≡ Err (2, 1))
+    × (second (codes "driver nosuch straight") ≡ Err (2, 1))
+unfolding machine_of
+machine_form_first = (refl, refl, refl, refl, refl, refl, refl, refl, refl, refl)
+
+-- a name that was given comes before the parent, the parent before the attribute, and the attribute before the values
+machine_spot_order : (second (codes "spot a x root") ≡ Err (2, 2))
+    × (second (codes "spot a root isa") ≡ Err (2, 2))
+    × (second (codes "spot a root root z=1") ≡ Err (2, 2))
+    × (second (codes "spot a a isa port=4294967296") ≡ Err (2, 2))
+    × (second (codes "spot b x root") ≡ Err (2, 3))
+    × (second (codes "spot b x isa z=1") ≡ Err (2, 3))
+    × (second (codes "spot b x isa port=4294967296") ≡ Err (2, 3))
+    × (second (codes "spot b a nosuch z=1") ≡ Err (2, 4))
+    × (second (codes "spot b root isa port=4294967296") ≡ Err (2, 4))
+unfolding machine_of
+machine_spot_order = (refl, refl, refl, refl, refl, refl, refl, refl, refl)
+
+-- the values in their order, each first by its name and then by its number
+machine_value_order : (second (codes "spot b a isa z=4294967296") ≡ Err (2, 5))
+    × (second (codes "spot b a isa z=1 port=4294967296") ≡ Err (2, 5))
+    × (second (codes "spot b a isa port=4294967296 z=1") ≡ Err (2, 7))
+unfolding machine_of
+machine_value_order = (refl, refl, refl)
+
+-- match and style lines begin with the attachment
+machine_match_order : (second (codes "match nosuch x 65536") ≡ Err (2, 6))
+    × (second (codes "match nosuch a 65536") ≡ Err (2, 6))
+    × (second (codes "match com x 65536") ≡ Err (2, 3))
+    × (second (codes "match com root 1") ≡ Err (2, 3))
+    × (second (codes "style nosuch nosuch direct") ≡ Err (2, 6))
+unfolding machine_of
+machine_match_order = (refl, refl, refl, refl, refl)
 
 -- no command
 script_fly : commands_of (codes "fly com0") ≡ Err (1, 1)

@@ -8,4 +8,5 @@ pub mod Select
 pub mod Meaning
 pub mod Listing
 pub mod MachineText
+pub mod Formed
 pub mod ScriptText

@@ -1,5 +1,5 @@
 -- What the lines of a machine file mean, or the first bad line and its code. The format is this project's own.
-use Rattle.std.specs.Prelude.{ℕ, zero, suc, Bool, true, false, not, ◌&&◌, ◌||◌, ◌==◌, nat_lt, nat_le, if◌then◌else◌, List, [], ◌∷◌, ◌++◌, length, drop, map, filter, find, position, slice_get, bytes_eq, codes, Option, Some, None, is_some, is_none, option_map, option_and_then, unwrap_or, Result, Ok, Err, ℤ, pos, negsuc, nat_abs, int_le}
+use Rattle.std.specs.Prelude.{ℕ, zero, suc, Bool, true, false, not, ◌&&◌, ◌||◌, ◌==◌, nat_lt, nat_le, if◌then◌else◌, List, [], ◌∷◌, ◌++◌, length, drop, take_while, map, filter, find, position, slice_get, bytes_eq, codes, Option, Some, None, is_some, is_none, option_map, option_and_then, unwrap_or, Result, Ok, Err, ℤ, pos, negsuc, nat_abs, int_le}
 use Rattle.std.specs.List.{list_all, list_any, slice_split, before_first, after_first, enumerate_from}
 use Rattle.std.specs.Option.{option_map_or}
 use Rattle.cf_types.specs.declared.machine.Machine.{Machine}
@@ -54,16 +54,24 @@ records_of text = option_map_or (λ line. Err (line, 1)) (bad_line text) (Ok (wo
 
 -- ---- the forms of the lines
 
--- a value that a spot gives for a locator
+-- a value that a spot gives for a locator; none where the number is out of its range
 pub record GivenValue : Type 0 where
   pub name : List ℕ
-  pub value : ℤ
+  pub value : Option ℤ
+
+-- the number that a word spells, and whether it is in its range
+abbrev pub ranged : List ℕ → Option (Option ℤ)
+ranged word = option_map (λ v. given (in_range v) v) (number word)
+
+-- a name and `=`, with a value behind it
+abbrev pub is_located : List ℕ → Bool
+is_located word = list_any (λ c. c == 61) word && nat_lt 0 (length (before_first (λ c. c == 61) word))
 
 -- `loc=V`; a locator's name is looked up, whatever its shape
 abbrev pub given_value : List ℕ → Option GivenValue
 given_value word =
-    if list_any (λ c. c == 61) word && nat_lt 0 (length (before_first (λ c. c == 61) word))
-    then option_map (λ v. record { name = before_first (λ c. c == 61) word; value = v }) (number (after_first (λ c. c == 61) word))
+    if is_located word
+    then option_map (λ v. record { name = before_first (λ c. c == 61) word; value = v }) (ranged (after_first (λ c. c == 61) word))
     else None
 
 -- the marks of a spot
@@ -72,7 +80,7 @@ mark_words = codes "late" ∷ codes "absent" ∷ codes "bad" ∷ []
 
 -- the word is among these
 abbrev pub is_one : List (List ℕ) → List ℕ → Bool
-is_one words word = list_any (λ w. bytes_eq w word) words
+is_one words word = list_any (λ w. bytes_eq word w) words
 
 -- no word stands twice
 abbrev pub differ : List (List ℕ) → Bool
@@ -86,28 +94,36 @@ is_free_name name = is_written name && not (bytes_eq name (codes "root"))
 -- the lines of a machine file by their forms
 pub data LineForm : Type 0 where
   SpotLine : (name parent attr : List ℕ) (found : List GivenValue) (marks : List (List ℕ)) → LineForm
-  MatchOf : (attach : List ℕ) (spot : Option (List ℕ)) (value : ℤ) → LineForm
+  MatchOf : (attach : List ℕ) (spot : Option (List ℕ)) (value : Option ℕ) → LineForm
   StyleOf : (attach attr : List ℕ) (indirect : Bool) → LineForm
   DriverOf : (attach : List ℕ) (policies : List (List ℕ)) → LineForm
 
--- how many words at the front are locators: a mark has no `=`
+-- the words at the front that are locators: a mark has no `=`
 abbrev pub located : List (List ℕ) → List (List ℕ)
-located [] = []
-located (w ∷ ws) = if list_any (λ c. c == 61) w then w ∷ located ws else []
+located words = take_while (λ w. list_any (λ c. c == 61) w) words
+
+-- the name is free, and no locator or mark stands twice
+abbrev pub is_spot : List ℕ → List GivenValue → List (List ℕ) → Bool
+is_spot name found marks = is_free_name name && differ (map (λ g. g.name) found) && list_all (is_one mark_words) marks && differ marks
 
 -- `spot NAME PARENT ATTR`, then locators, then marks, none of them twice
 abbrev pub spot_form : List ℕ → List ℕ → List ℕ → List (List ℕ) → Option LineForm
 spot_form name parent attr rest =
     let marks = drop (length (located rest)) rest in
-    option_and_then (λ found.
-    given (is_free_name name && differ (map (λ g. g.name) found) && list_all (is_one mark_words) marks && differ marks)
-    (SpotLine name parent attr found marks))
-    (each given_value (located rest))
+    option_and_then (λ found. given (is_spot name found marks) (SpotLine name parent attr found marks)) (each given_value (located rest))
+
+-- a match value is from 0 to 65535
+abbrev pub in_match_range : ℤ → Bool
+in_match_range v = int_le (pos 0) v && int_le v (pos 65535)
+
+-- the match value that a word spells, and whether it is in its range
+abbrev pub match_value : List ℕ → Option (Option ℕ)
+match_value word = option_map (λ v. given (in_match_range v) (nat_abs v)) (number word)
 
 -- `match ATTACHMENT SPOT V`, or `*` for every spot
 abbrev pub match_form : List ℕ → List ℕ → List ℕ → Option LineForm
 match_form attach spot value =
-    option_map (λ v. MatchOf attach (if bytes_eq spot (codes "*") then None else Some spot) v) (number value)
+    option_map (λ v. MatchOf attach (if bytes_eq spot (codes "*") then None else Some spot) v) (match_value value)
 
 -- `style ATTACHMENT ATTR direct` or `indirect`
 abbrev pub style_form : List ℕ → List ℕ → List ℕ → Option LineForm
@@ -124,17 +140,35 @@ abbrev pub driver_form : List ℕ → List (List ℕ) → Option LineForm
 driver_form attach policies =
     given (nat_lt 0 (length policies) && list_all (is_one policy_words) policies) (DriverOf attach policies)
 
+-- what may stand behind `spot`
+abbrev pub spot_line : List (List ℕ) → Option LineForm
+spot_line (name ∷ parent ∷ attr ∷ rest) = spot_form name parent attr rest
+spot_line _ = None
+
+-- what may stand behind `match`
+abbrev pub match_line : List (List ℕ) → Option LineForm
+match_line (attach ∷ spot ∷ value ∷ []) = match_form attach spot value
+match_line _ = None
+
+-- what may stand behind `style`
+abbrev pub style_line : List (List ℕ) → Option LineForm
+style_line (attach ∷ attr ∷ style ∷ []) = style_form attach attr style
+style_line _ = None
+
+-- what may stand behind `driver`
+abbrev pub driver_line : List (List ℕ) → Option LineForm
+driver_line (attach ∷ policies) = driver_form attach policies
+driver_line [] = None
+
 -- the form of a line of these words
 abbrev pub line_form : List (List ℕ) → Option LineForm
-line_form (word ∷ a ∷ b ∷ c ∷ rest) =
-    if bytes_eq word (codes "spot") then spot_form a b c rest
-    else (if bytes_eq word (codes "driver") then driver_form a (b ∷ c ∷ rest)
-    else (if nat_lt 0 (length rest) then None
-    else (if bytes_eq word (codes "match") then match_form a b c
-    else (if bytes_eq word (codes "style") then style_form a b c
-    else None))))
-line_form (word ∷ a ∷ rest) = if bytes_eq word (codes "driver") then driver_form a rest else None
-line_form _ = None
+line_form [] = None
+line_form (word ∷ rest) =
+    if bytes_eq word (codes "spot") then spot_line rest
+    else (if bytes_eq word (codes "match") then match_line rest
+    else (if bytes_eq word (codes "style") then style_line rest
+    else (if bytes_eq word (codes "driver") then driver_line rest
+    else None)))
 
 -- ---- what a line means after those before it
 
@@ -165,11 +199,11 @@ spot_place t parent attr =
 abbrev pub found_fault : List Locator → List GivenValue → Option ℕ
 found_fault locs [] = None
 found_fault locs (g ∷ gs) =
-    given (not (list_any (λ l. bytes_eq l.name g.name) locs)) 5 or (given (not (in_range g.value)) 7 or found_fault locs gs)
+    given (not (list_any (λ l. bytes_eq l.name g.name) locs)) 5 or (given (is_none g.value) 7 or found_fault locs gs)
 
 -- the value given, else the default, else -1
 abbrev pub found_value : List GivenValue → Locator → ℤ
-found_value found l = unwrap_or (option_map (λ g. g.value) (find (λ g. bytes_eq g.name l.name) found) or l.default) (negsuc 0)
+found_value found l = unwrap_or (option_and_then (λ g. g.value) (find (λ g. bytes_eq g.name l.name) found) or l.default) (negsuc 0)
 
 -- so many spots lead from this one to the root, of at most so many
 abbrev pub depth_of : ℕ → List Spot → Option ℕ → ℕ
@@ -177,40 +211,49 @@ depth_of zero spots parent = 1
 depth_of (suc n) spots None = 1
 depth_of (suc n) spots (Some x) = suc (depth_of n spots (option_and_then (λ s. s.parent) (slice_get spots x)))
 
--- the spot of a line after these, or its first code
+-- the spot above, none at the root
+abbrev pub spot_above : List Spot → List ℕ → Option ℕ
+spot_above spots parent = if bytes_eq parent (codes "root") then None else spot_number spots parent
+
+-- the locators of the spot's place
+abbrev pub spot_locators : Tables → List ℕ → List ℕ → List Locator
+spot_locators t parent attr = option_map_or (locators_at t.attrs) (spot_place t parent attr) []
+
+-- the first code of a spot after these
+abbrev pub spot_fault : Tables → List Spot → List ℕ → List ℕ → List ℕ → List GivenValue → Option ℕ
+spot_fault t spots name parent attr found =
+    given (is_some (spot_number spots name)) 2
+    or (given (not (bytes_eq parent (codes "root")) && is_none (spot_above spots parent)) 3
+    or (given (is_none (spot_place t parent attr)) 4
+    or (found_fault (spot_locators t parent attr) found
+    or (given (nat_le 1024 (length spots)) 8
+    or given (nat_lt 64 (depth_of (length spots) spots (spot_above spots parent))) 9))))
+
+-- the spot of a line after these
+abbrev pub spot_of : Tables → List Spot → List ℕ → List ℕ → List ℕ → List GivenValue → List (List ℕ) → Spot
+spot_of t spots name parent attr found marks = record {
+  name = name;
+  parent = spot_above spots parent;
+  place = unwrap_or (spot_place t parent attr) Root;
+  found = map (found_value found) (spot_locators t parent attr);
+  late = is_one marks (codes "late");
+  absent = is_one marks (codes "absent");
+  bad = is_one marks (codes "bad");
+}
+
+-- the spot, or its first code
 abbrev pub new_spot : Tables → List Spot → List ℕ → List ℕ → List ℕ → List GivenValue → List (List ℕ) → Result Spot ℕ
 new_spot t spots name parent attr found marks =
-    let at_root = bytes_eq parent (codes "root") in
-    let above = if at_root then None else spot_number spots parent in
-    option_map_or (λ code. Err code)
-    (given (is_some (spot_number spots name)) 2
-    or (given (not at_root && is_none above) 3
-    or (given (is_none (spot_place t parent attr)) 4
-    or (found_fault (option_map_or (locators_at t.attrs) (spot_place t parent attr) []) found
-    or (given (nat_le 1024 (length spots)) 8
-    or given (nat_lt 64 (depth_of (length spots) spots above)) 9)))))
-    (Ok (record {
-      name = name;
-      parent = above;
-      place = unwrap_or (spot_place t parent attr) Root;
-      found = map (found_value found) (option_map_or (locators_at t.attrs) (spot_place t parent attr) []);
-      late = is_one marks (codes "late");
-      absent = is_one marks (codes "absent");
-      bad = is_one marks (codes "bad");
-    }))
-
--- a match value is from 0 to 65535
-abbrev pub in_match_range : ℤ → Bool
-in_match_range v = int_le (pos 0) v && int_le v (pos 65535)
+    option_map_or (λ code. Err code) (spot_fault t spots name parent attr found) (Ok (spot_of t spots name parent attr found marks))
 
 -- the match line, or its first code
-abbrev pub new_match : Tables → List Spot → List ℕ → Option (List ℕ) → ℤ → Result MatchLine ℕ
+abbrev pub new_match : Tables → List Spot → List ℕ → Option (List ℕ) → Option ℕ → Result MatchLine ℕ
 new_match t spots attach spot value =
     option_map_or (λ code. Err code)
     (given (is_none (attach_number t attach)) 6
     or (given (option_map_or (λ name. is_none (spot_number spots name)) spot false) 3
-    or given (not (in_match_range value)) 7))
-    (Ok (record { attach = unwrap_or (attach_number t attach) 0; spot = option_and_then (spot_number spots) spot; value = nat_abs value }))
+    or given (is_none value) 7))
+    (Ok (record { attach = unwrap_or (attach_number t attach) 0; spot = option_and_then (spot_number spots) spot; value = unwrap_or value 0 }))
 
 -- the style line, or its first code
 abbrev pub new_style : Tables → List ℕ → List ℕ → Bool → Result StyleLine ℕ

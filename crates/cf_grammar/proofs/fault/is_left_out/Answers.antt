@@ -1,15 +1,11 @@
-use Rattle.std.proofs.Common.{◌∙◌, []}
-use Rattle.cf_types.specs.declared.stmt.TokenKind.TheVariants.{Chunk}
-use Rattle.cf_words.specs.declared.word.Word.{Word}
+use Rattle.std.proofs.Common.{◌∙◌}
 use Rattle.cf_words.specs.Words.{piece_of}
+use Rattle.cf_words.proofs.Blank.{blank}
 use Rattle.cf_grammar.proofs.FaultLemmas.{left_out_none, left_out_words}
 use Rattle.cf_grammar.proofs.fault.is_left_out.Goals as goal
-
-abbrev none : Word
-none = record { kind = Chunk; text = record { ref_ptr = (0, 0); now = [] } }
 
 pub returns-in-empty : goal.returns-in-empty
 returns-in-empty c = left_out_none piece_of c.args.words.now c.in-empty.len_below
 
 pub returns-in-len1-up : goal.returns-in-len1-up
-returns-in-len1-up c = c.is_left_out_statement.ensures ∙ left_out_words piece_of c.args.words.now none c.in-len1-up.len_at_least
+returns-in-len1-up c = c.is_left_out_statement.ensures ∙ left_out_words piece_of c.args.words.now blank c.in-len1-up.len_at_least

@@ -1,6 +1,6 @@
 use Rattle.std.proofs.Common.{◌≡◌, ◌++◌, take}
-use Rattle.cf_options.specs.Parts.{not_dropped}
+use Rattle.cf_options.specs.Last.{is_dropped, not_dropped}
 use Rattle.cf_options.proofs.kept.push_items.Given as goal
 
 abbrev pub invariant-loop-item : goal.invariant-loop-item
-invariant-loop-item l = l.kept ≡ l.initial.kept ++ not_dropped l.kind (λ i. i.name) l.later (take l.item-index l.items)
+invariant-loop-item l = l.kept ≡ l.initial.kept ++ not_dropped (is_dropped l.last l.place) (λ i. i.name) (take l.item-index l.items)

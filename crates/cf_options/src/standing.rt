@@ -1,0 +1,133 @@
+ghost use Rattle.std.specs.Prelude.{◌≡◌, ℕ, ◌&&◌, ◌||◌, List, false, true, not, map, bytes_eq, if◌then◌else◌, IfOk, OnOk};
+ghost use Rattle.cf_types.specs.declared.stmt.ItemKind.{ItemKind as Kind};
+ghost use Rattle.config_rules.specs.Select.{drops, has_name, item_names, same_kind};
+ghost use Rattle.cf_options.specs.ItemFlags.{flag_of, stands_in};
+
+use crate::parts::same_kind;
+use cf_types::{Item, ItemKind, Memory, Name, Stmt};
+use std::alloc::Global;
+use std::collections::HashMap;
+
+/// For each name whether an item of that name stands, by the kind of items.
+#[derive(Drop)]
+pub struct Flags<'a> {
+    pub options: HashMap<&'a [u8], bool>,
+    pub makeoptions: HashMap<&'a [u8], bool>,
+    pub pseudos: HashMap<&'a [u8], bool>,
+    pub file_systems: HashMap<&'a [u8], bool>,
+}
+
+/// Nothing stands.
+pub fn nothing_stands<'a>(alloc: Global) -> Flags<'a>
+    ensures { (kind : Kind) (q : List ℕ) → stands_in result kind q ≡ false }
+{
+    Flags {
+        options: HashMap::new(alloc),
+        makeoptions: HashMap::new(alloc),
+        pseudos: HashMap::new(alloc),
+        file_systems: HashMap::new(alloc),
+    }
+}
+
+/// Whether an item of this name stands.
+fn is_set(flags: &HashMap<&[u8], bool>, name: &Name) -> bool
+    ensures { result ≡ flag_of flags.now name.now }
+{
+    match flags.get(&name.bytes()) {
+        Some(stands) => *stands,
+        None => false,
+    }
+}
+
+/// Whether an item of the kind and name stands.
+pub fn stands(flags: &Flags, kind: ItemKind, name: &Name) -> bool
+    ensures { result ≡ stands_in flags.now kind name.now }
+{
+    match kind {
+        ItemKind::Options => is_set(&flags.options, name),
+        ItemKind::MakeOptions => is_set(&flags.makeoptions, name),
+        ItemKind::PseudoDevice => is_set(&flags.pseudos, name),
+        ItemKind::FileSystem => is_set(&flags.file_systems, name),
+    }
+}
+
+/// Notes whether an item of this name stands.
+fn set<'a>(flags: &mut HashMap<&'a [u8], bool>, name: &'a Name, stands: bool) -> Result<(), Memory>
+    ensures { OnOk result ((q : List ℕ) → flag_of flags.new q ≡ (if bytes_eq name.now q then stands else flag_of flags.old q)) }
+{
+    match flags.insert(name.bytes(), stands) {
+        Ok(_) => Ok(()),
+        Err(_) => Err(Memory),
+    }
+}
+
+/// Notes of these names whether an item stands.
+fn set_names<'a>(
+    flags: &mut HashMap<&'a [u8], bool>,
+    names: &'a [Name],
+    stands: bool,
+) -> Result<(), Memory>
+    ensures { OnOk result ((q : List ℕ) → flag_of flags.new q ≡ (if has_name names.now q then stands else flag_of flags.old q)) }
+{
+    for name in names {
+        set(flags, name, stands)?;
+    }
+    Ok(())
+}
+
+/// Notes that these items stand.
+fn set_items<'a>(flags: &mut HashMap<&'a [u8], bool>, items: &'a [Item]) -> Result<(), Memory>
+    ensures { OnOk result ((q : List ℕ) → flag_of flags.new q ≡ (if has_name (map (λ i. i.name) items.now) q then true else flag_of flags.old q)) }
+{
+    for item in items {
+        set(flags, &item.name, true)?;
+    }
+    Ok(())
+}
+
+/// Notes the items of a negation, if it is one of this kind.
+fn take_back<'a>(
+    flags: &mut HashMap<&'a [u8], bool>,
+    kind: ItemKind,
+    other: ItemKind,
+    names: &'a [Name],
+) -> Result<(), Memory>
+    ensures { OnOk result ((q : List ℕ) → flag_of flags.new q ≡ (flag_of flags.old q && not (same_kind other kind && has_name names.now q))) }
+{
+    if same_kind(other, kind) {
+        return set_names(flags, names, false);
+    }
+    Ok(())
+}
+
+/// Notes what a statement does to the items of one kind.
+fn note_kind<'a>(
+    flags: &mut HashMap<&'a [u8], bool>,
+    kind: ItemKind,
+    stmt: &'a Stmt,
+) -> Result<(), Memory>
+    ensures { OnOk result ((q : List ℕ) → flag_of flags.new q ≡ (has_name (item_names kind stmt.now) q || (flag_of flags.old q && not (drops kind q stmt.now)))) }
+{
+    match (kind, stmt) {
+        (ItemKind::Options, Stmt::Options { items }) => set_items(flags, items.items()),
+        (ItemKind::MakeOptions, Stmt::MakeOptions { items }) => set_items(flags, items.items()),
+        (ItemKind::FileSystem, Stmt::FileSystems { names }) => set_names(
+            flags,
+            names.items(),
+            true,
+        ),
+        (ItemKind::PseudoDevice, Stmt::PseudoDevice { name, .. }) => set(flags, name, true),
+        (_, Stmt::NoItems { kind: other, names }) => take_back(flags, kind, *other, names.items()),
+        _ => Ok(()),
+    }
+}
+
+/// Notes what a statement does to the items of all kinds.
+pub fn note_statement<'a>(flags: &mut Flags<'a>, stmt: &'a Stmt) -> Result<(), Memory>
+    ensures { OnOk result ((kind : Kind) (q : List ℕ) → stands_in flags.new kind q ≡ (has_name (item_names kind stmt.now) q || (stands_in flags.old kind q && not (drops kind q stmt.now)))) }
+{
+    note_kind(&mut flags.options, ItemKind::Options, stmt)?;
+    note_kind(&mut flags.makeoptions, ItemKind::MakeOptions, stmt)?;
+    note_kind(&mut flags.pseudos, ItemKind::PseudoDevice, stmt)?;
+    note_kind(&mut flags.file_systems, ItemKind::FileSystem, stmt)
+}

@@ -1,0 +1,13 @@
+pub mod FormedNames
+pub mod OwnOffers
+pub mod OneField
+pub mod Opening
+pub mod Moves
+pub mod Tops
+pub mod Sounds
+pub mod Kept
+pub mod Agree
+pub mod SlotSteps
+pub mod Falls
+pub mod Boots
+pub mod Trees

@@ -1,0 +1,22 @@
+use cf_types::Ticket;
+
+/// What a caller was answered, as a witness tells it.
+#[derive(Clone, Copy)]
+pub enum Answer {
+    /// Its event was appended at this place.
+    Did(u64),
+    /// It has a transfer that was started.
+    Transfer(Ticket),
+    /// The result was not that of the transfer that the board keeps for the caller.
+    Stale(Option<Ticket>),
+    /// The board was stopped, first by this caller.
+    Stopped(u8),
+}
+
+/// What an answer means for the leases of its caller; a slot is the number of a spot.
+#[derive(Clone, Copy, Debug, PartialEq, Eq)]
+pub enum LeaseStep {
+    Keep,
+    Take(u16),
+    Give(u16),
+}

@@ -1,0 +1,166 @@
+ghost use Rattle.std.specs.Prelude.{◌≡◌, ◌<◌, ◌≤◌, ◌+◌, ◌^◌, ◌-◌, [], IfOk, Some, None, length, min, slice_get};
+ghost use Rattle.std.specs.List.{AllByRecursion};
+ghost use Rattle.std.specs.Option.{option_or};
+ghost use Rattle.run_rules.specs.Counts.{ends_of};
+ghost use Rattle.run_rules.specs.Lines.{IsFormed};
+ghost use Rattle.run_rules.specs.Run.{Run};
+ghost use Rattle.run_rules.specs.Search.{is_occupied};
+ghost use Rattle.run_rules.specs.Sound.{HasSoundDevices, HaveOwnNames};
+ghost use Rattle.run_rules.specs.Tree as tree;
+ghost use Rattle.run_rules.specs.World.{opening, setup_of};
+ghost use Rattle.dev_board.specs.Agreement.{slots_of};
+ghost use Rattle.dev_board.specs.Left.{boot_left};
+ghost use Rattle.dev_board.specs.Plain.{IsPlain};
+ghost use Rattle.dev_board.specs.Shown.{began};
+ghost use Rattle.dev_board.specs.Stepping.{StepIs, IsDid};
+
+use crate::closed::closed_in;
+use crate::parts::{Core, begin};
+use crate::search;
+use crate::step::step_core;
+use crate::stepped::Stepped;
+use crate::tree::tree_of;
+use cf_types::{DevLine, List, Machine, Memory, Script, Tables};
+use ref_ledger::Slots;
+use run_rules::{Event, Setup};
+use std::alloc::Global;
+use std::marker::Model;
+
+/// A machine that runs: a world, and the history of the events that led to it. Each value of this type keeps that the
+/// history is a run from the opening world to the world, and that the live devices are sound.
+#[derive(Drop)]
+pub struct Board {
+    alloc: Global,
+    setup: Setup,
+    core: Core,
+}
+
+impl Model for Board {
+    ghost use Rattle.dev_board.specs.Shown.{Shown};
+    ghost use Rattle.dev_board.specs.BoardView.{board_view, board_kept};
+
+    ghost Value = { Shown };
+
+    ghost view = { board_view };
+
+    ghost invariant = { board_kept };
+}
+
+impl Board {
+    /// The board before any event.
+    pub fn start(
+        alloc: Global,
+        tables: Tables,
+        machine: Machine,
+        scripts: List<Script>,
+    ) -> Result<Board, Memory>
+        requires { IsPlain (setup_of tables machine scripts) }
+        ensures world { IfOk result (λ b. b.world ≡ opening (setup_of tables machine scripts)) }
+        ensures events { IfOk result (λ b. b.events ≡ []) }
+        ensures stops { IfOk result (λ b. (b.stops ≡ 0) × (b.stopped ≡ None)) }
+    {
+        let core = begin(alloc)?;
+        Ok(Board {
+            alloc,
+            setup: Setup {
+                tables,
+                machine,
+                scripts,
+            },
+            core,
+        })
+    }
+
+    /// One step of a caller: the one event that it does next, or nothing. See autoconf(9) for what a boot does.
+    pub fn step<S: Slots>(&mut self, caller: u8, slots: &mut S) -> Stepped
+        requires caller { caller ≤ length self.old.world.setup.scripts }
+        requires agree { S.states slots.old ≡ slots_of self.old.world }
+        ensures step { StepIs self.old caller result self.new }
+        ensures agree { S.states slots.new ≡ slots_of self.new.world }
+        ensures falls { IsDid result → boot_left self.new.world < boot_left self.old.world }
+    {
+        step_core(self.alloc, &self.setup, &mut self.core, caller, slots)
+    }
+
+    /// Stops the board in the name of a caller. Each later step answers so, and nothing else changes; the first stop stays.
+    pub fn stop(&mut self, caller: u8)
+        ensures world { self.new.world ≡ self.old.world }
+        ensures events { self.new.events ≡ self.old.events }
+        ensures stops { self.new.stops ≡ min (self.old.stops + 1) (2 ^ 64 - 1) }
+        ensures stopped { self.new.stopped ≡ option_or self.old.stopped (Some caller) }
+    {
+        self.core.stops = self.core.stops.saturating_add(1);
+        if self.core.stopped.is_none() {
+            self.core.stopped = Some(caller);
+        }
+    }
+
+    /// What every board keeps; nothing is done.
+    pub fn stands(&self)
+        ensures run { Run (began self.now) self.now.events self.now.world }
+        ensures devices { HasSoundDevices self.now.world.setup self.now.world.live self.now.world.next }
+        ensures names { HaveOwnNames self.now.world.setup self.now.world.live }
+        ensures serials { self.now.world.next ≤ length self.now.events + 1 }
+        ensures formed { AllByRecursion IsFormed self.now.events }
+    {
+        let _ = &self.core;
+    }
+
+    /// How many events there were.
+    pub fn events(&self) -> u64
+        ensures { result ≡ length self.now.events }
+    {
+        self.core.events.len() as u64
+    }
+
+    /// The event at a place, counted from 0.
+    pub fn event(&self, place: u64) -> &Event
+        requires { place < length self.now.events }
+        ensures { slice_get self.now.events place ≡ Some result.now }
+    {
+        &self.core.events[place as usize]
+    }
+
+    /// How many scripts have ended.
+    pub fn closed_scripts(&self) -> u64
+        ensures { result ≡ ends_of self.now.events }
+    {
+        closed_in(&self.core.events)
+    }
+
+    /// Whether a live device stands on a spot.
+    pub fn occupied(&self, slot: u16) -> bool
+        requires { slot < length self.now.world.setup.machine.spots }
+        ensures { result ≡ is_occupied self.now.world.live slot }
+    {
+        search::is_occupied(&self.core.live, slot)
+    }
+
+    /// The lines of the device tree, depth first, children by serial. See drvctl(8).
+    pub fn tree_lines(&self) -> Result<List<DevLine>, Memory>
+        ensures { IfOk result (λ lines. lines ≡ tree.tree_lines self.now.world) }
+    {
+        tree_of(self.alloc, &self.setup, &self.core)
+    }
+
+    /// The tables of the run.
+    pub fn tables(&self) -> &Tables
+        ensures { result.now ≡ self.now.world.setup.tables }
+    {
+        &self.setup.tables
+    }
+
+    /// How many spots the machine has.
+    pub fn spots(&self) -> u16
+        ensures { result ≡ length self.now.world.setup.machine.spots }
+    {
+        self.setup.machine.spots.len() as u16
+    }
+
+    /// How many scripts there are; their callers are 1, 2 and so on.
+    pub fn callers(&self) -> u8
+        ensures { result ≡ length self.now.world.setup.scripts }
+    {
+        self.setup.scripts.len() as u8
+    }
+}

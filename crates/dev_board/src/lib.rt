@@ -1,0 +1,25 @@
+//! The board: a world and its history, one event at a time. Its input is plain for now: root and direct buses, no policies and no scripts.
+#![tactic(auto)]
+
+mod answer;
+mod board;
+mod boot;
+mod closed;
+mod commit;
+mod line;
+mod names;
+mod parts;
+mod plan;
+mod search;
+mod seen;
+mod step;
+mod stepped;
+mod told;
+mod tree;
+mod turn;
+
+pub use answer::{Answer, LeaseStep};
+pub use board::Board;
+pub use boot::run_boot;
+pub use stepped::Stepped;
+pub use told::Told;

@@ -1,0 +1,71 @@
+ghost use Rattle.std.specs.Prelude.{◌≡◌};
+ghost use Rattle.run_rules.specs.World.{opening};
+ghost use Rattle.dev_board.specs.declared.answer.LeaseStep.TheVariants.{Keep};
+
+use crate::answer::{Answer, LeaseStep};
+use crate::seen::Seen;
+use run_rules::{Event, Setup};
+use std::marker::Model;
+
+/// The witness of an answer: of which board it is, for which caller, and of which event. Only this crate makes one, with no memory.
+#[derive(Drop)]
+pub struct Told {
+    setup: Seen<Setup>,
+    caller: u8,
+    answer: Answer,
+    event: Option<Seen<Event>>,
+    lease: LeaseStep,
+}
+
+impl Model for Told {
+    ghost use Rattle.dev_board.specs.Witness.{Witness};
+    ghost use Rattle.run_rules.specs.World.{opening};
+    ghost use Rattle.std.specs.Prelude.{option_map};
+
+    ghost Value = { Witness };
+
+    ghost view = { λ t. record {
+      began = opening t.setup.value;
+      caller = t.caller;
+      answer = t.answer;
+      event = option_map (λ e. e.value) t.event;
+      lease = t.lease;
+    } };
+}
+
+impl Told {
+    ghost use Rattle.dev_board.specs.Witness.{told_did, told_stop};
+
+    /// The witness of an event of a caller that holds afterwards what it held before.
+    pub(crate) fn of_event(setup: &Setup, caller: u8, place: u64, event: &Event) -> Told
+        ensures { result ≡ told_did (opening setup.now) caller place event.now Keep }
+    {
+        Told {
+            setup: Seen::of(setup),
+            caller,
+            answer: Answer::Did(place),
+            event: Some(Seen::of(event)),
+            lease: LeaseStep::Keep,
+        }
+    }
+
+    /// The witness of a stop.
+    pub(crate) fn of_stop(setup: &Setup, caller: u8, first: u8) -> Told
+        ensures { result ≡ told_stop (opening setup.now) caller first }
+    {
+        Told {
+            setup: Seen::of(setup),
+            caller,
+            answer: Answer::Stopped(first),
+            event: None,
+            lease: LeaseStep::Keep,
+        }
+    }
+
+    /// What the answer means for the leases of its caller.
+    pub fn lease(&self) -> LeaseStep
+        ensures { result ≡ self.now.lease }
+    {
+        self.lease
+    }
+}

@@ -1,0 +1,95 @@
+//! The lines of the device tree.
+ghost use Rattle.std.specs.Prelude.{◌≡◌, ◌≤◌, ◌<◌, ◌+◌, ◌++◌, ◌^◌, ◌∷◌, IfOk, OnOk, length, map, flat_map, filter};
+ghost use Rattle.run_rules.specs.Tree as rule;
+ghost use Rattle.dev_board.specs.Plain.{IsPlainTables};
+ghost use Rattle.dev_board.specs.PlainTree.{plain_line};
+ghost use Rattle.dev_board.specs.Plans.{HaveRows};
+ghost use Rattle.dev_board.specs.View.{shown_of, CoreKept};
+
+use crate::names::{parent_name, unit_name};
+use crate::parts::Core;
+use cf_types::{DevLine, List, Memory};
+use run_rules::{Dev, Setup};
+use std::alloc::Global;
+
+/// The line of a device that nobody holds.
+#[tactic(auto, unfolding(run_rules::specs::World::unit_name))]
+fn line_of(
+    alloc: Global,
+    setup: &Setup,
+    live: &[Dev],
+    depth: u32,
+    device: Dev,
+) -> Result<DevLine, Memory>
+    requires plain { IsPlainTables setup.now.tables }
+    requires rows { HaveRows setup.now live.now }
+    requires row { device.row < length setup.now.tables.rows }
+    ensures { IfOk result (λ line. line ≡ plain_line setup.now live.now (depth, device)) }
+{
+    let name = unit_name(alloc, setup, device.row, device.unit)?;
+    let parent = parent_name(alloc, setup, live, device.parent)?;
+    Ok(DevLine {
+        depth,
+        name,
+        parent,
+        row: device.row,
+        asleep: device.asleep,
+        condemned: device.condemned.is_some(),
+        holders: 0,
+    })
+}
+
+/// Appends the lines below a parent, of so many levels.
+fn push_below(
+    alloc: Global,
+    setup: &Setup,
+    live: &[Dev],
+    levels: u32,
+    depth: u32,
+    parent: u64,
+    lines: &mut List<DevLine>,
+) -> Result<(), Memory>
+    requires plain { IsPlainTables setup.now.tables }
+    requires rows { HaveRows setup.now live.now }
+    requires shallow { depth + levels < 2 ^ 32 }
+    ensures { OnOk result (lines.new ≡ lines.old ++ map (plain_line setup.now live.now) (rule.tree_below levels live.now depth parent)) }
+{
+    if levels == 0 {
+        return Ok(());
+    }
+    for index in 0..live.len() {
+        let device = live[index];
+        if device.parent == parent {
+            let line = line_of(alloc, setup, live, depth, device)?;
+            lines.push(line)?;
+            push_below(
+                alloc,
+                setup,
+                live,
+                levels - 1,
+                depth + 1,
+                device.serial,
+                lines,
+            )?;
+        }
+    }
+    Ok(())
+}
+
+/// The whole tree.
+pub fn tree_of(alloc: Global, setup: &Setup, core: &Core) -> Result<List<DevLine>, Memory>
+    requires { CoreKept setup.now core.now }
+    ensures { IfOk result (λ lines. lines ≡ rule.tree_lines (shown_of setup.now core.now).world) }
+{
+    let mut lines = List::make(alloc);
+    push_below(
+        alloc,
+        setup,
+        &core.live,
+        core.live.len() as u32,
+        0,
+        0,
+        &mut lines,
+    )?;
+    Ok(lines)
+}

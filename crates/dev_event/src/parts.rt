@@ -1,0 +1,154 @@
+//! The pieces of a line. Where memory runs out, some of a piece may have been appended.
+ghost use Rattle.std.specs.Prelude.{◌≡◌, ◌++◌, OnOk, codes, decimal, flat_map};
+ghost use Rattle.run_rules.specs.Lines.{reply_text, started_text, answer_text, got_text, final_text, of_text, names_text, depth_names_text};
+
+use cf_types::{List, Memory, Name};
+use run_rules::{DepthName, IoAnswer, Reply};
+
+/// Appends bytes.
+pub fn put(out: &mut Vec<u8>, bytes: &[u8]) -> Result<(), Memory>
+    ensures { OnOk result (out.new.items ≡ out.old.items ++ bytes.now) }
+{
+    out.extend_from_slice(bytes)?;
+    Ok(())
+}
+
+/// Appends a number in decimal.
+pub fn put_number(out: &mut Vec<u8>, value: u32) -> Result<(), Memory>
+    ensures { OnOk result (out.new.items ≡ out.old.items ++ decimal value) }
+{
+    let digits = format!(in *out.allocator(); "{value}")?;
+    put(out, digits.as_bytes())
+}
+
+/// Appends a word and a name.
+pub fn put_named(out: &mut Vec<u8>, word: &[u8], name: &Name) -> Result<(), Memory>
+    ensures { OnOk result (out.new.items ≡ out.old.items ++ (word.now ++ name.now)) }
+{
+    put(out, word)?;
+    put(out, name.bytes())
+}
+
+/// Appends a word, a name, and the colon behind which follows what is said of it.
+pub fn put_said(out: &mut Vec<u8>, word: &[u8], name: &Name) -> Result<(), Memory>
+    ensures { OnOk result (out.new.items ≡ out.old.items ++ (word.now ++ name.now ++ codes ": ")) }
+{
+    put_named(out, word, name)?;
+    put(out, b": ")
+}
+
+/// Appends a reply.
+pub fn put_reply(out: &mut Vec<u8>, reply: &Reply) -> Result<(), Memory>
+    ensures { OnOk result (out.new.items ≡ out.old.items ++ reply_text reply.now) }
+{
+    match reply {
+        Reply::Ok => put(out, b"ok"),
+        Reply::NoDevice => put(out, b"no device"),
+        Reply::Gone => put(out, b"gone"),
+        Reply::HeldAlready => put(out, b"held already"),
+        Reply::NotHeld => put(out, b"not held"),
+        Reply::Asleep => put(out, b"asleep"),
+        Reply::Busy(name) => put_named(out, b"busy ", name),
+        Reply::NotSupported(name) => put_named(out, b"not supported ", name),
+        Reply::SuspendFailed(name) => put_named(out, b"suspend failed ", name),
+        Reply::NoRescan => put(out, b"no rescan"),
+        Reply::BadAttribute => put(out, b"bad attribute"),
+        Reply::BadLocator => put(out, b"bad locator"),
+        Reply::NoSpot => put(out, b"no spot"),
+    }
+}
+
+/// Appends the reply to a transfer that begins.
+pub fn put_started(out: &mut Vec<u8>, reply: &Reply) -> Result<(), Memory>
+    ensures { OnOk result (out.new.items ≡ out.old.items ++ started_text reply.now) }
+{
+    match reply {
+        Reply::Ok => put(out, b"started"),
+        _ => put_reply(out, reply),
+    }
+}
+
+/// Appends what a transfer brought.
+pub fn put_answer(out: &mut Vec<u8>, answer: IoAnswer) -> Result<(), Memory>
+    ensures { OnOk result (out.new.items ≡ out.old.items ++ answer_text answer) }
+{
+    match answer {
+        IoAnswer::Number(n) => put_number(out, n),
+        IoAnswer::DeviceError => put(out, b"error"),
+    }
+}
+
+/// Appends the name of the device that was attached, if one was.
+pub fn put_got(out: &mut Vec<u8>, got: &Option<Name>) -> Result<(), Memory>
+    ensures { OnOk result (out.new.items ≡ out.old.items ++ got_text got.now) }
+{
+    match got {
+        None => put(out, b"not configured"),
+        Some(name) => put(out, name.bytes()),
+    }
+}
+
+/// Appends what a finaliser answered.
+pub fn put_final(out: &mut Vec<u8>, answer: bool, got: &Option<Name>) -> Result<(), Memory>
+    ensures { OnOk result (out.new.items ≡ out.old.items ++ final_text answer got.now) }
+{
+    if answer {
+        put(out, b"1 ")?;
+        put_got(out, got)
+    } else {
+        put(out, b"0")
+    }
+}
+
+/// Appends the device that a list or a tree is of, and a colon.
+pub fn put_of(out: &mut Vec<u8>, device: &Option<Name>) -> Result<(), Memory>
+    ensures { OnOk result (out.new.items ≡ out.old.items ++ of_text device.now) }
+{
+    match device {
+        None => put(out, b":"),
+        Some(name) => {
+            put_named(out, b" ", name)?;
+            put(out, b":")
+        }
+    }
+}
+
+/// Appends the names of a list.
+pub fn put_names(out: &mut Vec<u8>, names: &Option<List<Name>>) -> Result<(), Memory>
+    ensures { OnOk result (out.new.items ≡ out.old.items ++ names_text names.now) }
+{
+    match names {
+        None => put(out, b" no device"),
+        Some(names) => put_each(out, names.items()),
+    }
+}
+
+fn put_each(out: &mut Vec<u8>, names: &[Name]) -> Result<(), Memory>
+    ensures { OnOk result (out.new.items ≡ out.old.items ++ flat_map (λ name. codes " " ++ name) names.now) }
+{
+    for name in names {
+        put_named(out, b" ", name)?;
+    }
+    Ok(())
+}
+
+/// Appends the names of a tree, each behind its depth.
+pub fn put_depth_names(out: &mut Vec<u8>, names: &Option<List<DepthName>>) -> Result<(), Memory>
+    ensures { OnOk result (out.new.items ≡ out.old.items ++ depth_names_text names.now) }
+{
+    match names {
+        None => put(out, b" no device"),
+        Some(names) => put_each_depth(out, names.items()),
+    }
+}
+
+fn put_each_depth(out: &mut Vec<u8>, names: &[DepthName]) -> Result<(), Memory>
+    ensures { OnOk result (out.new.items ≡ out.old.items ++ flat_map (λ d. codes " " ++ decimal d.depth ++ codes " " ++ d.name) names.now) }
+{
+    for one in names {
+        put(out, b" ")?;
+        put_number(out, one.depth)?;
+        put_named(out, b" ", &one.name)?;
+    }
+    Ok(())
+}

@@ -1,0 +1,4 @@
+pub mod WordLemmas
+pub mod SpotLemmas
+pub mod DriverLemmas
+pub mod MachineLemmas

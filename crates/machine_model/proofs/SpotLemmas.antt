@@ -1,0 +1,62 @@
+-- The first code of a spot, its values and its depth.
+use Rattle.std.proofs.Common.{◌≡◌, ℕ, zero, suc, ◌+◌, ◌≤◌, length, Bool, true, false, Option, Some, None, List, [], ◌∷◌, refl, ap, sym, ◌∙◌, add-one, arith}
+use Rattle.std.specs.Prelude.{All, option_and_then, slice_get}
+use Rattle.std.specs.Option.{option_map_or}
+use Rattle.cf_types.specs.declared.machine.Spot.{Spot}
+use Rattle.cf_types.specs.declared.tables.Attr.{Attr}
+use Rattle.cf_types.specs.declared.tables.Tables.{Tables}
+use Rattle.cf_types.specs.declared.tables.Place.{Place}
+use Rattle.cf_types.specs.declared.tables.Place.TheVariants.{Root, At}
+use Rattle.cf_types.specs.Locators.{locators_at}
+use Rattle.config_rules.specs.Form.{given, ◌or◌}
+use Rattle.config_rules.specs.Formed.{CountedTables}
+use Rattle.config_rules.specs.MachineText.{depth_of, spot_locators, spot_place}
+
+-- ---- one code after the other
+
+pub past : (b : Bool) (code : ℕ) (more : Option ℕ) → b ≡ false → more ≡ (given b code or more)
+past true code more h = absurd (cc)
+past false code more h = refl
+
+pub here : (b : Bool) (code : ℕ) (more : Option ℕ) → b ≡ true → Some code ≡ (given b code or more)
+here true code more h = refl
+here false code more h = absurd (cc)
+
+pub last : (b : Bool) (code : ℕ) → b ≡ true → Some code ≡ given b code
+last true code h = refl
+last false code h = absurd (cc)
+
+pub none : (b : Bool) (code : ℕ) → b ≡ false → None ≡ given b code
+none true code h = absurd (cc)
+none false code h = refl
+
+-- ---- depths
+
+pub depth_none : (n : ℕ) (spots : List Spot) → depth_of n spots None ≡ 1
+depth_none zero spots = refl
+depth_none (suc n) spots = refl
+
+pub depth_some : (n m : ℕ) (spots : List Spot) (x : ℕ) → n ≡ m + 1 → depth_of n spots (Some x) ≡ depth_of m spots (option_and_then (λ s. s.parent) (slice_get spots x)) + 1
+depth_some zero m spots x e = absurd (omega arith)
+depth_some (suc n) m spots x e =
+    let k : n ≡ m = omega arith in
+    ap (λ i. suc (depth_of i spots (option_and_then (λ s. s.parent) (slice_get spots x)))) k ∙ sym (add-one (depth_of m spots (option_and_then (λ s. s.parent) (slice_get spots x))))
+
+pub depth_zero : (n : ℕ) (spots : List Spot) (above : Option ℕ) → n ≤ 0 → depth_of n spots above ≡ 1
+depth_zero zero spots above h = refl
+depth_zero (suc n) spots above h = absurd (omega arith)
+
+-- ---- locators
+
+few_at : (attrs : List Attr) → All (λ a. length a.locs ≤ 16) attrs → (n : ℕ) → length (option_map_or (λ x. x.locs) (slice_get attrs n) []) ≤ 16
+few_at [] h n = omega arith
+few_at (a ∷ attrs) h zero = h 0 a (omega arith)
+few_at (a ∷ attrs) h (suc n) = few_at attrs (λ k d p. h (suc k) d (omega arith)) n
+
+few_there : (t : Tables) → CountedTables t → (place : Option Place) → length (option_map_or (locators_at t.attrs) place []) ≤ 16
+few_there t h None = omega arith
+few_there t h (Some Root) = omega arith
+few_there t h (Some (At a)) = few_at t.attrs h.locators a
+
+pub few_locators : (t : Tables) → CountedTables t → (parent attr : List ℕ) → length (spot_locators t parent attr) ≤ 16
+few_locators t h parent attr = few_there t h (spot_place t parent attr)

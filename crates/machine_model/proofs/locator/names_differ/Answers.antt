@@ -1,0 +1,7 @@
+use Rattle.std.proofs.Common.{◌∙◌, ap, sym}
+use Rattle.config_rules.specs.MachineText.{differ}
+use Rattle.machine_model.proofs.WordLemmas.{names_given}
+use Rattle.machine_model.proofs.locator.names_differ.Goals as goal
+
+pub returns : goal.returns
+returns c = c.differ_by_name.ensures ∙ ap differ (sym (names_given c.args.found.now))

@@ -1,0 +1,10 @@
+use Rattle.std.proofs.Common.{◌≡◌, ◌≤◌, drop, length, map}
+use Rattle.config_rules.specs.MachineText.{after_lines, no_machine}
+use Rattle.machine_text.specs.Records.{word_line}
+use Rattle.machine_model.proofs.machine.read_lines.Given as goal
+
+abbrev pub invariant-loop-line : goal.invariant-loop-line
+invariant-loop-line l = record {
+  so_far : after_lines l.tables (map word_line (drop l.line-index l.lines)) l.machine ≡ after_lines l.tables (map word_line l.lines) (no_machine l.tables);
+  few : length l.machine.spots ≤ 1024;
+}

@@ -1,0 +1,19 @@
+-- What a line leaves.
+use Rattle.std.specs.Prelude.{◌≡◌, ℕ, Result, Ok, Err}
+use Rattle.cf_types.specs.declared.machine.Machine.{Machine}
+use Rattle.machine_text.specs.declared.line.MachineStop.{MachineStop}
+use Rattle.machine_text.specs.declared.line.MachineStop.TheVariants as stops
+use Rattle.machine_model.specs.declared.stop.LineStop.{LineStop}
+use Rattle.machine_model.specs.declared.stop.LineStop.TheVariants.{Code, Memory}
+
+-- what a call left is what it should be, unless memory ran out
+abbrev pub Leaves : {A : Type 0} → Result Machine ℕ → Result A LineStop → Machine → Type 0
+Leaves whole (Ok done) m = whole ≡ Ok m
+Leaves whole (Err (Code code)) m = whole ≡ Err code
+Leaves whole (Err Memory) m = Unit {0}
+
+-- what a call answers is what the text gives, unless memory ran out
+abbrev pub Gives : Result Machine (ℕ × ℕ) → Result Machine MachineStop → Type 0
+Gives whole (Ok m) = whole ≡ Ok m
+Gives whole (Err (stops.Fault line code)) = whole ≡ Err (line, code)
+Gives whole (Err stops.Memory) = Unit {0}

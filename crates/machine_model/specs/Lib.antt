@@ -1,0 +1,4 @@
+pub mod Found
+pub mod Left
+pub use Rattle.config_rules.specs.Formed
+pub use Rattle.config_rules.specs.MachineText

@@ -1,0 +1,14 @@
+//! Reads a machine file: the hardware that is there, and what its drivers do. The format is this project's own.
+#![tactic(auto)]
+
+mod driver;
+mod line;
+mod locator;
+mod lookup;
+mod machine;
+mod spot;
+mod stop;
+mod word;
+
+pub use machine::read_machine;
+pub use machine_text::MachineStop;

@@ -1,0 +1,118 @@
+ghost use Rattle.std.specs.Prelude.{◌≡◌, ◌==◌, IfOk, bytes_eq, length, map, not, option_map, take_while};
+ghost use Rattle.std.specs.List.{after_first, before_first, list_any};
+ghost use Rattle.config_rules.specs.Form.{each};
+ghost use Rattle.config_rules.specs.MachineText.{differ, given_value, is_located, is_one, located};
+ghost use Rattle.machine_model.specs.Found.{given_of, names_of};
+
+use crate::word::ranged;
+use cf_types::{List, Memory, Text};
+use std::alloc::Global;
+
+/// A value that a spot gives for a locator, `None` where the number is out of its range.
+#[derive(Drop)]
+pub struct FoundValue {
+    pub name: Text,
+    pub value: Option<i64>,
+}
+
+fn has_equals(word: &[u8]) -> bool
+    ensures { result ≡ list_any (λ c. c == 61) word.now }
+{
+    word.iter().any(|&byte| byte == b'=')
+}
+
+/// How many bytes stand before the first `=`; all of them where there is none.
+fn equals_at(word: &[u8]) -> usize
+    ensures { result ≡ length (take_while (λ c. not (c == 61)) word.now) }
+{
+    word.iter().take_while(|&&byte| byte != b'=').count()
+}
+
+fn name_part(word: &[u8]) -> &[u8]
+    ensures { result.now ≡ before_first (λ c. c == 61) word.now }
+{
+    word.split_at(equals_at(word)).0
+}
+
+/// What stands behind the first `=`.
+fn value_part(word: &[u8]) -> &[u8]
+    ensures { result.now ≡ after_first (λ c. c == 61) word.now }
+{
+    match word.split_at(equals_at(word)).1.split_first() {
+        Some((_, rest)) => rest,
+        None => &[],
+    }
+}
+
+fn is_located(word: &[u8]) -> bool
+    ensures { result ≡ is_located word.now }
+{
+    has_equals(word) && name_part(word).len() > 0
+}
+
+/// Reads `loc=V`.
+fn given_value(alloc: Global, word: &[u8]) -> Result<Option<FoundValue>, Memory>
+    ensures { IfOk result (λ v. option_map given_of v ≡ given_value word.now) }
+{
+    if !is_located(word) {
+        return Ok(None);
+    }
+    match ranged(value_part(word)) {
+        Some(value) => {
+            let name = Text::copied(alloc, name_part(word))?;
+            Ok(Some(FoundValue { name, value }))
+        }
+        None => Ok(None),
+    }
+}
+
+/// Reads locators and their values; `None` where a word is not `loc=V`.
+pub fn given_values(alloc: Global, words: &[Text]) -> Result<Option<List<FoundValue>>, Memory>
+    ensures { IfOk result (λ found. option_map (map given_of) found ≡ each given_value words.now) }
+{
+    let mut found = List::make(alloc);
+    for word in words {
+        match given_value(alloc, word.items())? {
+            Some(value) => found.push(value)?,
+            None => return Ok(None),
+        }
+    }
+    Ok(Some(found))
+}
+
+/// How many words at the front are locators.
+pub fn count_located(words: &[Text]) -> usize
+    ensures { result ≡ length (located words.now) }
+{
+    words
+        .iter()
+        .take_while(|word| has_equals(word.items()))
+        .count()
+}
+
+fn has_name(found: &[FoundValue], name: &[u8]) -> bool
+    ensures { result ≡ list_any (λ g. bytes_eq name.now g.name) found.now }
+{
+    found.iter().any(|value| name == value.name.items())
+}
+
+/// Whether no name stands twice.
+fn differ_by_name(found: &[FoundValue]) -> bool
+    ensures { result ≡ differ (names_of found.now) }
+{
+    let mut rest = found;
+    while let Some((first, more)) = rest.split_first() {
+        if has_name(more, first.name.items()) {
+            return false;
+        }
+        rest = more;
+    }
+    true
+}
+
+/// Whether no locator stands twice.
+pub fn names_differ(found: &[FoundValue]) -> bool
+    ensures { result ≡ differ (map (λ g. g.name) (map given_of found.now)) }
+{
+    differ_by_name(found)
+}

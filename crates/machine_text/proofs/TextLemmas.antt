@@ -1,0 +1,82 @@
+-- One more line of a machine file, and one more word of a line.
+use Rattle.std.proofs.Common.{◌≡◌, ℕ, ◌+◌, ◌<◌, ◌≤◌, Bool, true, false, cond, List, [], ◌∷◌, ◌++◌, length, get_or, drop, map, refl, ap, sym, ◌∙◌, arith, Option, Some, append_assoc}
+use Rattle.std.specs.Prelude.{filter, find, nat_lt, option_map, ◌==◌}
+use Rattle.std.specs.List.{enumerate_from}
+use Rattle.std.proofs.lemmas.List.{drop_more, map-append}
+use Rattle.std.proofs.lemmas.Bool.Decides.{nat_tests}
+use Rattle.std.proofs.lemmas.List.Splits.{length-slice_split}
+use Rattle.std.proofs.lemmas.List.Sums.{count_by-le-length}
+use Rattle.config_rules.specs.Cut.{lines_of}
+use Rattle.config_rules.specs.MachineText.{WordLine, has_bad_byte, words_of}
+use Rattle.machine_text.specs.declared.line.Line.{Line}
+use Rattle.machine_text.specs.Records.{with_line, word_line}
+
+pub next_of : {X : Type 0} (xs : List X) (n : ℕ) (x : X) → (n < length xs) × (x ≡ get_or xs n x) → drop n xs ≡ x ∷ drop (n + 1) xs
+next_of xs n x h = drop_more xs n x h.0 ∙ ap (λ y. y ∷ drop (n + 1) xs) (sym h.1)
+
+-- all lines with their newlines are one byte longer than the text, so there are few of them
+pub lines_few : (text : List ℕ) → length (lines_of text) ≤ length text + 1
+lines_few text = omega (arith, length-slice_split (λ b. b == 10) text, count_by-le-length (λ b. b == 10) text)
+
+-- ---- the first bad line
+
+abbrev pub bad_from : ℕ → List (List ℕ) → Option ℕ
+bad_from n lines = option_map (λ e. e.0) (find (λ e. has_bad_byte e.1) (enumerate_from n lines))
+
+bad_if : (b : Bool) (n : ℕ) (line : List ℕ) (more : Option (ℕ × List ℕ)) → has_bad_byte line ≡ b → option_map (λ e. e.0) (cond (has_bad_byte line) (Some (n, line)) more) ≡ cond b (Some n) (option_map (λ e. e.0) more)
+bad_if true n line more h = ap (λ b. option_map (λ e. e.0) (cond b (Some (n, line)) more)) h
+bad_if false n line more h = ap (λ b. option_map (λ e. e.0) (cond b (Some (n, line)) more)) h
+
+pub bad_here : (n : ℕ) (line : List ℕ) (lines : List (List ℕ)) → has_bad_byte line ≡ true → bad_from n (line ∷ lines) ≡ Some n
+bad_here n line lines h = bad_if true n line _ h
+
+pub bad_later : (n : ℕ) (line : List ℕ) (lines : List (List ℕ)) → has_bad_byte line ≡ false → bad_from n (line ∷ lines) ≡ bad_from (n + 1) lines
+bad_later n line lines h = bad_if false n line _ h
+
+-- ---- the lines that have words
+
+abbrev pub words_from : ℕ → List (List ℕ) → List WordLine
+words_from n lines = filter (λ l. nat_lt 0 (length l.words)) (map (λ e. record { number = e.0; words = words_of e.1 }) (enumerate_from n lines))
+
+words_if : (b : Bool) (n : ℕ) (line : List ℕ) (more : List WordLine) → nat_lt 0 (length (words_of line)) ≡ b
+    → cond (nat_lt 0 (length (words_of line))) (record { number = n; words = words_of line } ∷ more) more ≡ cond b (record { number = n; words = words_of line } ∷ more) more
+words_if b n line more h = let with_it : WordLine = record { number = n; words = words_of line } in ap (λ t. cond t (with_it ∷ more) more) h
+
+words_here : (n : ℕ) (words : List (List ℕ)) (line : List ℕ) (lines : List (List ℕ)) (front : List Line) → nat_lt 0 (length words) ≡ true → words ≡ words_of line
+    → map word_line (front ++ record { number = n; words = words } ∷ []) ++ words_from (n + 1) lines ≡ map word_line front ++ words_from n (line ∷ lines)
+words_here n words line lines front h e =
+    let this : Line = record { number = n; words = words } in
+    let make : List (List ℕ) → WordLine = λ ws. record { number = n; words = ws } in
+    let some : nat_lt 0 (length (words_of line)) ≡ true = ap (λ ws. nat_lt 0 (length ws)) (sym e) ∙ h in
+    ap (λ ls. ls ++ words_from (n + 1) lines) (map-append word_line front (this ∷ []))
+    ∙ append_assoc (map word_line front) (word_line this ∷ []) (words_from (n + 1) lines)
+    ∙ ap (λ ws. map word_line front ++ make ws ∷ words_from (n + 1) lines) e
+    ∙ ap (λ ls. map word_line front ++ ls) (sym (words_if true n line (words_from (n + 1) lines) some))
+
+words_later : (n : ℕ) (words : List (List ℕ)) (line : List ℕ) (lines : List (List ℕ)) → nat_lt 0 (length words) ≡ false → words ≡ words_of line → words_from (n + 1) lines ≡ words_from n (line ∷ lines)
+words_later n words line lines h e =
+    sym (words_if false n line (words_from (n + 1) lines) (ap (λ ws. nat_lt 0 (length ws)) (sym e) ∙ h))
+
+line_if : (b : Bool) (n : ℕ) (words : List (List ℕ)) (line : List ℕ) (lines : List (List ℕ)) (front : List Line) → nat_lt 0 (length words) ≡ b → words ≡ words_of line
+    → map word_line (cond b (front ++ record { number = n; words = words } ∷ []) front) ++ words_from (n + 1) lines ≡ map word_line front ++ words_from n (line ∷ lines)
+line_if true n words line lines front h e = words_here n words line lines front h e
+line_if false n words line lines front h e = ap (λ ls. map word_line front ++ ls) (words_later n words line lines h e)
+
+-- one more line
+pub line_more : (n : ℕ) (words : List (List ℕ)) (line : List ℕ) (lines : List (List ℕ)) (front new : List Line) → new ≡ with_line front n words → words ≡ words_of line
+    → map word_line new ++ words_from (n + 1) lines ≡ map word_line front ++ words_from n (line ∷ lines)
+line_more n words line lines front new is e =
+    ap (λ ls. map word_line ls ++ words_from (n + 1) lines) is ∙ line_if (nat_lt 0 (length words)) n words line lines front refl e
+
+-- ---- the words of a line
+
+pub part_here : (parts front : List (List ℕ)) (word : List ℕ) (some : Bool) → nat_lt 0 (length word) ≡ some
+    → cond some (front ++ word ∷ []) front ++ filter (λ w. nat_lt 0 (length w)) parts ≡ front ++ filter (λ w. nat_lt 0 (length w)) (word ∷ parts)
+part_here parts front word true h = append_assoc front (word ∷ []) _ ∙ ap (λ b. front ++ cond b (word ∷ filter (λ w. nat_lt 0 (length w)) parts) (filter (λ w. nat_lt 0 (length w)) parts)) (sym h)
+part_here parts front word false h = ap (λ b. front ++ cond b (word ∷ filter (λ w. nat_lt 0 (length w)) parts) (filter (λ w. nat_lt 0 (length w)) parts)) (sym h)
+
+pub not_empty : (word : List ℕ) → (length word == 0) ≡ false → nat_lt 0 (length word) ≡ true
+not_empty word h = grind (arith, nat_tests)
+
+pub empty_word : (word : List ℕ) → (length word == 0) ≡ true → nat_lt 0 (length word) ≡ false
+empty_word word h = grind (arith, nat_tests)

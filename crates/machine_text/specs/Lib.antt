@@ -1,0 +1,2 @@
+pub mod Records
+pub use Rattle.config_rules.specs.MachineText

@@ -1,0 +1,98 @@
+ghost use Rattle.std.specs.Prelude.{◌≡◌, ◌==◌, IfOk, length, not, take_while};
+ghost use Rattle.config_rules.specs.Cut.{is_space};
+ghost use Rattle.config_rules.specs.MachineText.{has_bad_byte, is_allowed, uncommented, words_of};
+ghost use Rattle.machine_text.specs.Records.{parted};
+
+use cf_types::{List, Memory as NoMemory, Text};
+use std::alloc::{AllocError, Global};
+
+/// A line of a machine file that has words: its number, from 1, and its words, none of them empty.
+#[derive(Drop)]
+pub struct Line {
+    pub number: u32,
+    pub words: List<Text>,
+}
+
+/// Why a machine file can't be read.
+#[derive(Clone, Copy, Debug, PartialEq, Eq)]
+pub enum MachineStop {
+    /// The first bad line, counted from 1, and its code, from 1 to 9.
+    Fault { line: u32, code: u8 },
+    /// Memory ran out.
+    Memory,
+}
+
+impl From<NoMemory> for MachineStop {
+    ghost use Rattle.std.specs.Prelude.{◌≡◌};
+    ghost use Rattle.machine_text.specs.declared.line.MachineStop.TheVariants.{Memory};
+
+    ghost from_gives = { λ _ e. e ≡ Memory };
+
+    fn from(_error: NoMemory) -> MachineStop {
+        MachineStop::Memory
+    }
+}
+
+impl From<AllocError> for MachineStop {
+    ghost use Rattle.std.specs.Prelude.{◌≡◌};
+    ghost use Rattle.machine_text.specs.declared.line.MachineStop.TheVariants.{Memory};
+
+    ghost from_gives = { λ _ e. e ≡ Memory };
+
+    fn from(_error: AllocError) -> MachineStop {
+        MachineStop::Memory
+    }
+}
+
+fn is_space(byte: u8) -> bool
+    ensures { result ≡ is_space byte }
+{
+    byte == b' ' || byte == b'\t'
+}
+
+fn is_allowed(byte: u8) -> bool
+    ensures { result ≡ is_allowed byte }
+{
+    byte == b'\t' || (b' ' <= byte && byte <= b'~')
+}
+
+/// How many bytes stand before the first `#`; all of them where there is none.
+fn comment_start(line: &[u8]) -> usize
+    ensures { result ≡ length (take_while (λ c. not (c == 35)) line.now) }
+{
+    line.iter().take_while(|&&byte| byte != b'#').count()
+}
+
+/// What stands before the first `#`.
+fn uncommented(line: &[u8]) -> &[u8]
+    ensures { result.now ≡ uncommented line.now }
+{
+    line.split_at(comment_start(line)).0
+}
+
+/// Whether a byte that is not allowed stands outside the comment.
+pub fn has_bad_byte(line: &[u8]) -> bool
+    ensures { result ≡ has_bad_byte line.now }
+{
+    uncommented(line).iter().any(|&byte| !is_allowed(byte))
+}
+
+/// The parts between spaces and tabs that are not empty.
+fn parted(alloc: Global, bytes: &[u8]) -> Result<List<Text>, NoMemory>
+    ensures { IfOk result (λ words. words ≡ parted bytes.now) }
+{
+    let mut words = List::make(alloc);
+    for word in bytes.split(|&byte| is_space(byte)) {
+        if !word.is_empty() {
+            words.push(Text::copied(alloc, word)?)?;
+        }
+    }
+    Ok(words)
+}
+
+/// The words of a line, parted by spaces and tabs.
+pub fn words_of(alloc: Global, line: &[u8]) -> Result<List<Text>, NoMemory>
+    ensures { IfOk result (λ words. words ≡ words_of line.now) }
+{
+    parted(alloc, uncommented(line))
+}

@@ -1,0 +1,90 @@
+-- Histories that the laws refuse, one for each law.
+use Rattle.std.proofs.Common.{◌≡◌, ◌⊎◌, ℕ, true, false, Some, [], ◌∷◌, refl, sym, inl, inr, ap, codes}
+use Rattle.std.specs.Prelude.{pos, negsuc, bytes_eq}
+use Rattle.run_rules.specs.declared.event.Event.{Event}
+use Rattle.run_rules.specs.declared.event.Act.{Act}
+use Rattle.run_rules.specs.declared.event.Act.TheVariants as act
+use Rattle.run_rules.specs.declared.event.Reply.TheVariants as reply
+use Rattle.run_rules.specs.declared.event.IoAnswer.TheVariants as answer
+use Rattle.run_rules.specs.World.{root_name}
+use Rattle.run_rules.specs.Laws.{Lawful, lives, parent_in, is_asleep_in, holds}
+
+abbrev by : ℕ → Act → Event
+by k a = record { caller = k; number = 1; act = a }
+
+abbrev bus_comes : Event
+bus_comes = by 0 (act.Found (codes "root") (Some (codes "bus0")))
+
+abbrev com_comes : Event
+com_comes = by 0 (act.Found (codes "bus0") (Some (codes "com0")))
+
+abbrev com_opened : Event
+com_opened = by 1 (act.OpenDev (codes "com0") reply.Ok)
+
+abbrev com_freed : Event
+com_freed = by 2 (act.Free (codes "com0"))
+
+not_both : true ≡ false → ⊥
+not_both e = cc
+
+not_one : pos 1 ≡ pos 0 → ⊥
+not_one e = cc
+
+not_none : pos 0 ≡ pos 1 → ⊥
+not_none e = cc
+
+freed_while_held : Lawful (bus_comes ∷ com_comes ∷ com_opened ∷ com_freed ∷ []) → ⊥
+unfolding holds
+freed_while_held h = not_one (h.1.1.1.0.unreferred (codes "com0") refl 1)
+
+freed_above_child : Lawful (bus_comes ∷ com_comes ∷ by 2 (act.Free (codes "bus0")) ∷ []) → ⊥
+unfolding lives parent_in
+freed_above_child h = h.1.1.0.childless (codes "bus0") (codes "com0") refl refl refl
+
+sleeps_above_awake : Lawful (bus_comes ∷ com_comes ∷ by 1 (act.Sleep (codes "bus0")) ∷ []) → ⊥
+unfolding lives parent_in is_asleep_in
+sleeps_above_awake h = not_both (sym (h.1.1.0.sleeping (codes "bus0") (codes "com0") refl refl refl))
+
+held_twice : Lawful (bus_comes ∷ com_comes ∷ com_opened ∷ com_opened ∷ []) → ⊥
+unfolding holds
+held_twice h = cases (h.1.1.1.0.held 1 (codes "com0"))
+  where
+    cases : (pos 2 ≡ pos 0) ⊎ (pos 2 ≡ pos 1) → ⊥
+    cases (inl e) = cc
+    cases (inr e) = cc
+
+returned_unheld : Lawful (bus_comes ∷ com_comes ∷ by 1 (act.DropRef (codes "com0")) ∷ []) → ⊥
+unfolding holds
+returned_unheld h = cases (h.1.1.0.held 1 (codes "com0"))
+  where
+    cases : (negsuc 0 ≡ pos 0) ⊎ (negsuc 0 ≡ pos 1) → ⊥
+    cases (inl e) = cc
+    cases (inr e) = cc
+
+held_before_it_came : Lawful (bus_comes ∷ com_opened ∷ []) → ⊥
+unfolding holds lives
+held_before_it_came h = not_one (h.1.0.held_live 1 (codes "com0") refl)
+
+transfer_unheld : Lawful (bus_comes ∷ com_comes ∷ by 1 (act.IoDone (codes "com0") (answer.Number 2)) ∷ []) → ⊥
+unfolding holds
+transfer_unheld h = not_none (h.1.1.0.held_in_use (codes "com0") refl)
+
+comes_twice : Lawful (bus_comes ∷ com_comes ∷ com_comes ∷ []) → ⊥
+unfolding lives
+comes_twice h = not_both (h.1.1.0.fresh (codes "com0") refl)
+
+comes_below_nothing : Lawful (com_comes ∷ []) → ⊥
+unfolding lives root_name is_asleep_in
+comes_below_nothing h = cases (h.0.below_awake (codes "com0") refl)
+  where
+    cases : (codes "bus0" ≡ codes "root") ⊎ ((false ≡ true) × (false ≡ false)) → ⊥
+    cases (inl e) = not_both (sym (ap (λ n. bytes_eq n (codes "root")) e))
+    cases (inr p) = not_both (sym p.0)
+
+comes_below_sleeping : Lawful (bus_comes ∷ by 1 (act.Sleep (codes "bus0")) ∷ com_comes ∷ []) → ⊥
+unfolding lives root_name is_asleep_in
+comes_below_sleeping h = cases (h.1.1.0.below_awake (codes "com0") refl)
+  where
+    cases : (codes "bus0" ≡ codes "root") ⊎ ((true ≡ true) × (true ≡ false)) → ⊥
+    cases (inl e) = not_both (sym (ap (λ n. bytes_eq n (codes "root")) e))
+    cases (inr p) = not_both p.1

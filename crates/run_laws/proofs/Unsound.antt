@@ -1,0 +1,244 @@
+-- A sound world, and worlds that soundness refuses, one for each of its facts.
+use Rattle.std.proofs.Common.{◌≡◌, ℕ, true, false, Option, Some, None, List, [], ◌∷◌, refl, arith, codes}
+use Rattle.std.specs.Prelude.{pos}
+use Rattle.cf_types.specs.declared.tables.Place.TheVariants as place
+use Rattle.run_rules.specs.declared.event.PowerKind.TheVariants as kind
+use Rattle.run_rules.specs.declared.world.Setup.{Setup}
+use Rattle.run_rules.specs.declared.world.Dev.{Dev}
+use Rattle.run_rules.specs.declared.world.Frame.{Frame}
+use Rattle.run_rules.specs.declared.world.Frame.TheVariants as frame
+use Rattle.run_rules.specs.declared.world.Key.TheVariants as key
+use Rattle.run_rules.specs.declared.world.Activity.{Activity}
+use Rattle.run_rules.specs.declared.world.Activity.TheVariants as activity
+use Rattle.run_rules.specs.World.{World, Caller, has, scan_of, lineage, is_under, is_pinned}
+use Rattle.run_rules.specs.Sound.{Sound}
+use Rattle.run_laws.proofs.SoundTest.{sound_from}
+
+-- two drivers and a row of each
+abbrev small : Setup
+small = record {
+  tables = record {
+    attrs = [];
+    devices = record { name = codes "bus"; own = None; needs = [] } ∷ record { name = codes "com"; own = None; needs = [] } ∷ [];
+    attaches = [];
+    rows = record { device = 0; unit = 0; star = false; attach = 0; place = place.Root; parent = None; locs = []; flags = pos 0 }
+        ∷ record { device = 1; unit = 0; star = false; attach = 1; place = place.At 0; parent = None; locs = []; flags = pos 0 } ∷ [];
+    pseudos = [];
+    options = [];
+    makeoptions = [];
+    file_systems = [];
+    warnings = [];
+  };
+  machine = record { spots = []; matches = []; styles = []; policies = [] };
+  scripts = [];
+}
+
+abbrev bus : Dev
+bus = record { serial = 1; row = 0; unit = 0; parent = 0; spot = 0; asleep = false; condemned = None }
+
+abbrev leaf : Dev
+leaf = record { serial = 2; row = 1; unit = 0; parent = 1; spot = 1; asleep = false; condemned = None }
+
+abbrev idle : Caller
+idle = record { over = 0; doing = activity.Idle; stack = [] }
+
+abbrev ended : Caller
+ended = record { over = 0; doing = activity.Ended; stack = [] }
+
+abbrev doing : Activity → Caller
+doing a = record { over = 0; doing = a; stack = [] }
+
+abbrev scans : List Frame → Caller
+scans fs = record { over = 0; doing = activity.Scans; stack = fs }
+
+abbrev good : World
+good = record {
+  setup = small;
+  live = bus ∷ leaf ∷ [];
+  next = 3;
+  refs = [];
+  absent = [];
+  hidden = [];
+  phase = true;
+  turn = None;
+  deferred = [];
+  finalisers = [];
+  place = 0;
+  again = false;
+  callers = ended ∷ idle ∷ idle ∷ [];
+}
+
+good_is_sound : Sound good
+unfolding lineage is_under is_pinned
+good_is_sound = sound_from good refl
+
+not_both : true ≡ false → ⊥
+not_both e = cc
+
+not_either : false ≡ true → ⊥
+not_either e = cc
+
+-- ---- devices
+
+out_of_order : Sound (record good { live = record leaf { parent = 0 } ∷ bus ∷ [] }) → ⊥
+out_of_order h = omega (arith, h.devices.apart.0.0.later)
+
+not_given_out : Sound (record good { next = 2 }) → ⊥
+not_given_out h = omega (arith, h.devices.placed.1.0.below_next)
+
+orphan : Sound (record good { live = leaf ∷ [] }) → ⊥
+orphan h = not_either h.devices.placed.0.parent_live
+
+below_later : Sound (record good { live = record bus { parent = 2 } ∷ leaf ∷ [] }) → ⊥
+below_later h = omega (arith, h.devices.placed.0.after_parent)
+
+one_name : Sound (record good { live = bus ∷ record leaf { row = 0 } ∷ [] }) → ⊥
+one_name h = not_either h.devices.apart.0.0.names
+
+one_spot : Sound (record good { live = bus ∷ record leaf { spot = 0 } ∷ [] }) → ⊥
+one_spot h = h.devices.apart.0.0.spots refl
+
+-- ---- references
+
+held_dead : Sound (record good { refs = record { serial = 7; caller = 1 } ∷ [] }) → ⊥
+held_dead h = not_either h.refs.live_ones.0
+
+held_twice : Sound (record good { refs = record { serial = 2; caller = 1 } ∷ record { serial = 2; caller = 1 } ∷ [] }) → ⊥
+held_twice h = not_either h.refs.once.0.0
+
+-- ---- condemned devices
+
+abbrev doomed : World
+doomed = record good { live = bus ∷ record leaf { condemned = Some 1 } ∷ []; callers = ended ∷ doing (activity.Frees 2) ∷ idle ∷ [] }
+
+doomed_is_sound : Sound doomed
+unfolding lineage is_under is_pinned
+doomed_is_sound = sound_from doomed refl
+
+doomed_pinned : Sound (record doomed { callers = ended ∷ doing (activity.Frees 2) ∷ scans (scan_of 2 ∷ []) ∷ [] }) → ⊥
+unfolding is_pinned
+doomed_pinned h = not_both (h.condemned.1.0 1 refl).unpinned
+
+not_the_child : Sound (record doomed { live = record bus { condemned = Some 1 } ∷ leaf ∷ []; callers = ended ∷ doing (activity.Frees 1) ∷ idle ∷ [] }) → ⊥
+not_the_child h = clash ((h.condemned.0 1 refl).children.1.0 refl)
+  where
+    clash : ◌≡◌ {A = Option ℕ} None (Some 1) → ⊥
+    clash e = cc
+
+nobody_frees : Sound (record doomed { callers = ended ∷ idle ∷ idle ∷ [] }) → ⊥
+nobody_frees h = clash (h.condemned.1.0 1 refl).below_target.0 (h.condemned.1.0 1 refl).below_target.1
+  where
+    clash : (t : ℕ) → activity.Idle ≡ activity.Frees t → ⊥
+    clash t e = cc
+
+not_below_target : Sound (record doomed { live = record bus { condemned = Some 1 } ∷ record leaf { parent = 0; condemned = Some 1 } ∷ []; callers = ended ∷ doing (activity.Frees 1) ∷ idle ∷ [] }) → ⊥
+unfolding lineage is_under
+not_below_target h =
+    let p = (h.condemned.1.0 1 refl).below_target in
+    case p.0 p.1 p.2
+  where
+    case : (t : ℕ) → activity.Frees 1 ≡ activity.Frees t → has (2 ∷ 0 ∷ []) t ≡ true → ⊥
+    case t e f = cc
+
+target_spared : Sound (record good { callers = ended ∷ doing (activity.Frees 2) ∷ idle ∷ [] }) → ⊥
+target_spared h = clash (((h.callers 1).target 2 refl).0.1.0 refl)
+  where
+    clash : ◌≡◌ {A = Option ℕ} None (Some 1) → ⊥
+    clash e = cc
+
+-- ---- sleeping devices
+
+sleeps_pinned : Sound (record good { live = bus ∷ record leaf { asleep = true } ∷ []; callers = ended ∷ scans (frame.Finaliser 2 ∷ []) ∷ idle ∷ [] }) → ⊥
+unfolding is_pinned
+sleeps_pinned h = not_both (h.asleep.1.0 refl).unpinned
+
+sleeps_above_awake : Sound (record good { live = record bus { asleep = true } ∷ leaf ∷ [] }) → ⊥
+sleeps_above_awake h = not_either ((h.asleep.0 refl).children.1.0 refl)
+
+-- ---- frames and deferred entries
+
+frame_of_dead : Sound (record good { callers = ended ∷ scans (scan_of 7 ∷ []) ∷ idle ∷ [] }) → ⊥
+frame_of_dead h = not_either h.frames.1.0.0
+
+deferred_dead : Sound (record good { deferred = record { key = key.Parent 1; child = 7 } ∷ []; callers = ended ∷ scans (scan_of 1 ∷ []) ∷ idle ∷ [] }) → ⊥
+deferred_dead h = not_either h.deferred.0.0
+
+deferred_alone : Sound (record good { deferred = record { key = key.Parent 1; child = 2 } ∷ []; callers = ended ∷ scans (frame.Finaliser 1 ∷ []) ∷ idle ∷ [] }) → ⊥
+deferred_alone h = not_either h.deferred.0.1
+
+still_queued : Sound (record good { deferred = record { key = key.Interrupts; child = 2 } ∷ [] }) → ⊥
+still_queued h = (h.phase refl).0 refl
+
+-- ---- callers
+
+turn_of_idle : Sound (record good { turn = Some 1 }) → ⊥
+turn_of_idle h = not_either ((h.callers 1).turn.0 refl)
+
+power_without_turn : Sound (record good { callers = ended ∷ doing (activity.Power kind.Suspend 2) ∷ idle ∷ [] }) → ⊥
+power_without_turn h = not_either ((h.callers 1).turn.1 refl)
+
+turn_of_nobody : Sound (record good { turn = Some 9 }) → ⊥
+turn_of_nobody h = not_either ((h.callers 9).turn.0 refl)
+
+transfer_unheld : Sound (record good { callers = ended ∷ doing (activity.Transfer (record { caller = 1; number = 1; serial = 2; slot = 1; bad = false; value = 0 })) ∷ idle ∷ [] }) → ⊥
+transfer_unheld h = not_either ((h.callers 1).transfer (record { caller = 1; number = 1; serial = 2; slot = 1; bad = false; value = 0 }) refl)
+
+ended_with_reference : Sound (record good { refs = record { serial = 2; caller = 1 } ∷ []; callers = ended ∷ ended ∷ idle ∷ [] }) → ⊥
+ended_with_reference h = ((h.callers 1).ended refl).1.0 refl
+
+held_by_the_boot : Sound (record good { refs = record { serial = 2; caller = 0 } ∷ [] }) → ⊥
+held_by_the_boot h = ((h.callers 0).ended refl).1.0 refl
+
+held_by_nobody : Sound (record good { refs = record { serial = 2; caller = 9 } ∷ [] }) → ⊥
+held_by_nobody h = ((h.callers 9).ended refl).1.0 refl
+
+ended_with_frame : Sound (record good { callers = ended ∷ record { over = 0; doing = activity.Ended; stack = scan_of 2 ∷ [] } ∷ idle ∷ [] }) → ⊥
+ended_with_frame h = clash (scan_of 2) [] ((h.callers 1).ended refl).0
+  where
+    clash : (f : Frame) (fs : List Frame) → f ∷ fs ≡ [] → ⊥
+    clash f fs e = cc
+
+idle_with_frame : Sound (record good { callers = ended ∷ record { over = 0; doing = activity.Idle; stack = scan_of 2 ∷ [] } ∷ idle ∷ [] }) → ⊥
+idle_with_frame h = clash ((h.callers 1).frames refl (λ e. bare (scan_of 2) [] e))
+  where
+    bare : (f : Frame) (fs : List Frame) → f ∷ fs ≡ [] → ⊥
+    bare f fs e = cc
+
+    clash : activity.Idle ≡ activity.Scans → ⊥
+    clash e = cc
+
+-- ---- while the boot goes on
+
+abbrev booting : World
+booting = record good { phase = false; callers = record { over = 0; doing = activity.Idle; stack = scan_of 2 ∷ scan_of 1 ∷ scan_of 0 ∷ [] } ∷ idle ∷ idle ∷ [] }
+
+booting_is_sound : Sound booting
+unfolding lineage is_under is_pinned
+booting_is_sound = sound_from booting refl
+
+goes_on : activity.Idle ≡ activity.Ended → ⊥
+goes_on e = cc
+
+boot_asleep : Sound (record booting { live = bus ∷ record leaf { asleep = true } ∷ [] }) → ⊥
+boot_asleep h = not_either (h.boot goes_on).awake.1.0
+
+boot_condemned : Sound (record booting { live = bus ∷ record leaf { condemned = Some 1 } ∷ [] }) → ⊥
+boot_condemned h = clash (h.boot goes_on).spared.1.0
+  where
+    clash : ◌≡◌ {A = Option ℕ} (Some 1) None → ⊥
+    clash e = cc
+
+boot_finaliser : Sound (record booting { finalisers = 7 ∷ [] }) → ⊥
+boot_finaliser h = not_either (h.boot goes_on).finalisers.0
+
+boot_begun : Sound (record booting { callers = record { over = 0; doing = activity.Idle; stack = scan_of 0 ∷ [] } ∷ record { over = 1; doing = activity.Idle; stack = [] } ∷ idle ∷ [] }) → ⊥
+boot_begun h = clash (h.boot goes_on).waiting.0.0
+  where
+    clash : ◌≡◌ {A = ℕ} 1 0 → ⊥
+    clash e = cc
+
+boot_other_ended : Sound (record booting { callers = record { over = 0; doing = activity.Idle; stack = scan_of 0 ∷ [] } ∷ idle ∷ ended ∷ [] }) → ⊥
+boot_other_ended h = clash (h.boot goes_on).waiting.1.0.1
+  where
+    clash : activity.Ended ≡ activity.Idle → ⊥
+    clash e = cc

@@ -1,0 +1,12 @@
+pub mod Below
+pub mod Winner
+pub mod Turns
+pub mod Runs
+pub mod Devices
+pub mod Free
+pub mod Units
+pub mod Lives
+pub mod NameParts
+pub mod FormedNames
+pub mod CountsOn
+pub mod OwnNames

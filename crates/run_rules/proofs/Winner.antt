@@ -1,0 +1,106 @@
+-- The best of the rows so far is, in the end, the winner.
+use Rattle.std.proofs.Common.{◌≡◌, ℕ, ◌+◌, ◌<◌, ◌≤◌, Bool, true, false, not, ◌&&◌, ◌||◌, ◌==◌, nat_lt, nat_le, List, length, find, Option, Some, None, refl, inl, inr, arith}
+use Rattle.std.proofs.lemmas.Bool.Decides.{nat_tests}
+use Rattle.std.specs.List.{list_all}
+use Rattle.std.proofs.lemmas.Bool.{cases_lt}
+use Rattle.cf_types.specs.declared.tables.Place.{Place}
+use Rattle.run_rules.specs.declared.world.Setup.{Setup}
+use Rattle.run_rules.specs.declared.world.Dev.{Dev}
+use Rattle.run_rules.specs.declared.world.ParentRef.{ParentRef}
+use Rattle.run_rules.specs.World.{below}
+use Rattle.run_rules.specs.Search.{is_candidate, is_winner, winner, value_of}
+use Rattle.run_rules.proofs.Below.{and_both, find-none, find-is, all_below, at_below}
+
+-- b is a candidate below i, and none below i is better
+pub record IsBestOf (c : ℕ → Bool) (v : ℕ → ℕ) (i b : ℕ) : Type 0 where
+  pub in_range : b < i
+  pub candidate : c b ≡ true
+  pub no_greater : (q : ℕ) → q < i → c q ≡ true → v q ≤ v b
+  pub no_earlier : (q : ℕ) → q < b → c q ≡ true → v q < v b
+
+-- the best of the candidates below i, if there is one
+abbrev pub IsBest : (ℕ → Bool) → (ℕ → ℕ) → ℕ → Option ℕ → Type 0
+IsBest c v i None = (q : ℕ) → q < i → c q ≡ false
+IsBest c v i (Some b) = IsBestOf c v i b
+
+-- no candidate is better than r
+abbrev tops : (ℕ → Bool) → (ℕ → ℕ) → ℕ → ℕ → Bool
+tops c v n r = c r && list_all (λ q. not (c q) || nat_lt (v q) (v r) || (v q == v r && nat_le r q)) (below n)
+
+is_false : (b : Bool) → (b ≡ true → ⊥) → b ≡ false
+is_false true h = absurd (h refl)
+is_false false h = refl
+
+no_better : (d : Bool) (x y b q : ℕ) → (d ≡ true → x ≤ y) → (d ≡ true → q < b → x < y) → (not d || nat_lt x y || (x == y && nat_le b q)) ≡ true
+no_better false x y b q le lt = refl
+no_better true x y b q le lt =
+    let most : x ≤ y = le refl in
+    elim (cases_lt q b) [
+      | inl less ↦ let below_y : x < y = lt refl less in grind (arith, nat_tests)
+      | inr more ↦ elim (cases_lt x y) [
+        | inl below_y ↦ grind (arith, nat_tests)
+        | inr above ↦ let same : x ≡ y = omega arith in grind (arith, nat_tests)
+      ]
+    ]
+
+better : (x y b q : ℕ) → y < x → (not true || nat_lt x y || (x == y && nat_le b q)) ≡ true → ⊥
+better x y b q lt h = grind (arith, nat_tests)
+
+pub best_is : (c : ℕ → Bool) (v : ℕ → ℕ) (n : ℕ) (best : Option ℕ) → IsBest c v n best → find (tops c v n) (below n) ≡ best
+best_is c v n None h = find-none (tops c v n) n (λ q lt. rw (h q lt) refl)
+best_is c v n (Some b) h =
+    let all : list_all (λ q. not (c q) || nat_lt (v q) (v b) || (v q == v b && nat_le b q)) (below n) ≡ true = all_below _ n (λ q lt. no_better (c q) (v q) (v b) b q (h.no_greater q lt) (λ here less. h.no_earlier q less here)) in
+    find-is (tops c v n) n b h.in_range (rw (h.candidate, all) refl)
+    (λ q less. is_false _ (λ top.
+    let both = and_both (c q) _ top in
+    let at = at_below (λ k. not (c k) || nat_lt (v k) (v q) || (v k == v q && nat_le q k)) n both.1 b h.in_range in
+    better (v b) (v q) q b (h.no_earlier q less both.0) (rw h.candidate at at)))
+
+pub winner_is : (s : Setup) (live : List Dev) (p : ParentRef) (place : Place) (x : ℕ) (best : Option ℕ)
+    → IsBest (is_candidate s live p place x) (λ q. value_of s q x) (length s.tables.rows) best → winner s live p place x ≡ best
+unfolding winner is_winner
+winner_is s live p place x best h = best_is (is_candidate s live p place x) (λ q. value_of s q x) (length s.tables.rows) best h
+
+-- ---- one row more
+
+pub best_none : (c : ℕ → Bool) (v : ℕ → ℕ) → IsBest c v 0 None
+best_none c v q lt = absurd (omega arith)
+
+pub best_same : (c : ℕ → Bool) (v : ℕ → ℕ) (i : ℕ) (best : Option ℕ) → c i ≡ false → IsBest c v i best → IsBest c v (i + 1) best
+best_same c v i None out h = λ q lt. elim (cases_lt q i) [ inl less ↦ h q less | inr more ↦ let same : q ≡ i = omega arith in rw same out ]
+best_same c v i (Some b) out h = record {
+  in_range = omega (arith, h.in_range);
+  candidate = h.candidate;
+  no_greater = λ q lt is. elim (cases_lt q i) [ inl less ↦ h.no_greater q less is | inr more ↦ let same : q ≡ i = omega arith in absurd (clash (c i) (rw same at is) out) ];
+  no_earlier = h.no_earlier;
+}
+  where
+    clash : (d : Bool) → d ≡ true → d ≡ false → ⊥
+    clash d is isnt = absurd cc
+
+pub best_kept : (c : ℕ → Bool) (v : ℕ → ℕ) (i b : ℕ) → v i ≤ v b → IsBest c v i (Some b) → IsBest c v (i + 1) (Some b)
+best_kept c v i b le h = record {
+  in_range = omega (arith, h.in_range);
+  candidate = h.candidate;
+  no_greater = λ q lt is. elim (cases_lt q i) [ inl less ↦ h.no_greater q less is | inr more ↦ let same : q ≡ i = omega arith in rw same le ];
+  no_earlier = h.no_earlier;
+}
+
+pub best_first : (c : ℕ → Bool) (v : ℕ → ℕ) (i : ℕ) → c i ≡ true → IsBest c v i None → IsBest c v (i + 1) (Some i)
+best_first c v i is h = record {
+  in_range = omega arith;
+  candidate = is;
+  no_greater = λ q lt here. elim (cases_lt q i) [ inl less ↦ absurd (clash (c q) here (h q less)) | inr more ↦ let same : q ≡ i = omega arith in rw same (omega arith) ];
+  no_earlier = λ q less here. absurd (clash (c q) here (h q less));
+}
+  where
+    clash : (d : Bool) → d ≡ true → d ≡ false → ⊥
+    clash d is isnt = absurd cc
+
+pub best_new : (c : ℕ → Bool) (v : ℕ → ℕ) (i b : ℕ) → c i ≡ true → v b < v i → IsBest c v i (Some b) → IsBest c v (i + 1) (Some i)
+best_new c v i b is more h = record {
+  in_range = omega arith;
+  candidate = is;
+  no_greater = λ q lt here. elim (cases_lt q i) [ inl less ↦ omega (arith, h.no_greater q less here) | inr past ↦ let same : q ≡ i = omega arith in rw same (omega arith) ];
+  no_earlier = λ q less here. omega (arith, h.no_greater q less here);
+}

@@ -1,0 +1,105 @@
+-- What anybody can count on the printed lines, and the laws of a history: this project's profile. No world is used here.
+use Rattle.std.specs.Prelude.{◌≡◌, ◌≢◌, ◌⊎◌, ℕ, ◌==◌, Bool, true, false, ◌&&◌, ◌||◌, List, [], ◌∷◌, ◌++◌, reverse, find, count_by, Option, Some, None, option_map, bytes_eq, ℤ, pos, ◌-ℤ◌, ⊤}
+use Rattle.std.specs.Option.{option_map_or}
+use Rattle.run_rules.specs.declared.event.Event.{Event}
+use Rattle.run_rules.specs.declared.event.Act.{Act}
+use Rattle.run_rules.specs.declared.event.Act.TheVariants as act
+use Rattle.run_rules.specs.declared.event.Reply.{Reply}
+use Rattle.run_rules.specs.declared.event.Reply.TheVariants as reply
+use Rattle.run_rules.specs.World.{root_name}
+
+-- the name that an event attaches, and the parent that it names
+abbrev pub attached_name : Act → Option (List ℕ)
+attached_name (act.Found parent got) = got
+attached_name (act.Final device answer got) = got
+attached_name _ = None
+
+abbrev pub attached_below : Act → List ℕ
+attached_below (act.Found parent got) = parent
+attached_below (act.Final device answer got) = device
+attached_below _ = []
+
+abbrev pub freed_name : Act → Option (List ℕ)
+freed_name (act.Free device) = Some device
+freed_name _ = None
+
+abbrev pub slept_name : Act → Option (List ℕ)
+slept_name (act.Sleep device) = Some device
+slept_name _ = None
+
+abbrev pub woken_name : Act → Option (List ℕ)
+woken_name (act.Wake device) = Some device
+woken_name _ = None
+
+abbrev pub is_name : Option (List ℕ) → List ℕ → Bool
+is_name None x = false
+is_name (Some y) x = bytes_eq y x
+
+abbrev pub is_ok : Reply → Bool
+is_ok reply.Ok = true
+is_ok _ = false
+
+abbrev pub opens : Act → List ℕ → Bool
+opens (act.OpenDev device r) x = is_ok r && bytes_eq device x
+opens _ x = false
+
+abbrev pub returns : Act → List ℕ → Bool
+returns (act.CloseDev device r) x = is_ok r && bytes_eq device x
+returns (act.DropRef device) x = bytes_eq device x
+returns _ x = false
+
+-- a started or finished transfer on the device
+abbrev pub transfers : Act → List ℕ → Bool
+transfers (act.IoStart device value r) x = is_ok r && bytes_eq device x
+transfers (act.IoDone device answer) x = bytes_eq device x
+transfers _ x = false
+
+-- the last event that passes the test
+abbrev pub last_that : (Event → Bool) → List Event → Option Event
+last_that test h = find test (reverse h)
+
+-- X lives where the last event that attaches or frees it attaches it
+unfoldable pub lives : List Event → List ℕ → Bool
+lives h x =
+    option_map_or (λ e. is_name (attached_name e.act) x)
+    (last_that (λ e. is_name (attached_name e.act) x || is_name (freed_name e.act) x) h) false
+
+unfoldable pub parent_in : List Event → List ℕ → Option (List ℕ)
+parent_in h x = option_map (λ e. attached_below e.act) (last_that (λ e. is_name (attached_name e.act) x) h)
+
+-- X lives, and of the events that attach it, put it to sleep or wake it, the last one puts it to sleep
+unfoldable pub is_asleep_in : List Event → List ℕ → Bool
+is_asleep_in h x =
+    lives h x && option_map_or (λ e. is_name (slept_name e.act) x)
+    (last_that (λ e. is_name (attached_name e.act) x || is_name (slept_name e.act) x || is_name (woken_name e.act) x) h) false
+
+-- how often caller k opened X, less how often it gave X back
+unfoldable pub holds : List Event → ℕ → List ℕ → ℤ
+holds h k x = pos (count_by (λ e. e.caller == k && opens e.act x) h) -ℤ pos (count_by (λ e. e.caller == k && returns e.act x) h)
+
+abbrev pub LivesAwake : List Event → List ℕ → Type 0
+LivesAwake h x = (lives h x ≡ true) × (is_asleep_in h x ≡ false)
+
+-- what holds where event e stands after the events before it; g are the events up to e
+pub record IsLawfulNext (before : List Event) (e : Event) (g : List Event) : Type 0 where
+  -- nobody holds what is freed
+  pub unreferred : (x : List ℕ) → freed_name e.act ≡ Some x → (k : ℕ) → holds g k x ≡ pos 0
+  -- and nothing lives below it
+  pub childless : (x y : List ℕ) → freed_name e.act ≡ Some x → lives g y ≡ true → parent_in g y ≢ Some x
+  -- what lives below a sleeping device sleeps
+  pub sleeping : (x y : List ℕ) → is_asleep_in g x ≡ true → lives g y ≡ true → parent_in g y ≡ Some x → is_asleep_in g y ≡ true
+  -- a caller holds a device once or not at all, only while it lives, and wherever it starts or ends a transfer on it
+  pub held : (k : ℕ) (x : List ℕ) → (holds g k x ≡ pos 0) ⊎ (holds g k x ≡ pos 1)
+  pub held_live : (k : ℕ) (x : List ℕ) → lives g x ≡ false → holds g k x ≡ pos 0
+  pub held_in_use : (x : List ℕ) → transfers e.act x ≡ true → holds g e.caller x ≡ pos 1
+  -- what comes did not live, and comes below the root or below what lived and was awake
+  pub fresh : (x : List ℕ) → attached_name e.act ≡ Some x → lives before x ≡ false
+  pub below_awake : (x : List ℕ) → attached_name e.act ≡ Some x → (attached_below e.act ≡ root_name) ⊎ LivesAwake before (attached_below e.act)
+
+-- each of these events is lawful after those before it
+abbrev pub LawfulFrom : List Event → List Event → Type 0
+LawfulFrom before [] = ⊤
+LawfulFrom before (e ∷ es) = IsLawfulNext before e (before ++ e ∷ []) × LawfulFrom (before ++ e ∷ []) es
+
+abbrev pub Lawful : List Event → Type 0
+Lawful h = LawfulFrom [] h

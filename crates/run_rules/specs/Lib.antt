@@ -1,0 +1,13 @@
+pub mod World
+pub mod Search
+pub mod Direct
+pub mod Deeds
+pub mod Next
+pub mod After
+pub mod Tree
+pub mod Run
+pub mod Lines
+pub mod Counts
+pub mod Laws
+pub mod Sound
+pub mod Formed

@@ -1,0 +1,173 @@
+-- Which row takes a spot, under which unit, and which turn of a scan is due.
+use Rattle.std.specs.Prelude.{ℕ, suc, ◌+◌, Bool, true, false, not, ◌&&◌, ◌||◌, ◌==◌, nat_lt, nat_le, if◌then◌else◌, List, [], ◌∷◌, length, reverse, map, filter, find, flat_map, slice_get, Option, Some, None, is_some, option_map, unwrap_or, ℤ}
+use Rattle.std.specs.List.{list_any, list_all, enumerate_from}
+use Rattle.std.specs.Option.{option_map_or}
+use Rattle.std.specs.Ordering.{int_eq}
+use Rattle.cf_types.specs.declared.tables.Tables.{Tables}
+use Rattle.cf_types.specs.Offers.{offers}
+use Rattle.cf_types.specs.Locators.{locators_at, submatch}
+use Rattle.cf_types.specs.declared.tables.Row.{Row}
+use Rattle.cf_types.specs.declared.tables.ParentSpec.{ParentSpec}
+use Rattle.cf_types.specs.declared.tables.Place.{Place}
+use Rattle.cf_types.specs.declared.tables.Place.TheVariants.{Root, At}
+use Rattle.cf_types.specs.declared.machine.Machine.{Machine}
+use Rattle.run_rules.specs.declared.world.Dev.{Dev}
+use Rattle.run_rules.specs.declared.world.Position.{Position}
+use Rattle.run_rules.specs.declared.world.Wanted.{Wanted}
+use Rattle.run_rules.specs.declared.world.ParentRef.{ParentRef}
+use Rattle.run_rules.specs.declared.world.ParentRef.TheVariants as under
+use Rattle.run_rules.specs.declared.world.Setup.{Setup}
+use Rattle.run_rules.specs.World.{below, has, same_place, is_number, device_at, row_at, driver_of, attach_of, offered_by}
+
+-- ---- the winner: after autoconf(9), the best match
+
+-- this project's profile: the last line for the attachment and the spot, else the last for the attachment and all spots, else 0
+unfoldable pub match_value : Machine → ℕ → ℕ → ℕ
+match_value m attach x =
+    option_map_or (λ line. line.value) (find (λ line. line.attach == attach && is_number line.spot x) (reverse m.matches))
+    (option_map_or (λ line. line.value) (find (λ line. line.attach == attach && not (is_some line.spot)) (reverse m.matches)) 0)
+
+abbrev pub parent_ref : Setup → List Dev → ℕ → ParentRef
+parent_ref s live p = option_map_or (λ d. under.Dev (driver_of s d.row) d.unit) (device_at live p) under.Root
+
+abbrev pub names_parent : Option ParentSpec → ParentRef → Bool
+names_parent None p = true
+names_parent (Some spec) under.Root = false
+names_parent (Some spec) (under.Dev d u) = spec.device == d && option_map_or (λ unit. unit == u) spec.unit true
+
+-- the root offers the place root alone, and a device its interface attributes
+abbrev pub parent_offers : Tables → ParentRef → Place → Bool
+parent_offers t under.Root Root = true
+parent_offers t under.Root (At a) = false
+parent_offers t (under.Dev d u) Root = false
+parent_offers t (under.Dev d u) (At a) = offers t.attrs t.devices d a
+
+-- whether the row fits the parent at the place
+abbrev pub fits : Tables → ParentRef → Place → Row → Bool
+fits t p place row = same_place row.place place && parent_offers t p place && names_parent row.parent p
+
+-- whether a live device has this driver and unit
+abbrev pub is_taken : Setup → List Dev → ℕ → ℕ → Bool
+is_taken s live device unit = list_any (λ d. driver_of s d.row == device && d.unit == unit) live
+
+abbrev pub is_live_row : Setup → List Dev → Row → Bool
+is_live_row s live row = row.star || not (is_taken s live row.device row.unit)
+
+abbrev pub found_at : Machine → ℕ → List ℤ
+found_at m x = option_map_or (λ spot. spot.found) (slice_get m.spots x) []
+
+abbrev pub value_of : Setup → ℕ → ℕ → ℕ
+value_of s r x = match_value s.machine (attach_of s r) x
+
+-- a live row that fits, passes submatch and has a match value above 0
+unfoldable pub is_candidate : Setup → List Dev → ParentRef → Place → ℕ → ℕ → Bool
+is_candidate s live p place x r =
+    option_map_or (λ row.
+    is_live_row s live row && fits s.tables p place row
+    && submatch (locators_at s.tables.attrs place) row.locs (found_at s.machine x)
+    && nat_lt 0 (match_value s.machine row.attach x))
+    (row_at s r) false
+
+-- no candidate is better than r: none has a greater match value, and no earlier one an equal value
+unfoldable pub is_winner : Setup → List Dev → ParentRef → Place → ℕ → ℕ → Bool
+is_winner s live p place x r =
+    is_candidate s live p place x r
+    && list_all (λ q. not (is_candidate s live p place x q) || nat_lt (value_of s q x) (value_of s r x)
+    || (value_of s q x == value_of s r x && nat_le r q)) (below (length s.tables.rows))
+
+unfoldable pub winner : Setup → List Dev → ParentRef → Place → ℕ → Option ℕ
+winner s live p place x = find (is_winner s live p place x) (below (length s.tables.rows))
+
+-- how far the least free unit is from the first one; of so many numbers one is always free
+unfoldable pub free_after : Setup → List Dev → ℕ → ℕ → ℕ
+free_after s live device first = unwrap_or (find (λ k. not (is_taken s live device (first + k))) (below (suc (length live)))) 0
+
+-- after config(5): the row's number; for a starred row the least that is not below its first unit and not taken
+unfoldable pub unit_of : Setup → List Dev → ℕ → ℕ
+unit_of s live r =
+    option_map_or (λ row. if row.star then row.unit + free_after s live row.device row.unit else row.unit) (row_at s r) 0
+
+-- ---- the turns of a scan: after autoconf(9), a bus is searched spot by spot, or, where it is indirect, row by row
+
+abbrev pub passes_filter : List ℤ → List Wanted → Bool
+passes_filter found wanted = list_all (λ v. option_map_or (λ value. int_eq value v.value) (slice_get found v.place) false) wanted
+
+abbrev pub is_occupied : List Dev → ℕ → Bool
+is_occupied live x = list_any (λ d. d.spot == x) live
+
+-- a spot is open to search where it is present, not hidden, free, and passes the filter
+unfoldable pub is_open : Machine → List Dev → List ℕ → List ℕ → List Wanted → ℕ → Bool
+is_open m live absent hidden wanted x =
+    not (has absent x) && not (has hidden x) && not (is_occupied live x) && passes_filter (found_at m x) wanted
+
+abbrev pub same_spot : Option ℕ → Option ℕ → Bool
+same_spot None None = true
+same_spot (Some x) (Some y) = x == y
+same_spot None (Some y) = false
+same_spot (Some x) None = false
+
+-- whether a spot hangs below another one, or below the root, at a place
+abbrev pub is_child : Machine → Option ℕ → Place → ℕ → Bool
+is_child m parent place x = option_map_or (λ spot. same_spot spot.parent parent && same_place spot.place place) (slice_get m.spots x) false
+
+-- the spots that do, in file order
+unfoldable pub child_spots : Machine → Option ℕ → Place → List ℕ
+child_spots m parent place = filter (is_child m parent place) (below (length m.spots))
+
+-- the spot of a device; none for the root
+abbrev pub spot_of : List Dev → ℕ → Option ℕ
+spot_of live s = option_map (λ d. d.spot) (device_at live s)
+
+-- the places that a scan goes through
+unfoldable pub scan_places : Setup → List Dev → ℕ → Option ℕ → List Place
+scan_places s live p (Some a) = At a ∷ []
+scan_places s live p None = option_map_or (λ d. map At (offered_by s d.row)) (device_at live p) (Root ∷ [])
+
+-- the last style line for the attachment and the attribute; direct without one, and at the root
+unfoldable pub is_indirect : Setup → List Dev → ℕ → Place → Bool
+is_indirect s live p Root = false
+is_indirect s live p (At a) =
+    option_map_or (λ d.
+    option_map_or (λ line. line.indirect) (find (λ line. line.attach == attach_of s d.row && line.attr == a) (reverse s.machine.styles)) false)
+    (device_at live p) false
+
+-- a turn: its position, and whether it is of an indirect attribute
+pub record Turn : Type 0 where
+  pub at : Position
+  pub place : Place
+  pub indirect : Bool
+
+-- the turns of one place: the child spots, or the pairs of row and child spot, rows first
+unfoldable pub turns_at : Setup → List Dev → ℕ → ℕ × Place → List Turn
+turns_at s live p e =
+    if is_indirect s live p e.1
+    then flat_map (λ r. map (λ x. record { at = record { attr = e.0; row = r; spot = x }; place = e.1; indirect = true })
+    (child_spots s.machine (spot_of live p) e.1)) (below (length s.tables.rows))
+    else map (λ x. record { at = record { attr = e.0; row = 0; spot = x }; place = e.1; indirect = false })
+    (child_spots s.machine (spot_of live p) e.1)
+
+unfoldable pub turns : Setup → List Dev → ℕ → Option ℕ → List Turn
+turns s live p only = flat_map (turns_at s live p) (enumerate_from 0 (scan_places s live p only))
+
+-- by attribute, then row, then spot
+unfoldable pub is_before : Position → Position → Bool
+is_before a b =
+    nat_lt a.attr b.attr || (a.attr == b.attr && (nat_lt a.row b.row || (a.row == b.row && nat_lt a.spot b.spot)))
+
+abbrev pub winner_at : Setup → List Dev → ℕ → Place → ℕ → Option ℕ
+winner_at s live p place x = winner s live (parent_ref s live p) place x
+
+-- its spot is open, and on an indirect attribute its row is the winner there, which is this project's profile
+unfoldable pub is_due : Setup → List Dev → List ℕ → List ℕ → ℕ → List Wanted → Turn → Bool
+is_due s live absent hidden p wanted t =
+    is_open s.machine live absent hidden wanted t.at.spot && (not t.indirect || is_number (winner_at s live p t.place t.at.spot) t.at.row)
+
+-- the first due turn that is not before the position; the position moves by events alone, so a spot may open after it was passed without one
+unfoldable pub due : Setup → List Dev → List ℕ → List ℕ → ℕ → Option ℕ → List Wanted → Position → Option Turn
+due s live absent hidden p only wanted from =
+    find (λ t. not (is_before t.at from) && is_due s live absent hidden p wanted t) (turns s live p only)
+
+-- the position after a turn: behind it, or at the first pair of the same row
+unfoldable pub after_turn : Turn → Position
+after_turn t =
+    if t.indirect then record { attr = t.at.attr; row = t.at.row; spot = 0 } else record { attr = t.at.attr; row = 0; spot = t.at.spot + 1 }

@@ -1,0 +1,160 @@
+use cf_types::{List, Name};
+
+/// An event: one line of a history. See `Lines` for its spelling.
+#[derive(Drop)]
+pub struct Event {
+    /// Who did it: 0 for the boot, else 1 to 16 for the script of this number.
+    pub caller: u8,
+    /// The number of the command that it belongs to, counted from 1; 0 for the boot, and one more than there are
+    /// commands once they are over.
+    pub number: u32,
+    pub act: Act,
+}
+
+/// What happened. A device is named by its external name, the root by `root`.
+#[derive(Drop)]
+pub enum Act {
+    /// A spot was searched: the device that was attached there, or none where no driver takes it. See autoconf(9).
+    Found {
+        parent: Name,
+        got: Option<Name>,
+    },
+    /// The search below a device, or below the root, is over.
+    ScanEnd {
+        device: Name,
+    },
+    /// Interrupts work from here on. See autoconf(9).
+    Interrupts,
+    /// A finaliser was called: whether it showed a late spot, and what was attached there. See autoconf(9).
+    Final {
+        device: Name,
+        answer: bool,
+        got: Option<Name>,
+    },
+    /// The caller has ended.
+    End,
+    /// A caller that has no command left gave a reference back.
+    DropRef {
+        device: Name,
+    },
+    /// A reference was asked for.
+    OpenDev {
+        device: Name,
+        reply: Reply,
+    },
+    /// A reference was given back.
+    CloseDev {
+        device: Name,
+        reply: Reply,
+    },
+    /// A transfer was asked for; the reply `Ok` says that it began.
+    IoStart {
+        device: Name,
+        value: u32,
+        reply: Reply,
+    },
+    /// A transfer ended.
+    IoDone {
+        device: Name,
+        answer: IoAnswer,
+    },
+    /// A device was to go with all that is below it. See drvctl(8).
+    Detach {
+        device: Name,
+        reply: Reply,
+    },
+    /// A device that was to go is gone.
+    Free {
+        device: Name,
+    },
+    /// A device was to be searched again. See drvctl(8).
+    Rescan {
+        device: Name,
+        reply: Reply,
+    },
+    /// The children of a device, or of the root, by serial; no names where there is no such device.
+    ListDev {
+        device: Option<Name>,
+        names: Option<List<Name>>,
+    },
+    /// The tree below a device, or below the root, depth first; no names where there is no such device.
+    TreeDev {
+        device: Option<Name>,
+        names: Option<List<DepthName>>,
+    },
+    /// A power command began, or did not. See pmf(9).
+    Power {
+        kind: PowerKind,
+        device: Name,
+        reply: Reply,
+    },
+    /// A device was put to sleep.
+    Sleep {
+        device: Name,
+    },
+    /// A device was woken.
+    Wake {
+        device: Name,
+    },
+    /// A power command ended.
+    PowerEnd {
+        device: Name,
+        reply: Reply,
+    },
+    /// Hardware came to a spot.
+    Plug {
+        spot: Name,
+        reply: Reply,
+    },
+    /// Hardware was pulled out of a spot.
+    Unplug {
+        spot: Name,
+        reply: Reply,
+    },
+}
+
+/// What a command was told. `Ok` alone says that it had an effect.
+#[derive(Drop)]
+pub enum Reply {
+    Ok,
+    /// No live device has the name.
+    NoDevice,
+    /// The device is condemned, or is no longer live.
+    Gone,
+    HeldAlready,
+    NotHeld,
+    Asleep,
+    /// The device that stands in the way.
+    Busy(Name),
+    /// The device whose driver does not support it.
+    NotSupported(Name),
+    /// The device whose suspension failed.
+    SuspendFailed(Name),
+    /// The driver refuses it, or the device offers nothing to search.
+    NoRescan,
+    BadAttribute,
+    BadLocator,
+    NoSpot,
+}
+
+/// What a transfer brought: a number, modulo 2^32, or the error of a bad spot.
+#[derive(Clone, Copy, Debug, PartialEq, Eq)]
+pub enum IoAnswer {
+    Number(u32),
+    DeviceError,
+}
+
+/// A device in a tree: how many levels it stands below the first one, and its name.
+#[derive(Drop)]
+pub struct DepthName {
+    pub depth: u32,
+    pub name: Name,
+}
+
+/// The power commands of drvctl(8): suspend a subtree, or resume a device with its ancestors, or with its descendants too.
+#[derive(Clone, Copy, Debug, PartialEq, Eq)]
+pub enum PowerKind {
+    Suspend,
+    Resume,
+    ResumeTree,
+}

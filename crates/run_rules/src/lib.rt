@@ -1,0 +1,8 @@
+//! What a run of the machine means: the types of events and of the world; its definitions stand in specs/.
+#![tactic(auto)]
+
+mod event;
+mod world;
+
+pub use event::{Act, DepthName, Event, IoAnswer, PowerKind, Reply};
+pub use world::{Activity, Dev, Frame, Key, ParentRef, Position, Setup, Wait, Wanted};

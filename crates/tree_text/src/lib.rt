@@ -1,0 +1,8 @@
+//! The lines of the device tree.
+#![tactic(auto)]
+
+mod line;
+mod parts;
+
+pub use cf_types::DevLine;
+pub use line::put_dev;
