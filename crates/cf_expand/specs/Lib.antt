@@ -5,4 +5,5 @@ pub mod Names
 pub mod Prefixes
 pub mod Stop
 pub mod Steps
+pub use Rattle.cf_io.specs.Faults
 pub use Rattle.config_rules.specs.Reading

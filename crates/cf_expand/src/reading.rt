@@ -106,8 +106,7 @@ fn read_named<F: Files>(
 
 /// Reads the named configuration file with all that it includes, as config(5) has it: the statements that stand in no
 /// part that is left out, the names of the files as they were loaded, and the first fault with its file, line and code.
-/// Each file is loaded where its `include` is read, and none after a fault. Where it answers `ReadFault`, a load of this
-/// call failed; where it answers `Memory`, nothing is known of what the files mean.
+/// Where it answers `ReadFault`, the count of faults rose; where it answers `Memory`, nothing is known of the files.
 pub fn expand<F: Files>(alloc: Global, files: &mut F, name: &[u8]) -> Result<Expanded, ExpandStop>
     ensures told { F.told files.new ≡ F.told files.old }
     ensures counted { Counted (F.faults files.old) (F.faults files.new) result }

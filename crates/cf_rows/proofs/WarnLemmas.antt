@@ -7,12 +7,10 @@ use Rattle.std.proofs.lemmas.List.{drop_more, map_more, map-append, length-map, 
 use Rattle.cf_types.specs.declared.instance.Instance.{Instance}
 use Rattle.cf_types.specs.declared.stmt.Placed.{Placed}
 use Rattle.cf_types.specs.declared.stmt.Stmt.{Stmt}
-use Rattle.cf_types.specs.declared.stmt.Stmt.TheVariants as stmt
 use Rattle.cf_types.specs.declared.tables.WarnKind.{WarnKind}
 use Rattle.cf_types.specs.declared.tables.WarnKind.TheVariants.{Nothing, Orphan}
 use Rattle.cf_types.specs.declared.tables.Warning.{Warning}
 use Rattle.config_rules.specs.Fault.{stmts_of}
-use Rattle.config_rules.specs.Select.{takes_back}
 use Rattle.config_rules.specs.Meaning.{is_idle, idle_names as named_idle, idle, orphan, warning, warnings}
 use Rattle.cf_rows.specs.Idle.{is_of_items, idle_negations, idle_names, places_of, AreInOrder}
 use Rattle.cf_rows.proofs.GroupLemmas.{differ}

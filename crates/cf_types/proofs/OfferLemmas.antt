@@ -1,7 +1,7 @@
 -- Laws of first appearances and of walks along the attributes that attributes name.
-use Rattle.std.proofs.Common.{◌≡◌, ◌≢◌, ℕ, ◌+◌, ◌-◌, ◌<◌, ◌≤◌, zero, suc, Bool, true, false, cond, ◌&&◌, ◌||◌, Option, Some, None, List, [], ◌∷◌, ◌++◌, length, map, refl, ap, sym, ◌∙◌, append_assoc, append-nil, length-append, arith, inl, inr, ◌⊎◌, add-one, subst}
-use Rattle.std.specs.Prelude.{filter, flat_map, slice_get, not, ◌==◌, if◌then◌else◌}
-use Rattle.std.specs.List.{list_any, All}
+use Rattle.std.proofs.Common.{◌≡◌, ℕ, ◌-◌, ◌<◌, ◌≤◌, zero, suc, Bool, true, false, cond, ◌||◌, Some, List, [], ◌∷◌, ◌++◌, length, refl, ap, sym, ◌∙◌, append_assoc, append-nil, length-append, arith, inl, inr, ◌⊎◌, subst}
+use Rattle.std.specs.Prelude.{filter, flat_map, slice_get, not, ◌==◌}
+use Rattle.std.specs.List.{All}
 use Rattle.std.specs.Option.{option_map_or}
 use Rattle.std.proofs.lemmas.List.Elements.{filter-append}
 use Rattle.std.proofs.lemmas.Bool.{eqb-true, eq-eqb}
@@ -176,7 +176,7 @@ interfaces_kept nodes e x names h =
     let more : length nodes ≤ length (nodes ++ x ∷ []) = omega (arith, length-append nodes (x ∷ [])) in
     interfaces_by_walk (nodes ++ x ∷ []) names
     ∙ ap firsts (same_pieces (λ b. b < length nodes) _ (λ b. filter (is_open nodes) (walk (length nodes) nodes b)) names h
-      (λ b p. walk_kept nodes e x (length (nodes ++ x ∷ [])) b p ∙ ap (filter (is_open nodes)) (walk_enough nodes e (length (nodes ++ x ∷ [])) (length nodes) b (omega arith) p)))
+    (λ b p. walk_kept nodes e x (length (nodes ++ x ∷ [])) b p ∙ ap (filter (is_open nodes)) (walk_enough nodes e (length (nodes ++ x ∷ [])) (length nodes) b (omega arith) p)))
     ∙ sym (interfaces_by_walk nodes names)
 
 -- what is gathered from the lists of named attributes
@@ -187,7 +187,7 @@ gathered_reach nodes start names reach s h =
     ap (with_all start) (same_pieces (λ b. reach b ≡ interfaces_of nodes (b ∷ [])) reach (λ b. firsts (w b)) names h (λ b p. p))
     ∙ with_all-pieces w start names
     ∙ ap (with_all start) (same_pieces (λ b. b ≡ b) w (λ b. filter (is_open nodes) (walk (length nodes) nodes b)) names (λ k d p. refl) (λ b p. ap (filter (is_open nodes)) (append-nil (walk (length nodes) nodes b)))
-      ∙ sym (filter-flat_map (is_open nodes) (walk (length nodes) nodes) names))
+    ∙ sym (filter-flat_map (is_open nodes) (walk (length nodes) nodes) names))
     ∙ ap (λ xs. with_all xs (filter (is_open nodes) (walks nodes names))) (sym s)
     ∙ gathered_is start (filter (is_open nodes) (walks nodes names))
 
