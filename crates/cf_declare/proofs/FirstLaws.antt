@@ -8,6 +8,7 @@ use Rattle.cf_types.specs.declared.stmt.Stmt.{Stmt}
 use Rattle.config_rules.specs.Form.{◌or◌}
 use Rattle.config_rules.specs.Declared.{declared}
 use Rattle.config_rules.specs.Fault.{is_instance, fault_of, stmts_of, refusal, first_code}
+use Rattle.config_rules.proofs.PlacedLaws.{stmts_more}
 use Rattle.cf_declare.specs.Declare.{declare}
 use Rattle.cf_declare.specs.Settled.{Settled}
 use Rattle.cf_declare.proofs.SettledLaws.{settled_more}
@@ -16,9 +17,6 @@ use Rattle.cf_declare.proofs.DeclareLaws.{declared_more}
 -- ---- one more statement
 
 -- the statements so far, with one more
-pub stmts_more : (placed : List Placed) (i : ℕ) (p : Placed) → i < length placed → p ≡ get_or placed i p → stmts_of (take (i + 1) placed) ≡ stmts_of (take i placed) ++ p.stmt ∷ []
-stmts_more placed i p h is = map_more (λ q. q.stmt) placed i p h ∙ ap (λ q. stmts_of (take i placed) ++ q.stmt ∷ []) (sym is)
-
 -- how many instances there are
 pub instances_more : (placed : List Placed) (i : ℕ) (p : Placed) → i < length placed → p ≡ get_or placed i p
     → count_by is_instance (stmts_of (take (i + 1) placed)) ≡ count_by is_instance (stmts_of (take i placed)) + (if is_instance p.stmt then 1 else 0)

@@ -15,7 +15,8 @@ use Rattle.config_rules.specs.Joined.{join}
 use Rattle.config_rules.specs.Declared.{Declared, declared}
 use Rattle.config_rules.specs.Fault.{fault_of, stmts_of, first_code}
 use Rattle.config_rules.specs.Select.{kept}
-use Rattle.config_rules.specs.Meaning.{if_joined, instance_of, surviving, below}
+use Rattle.config_rules.specs.Meaning.{if_joined, instance_of, surviving}
+use Rattle.cf_types.specs.Numbers.{below}
 use Rattle.cf_declare.specs.Declare.{declare}
 use Rattle.cf_declare.specs.Settled.{Settled}
 use Rattle.cf_declare.specs.Sound.{SoundDeclared}

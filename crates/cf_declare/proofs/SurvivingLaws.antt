@@ -9,7 +9,8 @@ use Rattle.cf_types.specs.declared.stmt.Placed.{Placed}
 use Rattle.cf_types.specs.declared.instance.Instance.{Instance}
 use Rattle.config_rules.specs.Fault.{is_instance, stmts_of}
 use Rattle.config_rules.specs.Select.{survives, kept}
-use Rattle.config_rules.specs.Meaning.{instance_of, surviving, below}
+use Rattle.config_rules.specs.Meaning.{instance_of, surviving}
+use Rattle.cf_types.specs.Numbers.{below}
 use Rattle.config_rules.proofs.CutLaws.{both_left}
 use Rattle.cf_declare.proofs.ListFacts.{element}
 

@@ -13,7 +13,8 @@ use Rattle.cf_types.specs.declared.tables.Row.{Row}
 use Rattle.cf_types.specs.declared.stmt.UnitMark.TheVariants.{Fixed, Star}
 use Rattle.cf_types.specs.declared.stmt.UnitMark.{UnitMark}
 use Rattle.config_rules.specs.Select.{same_mark}
-use Rattle.config_rules.specs.Meaning.{unit_of, first_unit, device_rows, in_order, row, below}
+use Rattle.config_rules.specs.Meaning.{unit_of, first_unit, device_rows, in_order, row}
+use Rattle.cf_types.specs.Numbers.{below}
 use Rattle.cf_rows.specs.Rows.{seen, starred, UnitFits, AreGroups}
 
 -- one more empty list

@@ -4,6 +4,7 @@ use Rattle.std.proofs.Common.{◌≡◌, ℕ, zero, suc, ◌+◌, ◌<◌, ◌�
 use Rattle.std.specs.Prelude.{AllPairs, ℤ, Option, Some, None, Result, Ok, Err, not, replicate}
 use Rattle.std.specs.Option.{option_map_or}
 use Rattle.std.proofs.lemmas.List.Kept.{AllPairs-cons}
+use Rattle.cf_types.proofs.OfferLemmas.{all_tail}
 use Rattle.cf_types.specs.declared.instance.Instance.{Instance}
 use Rattle.cf_types.specs.declared.instance.Joined.{Joined}
 use Rattle.cf_types.specs.declared.stmt.UnitMark.{UnitMark}
@@ -32,9 +33,6 @@ places_push count before (x ∷ stmts) s =
 all_cons : {X : Type 0} (P : X → Type 0) (x : X) (xs : List X) → P x → All P xs → All P (x ∷ xs)
 all_cons P x xs here h zero d p = here
 all_cons P x xs here h (suc k) d p = h k d (omega arith)
-
-all_tail : {X : Type 0} (P : X → Type 0) (x : X) (xs : List X) → All P (x ∷ xs) → All P xs
-all_tail P x xs h k d p = h (suc k) d (omega arith)
 
 pairs_head : {X : Type 0} (R : X → X → Type 0) (x : X) (xs : List X) → AllPairs R (x ∷ xs) → All (R x) xs
 pairs_head R x xs h k d p = h 0 (suc k) d (omega arith) (omega arith)

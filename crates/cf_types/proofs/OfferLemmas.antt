@@ -75,7 +75,7 @@ with_all-pieces f zs (x ∷ xs) =
     ∙ with_all-pieces f (with_all zs (f x)) xs
     ∙ sym (with_all-append zs (f x) (flat_map f xs))
 
-keeps_new : (p : ℕ → Bool) (a b : Bool) (y : ℕ) → p y ≡ not a → filter p (cond b [] (y ∷ [])) ≡ cond (a || b) [] (y ∷ [])
+pub keeps_new : (p : ℕ → Bool) (a b : Bool) (y : ℕ) → p y ≡ not a → filter p (cond b [] (y ∷ [])) ≡ cond (a || b) [] (y ∷ [])
 keeps_new p true true y e = refl
 keeps_new p true false y e = rw e refl
 keeps_new p false true y e = refl
@@ -124,7 +124,7 @@ gathered_is xs (y ∷ ys) =
 all_head : {X : Type 0} (P : X → Type 0) (x : X) (xs : List X) → All P (x ∷ xs) → P x
 all_head P x xs h = h 0 x (omega arith)
 
-all_tail : {X : Type 0} (P : X → Type 0) (x : X) (xs : List X) → All P (x ∷ xs) → All P xs
+pub all_tail : {X : Type 0} (P : X → Type 0) (x : X) (xs : List X) → All P (x ∷ xs) → All P xs
 all_tail P x xs h k d p = h (suc k) d (omega arith)
 
 -- the pieces of a list are the same where they are the same at each of its elements

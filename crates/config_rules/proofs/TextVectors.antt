@@ -5,7 +5,8 @@ use Rattle.cf_types.specs.declared.machine.Command.TheVariants as command
 use Rattle.cf_types.specs.declared.machine.Machine.{Machine}
 use Rattle.cf_types.specs.declared.tables.Tables.{Tables}
 use Rattle.cf_types.specs.declared.tables.Place.TheVariants.{Root, At}
-use Rattle.config_rules.specs.MachineText.{machine_of, no_policy}
+use Rattle.config_rules.specs.MachineText.{machine_of}
+use Rattle.cf_types.specs.Policies.{no_policy}
 use Rattle.config_rules.specs.ScriptText.{commands, commands_of, order_of}
 
 -- an attribute `isa` with two locators, and an attachment `com`

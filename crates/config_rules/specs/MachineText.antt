@@ -2,6 +2,7 @@
 use Rattle.std.specs.Prelude.{ℕ, zero, suc, Bool, true, false, not, ◌&&◌, ◌||◌, ◌==◌, nat_lt, nat_le, if◌then◌else◌, List, [], ◌∷◌, ◌++◌, length, drop, take_while, map, filter, find, position, slice_get, bytes_eq, codes, Option, Some, None, is_some, is_none, option_map, option_and_then, unwrap_or, Result, Ok, Err, ℤ, pos, negsuc, nat_abs, int_le}
 use Rattle.std.specs.List.{list_all, list_any, slice_split, before_first, after_first, enumerate_from}
 use Rattle.std.specs.Option.{option_map_or}
+use Rattle.cf_types.specs.Policies.{no_policy}
 use Rattle.cf_types.specs.declared.machine.Machine.{Machine}
 use Rattle.cf_types.specs.declared.machine.Spot.{Spot}
 use Rattle.cf_types.specs.declared.machine.MatchLine.{MatchLine}
@@ -293,10 +294,6 @@ after_line t m (Some (DriverOf attach words)) = new_policies t attach words m.po
 abbrev pub after_lines : Tables → List WordLine → Machine → Result Machine (ℕ × ℕ)
 after_lines t [] m = Ok m
 after_lines t (l ∷ ls) m = at_line l.number (after_line t m (line_form l.words)) >>= λ n. after_lines t ls n
-
--- a driver without policies
-abbrev pub no_policy : Policy
-no_policy = record { nodetach = false; norescan = false; nopower = false; failsuspend = false; defer = false; interrupts = false; finaliser = false }
 
 -- a machine without spots, for attachments that have no policies
 abbrev pub no_machine : Tables → Machine

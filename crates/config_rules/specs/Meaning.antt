@@ -3,6 +3,7 @@
 use Rattle.std.specs.Prelude.{◌≡◌, ℕ, suc, zero, ◌+◌, Bool, true, false, not, ◌==◌, max, if◌then◌else◌, List, [], ◌∷◌, ◌++◌, length, map, filter, filter_map, flat_map, fold, slice_index_or, Option, Some, None, is_some, unwrap_or, Result, Ok, Err, ℤ}
 use Rattle.std.specs.List.{list_any, zip}
 use Rattle.std.specs.Option.{option_map_or}
+use Rattle.cf_types.specs.Numbers.{below}
 use Rattle.cf_types.specs.declared.stmt.Item.{Item}
 use Rattle.cf_types.specs.declared.stmt.ItemKind.TheVariants as of_kind
 use Rattle.cf_types.specs.declared.stmt.Placed.{Placed}
@@ -89,11 +90,6 @@ abbrev pub device_rows : List Instance → ℕ → List Row
 device_rows insts device =
     let own = filter (λ i. i.joined.device == device) insts in
     map (row (first_unit (filter_map unit_of own))) (in_order own)
-
--- the numbers below n, in order
-abbrev pub below : ℕ → List ℕ
-below zero = []
-below (suc n) = below n ++ n ∷ []
 
 -- the rows of all devices, in the order of their definitions
 unfoldable pub rows_of : ℕ → List Instance → List Row

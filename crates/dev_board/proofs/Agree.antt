@@ -6,8 +6,9 @@ use Rattle.std.proofs.lemmas.Bool.{cases_lt, eqb-true}
 use Rattle.std.proofs.lemmas.List.{set-append_left, map-append}
 use Rattle.std.proofs.lemmas.List.Folds.{find-append}
 use Rattle.std.proofs.Math.Seq.{set-append_seam}
+use Rattle.cf_types.proofs.ListLemmas.{slice_get-append_front}
 use Rattle.run_rules.specs.declared.world.Dev.{Dev}
-use Rattle.run_rules.specs.World.{below}
+use Rattle.cf_types.specs.Numbers.{below}
 use Rattle.run_rules.specs.Search.{is_occupied}
 use Rattle.ref_ledger.specs.declared.state.SlotState.{SlotState}
 use Rattle.ref_ledger.specs.declared.state.SlotState.TheVariants.{Free, Live}
@@ -36,11 +37,6 @@ set_map_below {A} f g (suc n) x lt h =
           ∙ ap (λ (l : List A). l ++ g n ∷ []) (map_below_same f g n (λ y less. h y (λ e. omega (arith, e)))))
     ])
 
-get_left : {A : Type 0} (xs ys : List A) (i : ℕ) → i < length xs → slice_get (xs ++ ys) i ≡ slice_get xs i
-get_left [] ys i lt = absurd (omega arith)
-get_left (x ∷ xs) ys zero lt = refl
-get_left (x ∷ xs) ys (suc i) lt = get_left xs ys i (omega arith)
-
 get_seam : {A : Type 0} (xs : List A) (y : A) (i : ℕ) → i ≡ length xs → slice_get (xs ++ y ∷ []) i ≡ Some y
 get_seam [] y zero e = refl
 get_seam [] y (suc i) e = absurd (omega arith)
@@ -52,7 +48,7 @@ get_map_below f zero x lt = absurd (omega arith)
 get_map_below {A} f (suc n) x lt =
     rw (map-append f (below n) (n ∷ []))
     (elim (cases_lt x n) [
-      | inl less ↦ get_left (map f (below n)) (f n ∷ []) x (omega (arith, length_map_below f n)) ∙ get_map_below f n x less
+      | inl less ↦ slice_get-append_front (map f (below n)) (f n ∷ []) x (omega (arith, length_map_below f n)) ∙ get_map_below f n x less
       | inr more ↦
           let same : x ≡ n = omega arith in
           get_seam (map f (below n)) (f n) x (omega (arith, length_map_below f n)) ∙ ap (λ (k : ℕ). Some (f k)) (sym same)

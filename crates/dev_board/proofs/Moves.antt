@@ -5,7 +5,8 @@ use Rattle.cf_types.specs.declared.machine.Policy.{Policy}
 use Rattle.std.proofs.lemmas.List.{reverse-append}
 use Rattle.run_rules.specs.declared.world.Setup.{Setup}
 use Rattle.run_rules.specs.declared.world.Dev.{Dev}
-use Rattle.run_rules.specs.World.{World, scan_of, no_policy, policy_of, attach_of, offered_by, absent_spots, late_spots}
+use Rattle.run_rules.specs.World.{World, scan_of, policy_of, attach_of, offered_by, absent_spots, late_spots}
+use Rattle.cf_types.specs.Policies.{no_policy}
 use Rattle.run_rules.specs.Deeds.{Arrival, Deed, Search as Searched, EndScan, BeginInterrupts, EndCaller, Does}
 use Rattle.run_rules.specs.Next.{next, next_scan, next_boot}
 use Rattle.run_rules.specs.After.{after, released, attached, listed, finaliser_placed, finaliser_placing, scan_placed, scan_placing, pushed}

@@ -2,7 +2,8 @@
 use Rattle.std.proofs.Common.{◌≡◌, ℕ, zero, suc, false, cond, [], ◌∷◌, length, refl, sym, arith}
 use Rattle.std.proofs.lemmas.List.Sums.{sum_by-append}
 use Rattle.run_rules.specs.declared.world.Setup.{Setup}
-use Rattle.run_rules.specs.World.{opening, below}
+use Rattle.run_rules.specs.World.{opening}
+use Rattle.cf_types.specs.Numbers.{below}
 use Rattle.run_rules.specs.Search.{is_occupied}
 use Rattle.dev_board.specs.Left.{free_spots}
 use Rattle.dev_board.specs.declared.parts.Core.{Core}

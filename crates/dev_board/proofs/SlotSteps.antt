@@ -2,7 +2,8 @@
 use Rattle.std.proofs.Common.{◌≡◌, false, List, [], ◌∷◌, ◌++◌, map, length, None, Some, slice_set, refl, sym, ◌∙◌, ap}
 use Rattle.run_rules.specs.declared.world.Setup.{Setup}
 use Rattle.run_rules.specs.declared.world.Dev.{Dev}
-use Rattle.run_rules.specs.World.{World, below}
+use Rattle.run_rules.specs.World.{World}
+use Rattle.cf_types.specs.Numbers.{below}
 use Rattle.run_rules.specs.After.{after}
 use Rattle.run_rules.proofs.Lives.{live_attach, live_pass, live_scan, live_phase, live_end}
 use Rattle.dev_board.specs.declared.parts.Core.{Core}

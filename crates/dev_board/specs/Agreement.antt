@@ -4,7 +4,8 @@ use Rattle.std.specs.Option.{option_map_or}
 use Rattle.ref_ledger.specs.declared.state.SlotState.{SlotState}
 use Rattle.ref_ledger.specs.declared.state.SlotState.TheVariants.{Free, Live, Condemned}
 use Rattle.run_rules.specs.declared.world.Dev.{Dev}
-use Rattle.run_rules.specs.World.{World, below, device_on, is_condemned}
+use Rattle.run_rules.specs.World.{World, device_on, is_condemned}
+use Rattle.cf_types.specs.Numbers.{below}
 
 -- the state that a spot's slot has to have: free without a device, and else live or condemned as the device is
 abbrev pub state_at : List Dev → ℕ → SlotState

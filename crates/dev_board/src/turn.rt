@@ -1,5 +1,6 @@
 //! Which turn of a scan is due.
 ghost use Rattle.std.specs.Prelude.{◌≡◌, ◌≤◌, ◌<◌, ◌&&◌, not, nat_lt, length, find, is_some, option_to_list, None, false, [], slice_get, IfSome};
+ghost use Rattle.cf_types.specs.Numbers.{below};
 ghost use Rattle.run_rules.specs.World as world;
 ghost use Rattle.run_rules.specs.Search as rule;
 ghost use Rattle.run_rules.specs.Direct as turn;
@@ -96,7 +97,7 @@ fn is_due(setup: &Setup, live: &[Dev], serial: u64, place: Place, from: u16, spo
 pub fn first_due(setup: &Setup, live: &[Dev], serial: u64, place: Place, from: u16) -> Option<u16>
     requires { length setup.now.machine.spots ≤ 1024 }
     ensures in_range { IfSome result (λ x. x < length setup.now.machine.spots) }
-    ensures first { find (turn.spot_is_due setup.now live.now (world.absent_spots setup.now) (world.late_spots setup.now) serial place from) (world.below (length setup.now.machine.spots)) ≡ result }
+    ensures first { find (turn.spot_is_due setup.now live.now (world.absent_spots setup.now) (world.late_spots setup.now) serial place from) (below (length setup.now.machine.spots)) ≡ result }
 {
     for spot in 0..setup.machine.spots.len() as u16 {
         if is_due(setup, live, serial, place, from, spot) {

@@ -1,12 +1,12 @@
-ghost use Rattle.std.specs.Prelude.{◌≡◌, ◌++◌, OnOk};
+ghost use Rattle.std.specs.Prelude.{◌≡◌, ◌++◌, OnOk, codes, decimal};
 ghost use Rattle.run_rules.specs.Lines as text;
 
 use crate::parts::{
     put, put_answer, put_depth_names, put_final, put_got, put_named, put_names, put_number, put_of,
     put_reply, put_said, put_started,
 };
-use cf_types::{Memory, Name};
-use run_rules::{Act, PowerKind, Reply};
+use cf_types::{List, Memory, Name};
+use run_rules::{Act, DepthName, IoAnswer, PowerKind, Reply};
 
 fn power_word(kind: PowerKind) -> &'static [u8]
     ensures { result.now ≡ text.power_word kind }
@@ -26,29 +26,94 @@ fn put_replied(out: &mut Vec<u8>, word: &[u8], name: &Name, reply: &Reply) -> Re
     put_reply(out, reply)
 }
 
+/// Appends which device was found, and its name, if it has one.
+fn put_found(out: &mut Vec<u8>, parent: &Name, got: &Option<Name>) -> Result<(), Memory>
+    ensures { OnOk result (out.new.items ≡ out.old.items ++ text.said_of (codes "found ") parent.now (text.got_text got.now)) }
+{
+    put_said(out, b"found ", parent)?;
+    put_got(out, got)
+}
+
+/// Appends that a scan of a device is done.
+fn put_scan(out: &mut Vec<u8>, device: &Name) -> Result<(), Memory>
+    ensures { OnOk result (out.new.items ≡ out.old.items ++ text.said_of (codes "scan ") device.now (codes "done")) }
+{
+    put_said(out, b"scan ", device)?;
+    put(out, b"done")
+}
+
+/// Appends what a finaliser answered, and what its search got.
+fn put_finaliser(
+    out: &mut Vec<u8>,
+    device: &Name,
+    answer: bool,
+    got: &Option<Name>,
+) -> Result<(), Memory>
+    ensures { OnOk result (out.new.items ≡ out.old.items ++ text.said_of (codes "final ") device.now (text.final_text answer got.now)) }
+{
+    put_said(out, b"final ", device)?;
+    put_final(out, answer, got)
+}
+
+/// Appends how a transfer begins.
+fn put_transfer(out: &mut Vec<u8>, device: &Name, value: u32, reply: &Reply) -> Result<(), Memory>
+    ensures { OnOk result (out.new.items ≡ out.old.items ++ (codes "io " ++ device.now ++ codes " " ++ decimal value ++ codes ": " ++ text.started_text reply.now)) }
+{
+    put_named(out, b"io ", device)?;
+    put(out, b" ")?;
+    put_number(out, value)?;
+    put(out, b": ")?;
+    put_started(out, reply)
+}
+
+/// Appends how a transfer ends.
+fn put_done(out: &mut Vec<u8>, device: &Name, answer: IoAnswer) -> Result<(), Memory>
+    ensures { OnOk result (out.new.items ≡ out.old.items ++ text.said_of (codes "done ") device.now (text.answer_text answer)) }
+{
+    put_said(out, b"done ", device)?;
+    put_answer(out, answer)
+}
+
+/// Appends the children of a device, or of the root.
+fn put_list(
+    out: &mut Vec<u8>,
+    device: &Option<Name>,
+    names: &Option<List<Name>>,
+) -> Result<(), Memory>
+    ensures { OnOk result (out.new.items ≡ out.old.items ++ (codes "list" ++ text.of_text device.now ++ text.names_text names.now)) }
+{
+    put(out, b"list")?;
+    put_of(out, device)?;
+    put_names(out, names)
+}
+
+/// Appends the tree below a device, or below the root.
+fn put_tree(
+    out: &mut Vec<u8>,
+    device: &Option<Name>,
+    names: &Option<List<DepthName>>,
+) -> Result<(), Memory>
+    ensures { OnOk result (out.new.items ≡ out.old.items ++ (codes "tree" ++ text.of_text device.now ++ text.depth_names_text names.now)) }
+{
+    put(out, b"tree")?;
+    put_of(out, device)?;
+    put_depth_names(out, names)
+}
+
 /// Appends the text of an act. Where memory runs out, some of it may have been appended.
 #[tactic(auto, unfolding(run_rules::specs::Lines::act_text))]
 pub fn put_act(out: &mut Vec<u8>, act: &Act) -> Result<(), Memory>
     ensures { OnOk result (out.new.items ≡ out.old.items ++ text.act_text act.now) }
 {
     match act {
-        Act::Found { parent, got } => {
-            put_said(out, b"found ", parent)?;
-            put_got(out, got)
-        }
-        Act::ScanEnd { device } => {
-            put_said(out, b"scan ", device)?;
-            put(out, b"done")
-        }
+        Act::Found { parent, got } => put_found(out, parent, got),
+        Act::ScanEnd { device } => put_scan(out, device),
         Act::Interrupts => put(out, b"interrupts"),
         Act::Final {
             device,
             answer,
             got,
-        } => {
-            put_said(out, b"final ", device)?;
-            put_final(out, *answer, got)
-        }
+        } => put_finaliser(out, device, *answer, got),
         Act::End => put(out, b"end"),
         Act::DropRef { device } => put_named(out, b"drop ", device),
         Act::OpenDev { device, reply } => put_replied(out, b"open ", device, reply),
@@ -57,30 +122,13 @@ pub fn put_act(out: &mut Vec<u8>, act: &Act) -> Result<(), Memory>
             device,
             value,
             reply,
-        } => {
-            put_named(out, b"io ", device)?;
-            put(out, b" ")?;
-            put_number(out, *value)?;
-            put(out, b": ")?;
-            put_started(out, reply)
-        }
-        Act::IoDone { device, answer } => {
-            put_said(out, b"done ", device)?;
-            put_answer(out, *answer)
-        }
+        } => put_transfer(out, device, *value, reply),
+        Act::IoDone { device, answer } => put_done(out, device, *answer),
         Act::Detach { device, reply } => put_replied(out, b"detach ", device, reply),
         Act::Free { device } => put_named(out, b"free ", device),
         Act::Rescan { device, reply } => put_replied(out, b"rescan ", device, reply),
-        Act::ListDev { device, names } => {
-            put(out, b"list")?;
-            put_of(out, device)?;
-            put_names(out, names)
-        }
-        Act::TreeDev { device, names } => {
-            put(out, b"tree")?;
-            put_of(out, device)?;
-            put_depth_names(out, names)
-        }
+        Act::ListDev { device, names } => put_list(out, device, names),
+        Act::TreeDev { device, names } => put_tree(out, device, names),
         Act::Power {
             kind,
             device,

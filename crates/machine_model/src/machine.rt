@@ -1,6 +1,7 @@
 ghost use Rattle.std.specs.Prelude.{◌≡◌, ◌≤◌, IfOk, length, map};
 ghost use Rattle.config_rules.specs.Formed.{CountedTables};
-ghost use Rattle.config_rules.specs.MachineText.{after_lines, machine_of, no_machine, no_policy};
+ghost use Rattle.config_rules.specs.MachineText.{after_lines, machine_of, no_machine};
+ghost use Rattle.cf_types.specs.Policies.{no_policy};
 ghost use Rattle.machine_text.specs.Records.{word_line};
 ghost use Rattle.machine_model.specs.Left.{Gives};
 

@@ -122,11 +122,6 @@ laws_3_5 : Lawful laws_3_5_events
 unfolding root_name lives parent_in is_asleep_in holds passes_laws
 laws_3_5 = lawful_from ((codes "hub0") ∷ (codes "hub1") ∷ (codes "hub2") ∷ (codes "hub3") ∷ (codes "pci7") ∷ []) (0 ∷ 1 ∷ 2 ∷ 3 ∷ []) laws_3_5_events refl
 
--- refused by the law on holding
-laws_3_6 : lawful_test ((codes "pci7") ∷ (codes "hub0") ∷ (codes "hub1") ∷ (codes "hub2") ∷ (codes "hub3") ∷ []) (0 ∷ 1 ∷ 2 ∷ 3 ∷ []) [] (record { caller = 0; number = 0; act = act.Found (codes "root") (Some (codes "pci7")) } ∷ record { caller = 0; number = 0; act = act.Found (codes "root") (Some (codes "hub0")) } ∷ record { caller = 0; number = 0; act = act.ScanEnd (codes "hub0") } ∷ record { caller = 0; number = 0; act = act.Found (codes "root") (Some (codes "hub1")) } ∷ record { caller = 0; number = 0; act = act.ScanEnd (codes "hub1") } ∷ record { caller = 0; number = 0; act = act.Found (codes "root") (Some (codes "hub2")) } ∷ record { caller = 0; number = 0; act = act.ScanEnd (codes "hub2") } ∷ record { caller = 0; number = 0; act = act.ScanEnd (codes "hub3") } ∷ record { caller = 0; number = 0; act = act.ScanEnd (codes "root") } ∷ record { caller = 0; number = 0; act = act.Interrupts } ∷ record { caller = 0; number = 0; act = act.ScanEnd (codes "pci7") } ∷ record { caller = 0; number = 0; act = act.End } ∷ record { caller = 3; number = 1; act = act.Rescan (codes "hub2") reply.Ok } ∷ record { caller = 2; number = 1; act = act.Power kind.ResumeTree (codes "pci7") reply.Ok } ∷ record { caller = 1; number = 1; act = act.OpenDev (codes "hub1") reply.Ok } ∷ record { caller = 1; number = 2; act = act.Rescan (codes "hub0") reply.BadAttribute } ∷ record { caller = 3; number = 1; act = act.ScanEnd (codes "hub2") } ∷ record { caller = 2; number = 1; act = act.PowerEnd (codes "pci7") reply.Ok } ∷ record { caller = 2; number = 2; act = act.Rescan (codes "pci7") reply.Ok } ∷ record { caller = 2; number = 2; act = act.ScanEnd (codes "pci7") } ∷ record { caller = 3; number = 2; act = act.Detach (codes "hub1") reply.Ok } ∷ record { caller = 1; number = 3; act = act.Plug (codes "p-0") reply.Ok } ∷ record { caller = 1; number = 4; act = act.CloseDev (codes "hub1") reply.Ok } ∷ record { caller = 3; number = 2; act = act.Free (codes "hub1") } ∷ record { caller = 3; number = 3; act = act.IoStart (codes "hub0") 5 reply.NotHeld } ∷ record { caller = 3; number = 4; act = act.Detach (codes "hub0") reply.Ok } ∷ record { caller = 3; number = 4; act = act.Free (codes "hub0") } ∷ record { caller = 1; number = 5; act = act.Rescan (codes "hub3") reply.Ok } ∷ record { caller = 1; number = 5; act = act.ScanEnd (codes "hub3") } ∷ record { caller = 1; number = 6; act = act.Unplug (codes "p-0") reply.Ok } ∷ record { caller = 1; number = 6; act = act.Free (codes "pci7") } ∷ record { caller = 1; number = 7; act = act.OpenDev (codes "hub3") reply.Ok } ∷ record { caller = 2; number = 3; act = act.TreeDev (Some (codes "hub2")) (Some (record { depth = 0; name = (codes "hub2") } ∷ [])) } ∷ record { caller = 2; number = 4; act = act.Detach (codes "hub3") reply.Ok } ∷ []) ≡ false
-unfolding root_name lives parent_in is_asleep_in holds passes_laws
-laws_3_6 = refl
-
 -- a whole history
 abbrev laws_10_0_events : List Event
 laws_10_0_events = (record { caller = 0; number = 0; act = act.Found (codes "root") (Some (codes "pci0")) } ∷ record { caller = 0; number = 0; act = act.Found (codes "root") (Some (codes "pci1")) } ∷ record { caller = 0; number = 0; act = act.ScanEnd (codes "root") } ∷ record { caller = 0; number = 0; act = act.Found (codes "pci0") (Some (codes "wd0")) } ∷ record { caller = 0; number = 0; act = act.Found (codes "pci0") (Some (codes "wd1")) } ∷ record { caller = 0; number = 0; act = act.Found (codes "pci0") (Some (codes "wd2")) } ∷ record { caller = 0; number = 0; act = act.ScanEnd (codes "pci0") } ∷ record { caller = 0; number = 0; act = act.Found (codes "pci1") (Some (codes "wd3")) } ∷ record { caller = 0; number = 0; act = act.Found (codes "pci1") (Some (codes "wd4")) } ∷ record { caller = 0; number = 0; act = act.ScanEnd (codes "pci1") } ∷ record { caller = 0; number = 0; act = act.Interrupts } ∷ record { caller = 0; number = 0; act = act.Final (codes "pci0") false None } ∷ record { caller = 0; number = 0; act = act.Final (codes "pci1") true (Some (codes "wd5")) } ∷ record { caller = 0; number = 0; act = act.Final (codes "pci0") false None } ∷ record { caller = 0; number = 0; act = act.Final (codes "pci1") false None } ∷ record { caller = 0; number = 0; act = act.End } ∷ record { caller = 1; number = 1; act = act.IoStart (codes "root") 0 reply.NotHeld } ∷ record { caller = 1; number = 2; act = act.Plug (codes "u4") reply.Ok } ∷ record { caller = 1; number = 3; act = act.IoStart (codes "wd5") 1 reply.NotHeld } ∷ record { caller = 1; number = 4; act = act.Rescan (codes "pci0") reply.Ok } ∷ record { caller = 1; number = 4; act = act.Found (codes "pci0") (Some (codes "wd6")) } ∷ record { caller = 1; number = 4; act = act.ScanEnd (codes "pci0") } ∷ record { caller = 1; number = 5; act = act.Unplug (codes "lpt9") reply.NoSpot } ∷ record { caller = 1; number = 6; act = act.OpenDev (codes "pci1") reply.Ok } ∷ record { caller = 1; number = 7; act = act.Power kind.Suspend (codes "pci1") reply.Ok } ∷ record { caller = 1; number = 7; act = act.PowerEnd (codes "pci1") (reply.SuspendFailed (codes "wd5")) } ∷ record { caller = 1; number = 8; act = act.Power kind.Suspend (codes "pci0") reply.Ok } ∷ record { caller = 1; number = 8; act = act.PowerEnd (codes "pci0") (reply.SuspendFailed (codes "wd6")) } ∷ record { caller = 1; number = 9; act = act.Power kind.Suspend (codes "pci0") reply.Ok } ∷ record { caller = 1; number = 9; act = act.PowerEnd (codes "pci0") (reply.SuspendFailed (codes "wd6")) } ∷ record { caller = 1; number = 10; act = act.TreeDev None (Some (record { depth = 0; name = (codes "pci0") } ∷ record { depth = 1; name = (codes "wd0") } ∷ record { depth = 1; name = (codes "wd1") } ∷ record { depth = 1; name = (codes "wd2") } ∷ record { depth = 1; name = (codes "wd6") } ∷ record { depth = 0; name = (codes "pci1") } ∷ record { depth = 1; name = (codes "wd3") } ∷ record { depth = 1; name = (codes "wd4") } ∷ record { depth = 1; name = (codes "wd5") } ∷ [])) } ∷ record { caller = 1; number = 11; act = act.Rescan (codes "wd0") reply.NoRescan } ∷ record { caller = 1; number = 12; act = act.OpenDev (codes "pci1") reply.HeldAlready } ∷ record { caller = 1; number = 13; act = act.Power kind.Suspend (codes "wd3") reply.Ok } ∷ record { caller = 1; number = 13; act = act.PowerEnd (codes "wd3") (reply.SuspendFailed (codes "wd3")) } ∷ record { caller = 1; number = 14; act = act.DropRef (codes "pci1") } ∷ record { caller = 1; number = 14; act = act.End } ∷ [])
@@ -247,11 +242,6 @@ unfolding root_name lives parent_in is_asleep_in holds passes_laws
 laws_37_6 = refl
 
 -- refused by the law on holding
-laws_37_7 : lawful_test ((codes "cbb3") ∷ (codes "cbb2") ∷ (codes "bus99999") ∷ (codes "root") ∷ []) (0 ∷ 1 ∷ 2 ∷ 3 ∷ []) [] (record { caller = 0; number = 0; act = act.ScanEnd (codes "cbb2") } ∷ record { caller = 0; number = 0; act = act.Found (codes "root") (Some (codes "cbb3")) } ∷ record { caller = 0; number = 0; act = act.ScanEnd (codes "cbb3") } ∷ record { caller = 0; number = 0; act = act.ScanEnd (codes "root") } ∷ record { caller = 0; number = 0; act = act.Interrupts } ∷ record { caller = 0; number = 0; act = act.End } ∷ record { caller = 3; number = 1; act = act.Rescan (codes "cbb2") reply.Ok } ∷ record { caller = 2; number = 1; act = act.Detach (codes "cbb3") reply.Ok } ∷ record { caller = 2; number = 1; act = act.Free (codes "cbb3") } ∷ record { caller = 2; number = 2; act = act.Unplug (codes "x_0") (reply.Busy (codes "cbb2")) } ∷ record { caller = 2; number = 3; act = act.Power kind.Suspend (codes "cbb2") reply.Ok } ∷ record { caller = 3; number = 1; act = act.ScanEnd (codes "cbb2") } ∷ record { caller = 3; number = 2; act = act.Unplug (codes "bus99999") reply.NoSpot } ∷ record { caller = 3; number = 3; act = act.OpenDev (codes "cbb2") reply.Ok } ∷ record { caller = 1; number = 1; act = act.TreeDev (Some (codes "cbb2")) (Some (record { depth = 0; name = (codes "cbb2") } ∷ [])) } ∷ record { caller = 1; number = 2; act = act.Rescan (codes "cbb2") reply.BadAttribute } ∷ record { caller = 1; number = 3; act = act.Detach (codes "cbb2") reply.Ok } ∷ record { caller = 2; number = 3; act = act.Sleep (codes "cbb2") } ∷ record { caller = 2; number = 3; act = act.PowerEnd (codes "cbb2") reply.Ok } ∷ record { caller = 2; number = 4; act = act.Detach (codes "cbb2") reply.Gone } ∷ record { caller = 3; number = 4; act = act.Rescan (codes "cbb2") reply.Gone } ∷ record { caller = 3; number = 5; act = act.Detach (codes "cbb2") reply.Gone } ∷ record { caller = 3; number = 6; act = act.OpenDev (codes "bus99999") reply.NoDevice } ∷ record { caller = 2; number = 5; act = act.CloseDev (codes "cbb2") reply.NotHeld } ∷ record { caller = 2; number = 6; act = act.Detach (codes "cbb2") reply.Gone } ∷ record { caller = 2; number = 7; act = act.Unplug (codes "x_0") (reply.Busy (codes "cbb2")) } ∷ record { caller = 2; number = 8; act = act.Unplug (codes "x_0") (reply.Busy (codes "cbb2")) } ∷ record { caller = 2; number = 9; act = act.OpenDev (codes "root") reply.NoDevice } ∷ record { caller = 2; number = 10; act = act.Rescan (codes "cbb2") reply.Gone } ∷ record { caller = 2; number = 11; act = act.Unplug (codes "x_0") (reply.Busy (codes "cbb2")) } ∷ record { caller = 2; number = 12; act = act.Detach (codes "cbb2") reply.Gone } ∷ record { caller = 2; number = 13; act = act.TreeDev (Some (codes "cbb2")) (Some (record { depth = 0; name = (codes "cbb2") } ∷ [])) } ∷ record { caller = 2; number = 14; act = act.Detach (codes "cbb2") reply.Gone } ∷ record { caller = 2; number = 15; act = act.Detach (codes "cbb2") reply.Gone } ∷ record { caller = 2; number = 16; act = act.Detach (codes "hub0") reply.NoDevice } ∷ record { caller = 3; number = 7; act = act.DropRef (codes "cbb2") } ∷ record { caller = 3; number = 7; act = act.End } ∷ record { caller = 1; number = 3; act = act.Free (codes "cbb2") } ∷ record { caller = 2; number = 17; act = act.End } ∷ record { caller = 1; number = 4; act = act.End } ∷ []) ≡ false
-unfolding root_name lives parent_in is_asleep_in holds passes_laws
-laws_37_7 = refl
-
--- refused by the law on holding
 laws_46_4 : lawful_test ((codes "pci1") ∷ (codes "pci2") ∷ (codes "pci0") ∷ (codes "sd0") ∷ (codes "com0") ∷ []) (0 ∷ 1 ∷ 2 ∷ 3 ∷ []) [] (record { caller = 0; number = 0; act = act.Found (codes "root") None } ∷ record { caller = 0; number = 0; act = act.Found (codes "root") None } ∷ record { caller = 0; number = 0; act = act.Found (codes "root") None } ∷ record { caller = 0; number = 0; act = act.Found (codes "root") None } ∷ record { caller = 0; number = 0; act = act.Found (codes "root") None } ∷ record { caller = 0; number = 0; act = act.Found (codes "root") None } ∷ record { caller = 0; number = 0; act = act.Found (codes "root") None } ∷ record { caller = 0; number = 0; act = act.ScanEnd (codes "root") } ∷ record { caller = 0; number = 0; act = act.Interrupts } ∷ record { caller = 0; number = 0; act = act.End } ∷ record { caller = 3; number = 1; act = act.Rescan (codes "sd0") reply.NoDevice } ∷ record { caller = 1; number = 1; act = act.Detach (codes "pci1") reply.NoDevice } ∷ record { caller = 1; number = 2; act = act.IoStart (codes "pci1") 77 reply.NotHeld } ∷ record { caller = 1; number = 3; act = act.OpenDev (codes "pci2") reply.NoDevice } ∷ record { caller = 3; number = 2; act = act.Unplug (codes "p-3") reply.Ok } ∷ record { caller = 2; number = 1; act = act.OpenDev (codes "pci1") reply.NoDevice } ∷ record { caller = 2; number = 2; act = act.Detach (codes "sd0") reply.NoDevice } ∷ record { caller = 1; number = 4; act = act.OpenDev (codes "pci2") reply.NoDevice } ∷ record { caller = 1; number = 5; act = act.Rescan (codes "pci0") reply.NoDevice } ∷ record { caller = 1; number = 6; act = act.Plug (codes "u4") reply.Ok } ∷ record { caller = 3; number = 3; act = act.Power kind.Resume (codes "pci0") reply.NoDevice } ∷ record { caller = 3; number = 4; act = act.OpenDev (codes "pci0") reply.NoDevice } ∷ record { caller = 3; number = 5; act = act.Rescan (codes "pci1") reply.NoDevice } ∷ record { caller = 3; number = 6; act = act.Plug (codes "p-7") reply.Ok } ∷ record { caller = 3; number = 7; act = act.Plug (codes "u4") reply.Ok } ∷ record { caller = 3; number = 8; act = act.Unplug (codes "p-3") reply.Ok } ∷ record { caller = 1; number = 7; act = act.TreeDev None (Some []) } ∷ record { caller = 3; number = 9; act = act.Power kind.Resume (codes "pci1") reply.NoDevice } ∷ record { caller = 2; number = 3; act = act.Rescan (codes "pci0") reply.NoDevice } ∷ record { caller = 1; number = 8; act = act.Power kind.ResumeTree (codes "pci0") reply.NoDevice } ∷ record { caller = 1; number = 9; act = act.OpenDev (codes "sd0") reply.NoDevice } ∷ record { caller = 1; number = 1; act = act.OpenDev (codes "com0") reply.Ok } ∷ record { caller = 1; number = 10; act = act.OpenDev (codes "pci2") reply.NoDevice } ∷ record { caller = 1; number = 11; act = act.OpenDev (codes "pci0") reply.NoDevice } ∷ record { caller = 1; number = 12; act = act.Unplug (codes "p-3") reply.Ok } ∷ record { caller = 1; number = 13; act = act.TreeDev (Some (codes "pci2")) None } ∷ record { caller = 3; number = 10; act = act.End } ∷ record { caller = 1; number = 14; act = act.End } ∷ record { caller = 2; number = 4; act = act.End } ∷ []) ≡ false
 unfolding root_name lives parent_in is_asleep_in holds passes_laws
 laws_46_4 = refl
@@ -292,11 +282,6 @@ unfolding root_name lives parent_in is_asleep_in holds passes_laws
 laws_80_3 = refl
 
 -- refused by the law on sleep
-laws_80_5 : lawful_test ((codes "hub2") ∷ (codes "pci0") ∷ (codes "pci1") ∷ (codes "pci2") ∷ (codes "pci3") ∷ (codes "pci4") ∷ []) (0 ∷ 1 ∷ 2 ∷ 3 ∷ []) [] (record { caller = 0; number = 0; act = act.Found (codes "root") (Some (codes "hub2")) } ∷ record { caller = 0; number = 0; act = act.Found (codes "hub2") (Some (codes "pci0")) } ∷ record { caller = 0; number = 0; act = act.ScanEnd (codes "pci0") } ∷ record { caller = 0; number = 0; act = act.Found (codes "hub2") (Some (codes "pci1")) } ∷ record { caller = 0; number = 0; act = act.ScanEnd (codes "pci1") } ∷ record { caller = 0; number = 0; act = act.Found (codes "hub2") (Some (codes "pci2")) } ∷ record { caller = 0; number = 0; act = act.ScanEnd (codes "pci2") } ∷ record { caller = 0; number = 0; act = act.Found (codes "hub2") (Some (codes "pci3")) } ∷ record { caller = 0; number = 0; act = act.ScanEnd (codes "pci3") } ∷ record { caller = 0; number = 0; act = act.Found (codes "hub2") (Some (codes "pci4")) } ∷ record { caller = 0; number = 0; act = act.ScanEnd (codes "pci4") } ∷ record { caller = 0; number = 0; act = act.ScanEnd (codes "hub2") } ∷ record { caller = 0; number = 0; act = act.ScanEnd (codes "root") } ∷ record { caller = 0; number = 0; act = act.Interrupts } ∷ record { caller = 0; number = 0; act = act.End } ∷ record { caller = 2; number = 1; act = act.Power kind.Suspend (codes "hub2") reply.Ok } ∷ record { caller = 2; number = 1; act = act.Sleep (codes "pci4") } ∷ record { caller = 2; number = 1; act = act.Sleep (codes "pci3") } ∷ record { caller = 2; number = 1; act = act.Sleep (codes "pci1") } ∷ record { caller = 2; number = 1; act = act.Sleep (codes "pci0") } ∷ record { caller = 2; number = 1; act = act.Sleep (codes "hub2") } ∷ record { caller = 2; number = 1; act = act.PowerEnd (codes "hub2") reply.Ok } ∷ record { caller = 2; number = 2; act = act.Power kind.ResumeTree (codes "pci2") reply.Ok } ∷ record { caller = 2; number = 2; act = act.Wake (codes "hub2") } ∷ record { caller = 2; number = 2; act = act.Wake (codes "pci2") } ∷ record { caller = 2; number = 2; act = act.PowerEnd (codes "pci2") reply.Ok } ∷ record { caller = 1; number = 1; act = act.Power kind.ResumeTree (codes "pci1") reply.Ok } ∷ record { caller = 3; number = 1; act = act.OpenDev (codes "pci0") reply.Ok } ∷ record { caller = 3; number = 2; act = act.OpenDev (codes "pci0") reply.HeldAlready } ∷ record { caller = 3; number = 3; act = act.Plug (codes "x_5") reply.Ok } ∷ record { caller = 3; number = 4; act = act.OpenDev (codes "pci4") reply.Ok } ∷ record { caller = 1; number = 1; act = act.Wake (codes "pci1") } ∷ record { caller = 1; number = 1; act = act.PowerEnd (codes "pci1") reply.Ok } ∷ record { caller = 1; number = 2; act = act.Power kind.ResumeTree (codes "pci3") reply.Ok } ∷ record { caller = 1; number = 2; act = act.Wake (codes "pci3") } ∷ record { caller = 1; number = 2; act = act.PowerEnd (codes "pci3") reply.Ok } ∷ record { caller = 1; number = 3; act = act.End } ∷ record { caller = 2; number = 3; act = act.End } ∷ record { caller = 3; number = 5; act = act.Power kind.Resume (codes "pci0") reply.Ok } ∷ record { caller = 3; number = 5; act = act.Wake (codes "pci0") } ∷ record { caller = 3; number = 5; act = act.PowerEnd (codes "pci0") reply.Ok } ∷ record { caller = 3; number = 6; act = act.DropRef (codes "pci0") } ∷ record { caller = 3; number = 6; act = act.DropRef (codes "pci4") } ∷ record { caller = 3; number = 6; act = act.End } ∷ []) ≡ false
-unfolding root_name lives parent_in is_asleep_in holds passes_laws
-laws_80_5 = refl
-
--- refused by the law on sleep
 laws_80_6 : lawful_test ((codes "hub2") ∷ (codes "pci0") ∷ (codes "pci1") ∷ (codes "pci2") ∷ (codes "pci3") ∷ (codes "pci4") ∷ []) (0 ∷ 1 ∷ 2 ∷ 3 ∷ []) [] (record { caller = 0; number = 0; act = act.Found (codes "root") (Some (codes "hub2")) } ∷ record { caller = 0; number = 0; act = act.Found (codes "hub2") (Some (codes "pci0")) } ∷ record { caller = 0; number = 0; act = act.ScanEnd (codes "pci0") } ∷ record { caller = 0; number = 0; act = act.Found (codes "hub2") (Some (codes "pci1")) } ∷ record { caller = 0; number = 0; act = act.ScanEnd (codes "pci1") } ∷ record { caller = 0; number = 0; act = act.Found (codes "hub2") (Some (codes "pci2")) } ∷ record { caller = 0; number = 0; act = act.ScanEnd (codes "pci2") } ∷ record { caller = 0; number = 0; act = act.Found (codes "hub2") (Some (codes "pci3")) } ∷ record { caller = 0; number = 0; act = act.ScanEnd (codes "pci3") } ∷ record { caller = 0; number = 0; act = act.Found (codes "hub2") (Some (codes "pci4")) } ∷ record { caller = 0; number = 0; act = act.ScanEnd (codes "pci4") } ∷ record { caller = 0; number = 0; act = act.ScanEnd (codes "hub2") } ∷ record { caller = 0; number = 0; act = act.ScanEnd (codes "root") } ∷ record { caller = 0; number = 0; act = act.Interrupts } ∷ record { caller = 0; number = 0; act = act.End } ∷ record { caller = 2; number = 1; act = act.Power kind.Suspend (codes "hub2") reply.Ok } ∷ record { caller = 2; number = 1; act = act.Sleep (codes "pci4") } ∷ record { caller = 2; number = 1; act = act.Sleep (codes "pci3") } ∷ record { caller = 2; number = 1; act = act.Sleep (codes "pci2") } ∷ record { caller = 2; number = 1; act = act.Sleep (codes "pci1") } ∷ record { caller = 2; number = 1; act = act.Sleep (codes "hub2") } ∷ record { caller = 2; number = 1; act = act.PowerEnd (codes "hub2") reply.Ok } ∷ record { caller = 2; number = 2; act = act.Power kind.ResumeTree (codes "pci2") reply.Ok } ∷ record { caller = 2; number = 2; act = act.Wake (codes "hub2") } ∷ record { caller = 2; number = 2; act = act.Wake (codes "pci2") } ∷ record { caller = 2; number = 2; act = act.PowerEnd (codes "pci2") reply.Ok } ∷ record { caller = 1; number = 1; act = act.Power kind.ResumeTree (codes "pci1") reply.Ok } ∷ record { caller = 3; number = 1; act = act.OpenDev (codes "pci0") reply.Ok } ∷ record { caller = 3; number = 2; act = act.OpenDev (codes "pci0") reply.HeldAlready } ∷ record { caller = 3; number = 3; act = act.Plug (codes "x_5") reply.Ok } ∷ record { caller = 3; number = 4; act = act.OpenDev (codes "pci4") reply.Ok } ∷ record { caller = 1; number = 1; act = act.Wake (codes "pci1") } ∷ record { caller = 1; number = 1; act = act.PowerEnd (codes "pci1") reply.Ok } ∷ record { caller = 1; number = 2; act = act.Power kind.ResumeTree (codes "pci3") reply.Ok } ∷ record { caller = 1; number = 2; act = act.Wake (codes "pci3") } ∷ record { caller = 1; number = 2; act = act.PowerEnd (codes "pci3") reply.Ok } ∷ record { caller = 1; number = 3; act = act.End } ∷ record { caller = 2; number = 3; act = act.End } ∷ record { caller = 3; number = 5; act = act.Power kind.Resume (codes "pci0") reply.Ok } ∷ record { caller = 3; number = 5; act = act.Wake (codes "pci0") } ∷ record { caller = 3; number = 5; act = act.PowerEnd (codes "pci0") reply.Ok } ∷ record { caller = 3; number = 6; act = act.DropRef (codes "pci0") } ∷ record { caller = 3; number = 6; act = act.DropRef (codes "pci4") } ∷ record { caller = 3; number = 6; act = act.End } ∷ []) ≡ false
 unfolding root_name lives parent_in is_asleep_in holds passes_laws
 laws_80_6 = refl
@@ -315,11 +300,6 @@ laws_102_5 = refl
 laws_113_3 : lawful_test ((codes "pci0") ∷ (codes "hub1") ∷ (codes "hub2") ∷ (codes "hub3") ∷ (codes "hub4") ∷ (codes "lpt7") ∷ (codes "wd0") ∷ []) (0 ∷ 1 ∷ 2 ∷ []) [] (record { caller = 0; number = 0; act = act.Found (codes "root") (Some (codes "pci0")) } ∷ record { caller = 0; number = 0; act = act.Found (codes "pci0") (Some (codes "hub1")) } ∷ record { caller = 0; number = 0; act = act.ScanEnd (codes "hub1") } ∷ record { caller = 0; number = 0; act = act.Found (codes "pci0") (Some (codes "hub2")) } ∷ record { caller = 0; number = 0; act = act.ScanEnd (codes "hub2") } ∷ record { caller = 0; number = 0; act = act.Found (codes "pci0") (Some (codes "hub3")) } ∷ record { caller = 0; number = 0; act = act.ScanEnd (codes "hub3") } ∷ record { caller = 0; number = 0; act = act.Found (codes "pci0") (Some (codes "hub4")) } ∷ record { caller = 0; number = 0; act = act.ScanEnd (codes "hub4") } ∷ record { caller = 0; number = 0; act = act.Found (codes "pci0") (Some (codes "lpt7")) } ∷ record { caller = 0; number = 0; act = act.Found (codes "pci0") (Some (codes "wd0")) } ∷ record { caller = 0; number = 0; act = act.ScanEnd (codes "pci0") } ∷ record { caller = 0; number = 0; act = act.ScanEnd (codes "root") } ∷ record { caller = 0; number = 0; act = act.Interrupts } ∷ record { caller = 0; number = 0; act = act.End } ∷ record { caller = 1; number = 1; act = act.Rescan (codes "hub2") reply.Ok } ∷ record { caller = 2; number = 1; act = act.Unplug (codes "u5") (reply.Busy (codes "hub2")) } ∷ record { caller = 2; number = 2; act = act.IoStart (codes "hub3") 5 reply.NotHeld } ∷ record { caller = 2; number = 3; act = act.Power kind.Suspend (codes "hub2") reply.Ok } ∷ record { caller = 1; number = 1; act = act.ScanEnd (codes "hub2") } ∷ record { caller = 1; number = 2; act = act.Detach (codes "hub2") reply.Ok } ∷ record { caller = 1; number = 3; act = act.CloseDev (codes "hub4") reply.NotHeld } ∷ record { caller = 1; number = 4; act = act.Rescan (codes "wd0") reply.NoRescan } ∷ record { caller = 2; number = 3; act = act.PowerEnd (codes "hub2") reply.Gone } ∷ record { caller = 2; number = 4; act = act.Rescan (codes "pci0") reply.Ok } ∷ record { caller = 1; number = 5; act = act.Power kind.Resume (codes "hub4") reply.Ok } ∷ record { caller = 2; number = 4; act = act.Found (codes "pci0") (Some (codes "hub2")) } ∷ record { caller = 1; number = 5; act = act.PowerEnd (codes "hub4") reply.Ok } ∷ record { caller = 1; number = 6; act = act.Detach (codes "pci0") (reply.Busy (codes "pci0")) } ∷ record { caller = 2; number = 4; act = act.ScanEnd (codes "hub2") } ∷ record { caller = 2; number = 4; act = act.ScanEnd (codes "pci0") } ∷ record { caller = 2; number = 5; act = act.End } ∷ []) ≡ false
 unfolding root_name lives parent_in is_asleep_in holds passes_laws
 laws_113_3 = refl
-
--- refused by the law on parents
-laws_113_4 : lawful_test ((codes "pci0") ∷ (codes "hub1") ∷ (codes "hub2") ∷ (codes "hub3") ∷ (codes "hub4") ∷ (codes "lpt7") ∷ (codes "wd0") ∷ []) (0 ∷ 1 ∷ 2 ∷ []) [] (record { caller = 0; number = 0; act = act.Found (codes "root") (Some (codes "pci0")) } ∷ record { caller = 0; number = 0; act = act.Found (codes "pci0") (Some (codes "hub1")) } ∷ record { caller = 0; number = 0; act = act.ScanEnd (codes "hub1") } ∷ record { caller = 0; number = 0; act = act.Found (codes "pci0") (Some (codes "hub2")) } ∷ record { caller = 0; number = 0; act = act.ScanEnd (codes "hub2") } ∷ record { caller = 0; number = 0; act = act.Found (codes "pci0") (Some (codes "hub3")) } ∷ record { caller = 0; number = 0; act = act.ScanEnd (codes "hub3") } ∷ record { caller = 0; number = 0; act = act.Found (codes "pci0") (Some (codes "hub4")) } ∷ record { caller = 0; number = 0; act = act.ScanEnd (codes "hub4") } ∷ record { caller = 0; number = 0; act = act.Found (codes "pci0") (Some (codes "lpt7")) } ∷ record { caller = 0; number = 0; act = act.Found (codes "pci0") (Some (codes "wd0")) } ∷ record { caller = 0; number = 0; act = act.ScanEnd (codes "pci0") } ∷ record { caller = 0; number = 0; act = act.ScanEnd (codes "root") } ∷ record { caller = 0; number = 0; act = act.Interrupts } ∷ record { caller = 0; number = 0; act = act.End } ∷ record { caller = 1; number = 1; act = act.Rescan (codes "hub2") reply.Ok } ∷ record { caller = 2; number = 1; act = act.Unplug (codes "u5") (reply.Busy (codes "hub2")) } ∷ record { caller = 2; number = 2; act = act.IoStart (codes "hub3") 5 reply.NotHeld } ∷ record { caller = 2; number = 3; act = act.Power kind.Suspend (codes "hub2") reply.Ok } ∷ record { caller = 1; number = 1; act = act.ScanEnd (codes "hub2") } ∷ record { caller = 1; number = 2; act = act.Detach (codes "hub2") reply.Ok } ∷ record { caller = 1; number = 3; act = act.CloseDev (codes "hub4") reply.NotHeld } ∷ record { caller = 1; number = 4; act = act.Rescan (codes "wd0") reply.NoRescan } ∷ record { caller = 2; number = 3; act = act.PowerEnd (codes "hub2") reply.Gone } ∷ record { caller = 2; number = 4; act = act.Rescan (codes "pci0") reply.Ok } ∷ record { caller = 1; number = 5; act = act.Power kind.Resume (codes "hub4") reply.Ok } ∷ record { caller = 2; number = 4; act = act.Found (codes "pci0") (Some (codes "hub2")) } ∷ record { caller = 1; number = 5; act = act.PowerEnd (codes "hub4") reply.Ok } ∷ record { caller = 1; number = 6; act = act.Detach (codes "pci0") (reply.Busy (codes "pci0")) } ∷ record { caller = 2; number = 4; act = act.ScanEnd (codes "hub2") } ∷ record { caller = 2; number = 4; act = act.ScanEnd (codes "pci0") } ∷ record { caller = 2; number = 5; act = act.End } ∷ []) ≡ false
-unfolding root_name lives parent_in is_asleep_in holds passes_laws
-laws_113_4 = refl
 
 -- refused by the law on sleep
 laws_133_6 : lawful_test ((codes "isa0") ∷ (codes "isa1") ∷ (codes "wd0") ∷ (codes "pci0") ∷ []) (0 ∷ 1 ∷ 2 ∷ 3 ∷ []) [] (record { caller = 0; number = 0; act = act.Found (codes "root") (Some (codes "isa0")) } ∷ record { caller = 0; number = 0; act = act.Found (codes "root") (Some (codes "isa1")) } ∷ record { caller = 0; number = 0; act = act.ScanEnd (codes "root") } ∷ record { caller = 0; number = 0; act = act.Interrupts } ∷ record { caller = 0; number = 0; act = act.Found (codes "isa0") (Some (codes "wd0")) } ∷ record { caller = 0; number = 0; act = act.ScanEnd (codes "isa0") } ∷ record { caller = 0; number = 0; act = act.Found (codes "isa1") None } ∷ record { caller = 0; number = 0; act = act.ScanEnd (codes "isa1") } ∷ record { caller = 0; number = 0; act = act.Final (codes "isa0") true (Some (codes "pci0")) } ∷ record { caller = 0; number = 0; act = act.ScanEnd (codes "pci0") } ∷ record { caller = 0; number = 0; act = act.Final (codes "isa1") false None } ∷ record { caller = 0; number = 0; act = act.Final (codes "pci0") false None } ∷ record { caller = 0; number = 0; act = act.Final (codes "isa0") false None } ∷ record { caller = 0; number = 0; act = act.Final (codes "isa1") false None } ∷ record { caller = 0; number = 0; act = act.Final (codes "pci0") false None } ∷ record { caller = 0; number = 0; act = act.End } ∷ record { caller = 1; number = 1; act = act.OpenDev (codes "pci0") reply.Ok } ∷ record { caller = 1; number = 2; act = act.OpenDev (codes "pci0") reply.HeldAlready } ∷ record { caller = 1; number = 3; act = act.Detach (codes "isa1") reply.Ok } ∷ record { caller = 1; number = 3; act = act.Free (codes "isa1") } ∷ record { caller = 1; number = 4; act = act.Power kind.Suspend (codes "isa0") reply.Ok } ∷ record { caller = 1; number = 4; act = act.Sleep (codes "pci0") } ∷ record { caller = 2; number = 1; act = act.Detach (codes "pci0") (reply.Busy (codes "pci0")) } ∷ record { caller = 3; number = 1; act = act.Detach (codes "pci0") (reply.Busy (codes "pci0")) } ∷ record { caller = 2; number = 2; act = act.Detach (codes "isa0") (reply.Busy (codes "pci0")) } ∷ record { caller = 2; number = 3; act = act.Unplug (codes "com") reply.NoSpot } ∷ record { caller = 2; number = 4; act = act.OpenDev (codes "isa0") reply.Ok } ∷ record { caller = 2; number = 5; act = act.Detach (codes "isa0") (reply.Busy (codes "isa0")) } ∷ record { caller = 1; number = 4; act = act.Sleep (codes "isa0") } ∷ record { caller = 3; number = 2; act = act.End } ∷ record { caller = 1; number = 4; act = act.PowerEnd (codes "isa0") reply.Ok } ∷ record { caller = 1; number = 5; act = act.DropRef (codes "pci0") } ∷ record { caller = 1; number = 5; act = act.End } ∷ record { caller = 2; number = 6; act = act.Power kind.ResumeTree (codes "pci0") reply.Ok } ∷ record { caller = 2; number = 6; act = act.Wake (codes "isa0") } ∷ record { caller = 2; number = 6; act = act.Wake (codes "pci0") } ∷ record { caller = 2; number = 6; act = act.PowerEnd (codes "pci0") reply.Ok } ∷ record { caller = 2; number = 7; act = act.DropRef (codes "isa0") } ∷ record { caller = 2; number = 7; act = act.End } ∷ []) ≡ false

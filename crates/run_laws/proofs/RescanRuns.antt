@@ -19,7 +19,7 @@ use Rattle.run_rules.specs.Search.{match_value, is_candidate, is_winner, winner,
 use Rattle.run_rules.specs.Next.{arrival, next_scan, late_spot, finalise, next_boot, next_free, next_sleep, next_wake, freeing, suspending, waking, hindered, wanted_of, rescan_of, command_deed, next_command, next}
 use Rattle.run_rules.specs.After.{listed, finaliser_placing, scan_placing, finaliser_placed, scan_placed, attached, released, after}
 use Rattle.run_rules.specs.Run.{answer_of, tree_names, list_names, printed, event_of, played}
-use Rattle.run_rules.specs.World.{no_policy}
+use Rattle.cf_types.specs.Policies.{no_policy}
 use Rattle.run_laws.proofs.Inputs.{tables_of, attr, locator, device, attach, row, parent, spot, marked, match_line, given, event, dev, caller, deep}
 use Rattle.run_laws.proofs.Outcome.{Over, Then, outcome}
 use Rattle.run_laws.proofs.SoundTest.{sound_along}

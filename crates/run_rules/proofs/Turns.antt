@@ -10,7 +10,8 @@ use Rattle.cf_types.specs.declared.tables.Place.TheVariants.{Root, At}
 use Rattle.run_rules.specs.declared.world.Setup.{Setup}
 use Rattle.run_rules.specs.declared.world.Dev.{Dev}
 use Rattle.run_rules.specs.declared.world.Position.{Position}
-use Rattle.run_rules.specs.World.{device_at, absent_spots, late_spots, below, has}
+use Rattle.run_rules.specs.World.{device_at, absent_spots, late_spots, has}
+use Rattle.cf_types.specs.Numbers.{below}
 use Rattle.run_rules.specs.Direct.{direct, spot_is_due}
 use Rattle.run_rules.specs.Search.{is_child, is_occupied, Turn, child_spots, spot_of, scan_places, is_indirect, turns_at, turns, is_before, is_due, is_open, due}
 

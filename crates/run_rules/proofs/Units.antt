@@ -6,7 +6,8 @@ use Rattle.std.proofs.lemmas.List.Folds.{find-append}
 use Rattle.std.proofs.lemmas.List.Sums.{sum_by-append}
 use Rattle.run_rules.specs.declared.world.Setup.{Setup}
 use Rattle.run_rules.specs.declared.world.Dev.{Dev}
-use Rattle.run_rules.specs.World.{below, driver_of}
+use Rattle.run_rules.specs.World.{driver_of}
+use Rattle.cf_types.specs.Numbers.{below}
 use Rattle.run_rules.specs.declared.world.ParentRef.{ParentRef}
 use Rattle.cf_types.specs.declared.tables.Place.{Place}
 use Rattle.cf_types.specs.declared.tables.Row.{Row}

@@ -7,7 +7,7 @@ use Rattle.cf_types.specs.declared.tables.Place.{Place}
 use Rattle.run_rules.specs.declared.world.Setup.{Setup}
 use Rattle.run_rules.specs.declared.world.Dev.{Dev}
 use Rattle.run_rules.specs.declared.world.ParentRef.{ParentRef}
-use Rattle.run_rules.specs.World.{below}
+use Rattle.cf_types.specs.Numbers.{below}
 use Rattle.run_rules.specs.Search.{is_candidate, is_winner, winner, value_of}
 use Rattle.run_rules.proofs.Below.{and_both, find-none, find-is, all_below, at_below}
 

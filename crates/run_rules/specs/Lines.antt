@@ -12,7 +12,7 @@ use Rattle.run_rules.specs.declared.event.IoAnswer.TheVariants as answer
 use Rattle.run_rules.specs.declared.event.DepthName.{DepthName}
 use Rattle.run_rules.specs.declared.event.PowerKind.{PowerKind}
 use Rattle.run_rules.specs.declared.event.PowerKind.TheVariants as kind
-use Rattle.run_rules.specs.Tree.{all_ended}
+use Rattle.cf_types.specs.Lines.{text_of}
 
 -- ---- the spelling
 
@@ -98,7 +98,7 @@ line_of e = decimal e.caller ++ codes "." ++ decimal e.number ++ codes " " ++ ac
 
 -- a whole history
 unfoldable pub lines : List Event → List ℕ
-lines h = all_ended (codes "history 1" ∷ map line_of h)
+lines h = text_of (codes "history 1" ∷ map line_of h)
 
 -- ---- formed events
 

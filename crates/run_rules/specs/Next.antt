@@ -22,7 +22,8 @@ use Rattle.run_rules.specs.declared.world.Wait.TheVariants as wait
 use Rattle.run_rules.specs.declared.world.Activity.{Activity}
 use Rattle.run_rules.specs.declared.world.Activity.TheVariants as activity
 use Rattle.run_rules.specs.declared.world.Setup.{Setup}
-use Rattle.run_rules.specs.World.{World, below, has, is_number, serial_of, device_at, device_on, is_live, is_under, name_of, device_named, policy_of, offered_by, is_pinned, is_held, is_referred, is_condemned, caller_at, has_ended, start}
+use Rattle.run_rules.specs.World.{World, has, is_number, serial_of, device_at, device_on, is_live, is_under, name_of, device_named, policy_of, offered_by, is_pinned, is_held, is_referred, is_condemned, caller_at, has_ended, start}
+use Rattle.cf_types.specs.Numbers.{below}
 use Rattle.run_rules.specs.Search.{winner_at, unit_of, due, after_turn}
 use Rattle.run_rules.specs.Deeds.{Arrival, Deed, Choice, Search, EndScan, BeginInterrupts, Finalise, EndCaller, Drop, Answer, Open, Close, Start, Done, Detach, Free, Rescan, BeginPower, Sleep, Wake, EndPower, Plug, Unplug, Tell, Ended, Waits, Does}
 

@@ -17,7 +17,8 @@ use Rattle.run_rules.specs.declared.world.Wanted.{Wanted}
 use Rattle.run_rules.specs.declared.world.ParentRef.{ParentRef}
 use Rattle.run_rules.specs.declared.world.ParentRef.TheVariants as under
 use Rattle.run_rules.specs.declared.world.Setup.{Setup}
-use Rattle.run_rules.specs.World.{below, has, same_place, is_number, device_at, row_at, driver_of, attach_of, offered_by}
+use Rattle.run_rules.specs.World.{has, same_place, is_number, device_at, row_at, driver_of, attach_of, offered_by}
+use Rattle.cf_types.specs.Numbers.{below}
 
 -- ---- the winner: after autoconf(9), the best match
 

@@ -3,7 +3,9 @@ use Rattle.std.specs.Prelude.{ℕ, zero, suc, ◌+◌, ◌^◌, Bool, ◌==◌, 
 use Rattle.std.specs.Int.{bit_at}
 use Rattle.cf_types.specs.declared.tree.DevLine.{DevLine}
 use Rattle.run_rules.specs.declared.world.Dev.{Dev}
-use Rattle.run_rules.specs.World.{World, below, children, name_of, parent_name, is_held, is_condemned}
+use Rattle.run_rules.specs.World.{World, children, name_of, parent_name, is_held, is_condemned}
+use Rattle.cf_types.specs.Lines.{text_of}
+use Rattle.cf_types.specs.Numbers.{below}
 
 -- the devices below a parent, each with its depth: depth first, children by serial; so many levels serve
 unfoldable pub tree_below : ℕ → List Dev → ℕ → ℕ → List (ℕ × Dev)
@@ -48,12 +50,5 @@ dev_text d =
     flat_map (λ _. codes "  ") (below d.depth) ++ d.name ++ codes " at " ++ d.parent ++ codes " row " ++ decimal d.row
     ++ marked_by d.asleep (codes " asleep") ++ marked_by d.condemned (codes " condemned") ++ held_text (holding d.holders)
 
--- a line, and several lines, each with its newline
-abbrev pub ended : List ℕ → List ℕ
-ended text = text ++ 10 ∷ []
-
-abbrev pub all_ended : List (List ℕ) → List ℕ
-all_ended texts = flat_map ended texts
-
 unfoldable pub tree_text : World → List ℕ
-tree_text w = all_ended (codes "tree" ∷ map dev_text (tree_lines w))
+tree_text w = text_of (codes "tree" ∷ map dev_text (tree_lines w))

@@ -2,6 +2,8 @@
 use Rattle.std.specs.Prelude.{ℕ, zero, suc, Bool, true, false, ◌&&◌, ◌||◌, ◌==◌, List, [], ◌∷◌, ◌++◌, length, map, filter, find, slice_get, slice_index_or, Option, Some, None, is_some, option_map, unwrap_or, bytes_eq, codes, decimal}
 use Rattle.std.specs.List.{list_any}
 use Rattle.std.specs.Option.{option_map_or}
+use Rattle.cf_types.specs.Numbers.{below}
+use Rattle.cf_types.specs.Policies.{no_policy}
 use Rattle.cf_types.specs.Offers.{interfaces}
 use Rattle.cf_types.specs.declared.machine.Command.{Command}
 use Rattle.cf_types.specs.declared.machine.Machine.{Machine}
@@ -63,11 +65,6 @@ abbrev pub setup_of : Tables → Machine → List (List Command) → Setup
 setup_of tables machine scripts = record { tables = tables; machine = machine; scripts = scripts }
 
 -- ---- small words
-
--- the numbers below n, in order
-abbrev pub below : ℕ → List ℕ
-below zero = []
-below (suc n) = below n ++ n ∷ []
 
 abbrev pub has : List ℕ → ℕ → Bool
 has xs x = list_any (λ y. y == x) xs
@@ -148,9 +145,6 @@ parent_name s live p = option_map_or (name_of s) (device_at live p) root_name
 
 abbrev pub device_named : Setup → List Dev → List ℕ → Option Dev
 device_named s live name = find (λ d. bytes_eq (name_of s d) name) live
-
-abbrev pub no_policy : Policy
-no_policy = record { nodetach = false; norescan = false; nopower = false; failsuspend = false; defer = false; interrupts = false; finaliser = false }
 
 -- what the driver of a row does, by the row's attachment
 abbrev pub policy_of : Setup → ℕ → Policy

@@ -2,7 +2,7 @@
 ghost use Rattle.std.specs.Prelude.{◌≡◌, ◌++◌, ◌==◌, ◌<◌, OnOk, codes, decimal, flat_map};
 ghost use Rattle.std.specs.Int.{bit_at};
 ghost use Rattle.run_rules.specs.Tree.{marked_by, holding, held_text};
-ghost use Rattle.run_rules.specs.World.{below};
+ghost use Rattle.cf_types.specs.Numbers.{below};
 
 use cf_types::Memory;
 

@@ -2,7 +2,8 @@ use Rattle.std.proofs.Common.{◌≡◌, ◌<◌, ◌==◌, ap, ◌∙◌, ℕ, 
 use Rattle.std.specs.Prelude.{filter, flat_map}
 use Rattle.std.specs.Borrow.{Bor}
 use Rattle.cf_types.specs.declared.instance.Instance.{Instance}
-use Rattle.config_rules.specs.Meaning.{rows_of, device_rows, below}
+use Rattle.config_rules.specs.Meaning.{rows_of, device_rows}
+use Rattle.cf_types.specs.Numbers.{below}
 use Rattle.cf_rows.specs.Rows.{seen}
 use Rattle.cf_rows.proofs.RowLemmas.{rows_more, own_units, same_default}
 use Rattle.cf_rows.proofs.rows.rows_of.Goals as goal

@@ -1,6 +1,7 @@
 use Rattle.std.proofs.Common.{◌≡◌}
 use Rattle.std.specs.Prelude.{flat_map}
-use Rattle.config_rules.specs.Meaning.{device_rows, below}
+use Rattle.config_rules.specs.Meaning.{device_rows}
+use Rattle.cf_types.specs.Numbers.{below}
 use Rattle.cf_rows.proofs.rows.rows_of.Given as goal
 
 abbrev pub invariant-loop-own : goal.invariant-loop-own

@@ -1,5 +1,5 @@
 use Rattle.std.proofs.Common.{◌≡◌, map, take}
-use Rattle.config_rules.specs.MachineText.{no_policy}
+use Rattle.cf_types.specs.Policies.{no_policy}
 use Rattle.machine_model.proofs.machine.no_policies.Given as goal
 
 abbrev pub invariant-loop-attach : goal.invariant-loop-attach

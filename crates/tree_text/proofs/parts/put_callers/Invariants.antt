@@ -1,6 +1,6 @@
 use Rattle.std.proofs.Common.{◌≡◌, ◌+◌, ◌==◌, ◌++◌, codes, decimal, filter, flat_map, map}
 use Rattle.std.specs.Int.{bit_at}
-use Rattle.run_rules.specs.World.{below}
+use Rattle.cf_types.specs.Numbers.{below}
 use Rattle.tree_text.proofs.parts.put_callers.Given as goal
 
 abbrev pub invariant-loop-index : goal.invariant-loop-index

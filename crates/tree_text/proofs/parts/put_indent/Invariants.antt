@@ -1,5 +1,5 @@
 use Rattle.std.proofs.Common.{◌≡◌, ◌++◌, codes, flat_map}
-use Rattle.run_rules.specs.World.{below}
+use Rattle.cf_types.specs.Numbers.{below}
 use Rattle.tree_text.proofs.parts.put_indent.Given as goal
 
 abbrev pub invariant-loop-level : goal.invariant-loop-level
