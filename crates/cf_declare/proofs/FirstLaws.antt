@@ -1,7 +1,7 @@
 -- A loop over the placed statements that looks for the first code.
 use Rattle.std.proofs.Common.{◌≡◌, ℕ, ◌+◌, ◌<◌, ◌≤◌, cond, Some, None, List, [], ◌∷◌, ◌++◌, length, get_or, take, drop, ap, sym, ◌∙◌, subst}
 use Rattle.std.specs.Prelude.{count_by, option_map, if◌then◌else◌}
-use Rattle.std.proofs.lemmas.List.{map_more, at_drop_more, at_drop_all}
+use Rattle.std.proofs.lemmas.List.{at_drop_more, at_drop_all}
 use Rattle.std.proofs.lemmas.List.Sums.{sum_by_push}
 use Rattle.cf_types.specs.declared.stmt.Placed.{Placed}
 use Rattle.cf_types.specs.declared.stmt.Stmt.{Stmt}

@@ -1,6 +1,6 @@
 -- The tables that a configuration means, after those that config(1) makes. The order of the rows, the first units of
 -- starred rows and the warnings are this project's profile.
-use Rattle.std.specs.Prelude.{◌≡◌, ℕ, suc, zero, ◌+◌, Bool, true, false, not, ◌==◌, max, if◌then◌else◌, List, [], ◌∷◌, ◌++◌, length, map, filter, filter_map, flat_map, fold, slice_index_or, Option, Some, None, is_some, unwrap_or, Result, Ok, Err, ℤ}
+use Rattle.std.specs.Prelude.{◌≡◌, ℕ, ◌+◌, Bool, true, false, not, ◌==◌, max, if◌then◌else◌, List, [], ◌∷◌, ◌++◌, length, map, filter, filter_map, flat_map, fold, slice_index_or, Option, Some, None, is_some, unwrap_or, Result, Ok, Err, ℤ}
 use Rattle.std.specs.List.{list_any, zip}
 use Rattle.std.specs.Option.{option_map_or}
 use Rattle.cf_types.specs.Numbers.{below}
