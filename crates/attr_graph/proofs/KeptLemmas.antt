@@ -26,7 +26,7 @@ past_reach : (attrs : List AttrEntry) (e : AttrEntry) (a : ℕ) → length attrs
 past_reach attrs e a h =
     ap (λ o. option_map_or (λ x. x.reach) o []) (slice_get_past (attrs ++ e ∷ []) a (omega (arith, length-append attrs (e ∷ []))))
 
-one_within : (n a : ℕ) → a < n → All (λ b. b < n) (a ∷ [])
+pub one_within : (n a : ℕ) → a < n → All (λ b. b < n) (a ∷ [])
 one_within n a h zero d p = h
 one_within n a h (suc k) d p = absurd (omega arith)
 

@@ -1,2 +1,4 @@
+pub mod BuildLemmas
+pub mod GraphLaws
 pub mod KeptLemmas
 pub mod ReachLemmas

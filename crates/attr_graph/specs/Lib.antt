@@ -1,2 +1,3 @@
+pub mod Graphs
 pub mod Reach
 pub use Rattle.cf_types.specs.Offers

@@ -12,21 +12,13 @@ use Rattle.cf_types.specs.Offers.{Node, firsts, interfaces, interfaces_of, named
 use Rattle.config_rules.specs.Declared.{Declared}
 use Rattle.config_rules.specs.Select as select
 use Rattle.config_rules.specs.Select.{AreRooted, LeadsToRoot, RootedInsts, is_at_root_at, is_parent}
-use Rattle.cf_select.specs.Carried.{IsGraphOf, RootedIn, carries, carries_at, offers_place}
-
-device_list : (nodes : List Node) (devices : List Device) (d : ℕ) → interfaces_of nodes (slice_index_or (map named_by devices) d []) ≡ option_map_or (λ x. interfaces_of nodes (named_by x)) (slice_get devices d) []
-unfolding interfaces_of firsts
-device_list nodes [] d = refl
-device_list nodes (x ∷ devices) zero = refl
-device_list nodes (x ∷ devices) (suc d) = device_list nodes devices d
+use Rattle.attr_graph.specs.Graphs.{IsGraphOf}
+use Rattle.attr_graph.proofs.GraphLaws.{graph_offers}
+use Rattle.cf_select.specs.Carried.{RootedIn, carries, carries_at, offers_place}
 
 place_offered : (d : Declared) (graph : Shape) → IsGraphOf d graph → (device : ℕ) (place : Place) → offers_place graph device place ≡ select.offers_place d device place
-unfolding offers interfaces
 place_offered d graph h device Root = refl
-place_offered d graph h device (At a) =
-    ap (λ (nodes : List Node). is_in a (interfaces_of nodes (slice_index_or graph.devices device []))) h.0
-    ∙ ap (λ (names : List (List ℕ)). is_in a (interfaces_of (nodes_of d.attrs) (slice_index_or names device []))) h.1
-    ∙ ap (is_in a) (device_list (nodes_of d.attrs) d.devices device)
+place_offered d graph h device (At a) = graph_offers d graph h device a
 
 carried : (d : Declared) (graph : Shape) → IsGraphOf d graph → (j i : select.Inst) → carries graph j i ≡ select.carries d j i
 carried d graph h j i = ap (λ b. b && option_map_or (λ p. is_parent p j) i.parent true) (place_offered d graph h j.device i.place)

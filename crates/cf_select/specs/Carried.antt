@@ -8,8 +8,7 @@ use Rattle.cf_types.specs.declared.stmt.UnitMark.TheVariants.{Fixed, Star}
 use Rattle.cf_types.specs.declared.tables.Place.{Place}
 use Rattle.cf_types.specs.declared.tables.Place.TheVariants.{Root, At}
 use Rattle.cf_types.specs.Gather.{is_in}
-use Rattle.cf_types.specs.Offers.{interfaces_of, named_by, nodes_of}
-use Rattle.config_rules.specs.Declared.{Declared}
+use Rattle.cf_types.specs.Offers.{interfaces_of}
 use Rattle.config_rules.specs.Select as select
 use Rattle.config_rules.specs.Select.{is_parent, is_at_root_at, AreRooted}
 use Rattle.cf_select.specs.declared.instance.Inst.{Inst}
@@ -38,7 +37,3 @@ carries_at graph insts j i = option_map_or (λ x. option_map_or (λ y. carries g
 -- one truth value for each instance, true exactly where a chain of carriers leads to the root
 abbrev pub RootedIn : Shape → List select.Inst → List Bool → Type 0
 RootedIn graph insts marks = AreRooted (is_at_root_at insts) (carries_at graph insts) (length insts) marks
-
--- the graph is that of the tables
-abbrev pub IsGraphOf : Declared → Shape → Type 0
-IsGraphOf d graph = (graph.attrs ≡ nodes_of d.attrs) × (graph.devices ≡ map named_by d.devices)

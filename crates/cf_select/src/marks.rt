@@ -2,7 +2,8 @@ ghost use Rattle.std.specs.Prelude.{◌≡◌, ◌<◌, ℕ, true, false, not, c
 ghost use Rattle.std.specs.List.{slice_index_or};
 ghost use Rattle.config_rules.specs.Declared.{Declared};
 ghost use Rattle.config_rules.specs.Select.{AllRooted, AreRooted, Closed, RootedInsts, is_at_root, is_at_root_at};
-ghost use Rattle.cf_select.specs.Carried.{IsGraphOf, RootedIn, carries_at, inst_of};
+ghost use Rattle.attr_graph.specs.Graphs.{IsGraphOf};
+ghost use Rattle.cf_select.specs.Carried.{RootedIn, carries_at, inst_of};
 
 use crate::instance::{Inst, carries, is_at_root};
 use attr_graph::Graph;
