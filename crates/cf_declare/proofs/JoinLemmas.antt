@@ -24,19 +24,6 @@ unfolding offers interfaces
 offers_past attrs devices d a h =
     sym (ap (λ (o : Option Device). list_any (λ x. x == a) (option_map_or (λ device. interfaces_of (nodes_of attrs) (named_by device)) o [])) (slice_get_past devices d h))
 
-list_there : (nodes : List Node) (devices : List Device) (d : ℕ) → d < length devices → option_map_or (λ x. interfaces_of nodes (named_by x)) (slice_get devices d) [] ≡ interfaces_of nodes (get_or (map named_by devices) d [])
-list_there nodes [] d h = absurd (omega arith)
-list_there nodes (x ∷ devices) zero h = refl
-list_there nodes (x ∷ devices) (suc d) h = list_there nodes devices d (omega arith)
-
--- what the graph says is what the device offers
-pub offers_there : (attrs : List Attr) (devices : List Device) (nodes : List Node) (names : List (List ℕ)) (d a : ℕ) (b : Bool) → d < length devices → nodes ≡ nodes_of attrs → names ≡ map named_by devices → b ≡ is_in a (interfaces_of nodes (get_or names d [])) → b ≡ offers attrs devices d a
-unfolding offers interfaces
-offers_there attrs devices nodes names d a b h e f is =
-    is ∙ ap (λ (ns : List Node). is_in a (interfaces_of ns (get_or names d []))) e
-    ∙ ap (λ (xs : List (List ℕ)). is_in a (interfaces_of (nodes_of attrs) (get_or xs d []))) f
-    ∙ ap (is_in a) (sym (list_there (nodes_of attrs) devices d h))
-
 -- ---- the first attachment that suits
 
 -- the places of an attachment, where it is one of the device

@@ -1,18 +1,11 @@
--- The graph of what is declared, and its lists of locators.
+-- The lists of what is declared: their lengths, the lists of locators in them, the places of an attachment.
 use Rattle.std.specs.Prelude.{◌≡◌, ◌==◌, ℕ, ◌≤◌, false, if◌then◌else◌, Option, None, option_map, find, length, map, All}
 use Rattle.cf_types.specs.declared.instance.AttachPlace.{AttachPlace}
 use Rattle.cf_types.specs.declared.instance.Target.{Target}
 use Rattle.cf_types.specs.declared.tables.Attach.{Attach}
 use Rattle.config_rules.specs.Joined.{suits}
-use Rattle.cf_types.specs.Offers.{nodes_of, named_by}
 use Rattle.cf_types.specs.declared.declared.Declared.{Declared}
-use Rattle.attr_graph.specs.Reach.{Shape}
 use Rattle.config_rules.specs.Fault.{repeats}
-
--- the graph has the attributes and devices that are declared
-pub record IsGraphOf (d : Declared) (g : Shape) : Type 0 where
-  pub attrs : g.attrs ≡ nodes_of d.attrs
-  pub devices : g.devices ≡ map named_by d.devices
 
 -- each attribute has at most 16 locators, of different names
 pub record LocatorsFit (d : Declared) : Type 0 where

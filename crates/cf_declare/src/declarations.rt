@@ -2,7 +2,8 @@ ghost use Rattle.std.specs.Prelude.{◌≡◌, ◌<◌, ◌≤◌, [], None, len
 ghost use Rattle.config_rules.specs.Fault.{code_of};
 ghost use Rattle.config_rules.specs.Joined.{join};
 ghost use Rattle.cf_declare.specs.Declare.{declare};
-ghost use Rattle.cf_declare.specs.Graphs.{FitsDeclared, IsGraphOf};
+ghost use Rattle.attr_graph.specs.Graphs.{IsGraphOf};
+ghost use Rattle.cf_declare.specs.Graphs.{FitsDeclared};
 ghost use Rattle.cf_declare.specs.Limits.{HasFewLocators};
 
 use crate::grow::grow;
@@ -23,7 +24,8 @@ pub struct Declarations {
 
 impl Model for Declarations {
     ghost use Rattle.cf_types.specs.declared.declared.Declared.{Declared as Lists};
-    ghost use Rattle.cf_declare.specs.Graphs.{IsGraphOf, LocatorsFit};
+    ghost use Rattle.attr_graph.specs.Graphs.{IsGraphOf};
+    ghost use Rattle.cf_declare.specs.Graphs.{LocatorsFit};
 
     ghost Value = { Lists };
 

@@ -3,7 +3,7 @@ ghost use Rattle.std.specs.Option.{option_to_list};
 ghost use Rattle.cf_types.specs.Offers.{named_by};
 ghost use Rattle.config_rules.specs.Fault.{code_of};
 ghost use Rattle.cf_declare.specs.Declare.{declare};
-ghost use Rattle.cf_declare.specs.Graphs.{IsGraphOf};
+ghost use Rattle.attr_graph.specs.Graphs.{IsGraphOf};
 
 use crate::entry::{new_attach, new_attr, new_device};
 use attr_graph::Graph;

@@ -4,7 +4,8 @@ ghost use Rattle.cf_types.specs.Locators.{locators_at};
 ghost use Rattle.cf_types.specs.Offers.{offers};
 ghost use Rattle.config_rules.specs.Declared.{attr_number};
 ghost use Rattle.config_rules.specs.Joined.{attr_target, target_of, suits, spots_of, fill, join, parent_of};
-ghost use Rattle.cf_declare.specs.Graphs.{IsGraphOf, LocatorsFit, placed_of};
+ghost use Rattle.attr_graph.specs.Graphs.{IsGraphOf};
+ghost use Rattle.cf_declare.specs.Graphs.{LocatorsFit, placed_of};
 
 use crate::lookup::{attr_number, device_number};
 use attr_graph::Graph;

@@ -1,6 +1,7 @@
 ghost use Rattle.std.specs.Prelude.{◌≡◌, IfOk};
 ghost use Rattle.config_rules.specs.Fault.{class_fault, instance_fault, pseudo_fault, code_of};
-ghost use Rattle.cf_declare.specs.Graphs.{FitsDeclared, IsGraphOf, LocatorsFit};
+ghost use Rattle.attr_graph.specs.Graphs.{IsGraphOf};
+ghost use Rattle.cf_declare.specs.Graphs.{FitsDeclared, LocatorsFit};
 
 use crate::define::{define_fault, device_fault};
 use crate::fault::{attach_fault, has_attr, is_pseudo};

@@ -63,18 +63,3 @@ seeks_entry_at f xs ys n x old new e p is h =
 
 pub seeks_past_at : {X : Type 0} (f : ℕ × X → List ℕ) (xs ys : List X) (n : ℕ) (old : List ℕ) → ys ≡ xs → length ys ≤ n → Seeks (map f (enumerate_from 0 xs)) n (Some (n - length ys)) old old
 seeks_past_at f xs ys n old e h = (omega (arith, h, ap length e, length-map (enumerate_from 0 xs) f, length-enumerate_from 0 xs), refl)
-
-no_walk : (names : List ℕ) → flat_map (walk 0 []) names ≡ []
-unfolding walk
-no_walk [] = refl
-no_walk (x ∷ names) = no_walk names
-
-nothing_named : (d : Option Device) → option_map_or (λ device. interfaces_of [] (named_by device)) d [] ≡ []
-unfolding interfaces_of firsts
-nothing_named None = refl
-nothing_named (Some device) = ap (λ xs. firsts (filter (is_interface []) xs)) (no_walk (named_by device))
-
--- where there is no attribute, none is offered
-pub nothing_offered : (attrs : List Attr) (devices : List Device) (d : ℕ) → attrs ≡ [] → interfaces attrs devices d ≡ []
-unfolding interfaces
-nothing_offered attrs devices d e = ap (λ (xs : List Attr). interfaces xs devices d) e ∙ nothing_named (slice_get devices d)

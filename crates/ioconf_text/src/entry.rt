@@ -1,11 +1,14 @@
 ghost use Rattle.std.specs.Prelude.{◌≡◌, ◌++◌, ◌<◌, ◌^◌, [], map, length, slice_get, codes, IfOk, OnErr};
 ghost use Rattle.std.specs.List.{enumerate_from};
 ghost use Rattle.config_rules.specs.Listing.{attr_line, device_line, attach_line, row_line, pseudo_line, item_line, file_system_line, warning_line, driver_lines, definition_lines, instance_lines, option_lines, rest_lines, end_lines, tail_lines, entry_lines, lines};
+ghost use Rattle.config_rules.specs.Formed.{FormedTables};
+ghost use Rattle.attr_graph.specs.Graphs.{IsGraphOf, declared_by};
 ghost use Rattle.ioconf_text.specs.Seeking.{Seeks, PutsLine};
 
 use crate::definition::{put_attach, put_attr, put_device};
 use crate::item::{put_file_system, put_item, put_pseudo, put_warning};
 use crate::row::put_row;
+use attr_graph::{Graph, graph_of};
 use cf_types::{Item, Memory, Tables};
 
 // Each `seek_` puts line `n` of a section of the listing and answers `None`, or answers how far `n` lies behind it.
@@ -23,15 +26,21 @@ fn seek_attr(out: &mut Vec<u8>, tables: &Tables, n: usize) -> Result<Option<usiz
     }
 }
 
-fn seek_device(out: &mut Vec<u8>, tables: &Tables, n: usize) -> Result<Option<usize>, Memory>
-    requires { tables.now.attrs ≡ [] }
+fn seek_device(
+    out: &mut Vec<u8>,
+    tables: &Tables,
+    graph: &Graph,
+    n: usize,
+) -> Result<Option<usize>, Memory>
+    requires graph { IsGraphOf (declared_by tables.now) graph.now }
+    requires small { n < 2 ^ 32 }
     ensures { IfOk result (λ left. Seeks (map (device_line tables.now) (enumerate_from 0 tables.now.devices)) n left out.old.items out.new.items) }
 {
     let devices = tables.devices.items();
     if n >= devices.len() {
         return Ok(Some(n - devices.len()));
     }
-    put_device(out, tables, &devices[n], &[])?;
+    put_device(out, tables, &devices[n], graph.interfaces(n as u32))?;
     Ok(None)
 }
 
@@ -115,24 +124,36 @@ fn seek_warning(out: &mut Vec<u8>, tables: &Tables, n: usize) -> Result<Option<u
     }
 }
 
-fn seek_driver(out: &mut Vec<u8>, tables: &Tables, n: usize) -> Result<Option<usize>, Memory>
-    requires { tables.now.attrs ≡ [] }
+fn seek_driver(
+    out: &mut Vec<u8>,
+    tables: &Tables,
+    graph: &Graph,
+    n: usize,
+) -> Result<Option<usize>, Memory>
+    requires graph { IsGraphOf (declared_by tables.now) graph.now }
+    requires small { n < 2 ^ 32 }
     ensures { IfOk result (λ left. Seeks (driver_lines tables.now) n left out.old.items out.new.items) }
 {
-    let Some(n) = seek_device(out, tables, n)? else {
+    let Some(n) = seek_device(out, tables, graph, n)? else {
         return Ok(None);
     };
     seek_attach(out, tables, n)
 }
 
-fn seek_definition(out: &mut Vec<u8>, tables: &Tables, n: usize) -> Result<Option<usize>, Memory>
-    requires { tables.now.attrs ≡ [] }
+fn seek_definition(
+    out: &mut Vec<u8>,
+    tables: &Tables,
+    graph: &Graph,
+    n: usize,
+) -> Result<Option<usize>, Memory>
+    requires graph { IsGraphOf (declared_by tables.now) graph.now }
+    requires small { n < 2 ^ 32 }
     ensures { IfOk result (λ left. Seeks (definition_lines tables.now) n left out.old.items out.new.items) }
 {
     let Some(n) = seek_attr(out, tables, n)? else {
         return Ok(None);
     };
-    seek_driver(out, tables, n)
+    seek_driver(out, tables, graph, n)
 }
 
 fn seek_instance(out: &mut Vec<u8>, tables: &Tables, n: usize) -> Result<Option<usize>, Memory>
@@ -182,37 +203,59 @@ fn seek_tail(out: &mut Vec<u8>, tables: &Tables, n: usize) -> Result<Option<usiz
 }
 
 /// A line behind the first.
-fn seek_line(out: &mut Vec<u8>, tables: &Tables, n: usize) -> Result<Option<usize>, Memory>
-    requires { tables.now.attrs ≡ [] }
+fn seek_line(
+    out: &mut Vec<u8>,
+    tables: &Tables,
+    graph: &Graph,
+    n: usize,
+) -> Result<Option<usize>, Memory>
+    requires graph { IsGraphOf (declared_by tables.now) graph.now }
+    requires small { n < 2 ^ 32 }
     ensures { IfOk result (λ left. Seeks (entry_lines tables.now) n left out.old.items out.new.items) }
 {
-    let Some(n) = seek_definition(out, tables, n)? else {
+    let Some(n) = seek_definition(out, tables, graph, n)? else {
         return Ok(None);
     };
     seek_tail(out, tables, n)
 }
 
-fn put_entry(out: &mut Vec<u8>, tables: &Tables, n: u32) -> Result<bool, Memory>
-    requires { tables.now.attrs ≡ [] }
+fn put_entry(out: &mut Vec<u8>, tables: &Tables, graph: &Graph, n: u32) -> Result<bool, Memory>
+    requires { IsGraphOf (declared_by tables.now) graph.now }
     ensures { IfOk result (λ more. PutsLine (slice_get (lines tables.now) n) more out.old.items out.new.items) }
 {
     if n == 0 {
         out.extend_from_slice(b"tables")?;
         return Ok(true);
     }
-    let left = seek_line(out, tables, n as usize - 1)?;
+    let left = seek_line(out, tables, graph, n as usize - 1)?;
     Ok(left.is_none())
 }
 
 /// Appends line `n` of the listing of the tables, counted from 0 and without its newline, and answers whether there is
-/// one. Where there is none, or memory runs out, nothing is appended. So far the tables may have no attributes.
-pub fn put_line(tables: &Tables, n: u32, out: &mut Vec<u8>) -> Result<bool, Memory>
-    requires { tables.now.attrs ≡ [] }
+/// one; the graph tells what devices offer. Where there is none, or memory runs out, nothing is appended.
+pub fn put_line_with(
+    tables: &Tables,
+    graph: &Graph,
+    n: u32,
+    out: &mut Vec<u8>,
+) -> Result<bool, Memory>
+    requires { IsGraphOf (declared_by tables.now) graph.now }
     ensures ok { IfOk result (λ more. PutsLine (slice_get (lines tables.now) n) more out.old.items out.new.items) }
     ensures err { OnErr result (out.new.items ≡ out.old.items) }
 {
     let mut line = Vec::new(*out.allocator());
-    let more = put_entry(&mut line, tables, n)?;
+    let more = put_entry(&mut line, tables, graph, n)?;
     out.extend_from_slice(&line)?;
     Ok(more)
+}
+
+/// Appends line `n` of the listing of formed tables, as `put_line_with` does. It finds what all devices offer, so for
+/// many lines make the graph once.
+pub fn put_line(tables: &Tables, n: u32, out: &mut Vec<u8>) -> Result<bool, Memory>
+    requires { FormedTables tables.now }
+    ensures ok { IfOk result (λ more. PutsLine (slice_get (lines tables.now) n) more out.old.items out.new.items) }
+    ensures err { OnErr result (out.new.items ≡ out.old.items) }
+{
+    let graph = graph_of(*out.allocator(), tables)?;
+    put_line_with(tables, &graph, n, out)
 }
