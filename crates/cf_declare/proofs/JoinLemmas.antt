@@ -1,6 +1,6 @@
 -- What a device offers by the graph, and the first attachment that suits.
-use Rattle.std.proofs.Common.{◌≡◌, ℕ, ◌+◌, ◌<◌, ◌≤◌, zero, suc, Bool, true, false, cond, Option, Some, None, List, [], ◌∷◌, ◌++◌, length, get_or, drop, map, refl, ap, sym, ◌∙◌, arith}
-use Rattle.std.specs.Prelude.{find, flat_map, slice_get, ◌==◌, if◌then◌else◌, option_map, Ok, Err}
+use Rattle.std.proofs.Common.{◌≡◌, ℕ, ◌+◌, ◌<◌, ◌≤◌, Bool, true, false, cond, Option, Some, None, List, [], ◌∷◌, ◌++◌, length, get_or, drop, map, refl, ap, sym, ◌∙◌, arith}
+use Rattle.std.specs.Prelude.{find, flat_map, ◌==◌, if◌then◌else◌, option_map, Ok, Err}
 use Rattle.std.specs.List.{list_any, enumerate_from}
 use Rattle.std.specs.Option.{option_map_or}
 use Rattle.std.proofs.lemmas.List.{drop_more}
@@ -12,8 +12,7 @@ use Rattle.cf_types.specs.declared.tables.Attr.{Attr}
 use Rattle.cf_types.specs.declared.tables.Device.{Device}
 use Rattle.cf_types.specs.declared.tables.Place.{Place}
 use Rattle.cf_types.specs.declared.declared.Declared.{Declared}
-use Rattle.cf_types.specs.Gather.{is_in}
-use Rattle.cf_types.specs.Offers.{Node, nodes_of, named_by, interfaces_of, interfaces, offers}
+use Rattle.cf_types.specs.Offers.{nodes_of, named_by, interfaces_of, interfaces, offers}
 use Rattle.config_rules.specs.Joined.{suits, fill, fill_fault}
 use Rattle.cf_types.specs.declared.stmt.GivenLoc.{GivenLoc}
 use Rattle.cf_declare.specs.Graphs.{placed_of}

@@ -1,14 +1,10 @@
 -- Where the graph is that of the tables, what it says of carriers is what the tables say.
-use Rattle.std.proofs.Common.{◌≡◌, ℕ, ◌&&◌, zero, suc, Bool, true, false, List, [], ◌∷◌, length, map, refl, ap, sym, ◌∙◌}
+use Rattle.std.proofs.Common.{◌≡◌, ℕ, ◌&&◌, Bool, true, false, List, [], ◌∷◌, length, refl, ap, sym, ◌∙◌}
 use Rattle.std.specs.Prelude.{Some, None, Option, slice_get}
-use Rattle.std.specs.List.{slice_index_or}
 use Rattle.std.specs.Option.{option_map_or}
 use Rattle.attr_graph.specs.Reach.{Shape}
-use Rattle.cf_types.specs.declared.tables.Device.{Device}
 use Rattle.cf_types.specs.declared.tables.Place.{Place}
 use Rattle.cf_types.specs.declared.tables.Place.TheVariants.{Root, At}
-use Rattle.cf_types.specs.Gather.{is_in}
-use Rattle.cf_types.specs.Offers.{Node, firsts, interfaces, interfaces_of, named_by, nodes_of, offers}
 use Rattle.config_rules.specs.Declared.{Declared}
 use Rattle.config_rules.specs.Select as select
 use Rattle.config_rules.specs.Select.{AreRooted, LeadsToRoot, RootedInsts, is_at_root_at, is_parent}
