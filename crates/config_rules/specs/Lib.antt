@@ -1,6 +1,7 @@
 pub mod Cut
 pub mod Form
 pub mod Reading
+pub mod Written
 pub mod Declared
 pub mod Joined
 pub mod Fault
