@@ -7,3 +7,4 @@ pub mod Stop
 pub mod Steps
 pub use Rattle.cf_io.specs.Faults
 pub use Rattle.config_rules.specs.Reading
+pub use Rattle.config_rules.specs.Written

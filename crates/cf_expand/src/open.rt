@@ -126,6 +126,7 @@ fn absent(
     line: u32,
     wanted: Include,
 ) -> Result<(), Memory>
+    requires { length progress.old.placed < 65536 }
     ensures { OnOk result (progress.new ≡ when_absent source.now line wanted.path wanted.optional progress.old) }
 {
     if wanted.optional {
@@ -145,6 +146,7 @@ pub fn open_include<F: Files>(
     line: u32,
     wanted: Include,
 ) -> Result<Option<Source>, ExpandStop>
+    requires { length progress.old.placed < 65536 }
     ensures told { F.told files.new ≡ F.told files.old }
     ensures counted { Counted (F.faults files.old) (F.faults files.new) result }
     ensures below { IfOk result (λ opened. IfSome opened (λ _. 1 ≤ source.now.levels) × IsBelow (source.now.room - length conditions.now) (source.now.levels - 1) opened) }

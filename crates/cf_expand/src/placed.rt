@@ -1,6 +1,7 @@
-ghost use Rattle.std.specs.Prelude.{◌≡◌, ℕ, ◌||◌, [], ◌∷◌, ◌++◌, List as Items, OnErr, OnOk, length};
+ghost use Rattle.std.specs.Prelude.{◌≡◌, ℕ, ◌<◌, ◌||◌, [], ◌∷◌, ◌++◌, List as Items, OnErr, OnOk, length};
 ghost use Rattle.std.specs.Option.{option_copied};
 ghost use Rattle.config_rules.specs.Reading.{declares, is_declared};
+ghost use Rattle.config_rules.specs.Written.{AreWritten, IsWritten};
 ghost use Rattle.cf_expand.specs.Names.{declared_name, has};
 
 use cf_types::{List, Memory, Name, Placed, Stmt};
@@ -34,7 +35,8 @@ fn note(alloc: Global, names: &mut BTreeSet<Vec<u8>>, stmt: &Stmt) -> Result<(),
     Ok(())
 }
 
-/// The placed statements, with a set of the names that they declare. Contracts see the list alone.
+/// The placed statements, which keep the limits of the language, with a set of the names that they declare. Contracts
+/// see the list alone.
 #[derive(Drop)]
 pub struct PlacedList {
     items: Vec<Placed>,
@@ -44,13 +46,14 @@ pub struct PlacedList {
 impl Model for PlacedList {
     ghost use Rattle.std.specs.Prelude.{List as Items};
     ghost use Rattle.cf_types.specs.declared.stmt.Placed.{Placed};
+    ghost use Rattle.config_rules.specs.Written.{AreWritten};
     ghost use Rattle.cf_expand.specs.Names.{AreNamesOf};
 
     ghost Value = { Items Placed };
 
     ghost view = { λ it. it.items.items };
 
-    ghost invariant = { λ it. AreNamesOf it.items.items it.names };
+    ghost invariant = { λ it. AreNamesOf it.items.items it.names × AreWritten it.items.items };
 }
 
 impl PlacedList {
@@ -73,6 +76,8 @@ impl PlacedList {
 
     /// Appends a statement.
     pub fn push(&mut self, placed: Placed) -> Result<(), Memory>
+        requires few { length self.old < 65536 }
+        requires written { IsWritten placed.stmt }
         ensures { OnOk result (self.new ≡ self.old ++ placed ∷ []) }
     {
         self.items.reserve(1)?;
@@ -90,7 +95,8 @@ impl PlacedList {
 
     /// The statements as a list.
     pub fn into_list(self) -> List<Placed>
-        ensures { result ≡ self }
+        ensures same { result ≡ self }
+        ensures written { AreWritten result }
     {
         let PlacedList { items, .. } = self;
         List::from_vec(items)

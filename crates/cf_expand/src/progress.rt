@@ -1,6 +1,7 @@
-ghost use Rattle.std.specs.Prelude.{◌≡◌, [], ◌∷◌, ◌++◌, IfOk, OnOk, Some, is_some, length};
+ghost use Rattle.std.specs.Prelude.{◌≡◌, ◌<◌, [], ◌∷◌, ◌++◌, IfOk, OnOk, Some, is_some, length};
 ghost use Rattle.config_rules.specs.Cut.{pieces};
 ghost use Rattle.config_rules.specs.Reading.{is_declared, nothing_read, refused, under_prefix};
+ghost use Rattle.config_rules.specs.Written.{AreWritten, IsWritten};
 ghost use Rattle.cf_expand.specs.Prefixes.{Pops};
 ghost use Rattle.cf_expand.specs.Steps.{expanded};
 
@@ -80,6 +81,8 @@ impl Progress {
 
     /// Appends a statement.
     pub fn place(&mut self, file: u32, line: u32, stmt: Stmt) -> Result<(), Memory>
+        requires few { length self.old.placed < 65536 }
+        requires written { IsWritten stmt }
         ensures { OnOk result (self.new ≡ record self.old { placed = self.old.placed ++ record { stmt = stmt; file = file; line = line } ∷ [] }) }
     {
         self.placed.push(Placed { stmt, file, line })
@@ -121,7 +124,8 @@ impl Progress {
 
     /// What was read, without the prefixes.
     pub fn into_expanded(self) -> Expanded
-        ensures { result ≡ expanded self }
+        ensures same { result ≡ expanded self }
+        ensures written { AreWritten result.placed }
     {
         let Progress {
             placed,

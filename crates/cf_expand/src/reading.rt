@@ -1,5 +1,6 @@
 ghost use Rattle.std.specs.Prelude.{◌≡◌, ℕ, ◌-◌, IfOk, IfSome, OnOk, Some};
 ghost use Rattle.cf_grammar.specs.Statement.{AreWithin};
+ghost use Rattle.config_rules.specs.Written.{AreWritten};
 ghost use Rattle.config_rules.specs.Reading.{nothing_read, read_end, read_line, reader, reading};
 ghost use Rattle.cf_expand.specs.Lines.{line_of};
 ghost use Rattle.cf_expand.specs.Stop.{Counted};
@@ -106,11 +107,13 @@ fn read_named<F: Files>(
 
 /// Reads the named configuration file with all that it includes, as config(5) has it: the statements that stand in no
 /// part that is left out, the names of the files as they were loaded, and the first fault with its file, line and code.
-/// Where it answers `ReadFault`, the count of faults rose; where it answers `Memory`, nothing is known of the files.
+/// Whatever the files hold, the statements keep the limits of the language. Where it answers `ReadFault`, the count of
+/// faults rose; where it answers `Memory`, nothing is known of the files.
 pub fn expand<F: Files>(alloc: Global, files: &mut F, name: &[u8]) -> Result<Expanded, ExpandStop>
     ensures told { F.told files.new ≡ F.told files.old }
     ensures counted { Counted (F.faults files.old) (F.faults files.new) result }
     ensures reading { IfSome (F.told files.old) (λ named. IfOk result (λ read. read ≡ expanded (reading named name.now))) }
+    ensures written { IfOk result (λ read. AreWritten read.placed) }
 {
     let mut progress = Progress::make(alloc);
     read_named(alloc, files, &mut progress, name)?;

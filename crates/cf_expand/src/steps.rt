@@ -1,6 +1,7 @@
-ghost use Rattle.std.specs.Prelude.{◌≡◌, ℕ, ◌-◌, OnOk};
+ghost use Rattle.std.specs.Prelude.{◌≡◌, ℕ, ◌-◌, ◌<◌, IfOk, IfSome, OnOk, length};
 ghost use Rattle.cf_grammar.specs.Statement.{AreWithin};
 ghost use Rattle.config_rules.specs.Reading.{is_misplaced, is_placed, names_declared, read_line, read_placed, treat};
+ghost use Rattle.config_rules.specs.Written.{IsWritten};
 ghost use Rattle.cf_expand.specs.Conditions.{holds_by};
 ghost use Rattle.cf_expand.specs.Lines.{line_of};
 ghost use Rattle.cf_expand.specs.Steps.{Steps, here_of, turned};
@@ -69,6 +70,7 @@ fn turn_prefix(
     tokens: &[Token],
     path: Option<Text>,
 ) -> Result<(), Memory>
+    requires { length progress.old.placed < 65536 }
     ensures { OnOk result ((around : ℕ) → progress.new ≡ turned (here_of around source.now) (line_of source.now.text tokens.now) path progress.old) }
 {
     let line = line_number(tokens);
@@ -94,8 +96,11 @@ fn treat(
     tokens: &[Token],
     stmt: Stmt,
 ) -> Result<Option<Include>, Memory>
-    requires { AreWithin source.now.text tokens.now }
-    ensures { Steps source.now conditions.now (line_of source.now.text tokens.now) (λ files below here. treat files below here conditions.now (line_of source.now.text tokens.now) stmt progress.old) result progress.new }
+    requires within { AreWithin source.now.text tokens.now }
+    requires few { length progress.old.placed < 65536 }
+    requires written { IsWritten stmt }
+    ensures few { IfOk result (λ wanted. IfSome wanted (λ _. length progress.new.placed < 65536)) }
+    ensures steps { Steps source.now conditions.now (line_of source.now.text tokens.now) (λ files below here. treat files below here conditions.now (line_of source.now.text tokens.now) stmt progress.old) result progress.new }
 {
     let line = line_number(tokens);
     match stmt {
@@ -120,7 +125,8 @@ fn read_placed(
     tokens: &[Token],
 ) -> Result<Option<Include>, Memory>
     requires { AreWithin source.now.text tokens.now }
-    ensures { Steps source.now conditions.now (line_of source.now.text tokens.now) (λ files below here. read_placed files below here conditions.now (line_of source.now.text tokens.now) progress.old) result progress.new }
+    ensures few { IfOk result (λ wanted. IfSome wanted (λ _. length progress.new.placed < 65536)) }
+    ensures steps { Steps source.now conditions.now (line_of source.now.text tokens.now) (λ files below here. read_placed files below here conditions.now (line_of source.now.text tokens.now) progress.old) result progress.new }
 {
     if progress.placed_len() >= MAX_PLACED {
         progress.refuse(alloc, source.name.items(), line_number(tokens), PLACED_CODE)?;
@@ -145,7 +151,8 @@ pub fn read_statement(
     tokens: &[Token],
 ) -> Result<Option<Include>, Memory>
     requires { AreWithin source.now.text tokens.now }
-    ensures { Steps source.now conditions.now (line_of source.now.text tokens.now) (λ files below here. read_line files below here conditions.now (line_of source.now.text tokens.now) progress.old) result progress.new }
+    ensures few { IfOk result (λ wanted. IfSome wanted (λ _. length progress.new.placed < 65536)) }
+    ensures steps { Steps source.now conditions.now (line_of source.now.text tokens.now) (λ files below here. read_line files below here conditions.now (line_of source.now.text tokens.now) progress.old) result progress.new }
 {
     if is_placed(source, conditions, tokens) {
         return read_placed(alloc, progress, source, conditions, tokens);
