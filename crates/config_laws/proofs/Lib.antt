@@ -1,0 +1,9 @@
+pub mod ListLaws
+pub mod FreeLaws
+pub mod DeclaredLaws
+pub mod OfferedLaws
+pub mod InstanceLaws
+pub mod UnitLaws
+pub mod OrderLaws
+pub mod RowLaws
+pub mod FormedLaws

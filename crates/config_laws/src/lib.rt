@@ -1,0 +1,2 @@
+//! Laws of accepted configurations: lemmas alone.
+#![tactic(auto)]
