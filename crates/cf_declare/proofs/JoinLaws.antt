@@ -91,7 +91,7 @@ unfolding fill
 as_many locs pairs = values_or locs pairs (fill_fault locs pairs)
 
 -- the value of an option that isn't refused
-some_of : {A : Type 0} (o : Option A) (code : ℕ) (x : A) → ok_or o code ≡ Ok x → o ≡ Some x
+pub some_of : {A : Type 0} (o : Option A) (code : ℕ) (x : A) → ok_or o code ≡ Ok x → o ≡ Some x
 some_of None code x h = absurd (cc)
 some_of (Some y) code x h = let e : y ≡ x = cc in ap Some e
 

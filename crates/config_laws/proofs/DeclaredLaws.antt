@@ -1,10 +1,8 @@
 -- How much statements that are written declare, and by what names.
-use Rattle.std.proofs.Common.{◌≡◌, ℕ, ◌<◌, ◌≤◌, true, false, Some, None, List, [], ◌∷◌, length, map, refl, ap, sym, ◌∙◌, subst, arith}
-use Rattle.std.specs.Prelude.{IfSome, filter_map, unwrap_or, ⊤}
+use Rattle.std.proofs.Common.{◌≡◌, ℕ, ◌≤◌, true, false, Some, None, List, length, map, sym, subst, arith}
+use Rattle.std.specs.Prelude.{IfSome, filter_map}
 use Rattle.std.specs.List.{All}
-use Rattle.std.proofs.lemmas.List.{length-map}
 use Rattle.std.proofs.lemmas.List.Elements.{All-map, All-weaker}
-use Rattle.cf_types.specs.declared.stmt.Placed.{Placed}
 use Rattle.cf_types.specs.declared.stmt.Stmt.{Stmt}
 use Rattle.cf_types.specs.declared.stmt.Stmt.TheVariants as stmt
 use Rattle.cf_types.specs.declared.tables.Attr.{Attr}
@@ -12,7 +10,6 @@ use Rattle.cf_types.specs.declared.tables.Attach.{Attach}
 use Rattle.cf_types.specs.declared.tables.Device.{Device}
 use Rattle.cf_text.specs.Shapes.{ends_with_digit}
 use Rattle.config_rules.specs.Declared.{attach_of, attr_name, attr_of, declared, device_name, device_of}
-use Rattle.config_rules.specs.Fault.{stmts_of}
 use Rattle.config_rules.specs.Formed.{AreNames}
 use Rattle.config_rules.specs.MachineText.{is_free_name}
 use Rattle.config_rules.specs.Written.{IsWritten}

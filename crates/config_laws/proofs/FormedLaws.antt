@@ -1,12 +1,9 @@
 -- The tables of an accepted configuration are formed.
-use Rattle.std.proofs.Common.{◌≡◌, ℕ, ◌<◌, ◌≤◌, Bool, true, None, List, [], length, get_or, refl, arith}
-use Rattle.std.specs.Prelude.{IfSome}
+use Rattle.std.proofs.Common.{◌≡◌, ℕ, ◌<◌, ◌≤◌, Bool, true, None, List, [], length, refl, arith}
 use Rattle.std.specs.List.{All}
 use Rattle.std.proofs.lemmas.List.{length-map}
 use Rattle.std.proofs.lemmas.List.Elements.{All-map, All-weaker}
-use Rattle.cf_types.specs.declared.instance.Instance.{Instance}
 use Rattle.cf_types.specs.declared.stmt.Placed.{Placed}
-use Rattle.cf_types.specs.declared.stmt.Stmt.{Stmt}
 use Rattle.config_rules.specs.Declared.{declared}
 use Rattle.config_rules.specs.Fault.{first_code, stmts_of}
 use Rattle.config_rules.specs.Formed.{FormedTables}

@@ -1,7 +1,7 @@
 -- Statements without a code define nothing by the name `root`, and names that differ pass the test of it.
-use Rattle.std.proofs.Common.{◌≡◌, ◌≢◌, ℕ, suc, ◌<◌, Bool, true, false, ◌&&◌, ◌||◌, Some, None, List, [], ◌∷◌, length, get_or, map, refl, ap, sym, ◌∙◌, subst, arith}
-use Rattle.std.specs.Prelude.{bytes_eq, codes, not, unwrap_or, is_some, count_by, IfSome}
-use Rattle.std.specs.List.{All, AllPairs, list_any}
+use Rattle.std.proofs.Common.{◌≡◌, ◌≢◌, ℕ, suc, Bool, true, false, ◌&&◌, ◌||◌, None, List, [], ◌∷◌, get_or, map, refl, ap, arith}
+use Rattle.std.specs.Prelude.{bytes_eq, codes, not, unwrap_or, is_some, count_by}
+use Rattle.std.specs.List.{All}
 use Rattle.std.proofs.lemmas.Bool.{and_from, or_parts}
 use Rattle.std.proofs.lemmas.List.Elements.{All-head, All-tail}
 use Rattle.std.proofs.lemmas.Slice.Eq.{bytes_eq-Decides}
@@ -10,7 +10,7 @@ use Rattle.cf_types.specs.declared.stmt.Stmt.{Stmt}
 use Rattle.cf_types.specs.declared.stmt.Stmt.TheVariants as stmt
 use Rattle.cf_text.specs.Shapes.{is_written}
 use Rattle.config_rules.specs.Declared.{Declared, has_attach, is_root, declared}
-use Rattle.config_rules.specs.Fault.{code_of, fault_of, first_code, has_attr, has_device, is_instance, places_fault, stmts_of}
+use Rattle.config_rules.specs.Fault.{code_of, fault_of, first_code, has_attr, has_device, is_instance, places_fault}
 use Rattle.config_rules.specs.MachineText.{differ, is_free_name, is_one}
 use Rattle.config_rules.specs.Written.{IsName}
 use Rattle.cf_declare.specs.Sound.{NamesDiffer}

@@ -1,11 +1,11 @@
 -- The surviving instances of a configuration without a code: how many they are, their units, and those at the root.
-use Rattle.std.proofs.Common.{◌≡◌, ℕ, ◌+◌, ◌<◌, ◌≤◌, suc, zero, Bool, true, false, cond, ◌&&◌, Option, Some, None, List, [], ◌∷◌, ◌++◌, length, get_or, map, take, refl, ap, sym, ◌∙◌, subst, length-append, arith}
-use Rattle.std.specs.Prelude.{ℤ, IfOk, IfSome, Result, Ok, Err, count_by, filter, find, not, ok_or, is_none, is_some, if◌then◌else◌, ◌==◌, slice_get}
+use Rattle.std.proofs.Common.{◌≡◌, ℕ, ◌+◌, ◌≤◌, suc, zero, Bool, true, false, cond, ◌&&◌, Option, Some, None, List, [], ◌∷◌, ◌++◌, length, get_or, take, refl, ap, sym, ◌∙◌, subst, arith}
+use Rattle.std.specs.Prelude.{ℤ, IfOk, Result, Ok, Err, count_by, filter, find, not, ok_or, if◌then◌else◌}
 use Rattle.std.specs.List.{All, list_any, zip}
 use Rattle.std.specs.Option.{option_map_or}
 use Rattle.std.proofs.lemmas.List.{length-map, take_all}
 use Rattle.std.proofs.lemmas.List.Elements.{All-append, All-cons, All-head, All-nil, All-tail}
-use Rattle.std.proofs.lemmas.List.Sums.{length-filter}
+use Rattle.std.proofs.lemmas.List.Sums.{count_by-le-length, length-filter}
 use Rattle.std.proofs.lemmas.Option.{get_or_from_slice_get}
 use Rattle.std.proofs.lemmas.Slice.Zip.{length-zip}
 use Rattle.cf_types.specs.Locators.{locators_at}
@@ -27,15 +27,15 @@ use Rattle.config_rules.specs.Declared.{Declared, declared}
 use Rattle.config_rules.specs.Fault.{first_code, is_instance, stmts_of}
 use Rattle.config_rules.specs.Formed.{is_root}
 use Rattle.config_rules.specs.Joined.{attached, device_or, fill, join, parent_of, spots_of, suits, target_of}
-use Rattle.config_rules.specs.Meaning.{if_joined, instance_of, marked, surviving, unit_of}
+use Rattle.config_rules.specs.Meaning.{if_joined, instance_of, marked, surviving}
 use Rattle.config_rules.specs.Select.{names, survives}
 use Rattle.config_rules.specs.Written.{IsUnit, IsWritten}
 use Rattle.config_rules.proofs.CutLaws.{if_bind}
 use Rattle.config_rules.proofs.PlacedLaws.{stmts_more}
 use Rattle.cf_declare.proofs.AcceptedLaws.{accepted_at, instances_few}
+use Rattle.cf_declare.proofs.JoinLaws.{some_of}
 use Rattle.cf_declare.proofs.ListFacts.{element}
 use Rattle.cf_rows.specs.Rows.{UnitFits}
-use Rattle.config_laws.proofs.ListLaws.{passing_few}
 
 -- ---- all that survive
 
@@ -93,10 +93,6 @@ found_passes {X} p (x ∷ xs) y h = one (p x) refl h (found_passes p xs y)
     one : (b : Bool) → p x ≡ b → cond b (Some x) (find p xs) ≡ Some y → (find p xs ≡ Some y → p y ≡ true) → p y ≡ true
     one true e k later = let same : x ≡ y = cc in ap p (sym same) ∙ e
     one false e k later = later k
-
-some_of : {A : Type 0} (o : Option A) (code : ℕ) (x : A) → ok_or o code ≡ Ok x → o ≡ Some x
-some_of None code x h = absurd (cc)
-some_of (Some y) code x h = let e : y ≡ x = cc in ap Some e
 
 joins_alone : (d : Declared) (base : List ℕ) (at : AtSpec) (pairs : List GivenLoc) → IfOk (join d base at pairs) IsAlone
 unfolding join
@@ -158,7 +154,8 @@ marked_few files placed marks none =
     omega (
       arith,
       length-map (filter (λ (e : Instance × Bool). if e.1 then true else not true) (zip insts marks)) (λ e. e.0),
-      passing_few (λ (e : Instance × Bool). if e.1 then true else not true) (zip insts marks),
+      length-filter (λ (e : Instance × Bool). if e.1 then true else not true) (zip insts marks),
+      count_by-le-length (λ (e : Instance × Bool). if e.1 then true else not true) (zip insts marks),
       length-zip insts marks,
       surviving_few [] (stmts_of placed),
       length-filter is_instance (stmts_of placed),

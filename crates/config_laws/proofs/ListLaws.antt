@@ -3,7 +3,7 @@ use Rattle.std.proofs.Common.{◌≡◌, ◌≢◌, ℕ, ◌+◌, ◌<◌, ◌�
 use Rattle.std.specs.Prelude.{IfSome, filter, flat_map, filter_map, ◌==◌, if◌then◌else◌}
 use Rattle.std.specs.List.{All, cons_option}
 use Rattle.std.proofs.lemmas.Bool.{eqb-true, eqb-false}
-use Rattle.std.proofs.lemmas.List.Elements.{All-cons, All-head, All-nil, All-tail, All-append}
+use Rattle.std.proofs.lemmas.List.Elements.{All-cons, All-head, All-nil, All-tail}
 use Rattle.cf_types.specs.Gather.{is_in}
 use Rattle.cf_types.specs.Numbers.{below}
 
@@ -91,15 +91,6 @@ given_few {X} {Y} f (x ∷ xs) = one (f x) (given_few f xs)
     one : (o : Option Y) → length (filter_map f xs) ≤ length xs → length (cons_option o (filter_map f xs)) ≤ length (x ∷ xs)
     one None h = omega arith
     one (Some y) h = omega arith
-
--- what passes is no more
-pub passing_few : {X : Type 0} (p : X → Bool) (xs : List X) → length (filter p xs) ≤ length xs
-passing_few p [] = omega arith
-passing_few p (x ∷ xs) = one (p x) (passing_few p xs)
-  where
-    one : (b : Bool) → length (filter p xs) ≤ length xs → length (cond b (x ∷ filter p xs) (filter p xs)) ≤ length (x ∷ xs)
-    one true h = omega arith
-    one false h = omega arith
 
 -- what passes both tests is no more than what passes one
 pub both_few : {X : Type 0} (p q : X → Bool) (xs : List X) → length (filter p (filter q xs)) ≤ length (filter p xs)

@@ -1,6 +1,6 @@
 -- What the declarations of a configuration without a code name and offer.
-use Rattle.std.proofs.Common.{◌≡◌, ℕ, ◌<◌, ◌≤◌, suc, zero, Bool, true, false, ◌⊎◌, inl, inr, Option, Some, None, List, [], ◌∷◌, ◌++◌, length, map, refl, ap, sym, ◌∙◌, subst, arith}
-use Rattle.std.specs.Prelude.{IfSome, filter, flat_map, slice_get}
+use Rattle.std.proofs.Common.{◌≡◌, ℕ, ◌<◌, ◌≤◌, suc, zero, true, false, ◌⊎◌, inl, inr, Option, Some, None, List, [], ◌∷◌, ◌++◌, length, map, refl, ap, arith}
+use Rattle.std.specs.Prelude.{IfSome, filter, slice_get}
 use Rattle.std.specs.List.{All, list_all}
 use Rattle.std.specs.Option.{option_map_or}
 use Rattle.std.proofs.lemmas.Bool.{and_from}
@@ -8,7 +8,6 @@ use Rattle.std.proofs.lemmas.List.{length-map}
 use Rattle.std.proofs.lemmas.List.Elements.{All-head, All-tail, All-weaker}
 use Rattle.std.proofs.lemmas.Option.{slice_get_past}
 use Rattle.cf_types.specs.declared.tables.Attr.{Attr}
-use Rattle.cf_types.specs.declared.tables.Attach.{Attach}
 use Rattle.cf_types.specs.declared.tables.Device.{Device}
 use Rattle.cf_types.specs.declared.tables.Locator.{Locator}
 use Rattle.cf_types.specs.declared.tables.Place.{Place}
@@ -31,8 +30,10 @@ offers_nothing nodes a h = by_steps (length nodes)
   where
     shut : is_open nodes a ≡ false
     shut = ap (λ o. option_map_or (λ x. x.iface) o false) (slice_get_past nodes a h)
+
     alone : needs_at nodes a ≡ []
     alone = ap (λ o. option_map_or (λ x. x.needs) o []) (slice_get_past nodes a h)
+
     by_steps : (n : ℕ) → length (firsts (filter (is_open nodes) (walk n nodes a ++ []))) ≡ 0
     by_steps zero = refl
     by_steps (suc n) = rw (alone, shut) refl

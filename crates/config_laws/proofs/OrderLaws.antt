@@ -1,10 +1,10 @@
 -- The instances of a device in the order of their rows are its instances, each once.
-use Rattle.std.proofs.Common.{◌≡◌, ◌≢◌, ℕ, ◌+◌, ◌<◌, ◌≤◌, suc, zero, Bool, true, false, cond, ◌||◌, Option, Some, None, List, [], ◌∷◌, ◌++◌, length, get_or, map, refl, ap, sym, ◌∙◌, subst, length-append, arith}
+use Rattle.std.proofs.Common.{◌≡◌, ℕ, ◌+◌, ◌≤◌, suc, zero, Bool, true, false, cond, ◌||◌, List, [], ◌∷◌, length, get_or, refl, ap, sym, ◌∙◌, length-append, arith}
 use Rattle.std.specs.Prelude.{IfSome, filter, flat_map, filter_map, not, ◌==◌, if◌then◌else◌}
-use Rattle.std.specs.List.{All, cons_option}
+use Rattle.std.specs.List.{All}
 use Rattle.std.proofs.lemmas.Bool.{eqb-true, eqb-false, eq-eqb, ne_eqb}
 use Rattle.std.proofs.lemmas.List.{length-map}
-use Rattle.std.proofs.lemmas.List.Elements.{All-append, All-cons, All-filter, All-head, All-nil, All-tail, All-weaker, filter-append}
+use Rattle.std.proofs.lemmas.List.Elements.{All-append, All-cons, All-filter, All-nil, All-weaker, filter-append}
 use Rattle.cf_types.specs.Gather.{is_in}
 use Rattle.cf_types.specs.Numbers.{below}
 use Rattle.cf_types.specs.Offers.{firsts}
@@ -15,7 +15,7 @@ use Rattle.cf_types.proofs.OfferLemmas.{is_in-firsts}
 use Rattle.config_rules.specs.Meaning.{device_rows, first_unit, in_order, row, rows_of, unit_of}
 use Rattle.config_rules.specs.Select.{same_mark}
 use Rattle.cf_declare.proofs.ListFacts.{all_pieces}
-use Rattle.config_laws.proofs.ListLaws.{all_given, all_givers, all_parts, all_passing, all_piece, both_few, none_of_both, number_in, pieces_few, pieces_shorter}
+use Rattle.config_laws.proofs.ListLaws.{all_givers, all_parts, all_passing, all_piece, both_few, none_of_both, number_in, pieces_few, pieces_shorter}
 
 -- the instances of a unit
 abbrev of_unit : List Instance → ℕ → List Instance
@@ -76,6 +76,7 @@ firsts_once v (x ∷ us) = one (v == x) refl (firsts_once v us)
     other : (u : ℕ) (b : Bool) → (u == x) ≡ b → not b ≡ true → v ≡ x → (v == u) ≡ false
     other u true e apart same = absurd (cc)
     other u false e apart same = ne_eqb v u (λ k. eqb-false u x e (sym k ∙ same))
+
     one : (b : Bool) → (v == x) ≡ b → length (filter (λ u. v == u) (firsts us)) ≤ 1
         → length (cond b (x ∷ filter (λ u. v == u) (filter (λ y. not (y == x)) (firsts us))) (filter (λ u. v == u) (filter (λ y. not (y == x)) (firsts us)))) ≤ 1
     one true e h =

@@ -1,6 +1,6 @@
 -- The rows of instances that join what is declared are formed.
-use Rattle.std.proofs.Common.{◌≡◌, ℕ, ◌<◌, ◌≤◌, Bool, true, false, ◌&&◌, Option, Some, None, List, [], ◌∷◌, length, get_or, map, refl, ap, sym, ◌∙◌, subst, arith}
-use Rattle.std.specs.Prelude.{Contains, IfSome, filter, filter_map, flat_map, not, slice_get, is_some, unwrap_or, ◌==◌, if◌then◌else◌}
+use Rattle.std.proofs.Common.{◌≡◌, ℕ, ◌<◌, ◌≤◌, Bool, true, false, ◌&&◌, Option, Some, None, List, length, get_or, refl, ap, sym, ◌∙◌, subst, arith}
+use Rattle.std.specs.Prelude.{Contains, IfSome, filter, filter_map, not, slice_get, is_some, unwrap_or, ◌==◌, if◌then◌else◌}
 use Rattle.std.specs.List.{All}
 use Rattle.std.specs.Option.{option_map_or}
 use Rattle.std.proofs.lemmas.Bool.{eqb-true, eq-eqb}
@@ -13,9 +13,9 @@ use Rattle.cf_types.specs.declared.tables.Place.{Place}
 use Rattle.cf_types.specs.declared.tables.Row.{Row}
 use Rattle.cf_types.specs.declared.tables.Tables.{Tables}
 use Rattle.config_rules.specs.Declared.{Declared}
-use Rattle.config_rules.specs.Formed.{FormedRow, fixed_units, is_root}
+use Rattle.config_rules.specs.Formed.{FormedRow, fixed_units}
 use Rattle.config_rules.specs.Meaning.{device_rows, first_unit, in_order, row, rows_of, unit_of}
-use Rattle.cf_declare.specs.Instances.{IsSpotOf, SoundJoined}
+use Rattle.cf_declare.specs.Instances.{SoundJoined}
 use Rattle.cf_declare.proofs.ListFacts.{all_pieces}
 use Rattle.cf_rows.specs.Rows.{UnitFits}
 use Rattle.config_laws.proofs.InstanceLaws.{IsAlone}

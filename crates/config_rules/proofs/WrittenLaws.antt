@@ -1,6 +1,6 @@
 -- A statement that has a form is written within the limits of the grammar.
-use Rattle.std.proofs.Common.{◌≡◌, ℕ, ◌≤◌, ◌-◌, Bool, true, false, cond, not, ◌&&◌, Option, Some, None, List, [], ◌∷◌, ◌++◌, length, take, drop, map, refl, arith}
-use Rattle.std.specs.Prelude.{IfSome, All, ⊤, nat_le, nat_lt, option_map, option_and_then, unwrap_or, ◌==◌, slice_index, codes}
+use Rattle.std.proofs.Common.{◌≡◌, ℕ, ◌≤◌, ◌-◌, Bool, true, false, cond, ◌&&◌, Option, Some, None, List, [], ◌∷◌, length, take, drop, map, refl, arith}
+use Rattle.std.specs.Prelude.{IfSome, All, ⊤, nat_le, nat_lt, option_map, option_and_then, ◌==◌, slice_index, codes}
 use Rattle.std.specs.List.{before_first, list_all}
 use Rattle.std.specs.Str.Parse.{digits_value}
 use Rattle.std.proofs.lemmas.Bool.{leb-true}
