@@ -123,6 +123,21 @@ placed_left_out placed i p insts h is unmarked so_far =
     at_placed placed (i + 1) insts
     ∙ surviving_left_out (stmts_of placed) i p.stmt insts (within_placed placed i h) (read_placed placed i p h is) unmarked (sym (at_placed placed i insts) ∙ so_far)
 
+-- a statement adds its instance, where it is kept
+pub placed_step : (placed : List Placed) (i : ℕ) (p : Placed) (insts : List Instance) → i < length placed → p ≡ get_or placed i p
+    → insts ++ surviving (stmts_of (take i placed)) (stmts_of (drop i placed)) ≡ surviving [] (stmts_of placed)
+    → (insts ++ (if slice_index_or (kept (stmts_of placed)) i false then option_to_list (instance_of (stmts_of (take i placed)) p.stmt) else []))
+    ++ surviving (stmts_of (take (i + 1) placed)) (stmts_of (drop (i + 1) placed)) ≡ surviving [] (stmts_of placed)
+placed_step placed i p insts h is so_far =
+    let stmts = stmts_of placed in
+    let own : List Stmt → List Instance = λ ss. if slice_index_or (kept stmts) i false then option_to_list (instance_of ss p.stmt) else [] in
+    let rest = surviving (take (i + 1) stmts) (drop (i + 1) stmts) in
+    at_placed placed (i + 1) (insts ++ own (stmts_of (take i placed)))
+    ∙ ap (λ ss. (insts ++ own ss) ++ rest) (sym (take-map (λ q. q.stmt) i placed))
+    ∙ append_assoc insts (own (take i stmts)) rest
+    ∙ ap (λ xs. insts ++ xs) (sym (surviving_here stmts i p.stmt (within_placed placed i h) (read_placed placed i p h is)))
+    ∙ sym (at_placed placed i insts) ∙ so_far
+
 -- no statement is left
 pub placed_end : (placed : List Placed) (i : ℕ) (insts : List Instance) → length placed ≤ i
     → insts ++ surviving (stmts_of (take i placed)) (stmts_of (drop i placed)) ≡ surviving [] (stmts_of placed) → insts ≡ surviving [] (stmts_of placed)

@@ -1,0 +1,54 @@
+-- What compiling a configuration finds, by what reading it gave.
+use Rattle.std.proofs.Common.{◌≡◌, ℕ, Option, Some, None, List, refl, ap, sym, ◌∙◌, subst}
+use Rattle.std.specs.Prelude.{IfSome, Result, Ok, Err, IfOk}
+use Rattle.cf_types.specs.declared.stmt.Expanded.{Expanded}
+use Rattle.cf_types.specs.declared.tables.Tables.{Tables}
+use Rattle.config_rules.specs.Fault.{fault_in, first_fault}
+use Rattle.config_rules.specs.Formed.{FormedTables}
+use Rattle.config_rules.specs.Meaning.{Means}
+use Rattle.config_rules.specs.Reading.{Files, Reading, reading}
+use Rattle.cf_expand.specs.Steps.{expanded}
+use Rattle.cf_compile.specs.Compiles.{Compiles}
+use Rattle.cf_compile.specs.Meant.{Finds, reading_of}
+use Rattle.cf_compile.specs.declared.stop.CompileStop.{CompileStop}
+use Rattle.cf_compile.specs.declared.stop.CompileStop.TheVariants.{Refused, ReadFault, Memory}
+
+-- the first fault looks at no prefixes
+same_fault : (r : Reading) → fault_in (reading_of (expanded r)) ≡ fault_in r
+unfolding fault_in
+same_fault r = refl
+
+means_read : (files : Files) (name : List ℕ) (read : Expanded) (tables : Tables) → read ≡ expanded (reading files name) → Finds (reading_of read) (Ok tables) → Means files name tables
+unfolding first_fault
+means_read files name read tables is found =
+    let here = subst (λ (e : Expanded). Finds (reading_of e) (Ok tables)) is found in
+    record {
+      accepted = sym (same_fault (reading files name)) ∙ here.0;
+      marks = here.1.marks;
+      rooted = here.1.rooted;
+      shown = here.1.shown;
+    }
+
+fault_read : (files : Files) (name : List ℕ) (read : Expanded) (refusal : _) → read ≡ expanded (reading files name) → fault_in (reading_of read) ≡ Some refusal → first_fault files name ≡ Some refusal
+unfolding first_fault
+fault_read files name read refusal is found =
+    sym (same_fault (reading files name)) ∙ ap (λ (e : Expanded). fault_in (reading_of e)) (sym is) ∙ found
+
+if_told : (told : Option Files) (P Q : Files → Type 0) → ((files : Files) → P files → Q files) → IfSome told P → IfSome told Q
+if_told None P Q f h = h
+if_told (Some files) P Q f h = f files h
+
+-- what was found in what was read is how compiling ends
+pub compiles_read : (told : Option Files) (name : List ℕ) (before after : ℕ) (read : Expanded) (result : Result Tables CompileStop)
+    → IfSome told (λ files. read ≡ expanded (reading files name)) → after ≡ before → Finds (reading_of read) result → Compiles told name before after result
+compiles_read told name before after read (Ok tables) is same found =
+    (if_told told _ (λ files. Means files name tables) (λ files e. means_read files name read tables e found) is, same)
+compiles_read told name before after read (Err (Refused refusal)) is same found =
+    (if_told told _ (λ files. first_fault files name ≡ Some refusal) (λ files e. fault_read files name read refusal e found) is, same)
+compiles_read told name before after read (Err ReadFault) is same found = absurd found
+compiles_read told name before after read (Err Memory) is same found = same
+
+-- the tables that are found are formed
+pub found_formed : (r : Reading) (result : Result Tables CompileStop) → Finds r result → IfOk result FormedTables
+found_formed r (Ok tables) found = found.1.formed
+found_formed r (Err stop) found = tt

@@ -1,0 +1,5 @@
+pub mod WalkLaws
+pub mod IdleLaws
+pub mod InstLaws
+pub mod TableLaws
+pub mod CompileLaws

@@ -1,0 +1,41 @@
+use Rattle.std.proofs.Common.{◌≡◌, ◌∙◌, Some, None, ap, sym, refl, arith}
+use Rattle.std.specs.Prelude.{◌++◌, [], List, Bool, false, if◌then◌else◌, slice_index_or}
+use Rattle.std.specs.Option.{option_to_list}
+use Rattle.cf_types.specs.declared.instance.Instance.{Instance}
+use Rattle.config_rules.specs.Declared.{Declared}
+use Rattle.config_rules.specs.Fault.{code_of}
+use Rattle.cf_declare.specs.Declare.{declare}
+use Rattle.cf_compile.specs.Judged.{instance_at}
+use Rattle.cf_compile.proofs.WalkLaws.{none_left, survive_within, walked_begins, walked_fits, walked_goes_on, walked_stops, walked_ends}
+use Rattle.cf_compile.proofs.judge.judge.Goals as goal
+
+pub loop-place-init : goal.loop-place-init
+loop-place-init c =
+    walked_begins c.args.files.now c.args.placed.now c.make-declarations.result c.make-instances.result c.make-declarations.ensures c.make-instances.ensures
+
+pub code_of-requires : goal.code_of-requires
+code_of-requires c =
+    walked_fits c.args.files.now c.args.placed.now c.loop-place.place c.loop-place.declarations c.loop-place.instances c.loop-place.count
+    (omega (arith, c.loop-place-test.true, c.requires.written.few)) c.loop-place.invariant
+
+pub returns-in-Some : goal.returns-in-Some
+returns-in-Some c =
+    walked_stops c.args.files.now c.args.placed.now c.loop-place.place c.loop-place.declarations c.loop-place.instances c.loop-place.count c.index-placed-place.result c.in-Some.code
+    c.loop-place-test.true c.index-placed-place.is c.loop-place.invariant (sym c.in_ok-code.ensures.code ∙ c.in-Some.is)
+    ∙ ap Some (sym c.in_ok-refusal.ensures)
+
+pub bounds-survive-place : goal.bounds-survive-place
+bounds-survive-place c = survive_within c.args.placed.now c.args.survive.now c.loop-place.place c.requires.survive c.loop-place-test.true
+
+pub loop-place-preserved : goal.loop-place-preserved
+loop-place-preserved c =
+    let none : code_of c.loop-place.declarations c.loop-place.count c.index-placed-place.result.stmt ≡ None = sym c.in_ok-code.ensures.code ∙ none_left _ c.in_default.not-Some in
+    let own : Declared → List Bool → List Instance = λ d marks. if slice_index_or marks c.loop-place.place false then option_to_list (instance_at d c.loop-place.place c.index-placed-place.result.stmt) else [] in
+    let more : c.push_kept.new.instances ≡ c.loop-place.instances ++ own c.code_of.new.self c.args.survive.now = c.in_ok-push_kept.ensures in
+    walked_goes_on c.args.files.now c.args.placed.now c.loop-place.place c.loop-place.declarations c.in_ok-declarations.declarations c.loop-place.instances c.push_kept.new.instances c.loop-place.count _ c.instance_count.result c.index-placed-place.result
+    c.loop-place-test.true c.index-placed-place.is c.loop-place.invariant none
+    (more ∙ ap (λ (d : Declared). c.loop-place.instances ++ own d c.args.survive.now) c.in_ok-code.ensures.same ∙ ap (λ (marks : List Bool). c.loop-place.instances ++ own c.loop-place.declarations marks) c.requires.survive)
+    (c.in_ok-declarations.ensures ∙ ap (λ (d : Declared). declare d c.index-placed-place.result.stmt) c.in_ok-code.ensures.same) c.instance_count.ensures refl
+
+pub returns : goal.returns
+returns c = walked_ends c.args.files.now c.args.placed.now c.loop-place.place c.loop-place.declarations c.loop-place.instances c.loop-place.count c.loop-place-test.false c.loop-place.invariant

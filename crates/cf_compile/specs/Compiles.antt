@@ -1,0 +1,24 @@
+-- How compiling a configuration ends.
+use Rattle.std.specs.Prelude.{◌≡◌, ℕ, ◌≤◌, Option, Some, IfSome, Result, Ok, Err, List}
+use Rattle.cf_types.specs.declared.tables.Tables.{Tables}
+use Rattle.cf_io.specs.Faults.{Rose}
+use Rattle.cf_expand.specs.declared.stop.ExpandStop.{ExpandStop}
+use Rattle.cf_expand.specs.declared.stop.ExpandStop.TheVariants as read
+use Rattle.config_rules.specs.Fault.{first_fault}
+use Rattle.config_rules.specs.Meaning.{Means}
+use Rattle.config_rules.specs.Reading.{Files}
+use Rattle.cf_compile.specs.declared.stop.CompileStop.{CompileStop}
+use Rattle.cf_compile.specs.declared.stop.CompileStop.TheVariants.{Refused, ReadFault, Memory}
+
+-- why reading stopped is why compiling does
+abbrev pub stop_of : ExpandStop → CompileStop
+stop_of read.ReadFault = ReadFault
+stop_of read.Memory = Memory
+
+-- where the files are told, the tables are what the configuration means, or the refusal is its first fault; the count of
+-- faults of reading rose exactly where a file could not be read, or stands at its last value
+abbrev pub Compiles : Option Files → List ℕ → ℕ → ℕ → Result Tables CompileStop → Type 0
+Compiles told name before after (Ok tables) = IfSome told (λ files. Means files name tables) × (after ≡ before)
+Compiles told name before after (Err (Refused refusal)) = IfSome told (λ files. first_fault files name ≡ Some refusal) × (after ≡ before)
+Compiles told name before after (Err ReadFault) = (before ≤ after) × Rose before after
+Compiles told name before after (Err Memory) = after ≡ before

@@ -1,0 +1,34 @@
+-- What the placed statements are judged to be, and how far a loop over them has come.
+use Rattle.std.specs.Prelude.{◌≡◌, ℕ, ◌≤◌, List, [], ◌++◌, length, take, drop, Option, Some, None}
+use Rattle.cf_types.specs.declared.instance.Instance.{Instance}
+use Rattle.cf_types.specs.declared.stmt.Placed.{Placed}
+use Rattle.cf_types.specs.declared.stmt.Stmt.{Stmt}
+use Rattle.cf_types.specs.declared.stmt.Stmt.TheVariants as stmt
+use Rattle.cf_compile.specs.declared.judge.Verdict.{Verdict}
+use Rattle.cf_compile.specs.declared.judge.Verdict.TheVariants as verdict
+use Rattle.config_rules.specs.Declared.{Declared, declared}
+use Rattle.config_rules.specs.Joined.{join}
+use Rattle.config_rules.specs.Fault.{first_code, stmts_of}
+use Rattle.config_rules.specs.Meaning.{if_joined, surviving}
+use Rattle.cf_declare.specs.SoFar.{SoFar}
+
+-- the instance of a statement at a place, behind what is declared
+abbrev pub instance_at : Declared → ℕ → Stmt → Option Instance
+instance_at d place (stmt.Inst base mark at pairs flags) = if_joined place mark flags (join d base at pairs)
+instance_at d place _ = None
+
+-- what they declare with the surviving instances, where none has a code, or else the first code
+abbrev pub Judges : List (List ℕ) → List Placed → Verdict → Type 0
+Judges files placed (verdict.Accepted standing) =
+    (first_code files [] placed ≡ None) × (standing.declarations ≡ declared (stmts_of placed)) × (standing.instances ≡ surviving [] (stmts_of placed))
+Judges files placed (verdict.Refused refusal) = first_code files [] placed ≡ Some refusal
+
+-- the first statements declare d and have n instances without any code, and no more is declared than there are statements;
+-- their surviving instances with those that are left are all
+pub record Walked (files : List (List ℕ)) (placed : List Placed) (i : ℕ) (d : Declared) (insts : List Instance) (n : ℕ) : Type 0 where
+  pub so_far : SoFar files placed i d n
+  pub few_attrs : length d.attrs ≤ i
+  pub few_devices : length d.devices ≤ i
+  pub few_attaches : length d.attaches ≤ i
+  pub few_instances : n ≤ i
+  pub joined : insts ++ surviving (stmts_of (take i placed)) (stmts_of (drop i placed)) ≡ surviving [] (stmts_of placed)

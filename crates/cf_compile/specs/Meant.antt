@@ -1,0 +1,53 @@
+-- The tables of what was read, or its first fault.
+use Rattle.std.specs.Prelude.{◌≡◌, ℕ, Bool, List, [], map, Some, None, Result, Ok, Err, ⊤, false, true}
+use Rattle.cf_types.specs.declared.instance.Instance.{Instance}
+use Rattle.cf_types.specs.declared.stmt.Expanded.{Expanded}
+use Rattle.cf_types.specs.declared.stmt.Placed.{Placed}
+use Rattle.cf_types.specs.declared.stmt.UnitMark.{UnitMark}
+use Rattle.cf_types.specs.declared.stmt.UnitMark.TheVariants.{Fixed, Star}
+use Rattle.cf_types.specs.declared.tables.Tables.{Tables}
+use Rattle.cf_select.specs.declared.instance.Inst.{Inst}
+use Rattle.config_rules.specs.Declared.{declared}
+use Rattle.config_rules.specs.Fault.{fault_in, stmts_of}
+use Rattle.config_rules.specs.Formed.{FormedTables}
+use Rattle.config_rules.specs.Meaning as meaning
+use Rattle.config_rules.specs.Meaning.{surviving, tables_of}
+use Rattle.config_rules.specs.Reading.{Reading}
+use Rattle.config_rules.specs.Select.{RootedInsts}
+use Rattle.cf_compile.specs.declared.stop.CompileStop.{CompileStop}
+use Rattle.cf_compile.specs.declared.stop.CompileStop.TheVariants.{Refused, ReadFault, Memory}
+
+-- the unit that is written, 0 where there is a star
+abbrev pub written_unit : UnitMark → ℕ
+written_unit (Fixed unit) = unit
+written_unit Star = 0
+
+abbrev pub is_starred : UnitMark → Bool
+is_starred (Fixed unit) = false
+is_starred Star = true
+
+-- what matters of an instance for being rooted
+abbrev pub inst_of : Instance → Inst
+inst_of i = record { device = i.joined.device; unit = written_unit i.mark; star = is_starred i.mark; place = i.joined.place; parent = i.joined.parent }
+
+-- files and statements that were read without a fault
+abbrev pub read_from : List (List ℕ) → List Placed → Reading
+read_from files placed = record { placed = placed; files = files; prefixes = []; fault = None }
+
+-- the tables of what was read, which are formed
+pub record IsMeant (files : List (List ℕ)) (placed : List Placed) (tables : Tables) : Type 0 where
+  pub marks : List Bool
+  pub rooted : RootedInsts (declared (stmts_of placed)) (map meaning.inst_of (surviving [] (stmts_of placed))) marks
+  pub shown : tables ≡ tables_of (read_from files placed) marks
+  pub formed : FormedTables tables
+
+-- the tables where there is no fault, or else the first
+abbrev pub Finds : Reading → Result Tables CompileStop → Type 0
+Finds r (Ok tables) = (fault_in r ≡ None) × IsMeant r.files r.placed tables
+Finds r (Err (Refused refusal)) = fault_in r ≡ Some refusal
+Finds r (Err ReadFault) = ⊥
+Finds r (Err Memory) = ⊤
+
+-- what was read, as a reading
+abbrev pub reading_of : Expanded → Reading
+reading_of read = record { placed = read.placed; files = read.files; prefixes = []; fault = read.fault }

@@ -1,0 +1,75 @@
+ghost use Rattle.std.specs.Prelude.{◌≡◌, [], IfOk};
+ghost use Rattle.config_rules.specs.Fault.{stmts_of};
+ghost use Rattle.config_rules.specs.Formed.{FormedTables};
+ghost use Rattle.config_rules.specs.Meaning.{idle_insts};
+ghost use Rattle.cf_compile.specs.Compiles.{Compiles};
+ghost use Rattle.cf_compile.specs.Judged.{Judges};
+ghost use Rattle.config_rules.specs.Written.{AreWritten};
+ghost use Rattle.cf_compile.specs.Meant.{Finds, IsMeant, reading_of};
+
+use crate::build::tables_of;
+use crate::judge::{Standing, Verdict, judge};
+use crate::stop::CompileStop;
+use cf_expand::expand;
+use cf_io::Files;
+use cf_select::{Kept, survivors};
+use cf_types::{Expanded, Memory, Placed, Tables, Text};
+use std::alloc::Global;
+
+/// The tables of accepted statements.
+fn tables_of_standing(
+    alloc: Global,
+    files: &[Text],
+    placed: &[Placed],
+    idle: &[u32],
+    standing: Standing,
+) -> Result<Tables, Memory>
+    requires written { AreWritten placed.now }
+    requires accepted { Judges files.now placed.now (Verdict.Accepted standing) }
+    requires idle { idle.now ≡ idle_insts [] (stmts_of placed.now) }
+    ensures { IfOk result (IsMeant files.now placed.now) }
+{
+    let Standing {
+        declarations,
+        instances,
+    } = standing;
+    let (declared, graph) = declarations.into_parts();
+    tables_of(alloc, files, placed, idle, declared, &graph, instances)
+}
+
+/// The tables of what was read, or its first fault: that of a statement, or else that of the reading.
+fn compile_read(alloc: Global, read: Expanded) -> Result<Tables, CompileStop>
+    requires { AreWritten read.placed }
+    ensures { Finds (reading_of read) result }
+{
+    let Expanded {
+        placed,
+        files,
+        fault,
+    } = read;
+    let Kept { kept, idle } = survivors(alloc, placed.items())?;
+    match judge(alloc, files.items(), placed.items(), kept.items())? {
+        Verdict::Refused(refusal) => Err(CompileStop::Refused(refusal)),
+        Verdict::Accepted(standing) => match fault {
+            Some(fault) => Err(CompileStop::Refused(fault)),
+            None => Ok(tables_of_standing(
+                alloc,
+                files.items(),
+                placed.items(),
+                idle.items(),
+                standing,
+            )?),
+        },
+    }
+}
+
+/// Compiles the named configuration with all that it includes: its tables, or its first fault in reading order with its
+/// file, line and code. A fault of reading stands before every fault of the configuration. See config(1) and config(5).
+pub fn compile<F: Files>(alloc: Global, files: &mut F, name: &[u8]) -> Result<Tables, CompileStop>
+    ensures told { F.told files.new ≡ F.told files.old }
+    ensures compiles { Compiles (F.told files.old) name.now (F.faults files.old) (F.faults files.new) result }
+    ensures formed { IfOk result FormedTables }
+{
+    let read = expand(alloc, files, name)?;
+    compile_read(alloc, read)
+}

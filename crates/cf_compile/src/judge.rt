@@ -1,0 +1,141 @@
+ghost use Rattle.std.specs.Prelude.{◌≡◌, ◌<◌, ◌≤◌, ◌++◌, ◌+◌, [], ℕ, List as Items, None, length, IfOk, OnOk, if◌then◌else◌};
+ghost use Rattle.std.specs.List.{slice_index_or};
+ghost use Rattle.std.specs.Option.{option_to_list};
+ghost use Rattle.cf_types.specs.declared.stmt.Placed.{Placed};
+ghost use Rattle.cf_declare.specs.Graphs.{FitsDeclared};
+ghost use Rattle.config_rules.specs.Fault.{is_instance, refusal, stmts_of};
+ghost use Rattle.config_rules.specs.Select.{kept};
+ghost use Rattle.config_rules.specs.Written.{AreWritten};
+ghost use Rattle.cf_compile.specs.Judged.{Judges, instance_at};
+
+use cf_declare::Declarations;
+use cf_types::{Instance, List, Memory, Placed, Refusal, Stmt, Text};
+use std::alloc::Global;
+
+/// What accepted statements declare, and the instances among them that no later negation takes back.
+#[derive(Drop)]
+pub struct Standing {
+    pub declarations: Declarations,
+    pub instances: List<Instance>,
+}
+
+/// What the statements of a configuration are judged to be.
+#[derive(Drop)]
+pub enum Verdict {
+    Accepted(Standing),
+    Refused(Refusal),
+}
+
+/// The name of a file, by its place.
+fn file_name(alloc: Global, files: &[Text], file: u32) -> Result<Text, Memory>
+    ensures { IfOk result (λ name. name ≡ slice_index_or files.now file []) }
+{
+    match files.get(file as usize) {
+        Some(name) => Text::copied(alloc, name.items()),
+        None => Ok(List::make(alloc)),
+    }
+}
+
+/// A code at the file and line of a statement.
+fn refusal(alloc: Global, files: &[Text], statement: &Placed, code: u8) -> Result<Refusal, Memory>
+    ensures { IfOk result (λ made. made ≡ refusal files.now statement.now code) }
+{
+    Ok(Refusal {
+        file: file_name(alloc, files, statement.file)?,
+        line: statement.line,
+        code,
+    })
+}
+
+/// Appends the instance of a statement, if it is one that joins something.
+fn push_instance(
+    declarations: &Declarations,
+    instances: &mut List<Instance>,
+    place: u32,
+    stmt: &Stmt,
+) -> Result<(), Memory>
+    requires { FitsDeclared declarations.now }
+    ensures { OnOk result (instances.new ≡ instances.old ++ option_to_list (instance_at declarations.now place stmt.now)) }
+{
+    let Stmt::Inst {
+        base,
+        mark,
+        at,
+        pairs,
+        flags,
+    } = stmt
+    else {
+        return Ok(());
+    };
+    match declarations.join(base.bytes(), at, pairs.items()) {
+        Ok(joined) => instances.push(Instance {
+            stmt: place,
+            joined,
+            mark: *mark,
+            flags: *flags,
+        }),
+        Err(_) => Ok(()),
+    }
+}
+
+/// Appends the instance of a statement that survives.
+fn push_kept(
+    declarations: &Declarations,
+    instances: &mut List<Instance>,
+    place: u32,
+    stmt: &Stmt,
+    is_kept: bool,
+) -> Result<(), Memory>
+    requires { FitsDeclared declarations.now }
+    ensures { OnOk result (instances.new ≡ instances.old ++ (if is_kept then option_to_list (instance_at declarations.now place stmt.now) else [])) }
+{
+    if is_kept {
+        return push_instance(declarations, instances, place, stmt);
+    }
+    Ok(())
+}
+
+/// How many instances a statement is.
+fn instance_count(stmt: &Stmt) -> usize
+    ensures { result ≡ (if is_instance stmt.now then 1 else 0) }
+{
+    if matches!(stmt, Stmt::Inst { .. }) {
+        1
+    } else {
+        0
+    }
+}
+
+/// Judges the placed statements one after the other, each behind what those before it declare, up to the first code.
+pub fn judge(
+    alloc: Global,
+    files: &[Text],
+    placed: &[Placed],
+    survive: &[bool],
+) -> Result<Verdict, Memory>
+    requires written { AreWritten placed.now }
+    requires survive { survive.now ≡ kept (stmts_of placed.now) }
+    ensures { IfOk result (Judges files.now placed.now) }
+{
+    let mut declarations = Declarations::make(alloc);
+    let mut instances = List::make(alloc);
+    let mut count = 0;
+    for (place, statement) in placed.iter().enumerate() {
+        if let Some(code) = declarations.code_of(alloc, count, &statement.stmt)? {
+            return Ok(Verdict::Refused(refusal(alloc, files, statement, code)?));
+        }
+        push_kept(
+            &declarations,
+            &mut instances,
+            place as u32,
+            &statement.stmt,
+            survive[place],
+        )?;
+        declarations = declarations.declare(alloc, &statement.stmt)?;
+        count += instance_count(&statement.stmt);
+    }
+    Ok(Verdict::Accepted(Standing {
+        declarations,
+        instances,
+    }))
+}

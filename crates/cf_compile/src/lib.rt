@@ -1,0 +1,10 @@
+//! Compiles a configuration: from the file that is named to its tables, or to its first fault. See config(1) and config(5).
+#![tactic(auto)]
+
+mod build;
+mod compiler;
+mod judge;
+mod stop;
+
+pub use compiler::compile;
+pub use stop::CompileStop;
