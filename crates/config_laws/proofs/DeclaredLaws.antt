@@ -13,6 +13,7 @@ use Rattle.config_rules.specs.Declared.{attach_of, attr_name, attr_of, declared,
 use Rattle.config_rules.specs.Formed.{AreNames}
 use Rattle.config_rules.specs.MachineText.{is_free_name}
 use Rattle.config_rules.specs.Written.{IsWritten}
+use Rattle.cf_declare.specs.Limits.{HasFewLocators}
 use Rattle.cf_declare.specs.Sound.{SoundDeclared}
 use Rattle.cf_declare.proofs.NumberLaws.{names_of_attrs, names_of_devices}
 use Rattle.config_laws.specs.Free.{IsFree}
@@ -73,6 +74,13 @@ attach_free : (attrs devices : List (List ℕ)) (s : Stmt) → IsGood s → IfSo
 attach_free attrs devices (stmt.Attach device places None needs) h = free_name device h.0.0 h.1
 attach_free attrs devices (stmt.Attach device places (Some name) needs) h = free_name name h.0.2 h.1
 attach_free attrs devices _ h = tt
+
+-- a statement that is written has few locators
+pub few_written : (s : Stmt) → IsWritten s → HasFewLocators s
+few_written (stmt.Define name locs needs) h = h.1.0
+few_written (stmt.DefPseudo name locs needs) h = h.1.0
+few_written (stmt.Device name locs needs) h = h.2.0
+few_written _ h = tt
 
 -- ---- of all
 
