@@ -12,6 +12,7 @@ use Rattle.config_rules.specs.Fault.{is_instance, code_of, stmts_of, first_code,
 use Rattle.config_rules.specs.Joined.{join}
 use Rattle.config_rules.specs.Select.{kept}
 use Rattle.config_rules.specs.Written.{AreWritten, IsWritten}
+use Rattle.config_laws.proofs.DeclaredLaws.{few_written}
 use Rattle.cf_declare.specs.Limits.{HasFewLocators}
 use Rattle.config_rules.specs.Meaning.{instance_of, surviving}
 use Rattle.cf_declare.specs.Declare.{declare}
@@ -113,13 +114,6 @@ pub none_left : {X : Type 0} (o : Option X) → ((x : X) → o ≢ Some x) → o
 none_left None h = refl
 none_left (Some x) h = absurd (h x refl)
 
--- a statement that is written has few locators
-few_written : (s : Stmt) → IsWritten s → HasFewLocators s
-few_written (stmt.Define name locs needs) h = h.1.0
-few_written (stmt.DefPseudo name locs needs) h = h.1.0
-few_written (stmt.Device name locs needs) h = h.2.0
-few_written _ h = tt
-
--- so has each of those that are placed
+-- each of those that are placed has few locators
 pub few_placed : (placed : List Placed) (i : ℕ) (p : Placed) → AreWritten placed → i < length placed → p ≡ get_or placed i p → HasFewLocators p.stmt
 few_placed placed i p written h is = few_written p.stmt (subst (λ (q : Placed). IsWritten q.stmt) (sym is) (written.each i p h))

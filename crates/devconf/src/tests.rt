@@ -1,31 +1,54 @@
 //! The program over files and sinks in memory.
 
+mod cases;
+mod limits;
+mod table;
+
 use app_config::devconf_top;
 use cf_io::{MemFile, MemFiles, MemSink};
-use cf_types::{List, Memory};
+use cf_types::{List, Memory, Text};
 use std::alloc::Global;
 use std::process::Abort;
 
-/// One run: its words, the file `conf`, the calls of reading and writing that are to fail (0 for none), and what is
-/// wanted of the status, of the output and of standard error.
-#[derive(Clone, Copy)]
-struct Case<'a> {
-    words: &'a [&'a str],
-    conf: &'a [u8],
+/// One run: its words, its files, the calls of reading and writing that are to fail (0 for none), and what is wanted of
+/// the output and of standard error.
+#[derive(Drop)]
+struct Case {
+    words: Vec<String>,
+    files: List<MemFile>,
     fail_load: u64,
     fail_put: u64,
-    status: u8,
-    out: &'a [u8],
-    err: &'a [u8],
+    out: Vec<u8>,
+    err: Vec<u8>,
 }
 
-const MAINBUS: &[u8] = b"device mainbus\nattach mainbus at root\nmainbus0 at root\n";
+impl Case {
+    /// A run without words and files.
+    fn make(alloc: Global) -> Case {
+        Case {
+            words: Vec::new(alloc),
+            files: List::make(alloc),
+            fail_load: 0,
+            fail_put: 0,
+            out: Vec::new(alloc),
+            err: Vec::new(alloc),
+        }
+    }
 
-const MAINBUS_LISTING: &[u8] =
-    b"tables\ndevice mainbus\nattach mainbus of mainbus at root\nrow 0 mainbus0 at root by mainbus on root flags 0\n";
+    /// A run of `ioconf conf` on this file.
+    fn of_conf(alloc: Global, conf: Vec<u8>) -> Result<Case, Memory> {
+        let mut case = Case::make(alloc);
+        case.words.push(String::from_str(alloc, "ioconf")?)?;
+        case.words.push(String::from_str(alloc, "conf")?)?;
+        case.add_file(Text::copied(alloc, b"conf")?, conf)?;
+        Ok(case)
+    }
 
-const USAGE: &[u8] =
-    b"usage: devconf ioconf FILE | boot FILE MACHINE | play FILE MACHINE ORDER SCRIPT.. | replay FILE MACHINE HISTORY SCRIPT.. | load N\n";
+    fn add_file(&mut self, name: Text, bytes: Vec<u8>) -> Result<(), Memory> {
+        let bytes = List::from_vec(bytes);
+        self.files.push(MemFile { name, bytes })
+    }
+}
 
 fn calls(alloc: Global, call: u64) -> Result<List<u64>, Memory> {
     let mut calls = List::make(alloc);
@@ -33,146 +56,43 @@ fn calls(alloc: Global, call: u64) -> Result<List<u64>, Memory> {
     Ok(calls)
 }
 
-fn files(alloc: Global, case: &Case) -> Result<MemFiles, Memory> {
-    let mut files = List::make(alloc);
-    files.push(MemFile {
-        name: List::copied(alloc, b"conf")?,
-        bytes: List::copied(alloc, case.conf)?,
-    })?;
-    Ok(MemFiles::make(files, calls(alloc, case.fail_load)?))
-}
-
-fn words(alloc: Global, case: &Case) -> Result<Vec<String>, Memory> {
-    let mut words = Vec::new(alloc);
-    for word in case.words {
-        words.push(String::from_str(alloc, word)?)?;
-    }
-    Ok(words)
-}
-
-fn try_case(rt: &impl Abort, alloc: Global, case: &Case) -> Result<(), Memory> {
-    let mut files = files(alloc, case)?;
-    let mut out = MemSink::make(alloc, calls(alloc, case.fail_put)?, 4096)?;
-    let mut err = MemSink::make(alloc, List::make(alloc), 4096)?;
-    let words = words(alloc, case)?;
-    let status = devconf_top(alloc, &words, &mut files, &mut out, &mut err);
-    assert_eq!(rt; status.number(), case.status);
-    assert_eq!(rt; out.bytes(), case.out);
-    assert_eq!(rt; err.bytes(), case.err);
-    Ok(())
-}
-
-/// A run of `ioconf conf` without faults.
-fn listing<'a>(conf: &'a [u8], status: u8, out: &'a [u8], err: &'a [u8]) -> Case<'a> {
-    Case {
-        words: &["ioconf", "conf"],
-        conf,
-        fail_load: 0,
-        fail_put: 0,
-        status,
-        out,
-        err,
-    }
-}
-
-/// A run of the words that are none of the forms.
-fn usage<'a>(words: &'a [&'a str]) -> Case<'a> {
-    Case {
+/// Runs the program, and aborts where it answers otherwise.
+fn try_case(rt: &impl Abort, alloc: Global, case: Case, status: u64) -> Result<(), Memory> {
+    let Case {
         words,
-        conf: MAINBUS,
-        fail_load: 0,
-        fail_put: 0,
-        status: 2,
-        out: b"",
-        err: USAGE,
-    }
-}
-
-#[test]
-fn configurations_are_listed_or_refused(rt: HostRuntime) -> Result<(), Memory> {
-    let cases = [
-        listing(MAINBUS, 0, MAINBUS_LISTING, b""),
-        listing(b"", 0, b"tables\n", b""),
-        listing(b"\n\ndevice a", 0, b"tables\ndevice a\n", b""),
-        listing(
-            b"device b\ndevice a\nattach a at root\nattach b at root\na1 at root\nb65535 at root\na0 at root\na1 at root",
-            0,
-            b"tables\ndevice b\ndevice a\nattach a of a at root\nattach b of b at root\nrow 0 b65535 at root by b on root flags 0\nrow 1 a1 at root by a on root flags 0\nrow 2 a1 at root by a on root flags 0\nrow 3 a0 at root by a on root flags 0\n",
-            b"",
-        ),
-        listing(
-            b"device a\n\nattach b at root",
-            1,
-            b"",
-            b"config conf:3: code 7\n",
-        ),
-        listing(b"device a\ndevice a\n", 1, b"", b"config conf:2: code 7\n"),
-        listing(b"device root\n", 1, b"", b"config conf:1: code 7\n"),
-        listing(b"device a1\n", 1, b"", b"config conf:1: code 7\n"),
-        listing(b"device 1a\n", 1, b"", b"config conf:1: code 7\n"),
-        listing(b"device  a\n", 1, b"", b"config conf:1: code 7\n"),
-        listing(b"device a\r\n", 1, b"", b"config conf:1: code 7\n"),
-        listing(
-            b"device a\nattach a at root\nattach a at root\n",
-            1,
-            b"",
-            b"config conf:3: code 7\n",
-        ),
-        listing(
-            b"device a\nattach a at root\na65536 at root\n",
-            1,
-            b"",
-            b"config conf:3: code 7\n",
-        ),
-        listing(
-            b"device a\nattach a at root\na01 at root\n",
-            1,
-            b"",
-            b"config conf:3: code 7\n",
-        ),
-        listing(b"\xff\x00", 1, b"", b"config conf:1: code 7\n"),
-    ];
-    for case in &cases {
-        try_case(&rt, rt.alloc(), case)?;
-    }
+        files,
+        fail_load,
+        fail_put,
+        out: wanted,
+        err: told,
+    } = case;
+    let mut files = MemFiles::make(files, calls(alloc, fail_load)?);
+    let mut out = MemSink::make(alloc, calls(alloc, fail_put)?, 65_536)?;
+    let mut err = MemSink::make(alloc, List::make(alloc), 4_096)?;
+    let answer = devconf_top(alloc, &words, &mut files, &mut out, &mut err);
+    assert_eq!(rt; err.bytes(), told.as_slice());
+    assert_eq!(rt; out.bytes(), wanted.as_slice());
+    assert_eq!(rt; u64::from(answer.number()), status);
     Ok(())
 }
 
-#[test]
-fn words_of_no_form_are_told(rt: HostRuntime) -> Result<(), Memory> {
-    let cases = [
-        usage(&[]),
-        usage(&["ioconf"]),
-        usage(&["ioconf", "-x"]),
-        usage(&["ioconf", ""]),
-        usage(&["ioconf", "conf", "conf"]),
-        usage(&["Ioconf", "conf"]),
-        usage(&["--help"]),
-        usage(&["--", "ioconf", "conf"]),
-        usage(&["boot", "conf", "none"]),
-    ];
-    for case in &cases {
-        try_case(&rt, rt.alloc(), case)?;
-    }
-    Ok(())
+/// The listing of one configuration.
+fn lists(rt: &impl Abort, alloc: Global, conf: &[u8], out: &[u8]) -> Result<(), Memory> {
+    let mut case = Case::of_conf(alloc, Vec::from_slice(alloc, conf)?)?;
+    case.out.extend_from_slice(out)?;
+    try_case(rt, alloc, case, 0)
 }
 
-#[test]
-fn faults_of_reading_and_writing_are_told(rt: HostRuntime) -> Result<(), Memory> {
-    let absent = Case {
-        words: &["ioconf", "none"],
-        ..listing(MAINBUS, 1, b"", b"config none:0: code 1\n")
-    };
-    let unread = Case {
-        fail_load: 1,
-        ..listing(MAINBUS, 8, b"", b"read fault\n")
-    };
-    let cut_short = Case {
-        fail_put: 2,
-        ..listing(MAINBUS, 9, b"tables\n", b"write fault\n")
-    };
-    for case in &[absent, unread, cut_short] {
-        try_case(&rt, rt.alloc(), case)?;
-    }
-    Ok(())
+/// The refusal of one configuration, in its own file.
+fn refuses(
+    rt: &impl Abort,
+    alloc: Global,
+    conf: &[u8],
+    line: usize,
+    code: u64,
+) -> Result<(), Memory> {
+    let mut case = Case::of_conf(alloc, Vec::from_slice(alloc, conf)?)?;
+    let told = format!(in alloc; "config conf:{line}: code {code}\n")?;
+    case.err.extend_from_slice(told.as_bytes())?;
+    try_case(rt, alloc, case, 1)
 }

@@ -1,0 +1,1007 @@
+//! Runs of the program, with what they read and what they answer.
+
+/// Each run begins with its words; its files follow, then what is wanted of the output, of standard error and of the
+/// status. A line `%cut` takes away the newline before it.
+pub const RUNS: &[u8] = b"% run ioconf conf
+% file conf
+device mainbus
+attach mainbus at root
+mainbus0 at root
+% out
+tables
+device mainbus
+attach mainbus of mainbus at root
+row 0 mainbus0 at root by mainbus on root flags 0
+% status 0
+% run ioconf conf
+% file conf
+% out
+tables
+% status 0
+% run ioconf conf
+% file conf
+
+
+device a
+%cut
+% out
+tables
+device a
+% status 0
+% run ioconf conf
+% file conf
+device b
+device a
+attach a at root
+attach b at root
+a1 at root
+b65535 at root
+a* at root
+a0 at root
+a1 at root
+%cut
+% out
+tables
+device b
+device a
+attach a of a at root
+attach b of b at root
+row 0 b65535 at root by b on root flags 0
+row 1 a1 at root by a on root flags 0
+row 2 a1 at root by a on root flags 0
+row 3 a0 at root by a on root flags 0
+row 4 a* from 2 at root by a on root flags 0
+% status 0
+% run ioconf conf
+% file conf
+device mainbus {}
+attach mainbus at root
+device isa {[port = -1], [irq = -1]}
+attach isa at mainbus
+device com
+attach com at isa with com_isa
+mainbus0 at root
+isa0 at mainbus0
+com0 at isa? port 0x3f8 irq 4
+com* at isa?
+% out
+tables
+iattr mainbus
+iattr isa [port=-1] [irq=-1]
+device mainbus offers mainbus
+device isa offers isa
+device com
+attach mainbus of mainbus at root
+attach isa of isa at mainbus
+attach com_isa of com at isa
+row 0 mainbus0 at root by mainbus on root flags 0
+row 1 isa0 at mainbus0 by isa on mainbus flags 0
+row 2 com0 at isa? by com_isa on isa port=1016 irq=4 flags 0
+row 3 com* from 1 at isa? by com_isa on isa port=-1 irq=-1 flags 0
+% status 0
+% run ioconf conf
+% file conf
+device mainbus {}
+attach mainbus at root
+device isa {[port = -1], [irq = -1]}
+attach isa at mainbus
+device com
+attach com at isa with com_isa
+mainbus0 at root
+isa0 at mainbus0
+com0 at isa? port 0x3f8 irq 4
+com3 at isa? port 0x2e8
+com* at isa?
+% out
+tables
+iattr mainbus
+iattr isa [port=-1] [irq=-1]
+device mainbus offers mainbus
+device isa offers isa
+device com
+attach mainbus of mainbus at root
+attach isa of isa at mainbus
+attach com_isa of com at isa
+row 0 mainbus0 at root by mainbus on root flags 0
+row 1 isa0 at mainbus0 by isa on mainbus flags 0
+row 2 com0 at isa? by com_isa on isa port=1016 irq=4 flags 0
+row 3 com3 at isa? by com_isa on isa port=744 irq=-1 flags 0
+row 4 com* from 4 at isa? by com_isa on isa port=-1 irq=-1 flags 0
+% status 0
+% run ioconf conf
+% file conf
+device mainbus {}
+attach mainbus at root
+device isa {[port = -1], [irq = -1]}
+attach isa at mainbus
+device com
+attach com at isa with com_isa
+mainbus0 at root
+isa0 at mainbus0
+com0 at isa? port 0x3f8 irq 4
+com* at isa?
+no com0
+com0 at isa? port 0x2f8 irq 3
+no lpt0
+% out
+tables
+iattr mainbus
+iattr isa [port=-1] [irq=-1]
+device mainbus offers mainbus
+device isa offers isa
+device com
+attach mainbus of mainbus at root
+attach isa of isa at mainbus
+attach com_isa of com at isa
+row 0 mainbus0 at root by mainbus on root flags 0
+row 1 isa0 at mainbus0 by isa on mainbus flags 0
+row 2 com0 at isa? by com_isa on isa port=760 irq=3 flags 0
+row 3 com* from 1 at isa? by com_isa on isa port=-1 irq=-1 flags 0
+warning conf:13 nothing taken back
+% status 0
+% run ioconf conf
+% file conf
+device mainbus {}
+attach mainbus at root
+device isa {[port = -1], [irq = -1]}
+attach isa at mainbus
+device com
+attach com at isa with com_isa
+mainbus0 at root
+isa0 at mainbus0
+com0 at isa? port 0x3f8 irq 4
+com* at isa?
+no mainbus0
+% out
+tables
+iattr mainbus
+iattr isa [port=-1] [irq=-1]
+device mainbus offers mainbus
+device isa offers isa
+device com
+attach mainbus of mainbus at root
+attach isa of isa at mainbus
+attach com_isa of com at isa
+warning conf:8 orphan
+warning conf:9 orphan
+warning conf:10 orphan
+% status 0
+% run ioconf conf
+% file conf
+device mainbus {}
+attach mainbus at root
+device isa {[port = -1], [irq = -1]}
+attach isa at mainbus
+device com
+attach com at isa with com_isa
+mainbus0 at root
+isa0 at mainbus0
+com0 at isa? port 0x3f8 irq 4
+com* at isa?
+no device at isa?
+no com* at isa?
+no com0 at isa0
+% out
+tables
+iattr mainbus
+iattr isa [port=-1] [irq=-1]
+device mainbus offers mainbus
+device isa offers isa
+device com
+attach mainbus of mainbus at root
+attach isa of isa at mainbus
+attach com_isa of com at isa
+row 0 mainbus0 at root by mainbus on root flags 0
+row 1 isa0 at mainbus0 by isa on mainbus flags 0
+warning conf:12 nothing taken back
+warning conf:13 nothing taken back
+% status 0
+% run ioconf conf
+% file conf
+defpseudo loop
+defpseudo tun
+options A, B=1, C=\"x y\", A
+no options A, Z
+options A=\"\"
+makeoptions D=\"-g\", E+=2
+no makeoptions E
+file-system FFS, NFS
+no file-system FFS
+pseudo-device loop
+pseudo-device tun 4
+no pseudo-device loop
+no pseudo-device loop
+% out
+tables
+attr loop
+attr tun
+pseudo tun 4
+options B=1
+options C=x y
+options A=
+makeoptions D=-g
+file-system NFS
+warning conf:4 nothing taken back
+warning conf:13 nothing taken back
+% status 0
+% run ioconf conf
+% file conf
+device mainbus
+attach mainbus at root
+mainbus0 at root flags 4294967295
+% out
+tables
+device mainbus
+attach mainbus of mainbus at root
+row 0 mainbus0 at root by mainbus on root flags 4294967295
+% status 0
+% run ioconf conf
+% file conf
+device mainbus
+attach mainbus at root
+mainbus0 at root flags 037777777777
+% out
+tables
+device mainbus
+attach mainbus of mainbus at root
+row 0 mainbus0 at root by mainbus on root flags 4294967295
+% status 0
+% run ioconf conf
+% file conf
+device mainbus
+attach mainbus at root
+mainbus0 at root flags -0x80000000
+% out
+tables
+device mainbus
+attach mainbus of mainbus at root
+row 0 mainbus0 at root by mainbus on root flags -2147483648
+% status 0
+% run ioconf conf
+% file conf
+device mainbus
+attach mainbus at root
+mainbus0 at root flags 0
+% out
+tables
+device mainbus
+attach mainbus of mainbus at root
+row 0 mainbus0 at root by mainbus on root flags 0
+% status 0
+% run ioconf conf
+% file conf
+device mainbus
+attach mainbus at root
+mainbus0 at root flags 4294967296
+% err
+config conf:3: code 5
+% status 1
+% run ioconf conf
+% file conf
+device mainbus
+attach mainbus at root
+mainbus0 at root flags -2147483649
+% err
+config conf:3: code 5
+% status 1
+% run ioconf GENERIC
+% file GENERIC
+include \"conf/files\"
+machine amd64 x86
+ident \"GENERIC\"
+maxusers 64
+options DDB, DDB_HISTORY_SIZE=512 # kernel debugger
+makeoptions DEBUG=\"-g\"
+file-system FFS, NFS
+config netbsd root on ? type ?
+mainbus0 at root
+pci* at mainbus? bus ?
+isa0 at mainbus?
+com0 at isa? port 0x3f8
+\tirq 4
+com* at isa?
+pciide* at pci? dev ? function ? flags 0x0002
+atabus* at pciide? channel ?
+wd* at atabus? drive ? flags 0x0
+pseudo-device loop
+% file conf/files
+maxusers 2 16 128
+devclass disk
+define ifnet
+define tty
+define pcibus {[bus = -1]}
+define isabus {}
+define ata {[channel = -1]}
+define ata_hl {[drive = -1]}
+defflag opt_ddb.h DDB
+defparam opt_ddb.h DDB_HISTORY_SIZE = 100
+deffs FFS NFS
+defpseudo loop: ifnet
+device mainbus: pcibus, isabus
+attach mainbus at root
+device pci {[dev = -1], [function = -1]}
+attach pci at pcibus
+device isa {[port = -1], [irq = -1]}
+attach isa at isabus
+device com: tty
+attach com at isa with com_isa
+file dev/ic/com.c com needs-flag
+device pciide: ata
+attach pciide at pci
+device atabus: ata_hl
+attach atabus at ata
+device wd: disk
+attach wd at ata_hl
+% out
+tables
+attr disk
+attr ifnet
+attr tty
+iattr pcibus [bus=-1]
+iattr isabus
+iattr ata [channel=-1]
+iattr ata_hl [drive=-1]
+attr loop
+iattr pci [dev=-1] [function=-1]
+iattr isa [port=-1] [irq=-1]
+device mainbus offers pcibus isabus
+device pci offers pci
+device isa offers isa
+device com
+device pciide offers ata
+device atabus offers ata_hl
+device wd
+attach mainbus of mainbus at root
+attach pci of pci at pcibus
+attach isa of isa at isabus
+attach com_isa of com at isa
+attach pciide of pciide at pci
+attach atabus of atabus at ata
+attach wd of wd at ata_hl
+row 0 mainbus0 at root by mainbus on root flags 0
+row 1 pci* from 0 at mainbus? by pci on pcibus bus=-1 flags 0
+row 2 isa0 at mainbus? by isa on isabus flags 0
+row 3 com0 at isa? by com_isa on isa port=1016 irq=4 flags 0
+row 4 com* from 1 at isa? by com_isa on isa port=-1 irq=-1 flags 0
+row 5 pciide* from 0 at pci? by pciide on pci dev=-1 function=-1 flags 2
+row 6 atabus* from 0 at pciide? by atabus on ata channel=-1 flags 0
+row 7 wd* from 0 at atabus? by wd on ata_hl drive=-1 flags 0
+pseudo loop 1
+options DDB
+options DDB_HISTORY_SIZE=512
+makeoptions DEBUG=-g
+file-system FFS
+file-system NFS
+% status 0
+% run ioconf conf
+% file conf
+define up {}
+define down {}
+device hub: down, up
+attach hub at root
+device leaf
+attach leaf at down, up with leaf_both
+attach leaf at up with leaf_up
+hub0 at root
+leaf0 at hub?
+leaf1 at up?
+% out
+tables
+iattr up
+iattr down
+device hub offers down up
+device leaf
+attach hub of hub at root
+attach leaf_both of leaf at down up
+attach leaf_up of leaf at up
+row 0 hub0 at root by hub on root flags 0
+row 1 leaf0 at hub? by leaf_both on down flags 0
+row 2 leaf1 at up? by leaf_both on up flags 0
+% status 0
+% run ioconf conf
+% file conf
+define wire {}
+define bundle: wire
+device hub: bundle
+attach hub at root
+device leaf
+attach leaf at wire
+hub0 at root
+leaf* at hub?
+% out
+tables
+iattr wire
+attr bundle
+device hub offers wire
+device leaf
+attach hub of hub at root
+attach leaf of leaf at wire
+row 0 hub0 at root by hub on root flags 0
+row 1 leaf* from 0 at hub? by leaf on wire flags 0
+% status 0
+% run ioconf conf
+% file conf
+device bus {target, lun = -1}
+attach bus at root
+device xa
+attach xa at bus
+bus0 at root
+xa0 at bus? target 3 lun ?
+% out
+tables
+iattr bus target lun=-1
+device bus offers bus
+device xa
+attach bus of bus at root
+attach xa of xa at bus
+row 0 bus0 at root by bus on root flags 0
+row 1 xa0 at bus? by xa on bus target=3 lun=-1 flags 0
+% status 0
+% run ioconf conf
+% file conf
+ident \"abc
+% err
+config conf:1: code 4
+% status 1
+% run ioconf conf
+% file conf
+\x01
+%cut
+% err
+config conf:1: code 3
+% status 1
+% run ioconf conf
+% file conf
+\xff\x00
+%cut
+% err
+config conf:1: code 3
+% status 1
+% run ioconf conf
+% file conf
+endif
+% err
+config conf:1: code 21
+% status 1
+% run ioconf conf
+% file conf
+prefix
+% err
+config conf:1: code 22
+% status 1
+% run ioconf conf
+% file conf
+nope0 at root
+ident \"abc
+%cut
+% err
+config conf:2: code 4
+% status 1
+% run ioconf conf
+% file conf
+options A+1
+% err
+config conf:1: code 3
+% status 1
+% run ioconf conf
+% file conf
+device a\r
+% err
+config conf:1: code 3
+% status 1
+% run ioconf conf
+% file conf
+device a1
+% err
+config conf:1: code 6
+% status 1
+% run ioconf conf
+% file conf
+device 1a
+% err
+config conf:1: code 6
+% status 1
+% run ioconf conf
+% file conf
+device a
+attach a at root
+a01 at root
+% err
+config conf:3: code 6
+% status 1
+% run ioconf conf
+% file conf
+object foo.o
+% err
+config conf:1: code 7
+% status 1
+% run ioconf conf
+% file conf
+# a byte \xc8 in a comment
+% out
+tables
+% status 0
+% run ioconf conf
+% file conf
+device  a # why
+
+# more
+% out
+tables
+device a
+% status 0
+% run ioconf conf
+% file conf
+device
+
+\ta
+device b
+%cut
+% out
+tables
+device a
+device b
+% status 0
+% run ioconf conf
+% file conf
+  device a
+% out
+tables
+device a
+% status 0
+% run ioconf conf
+% file conf
+device # what
+ a
+% out
+tables
+device a
+% status 0
+% run ioconf conf
+% file conf
+cinclude \"local\"
+include \"missing\"
+% err
+config conf:2: code 1
+% status 1
+% run ioconf conf
+% file conf
+include \"a\"
+% file a
+
+
+include \"b\"
+% err
+config a:3: code 1
+% status 1
+% run ioconf conf
+% file conf
+nope0 at root
+include \"a\"
+% err
+config conf:1: code 10
+% status 1
+% run ioconf conf
+% file conf
+include \"a\"
+device c: b
+% file a
+define b
+% out
+tables
+attr b
+device c
+% status 0
+% run ioconf conf
+% file conf
+include \"a\"
+device c: b
+nope0 at root
+% file a
+define b
+define b
+% err
+config a:2: code 18
+% status 1
+% run ioconf conf
+% file conf
+include \"a\"
+device c: b
+nope0 at root
+% file a
+define b
+% err
+config conf:3: code 10
+% status 1
+% run ioconf conf
+% file conf
+include \"a\"
+device c: b
+nope0 at root
+% file a
+bad bad
+ident \"x
+% err
+config a:2: code 4
+% status 1
+% run ioconf conf
+% file conf
+include \"a\"
+device c: b
+nope0 at root
+% file a
+prefix
+ident \"x\"
+% err
+config a:1: code 22
+% status 1
+% run ioconf conf
+% file conf
+prefix sys
+include a
+prefix dev
+include b
+include /c
+prefix
+include d
+prefix /e
+include f
+prefix
+prefix
+include g
+% file sys/a
+define a
+% file sys/dev/b
+define b
+% file /c
+define c
+% file sys/d
+define d
+% file /e/f
+define f
+% file g
+define g
+% out
+tables
+attr a
+attr b
+attr c
+attr d
+attr f
+attr g
+% status 0
+% run ioconf conf
+% file conf
+include a
+include b
+prefix
+% file a
+prefix sys
+% file sys/b
+define b
+% out
+tables
+attr b
+% status 0
+% run ioconf conf
+% file conf
+ifdef nope
+package
+include absent
+ifdef
+else
+endif
+prefix
+endif
+define a
+% out
+tables
+attr a
+% status 0
+% run ioconf conf
+% file conf
+define a
+ifdef a
+define b
+elifdef a
+define c
+else
+define d
+endif
+ifndef a
+define e
+elifndef nope
+define f
+else
+define g
+endif
+% out
+tables
+attr a
+attr b
+attr f
+% status 0
+% run ioconf conf
+% file conf
+device d
+ifdef d
+include a
+endif
+% file a
+ifdef later
+define b
+else
+define c
+endif
+define later
+% out
+tables
+attr c
+attr later
+device d
+% status 0
+% run ioconf conf
+% file conf
+ifndef a
+include b
+endif
+% file b
+endif
+% err
+config b:1: code 21
+% status 1
+% run ioconf conf
+% file conf
+include b
+% file b
+
+ifdef a
+% err
+config b:2: code 21
+% status 1
+% run ioconf conf
+% file conf
+ifdef a
+
+ifndef b
+endif
+% err
+config conf:1: code 21
+% status 1
+% run ioconf conf
+% file conf
+else
+% err
+config conf:1: code 21
+% status 1
+% run ioconf conf
+% file conf
+ifdef a
+else
+else
+endif
+% err
+config conf:3: code 21
+% status 1
+% run ioconf conf
+% file conf
+ifdef a
+else
+elifdef b
+endif
+% err
+config conf:3: code 21
+% status 1
+% run ioconf conf
+% file conf
+ifdef nope
+ifdef a
+else
+else
+endif
+endif
+% err
+config conf:4: code 21
+% status 1
+% run ioconf conf
+% file conf
+ifdef a
+nope nope
+% err
+config conf:1: code 21
+% status 1
+% run
+% file conf
+device mainbus
+attach mainbus at root
+mainbus0 at root
+% err
+usage: devconf ioconf FILE | boot FILE MACHINE | play FILE MACHINE ORDER SCRIPT.. | replay FILE MACHINE HISTORY SCRIPT.. | load N
+% status 2
+% run ioconf
+% file conf
+device mainbus
+attach mainbus at root
+mainbus0 at root
+% err
+usage: devconf ioconf FILE | boot FILE MACHINE | play FILE MACHINE ORDER SCRIPT.. | replay FILE MACHINE HISTORY SCRIPT.. | load N
+% status 2
+% run ioconf -x
+% file conf
+device mainbus
+attach mainbus at root
+mainbus0 at root
+% err
+usage: devconf ioconf FILE | boot FILE MACHINE | play FILE MACHINE ORDER SCRIPT.. | replay FILE MACHINE HISTORY SCRIPT.. | load N
+% status 2
+% run ioconf ''
+% file conf
+device mainbus
+attach mainbus at root
+mainbus0 at root
+% err
+usage: devconf ioconf FILE | boot FILE MACHINE | play FILE MACHINE ORDER SCRIPT.. | replay FILE MACHINE HISTORY SCRIPT.. | load N
+% status 2
+% run ioconf conf conf
+% file conf
+device mainbus
+attach mainbus at root
+mainbus0 at root
+% err
+usage: devconf ioconf FILE | boot FILE MACHINE | play FILE MACHINE ORDER SCRIPT.. | replay FILE MACHINE HISTORY SCRIPT.. | load N
+% status 2
+% run Ioconf conf
+% file conf
+device mainbus
+attach mainbus at root
+mainbus0 at root
+% err
+usage: devconf ioconf FILE | boot FILE MACHINE | play FILE MACHINE ORDER SCRIPT.. | replay FILE MACHINE HISTORY SCRIPT.. | load N
+% status 2
+% run --help
+% file conf
+device mainbus
+attach mainbus at root
+mainbus0 at root
+% err
+usage: devconf ioconf FILE | boot FILE MACHINE | play FILE MACHINE ORDER SCRIPT.. | replay FILE MACHINE HISTORY SCRIPT.. | load N
+% status 2
+% run -- ioconf conf
+% file conf
+device mainbus
+attach mainbus at root
+mainbus0 at root
+% err
+usage: devconf ioconf FILE | boot FILE MACHINE | play FILE MACHINE ORDER SCRIPT.. | replay FILE MACHINE HISTORY SCRIPT.. | load N
+% status 2
+% run boot conf
+% file conf
+device mainbus
+attach mainbus at root
+mainbus0 at root
+% err
+usage: devconf ioconf FILE | boot FILE MACHINE | play FILE MACHINE ORDER SCRIPT.. | replay FILE MACHINE HISTORY SCRIPT.. | load N
+% status 2
+% run play conf mach ord s1
+% file conf
+device mainbus
+attach mainbus at root
+mainbus0 at root
+% err
+usage: devconf ioconf FILE | boot FILE MACHINE | play FILE MACHINE ORDER SCRIPT.. | replay FILE MACHINE HISTORY SCRIPT.. | load N
+% status 2
+% run ioconf none
+% file conf
+device mainbus
+attach mainbus at root
+mainbus0 at root
+% err
+config none:0: code 1
+% status 1
+% run ioconf conf
+% file conf
+device mainbus
+attach mainbus at root
+mainbus0 at root
+% err
+read fault
+% load 1
+% status 8
+% run ioconf conf
+% file conf
+device mainbus
+attach mainbus at root
+mainbus0 at root
+% out
+tables
+% err
+write fault
+% put 2
+% status 9
+% run ioconf conf
+% file conf
+nope0 at root
+include \"more\"
+% file more
+% err
+read fault
+% load 2
+% status 8
+";
+
+/// A bus whose first locator has to be written, an attribute that is no interface attribute, one that is, two device
+/// classes, a device without any attachment and one that is attached to the bus.
+pub const BEFORE: &[u8] = b"define plain
+define wire {}
+devclass disk
+devclass tape
+device bus {target, lun = -1}
+attach bus at root
+device bare
+device leaf
+attach leaf at bus with taken
+bus0 at root
+";
+
+/// Lines behind those, each with the code that it is refused with, where several codes could stand together.
+pub const CODES: &[u8] = b"7 package
+7 define x { n = \"s\" y
+7 define x { n = \"s\", m = 99999999999 }
+7 define x { n[4] }
+6 maxusers 99999999999 1
+6 define 1x { n = 99999999999 }
+5 define root { n = 99999999999 }
+5 leaf65536 at nope?
+18 define root { a, a }: nope
+18 define plain: nope
+15 define x { a, a }: nope
+8 define x: plain, nope
+18 devclass root
+18 devclass plain
+18 defpseudo plain { a, a }
+15 defpseudo x { a, a }: nope
+8 defpseudo x: nope
+18 device root { a, a }: nope, disk, tape
+18 device leaf: disk, tape
+18 device plain { a, a }
+15 device x { a, a }: nope, disk, tape
+8 device x: disk, tape, nope
+19 device x: disk, tape
+10 attach nope at nope with taken: nope
+10 attach nope at plain
+8 attach leaf at nope, plain with taken: nope
+9 attach leaf at plain, nope with taken: nope
+8 attach leaf at bus, nope
+9 attach leaf at plain with root
+18 attach leaf at bus with taken: nope
+18 attach leaf at bus with root: nope
+18 attach bus at wire: nope
+8 attach leaf at bus: nope
+10 pseudo-device plain
+10 nope0 at nope? zz 1
+10 nope0 at plain0
+11 bare0 at nope? zz 1
+11 bare0 at plain?
+11 bare0 at wire0
+11 bare0 at root zz 1
+8 leaf0 at nope? zz 1
+9 leaf0 at plain0 zz 1
+17 leaf0 at wire0 zz 1
+12 leaf0 at wire? zz 1
+12 leaf0 at root zz 1
+12 leaf0 at leaf? target 1
+14 leaf0 at bus? zz 1 zz 1
+14 leaf0 at bus? zz ?
+16 leaf0 at bus? target ? zz 1
+14 leaf0 at bus? zz 1 target ?
+15 leaf0 at bus? target 3 target ? lun 0
+15 leaf0 at bus? target 3 target 4
+15 leaf0 at bus? lun 0 lun 1
+16 leaf0 at bus? target ? lun 0
+16 leaf0 at bus? target ?
+14 leaf0 at bus? drive 1
+13 leaf0 at bus? lun ?
+13 leaf0 at bus? target 3
+13 leaf0 at bus?
+14 bus1 at root target 1
+";

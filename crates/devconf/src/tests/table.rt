@@ -1,0 +1,182 @@
+//! Runs that tables tell.
+
+use super::cases::{BEFORE, CODES, RUNS};
+use super::{Case, refuses, try_case};
+use cf_types::{Memory, Text};
+use std::alloc::Global;
+use std::process::Abort;
+
+/// What the next lines of the table are.
+#[derive(Clone, Copy)]
+enum Section {
+    File,
+    Out,
+    Err,
+}
+
+/// A run that is being read: what is told of it so far, and the file that is open.
+#[derive(Drop)]
+struct Told {
+    case: Case,
+    section: Section,
+    name: Vec<u8>,
+    text: Vec<u8>,
+}
+
+fn number(digits: &[u8]) -> u64 {
+    let mut number: u64 = 0;
+    for digit in digits {
+        number = number
+            .saturating_mul(10)
+            .saturating_add(u64::from(digit.saturating_sub(b'0')));
+    }
+    number
+}
+
+/// A word; `''` is the empty one.
+fn word(alloc: Global, bytes: &[u8]) -> Result<String, Memory> {
+    let text = match str::from_utf8(bytes) {
+        Ok("''") | Err(_) => "",
+        Ok(text) => text,
+    };
+    Ok(String::from_str(alloc, text)?)
+}
+
+impl Told {
+    fn make(alloc: Global) -> Told {
+        Told {
+            case: Case::make(alloc),
+            section: Section::File,
+            name: Vec::new(alloc),
+            text: Vec::new(alloc),
+        }
+    }
+
+    /// The bytes that the lines of this section go to.
+    fn text(&mut self) -> &mut Vec<u8> {
+        match self.section {
+            Section::File => &mut self.text,
+            Section::Out => &mut self.case.out,
+            Section::Err => &mut self.case.err,
+        }
+    }
+
+    fn add_line(&mut self, line: &[u8]) -> Result<(), Memory> {
+        let text = self.text();
+        text.extend_from_slice(line)?;
+        text.push(b'\n')?;
+        Ok(())
+    }
+
+    fn add_words(&mut self, alloc: Global, words: &[u8]) -> Result<(), Memory> {
+        for bytes in words.split(|byte| *byte == b' ') {
+            if !bytes.is_empty() {
+                self.case.words.push(word(alloc, bytes)?)?;
+            }
+        }
+        Ok(())
+    }
+
+    /// Ends the file that is open, if there is one.
+    fn close_file(self, alloc: Global) -> Result<Told, Memory> {
+        let Told {
+            mut case,
+            section,
+            name,
+            text,
+        } = self;
+        if !name.is_empty() {
+            case.add_file(Text::from_vec(name), text)?;
+        }
+        Ok(Told {
+            case,
+            section,
+            name: Vec::new(alloc),
+            text: Vec::new(alloc),
+        })
+    }
+
+    fn open_file(self, alloc: Global, name: &[u8]) -> Result<Told, Memory> {
+        let mut told = self.close_file(alloc)?;
+        told.name.extend_from_slice(name)?;
+        told.section = Section::File;
+        Ok(told)
+    }
+}
+
+/// Takes a line that tells of the run; at its status the run is tried, and the next begins.
+fn direct(
+    rt: &impl Abort,
+    alloc: Global,
+    told: Told,
+    word: &[u8],
+    rest: &[u8],
+) -> Result<Told, Memory> {
+    let mut told = told;
+    match word {
+        b"run" => told.add_words(alloc, rest)?,
+        b"file" => return told.open_file(alloc, rest),
+        b"out" => told.section = Section::Out,
+        b"err" => told.section = Section::Err,
+        b"load" => told.case.fail_load = number(rest),
+        b"put" => told.case.fail_put = number(rest),
+        _ => {
+            let Told { case, .. } = told.close_file(alloc)?;
+            try_case(rt, alloc, case, number(rest))?;
+            return Ok(Told::make(alloc));
+        }
+    }
+    Ok(told)
+}
+
+/// A word and what stands behind the blank after it.
+fn parted(line: &[u8]) -> (&[u8], &[u8]) {
+    match line.iter().position(|byte| *byte == b' ') {
+        Some(place) => (&line[..place], &line[place + 1..]),
+        None => (line, &[]),
+    }
+}
+
+fn take_line(rt: &impl Abort, alloc: Global, told: Told, line: &[u8]) -> Result<Told, Memory> {
+    let mut told = told;
+    match line {
+        [b'%', b' ', rest @ ..] => {
+            let (word, rest) = parted(rest);
+            return direct(rt, alloc, told, word, rest);
+        }
+        b"%cut" => {
+            let _ = told.text().pop();
+        }
+        _ => told.add_line(line)?,
+    }
+    Ok(told)
+}
+
+#[test]
+fn runs_answer_as_the_table_tells(rt: HostRuntime) -> Result<(), Memory> {
+    let mut told = Told::make(rt.alloc());
+    let mut runs = 0_u32;
+    for line in RUNS.split(|byte| *byte == b'\n') {
+        if line.starts_with(b"% status") {
+            runs = runs.saturating_add(1);
+        }
+        told = take_line(&rt, rt.alloc(), told, line)?;
+    }
+    assert_eq!(rt; runs, 72);
+    Ok(())
+}
+
+#[test]
+fn the_first_of_several_codes_is_told(rt: HostRuntime) -> Result<(), Memory> {
+    let alloc = rt.alloc();
+    for entry in CODES.split(|byte| *byte == b'\n') {
+        let (code, line) = parted(entry);
+        if line.is_empty() {
+            return Ok(());
+        }
+        let mut conf = Vec::from_slice(alloc, BEFORE)?;
+        conf.extend_from_slice(line)?;
+        refuses(&rt, alloc, &conf, 11, number(code))?;
+    }
+    Ok(())
+}
