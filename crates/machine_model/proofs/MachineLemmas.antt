@@ -1,9 +1,12 @@
 -- The lines of a machine file, one after the other.
 use Rattle.std.proofs.Common.{◌≡◌, ℕ, ◌-◌, ◌≤◌, length, get_or, take, drop, List, [], ◌∷◌, ap, ◌∙◌, arith, Result, Ok, Err}
+use Rattle.std.specs.Prelude.{IfOk}
 use Rattle.std.proofs.lemmas.List.{take_all}
 use Rattle.cf_types.specs.declared.machine.Machine.{Machine}
 use Rattle.cf_types.specs.declared.tables.Tables.{Tables}
 use Rattle.config_rules.specs.Cut.{at_line, ◌>>=◌}
+use Rattle.config_rules.specs.Formed.{FittingMachine}
+use Rattle.config_rules.proofs.MachineLaws.{machine_fits}
 use Rattle.config_rules.specs.MachineText.{WordLine, after_line, after_lines, line_form, machine_of, no_machine, records_of}
 use Rattle.machine_text.specs.declared.line.Line.{Line}
 use Rattle.machine_text.specs.declared.line.MachineStop.{MachineStop}
@@ -38,3 +41,8 @@ pub faulty : (t : Tables) (text : List ℕ) (stop : MachineStop) → lines_of.Gi
 unfolding machine_of
 faulty t text (Fault line code) h = ap (λ o. o >>= λ ws. after_lines t ws (no_machine t)) h
 faulty t text Memory h = tt
+
+-- a machine that is what the text means fits the tables
+pub fitting : (t : Tables) (text : List ℕ) (r : Result Machine MachineStop) → Gives (machine_of t text) r → IfOk r (FittingMachine t)
+fitting t text (Ok m) h = machine_fits t text m h
+fitting t text (Err stop) h = tt

@@ -1,5 +1,5 @@
 ghost use Rattle.std.specs.Prelude.{◌≡◌, ◌≤◌, IfOk, length, map};
-ghost use Rattle.config_rules.specs.Formed.{CountedTables};
+ghost use Rattle.config_rules.specs.Formed.{CountedTables, FittingMachine};
 ghost use Rattle.config_rules.specs.MachineText.{after_lines, machine_of, no_machine};
 ghost use Rattle.cf_types.specs.Policies.{no_policy};
 ghost use Rattle.machine_text.specs.Records.{word_line};
@@ -70,11 +70,13 @@ fn read_lines(alloc: Global, tables: &Tables, lines: &[Line]) -> Result<Machine,
 }
 
 /// Reads a machine file of at most 1,048,576 bytes, for tables of at most 65,536 attributes and attachments and 16
-/// locators an attribute: the machine, or the first bad line and its code, 1 to 9. The format is this project's own.
+/// locators an attribute: the machine, which fits the tables, or the first bad line and its code, 1 to 9. The format is
+/// this project's own.
 pub fn read_machine(alloc: Global, text: &[u8], tables: &Tables) -> Result<Machine, MachineStop>
     requires short { length text.now ≤ 1048576 }
     requires counted { CountedTables tables.now }
     ensures gives { Gives (machine_of tables.now text.now) result }
+    ensures fits { IfOk result (λ m. FittingMachine tables.now m) }
     ensures few_spots { IfOk result (λ m. length m.spots ≤ 1024) }
 {
     match records(alloc, text) {
