@@ -80,7 +80,7 @@ interface_is t name = interface_if t.attrs (position (λ a. bytes_eq a.name name
 -- ---- names that differ
 
 -- one more name, which none of them is
-differ_push : (names : List (List ℕ)) (name : List ℕ) → differ names ≡ true → list_any (λ n. bytes_eq n name) names ≡ false → differ (names ++ name ∷ []) ≡ true
+pub differ_push : (names : List (List ℕ)) (name : List ℕ) → differ names ≡ true → list_any (λ n. bytes_eq n name) names ≡ false → differ (names ++ name ∷ []) ≡ true
 differ_push [] name h new = refl
 differ_push (n ∷ names) name h new =
     let other : bytes_eq n name ≡ false = or_first (bytes_eq n name) (list_any (λ m. bytes_eq m name) names) new in

@@ -1,11 +1,14 @@
 //! Reads a machine file: the hardware that is there, and what its drivers do. The format is this project's own.
 #![tactic(auto)]
 
+mod draft;
 mod driver;
+mod index;
 mod line;
 mod locator;
 mod lookup;
 mod machine;
+mod numbers;
 mod spot;
 mod stop;
 mod word;

@@ -1,79 +1,94 @@
-ghost use Rattle.std.specs.Prelude.{◌≡◌, ◌≤◌, ◌&&◌, IsTrue, if◌then◌else◌, [], ◌∷◌, Some, None, bytes_eq, codes, length, map, nat_lt, option_map};
+ghost use Rattle.std.specs.Prelude.{◌≡◌, ◌<◌, ◌≤◌, ◌&&◌, IfOk, IsTrue, OnOk, if◌then◌else◌, [], ◌∷◌, Some, None, bytes_eq, codes, length, map, nat_lt, option_map};
 ghost use Rattle.std.specs.List.{list_all};
-ghost use Rattle.config_rules.specs.Formed.{CountedTables};
 ghost use Rattle.config_rules.specs.MachineText.{after_line, driver_form, driver_line, is_spot, is_one, line_form, match_form, match_line, policy_words, spot_form, spot_line, spot_number, style_form, style_line};
 ghost use Rattle.machine_model.specs.Found.{given_of};
+ghost use Rattle.machine_model.specs.Indexed.{IsDraft, IsIndex, with_spot};
 ghost use Rattle.machine_model.specs.Left.{Leaves};
 
+use crate::draft::Draft;
 use crate::driver::add_policies;
+use crate::index::Index;
 use crate::locator::{FoundValue, count_located, given_values, names_differ};
 use crate::lookup::{attach_number, interface_number, spot_number};
+use crate::numbers::add_name;
 use crate::spot::{make_spot, spot_fault};
 use crate::stop::LineStop;
 use crate::word::{are_marks, are_policies, differ, is_free_name, match_value, spells};
-use cf_types::{List, Machine, MatchLine, Spot, StyleLine, Tables, Text};
+use cf_types::{List, MatchLine, Memory, Spot, StyleLine, Text};
 use std::alloc::Global;
 use std::mem;
 
 /// Whether the name is free, and no locator or mark stands twice.
-fn is_spot(name: &[u8], found: &[FoundValue], marks: &[Text]) -> bool
-    ensures value { result ≡ is_spot name.now (map given_of found.now) marks.now }
-    ensures not_empty { IsTrue result → 1 ≤ length name.now }
-    ensures not_long { IsTrue result → length name.now ≤ 63 }
+fn is_spot(alloc: Global, name: &[u8], found: &[FoundValue], marks: &[Text]) -> Result<bool, Memory>
+    ensures value { IfOk result (λ fits. fits ≡ is_spot name.now (map given_of found.now) marks.now) }
+    ensures not_empty { IfOk result (λ fits. IsTrue fits → 1 ≤ length name.now) }
+    ensures not_long { IfOk result (λ fits. IsTrue fits → length name.now ≤ 63) }
 {
-    is_free_name(name) && names_differ(found) && are_marks(marks) && differ(marks)
+    let apart = names_differ(alloc, found)?;
+    Ok(is_free_name(name) && apart && are_marks(marks) && differ(marks))
+}
+
+/// Adds a spot with this name.
+fn add_spot_named(alloc: Global, draft: &mut Draft, name: &[u8], spot: Spot) -> Result<(), Memory>
+    requires name { spot.name ≡ name.now }
+    requires room { length draft.old.machine.spots < 1024 }
+    ensures machine { OnOk result (draft.new.machine ≡ with_spot draft.old.machine spot) }
+    ensures draft { OnOk result (IsDraft draft.old → IsDraft draft.new) }
+{
+    add_name(alloc, &mut draft.numbers, name, draft.machine.spots.len())?;
+    draft.machine.spots.push(spot)?;
+    Ok(())
 }
 
 /// Adds `spot NAME PARENT ATTR`, with its locators and marks.
 fn add_spot(
     alloc: Global,
-    tables: &Tables,
-    machine: &mut Machine,
+    index: &Index,
+    draft: &mut Draft,
     name: &[u8],
     parent: &[u8],
     attr: &[u8],
     rest: &[Text],
 ) -> Result<(), LineStop>
-    requires counted { CountedTables tables.now }
-    requires few { length machine.old.spots ≤ 1024 }
-    ensures left { Leaves (after_line tables.now machine.old (spot_form name.now parent.now attr.now rest.now)) result machine.new }
-    ensures few { length machine.new.spots ≤ 1024 }
+    requires index { IsIndex index.now }
+    requires draft { IsDraft draft.old }
+    ensures left { Leaves (after_line index.now.tables.now draft.old.machine (spot_form name.now parent.now attr.now rest.now)) result draft.new.machine }
+    ensures draft { OnOk result (IsDraft draft.new) }
 {
     let (located, marks) = rest.split_at(count_located(rest));
     let found = match given_values(alloc, located)? {
         Some(found) => found,
         None => return Err(LineStop::Code(1)),
     };
-    if !is_spot(name, found.items(), marks) {
+    if !is_spot(alloc, name, found.items(), marks)? {
         return Err(LineStop::Code(1));
     }
-    let spots = machine.spots.items();
-    if let Some(code) = spot_fault(tables, spots, name, parent, attr, found.items()) {
+    if let Some(code) = spot_fault(index, draft, name, parent, attr, found.items()) {
         return Err(LineStop::Code(code));
     }
     let spot = make_spot(
         alloc,
-        tables,
-        spots,
+        index,
+        draft,
         name,
         parent,
         attr,
         found.items(),
         marks,
     )?;
-    machine.spots.push(spot)?;
+    add_spot_named(alloc, draft, name, spot)?;
     Ok(())
 }
 
 /// The number of the matched spot, `Some(None)` for `*` and `None` for no spot.
-fn matched_spot(spots: &[Spot], word: &[u8]) -> Option<Option<u16>>
-    requires { length spots.now ≤ 1024 }
-    ensures { result ≡ (if bytes_eq word.now (codes "*") then Some None else option_map Some (spot_number spots.now word.now)) }
+fn matched_spot(draft: &Draft, word: &[u8]) -> Option<Option<u16>>
+    requires { IsDraft draft.now }
+    ensures { result ≡ (if bytes_eq word.now (codes "*") then Some None else option_map Some (spot_number draft.now.machine.spots word.now)) }
 {
     if spells(word, b"*") {
         return Some(None);
     }
-    match spot_number(spots, word) {
+    match spot_number(draft, word) {
         Some(number) => Some(Some(number)),
         None => None,
     }
@@ -81,32 +96,32 @@ fn matched_spot(spots: &[Spot], word: &[u8]) -> Option<Option<u16>>
 
 /// Adds `match ATTACHMENT SPOT V`.
 fn add_match(
-    tables: &Tables,
-    machine: &mut Machine,
+    index: &Index,
+    draft: &mut Draft,
     attach: &[u8],
     spot: &[u8],
     value: &[u8],
 ) -> Result<(), LineStop>
-    requires counted { CountedTables tables.now }
-    requires few { length machine.old.spots ≤ 1024 }
-    ensures left { Leaves (after_line tables.now machine.old (match_form attach.now spot.now value.now)) result machine.new }
-    ensures few { length machine.new.spots ≤ 1024 }
+    requires index { IsIndex index.now }
+    requires draft { IsDraft draft.old }
+    ensures left { Leaves (after_line index.now.tables.now draft.old.machine (match_form attach.now spot.now value.now)) result draft.new.machine }
+    ensures draft { OnOk result (IsDraft draft.new) }
 {
     let value = match match_value(value) {
         Some(value) => value,
         None => return Err(LineStop::Code(1)),
     };
-    let attach = match attach_number(tables, attach) {
+    let attach = match attach_number(index, attach) {
         Some(attach) => attach,
         None => return Err(LineStop::Code(6)),
     };
-    let spot = match matched_spot(machine.spots.items(), spot) {
+    let spot = match matched_spot(draft, spot) {
         Some(spot) => spot,
         None => return Err(LineStop::Code(3)),
     };
     match value {
         Some(value) => {
-            machine.matches.push(MatchLine {
+            draft.machine.matches.push(MatchLine {
                 attach,
                 spot,
                 value,
@@ -125,30 +140,30 @@ fn is_style(word: &[u8]) -> bool
 
 /// Adds `style ATTACHMENT ATTR direct` or `indirect`.
 fn add_style(
-    tables: &Tables,
-    machine: &mut Machine,
+    index: &Index,
+    draft: &mut Draft,
     attach: &[u8],
     attr: &[u8],
     style: &[u8],
 ) -> Result<(), LineStop>
-    requires counted { CountedTables tables.now }
-    requires few { length machine.old.spots ≤ 1024 }
-    ensures left { Leaves (after_line tables.now machine.old (style_form attach.now attr.now style.now)) result machine.new }
-    ensures few { length machine.new.spots ≤ 1024 }
+    requires index { IsIndex index.now }
+    requires draft { IsDraft draft.old }
+    ensures left { Leaves (after_line index.now.tables.now draft.old.machine (style_form attach.now attr.now style.now)) result draft.new.machine }
+    ensures draft { OnOk result (IsDraft draft.new) }
 {
     if !is_style(style) {
         return Err(LineStop::Code(1));
     }
-    let attach = match attach_number(tables, attach) {
+    let attach = match attach_number(index, attach) {
         Some(attach) => attach,
         None => return Err(LineStop::Code(6)),
     };
-    let attr = match interface_number(tables, attr) {
+    let attr = match interface_number(index, attr) {
         Some(attr) => attr,
         None => return Err(LineStop::Code(4)),
     };
     let indirect = spells(style, b"indirect");
-    machine.styles.push(StyleLine {
+    draft.machine.styles.push(StyleLine {
         attach,
         attr,
         indirect,
@@ -166,46 +181,46 @@ fn is_driver(words: &[Text]) -> bool
 /// Adds `driver ATTACHMENT` and one or more policies.
 fn add_driver(
     alloc: Global,
-    tables: &Tables,
-    machine: &mut Machine,
+    index: &Index,
+    draft: &mut Draft,
     attach: &[u8],
     policies: &[Text],
 ) -> Result<(), LineStop>
-    requires counted { CountedTables tables.now }
-    requires few { length machine.old.spots ≤ 1024 }
-    ensures left { Leaves (after_line tables.now machine.old (driver_form attach.now policies.now)) result machine.new }
-    ensures few { length machine.new.spots ≤ 1024 }
+    requires index { IsIndex index.now }
+    requires draft { IsDraft draft.old }
+    ensures left { Leaves (after_line index.now.tables.now draft.old.machine (driver_form attach.now policies.now)) result draft.new.machine }
+    ensures draft { OnOk result (IsDraft draft.new) }
 {
     if !is_driver(policies) {
         return Err(LineStop::Code(1));
     }
-    let attach = match attach_number(tables, attach) {
+    let attach = match attach_number(index, attach) {
         Some(attach) => attach,
         None => return Err(LineStop::Code(6)),
     };
-    let mut changed = mem::replace(&mut machine.policies, List::make(alloc)).into_vec();
+    let mut changed = mem::replace(&mut draft.machine.policies, List::make(alloc)).into_vec();
     add_policies(&mut changed, attach as usize, policies);
-    machine.policies = List::from_vec(changed);
+    draft.machine.policies = List::from_vec(changed);
     Ok(())
 }
 
 /// Adds what stands behind `spot`.
 fn add_spot_line(
     alloc: Global,
-    tables: &Tables,
-    machine: &mut Machine,
+    index: &Index,
+    draft: &mut Draft,
     words: &[Text],
 ) -> Result<(), LineStop>
-    requires counted { CountedTables tables.now }
-    requires few { length machine.old.spots ≤ 1024 }
-    ensures left { Leaves (after_line tables.now machine.old (spot_line words.now)) result machine.new }
-    ensures few { length machine.new.spots ≤ 1024 }
+    requires index { IsIndex index.now }
+    requires draft { IsDraft draft.old }
+    ensures left { Leaves (after_line index.now.tables.now draft.old.machine (spot_line words.now)) result draft.new.machine }
+    ensures draft { OnOk result (IsDraft draft.new) }
 {
     match words {
         [name, parent, attr, rest @ ..] => add_spot(
             alloc,
-            tables,
-            machine,
+            index,
+            draft,
             name.items(),
             parent.items(),
             attr.items(),
@@ -216,30 +231,30 @@ fn add_spot_line(
 }
 
 /// Adds what stands behind `match`.
-fn add_match_line(tables: &Tables, machine: &mut Machine, words: &[Text]) -> Result<(), LineStop>
-    requires counted { CountedTables tables.now }
-    requires few { length machine.old.spots ≤ 1024 }
-    ensures left { Leaves (after_line tables.now machine.old (match_line words.now)) result machine.new }
-    ensures few { length machine.new.spots ≤ 1024 }
+fn add_match_line(index: &Index, draft: &mut Draft, words: &[Text]) -> Result<(), LineStop>
+    requires index { IsIndex index.now }
+    requires draft { IsDraft draft.old }
+    ensures left { Leaves (after_line index.now.tables.now draft.old.machine (match_line words.now)) result draft.new.machine }
+    ensures draft { OnOk result (IsDraft draft.new) }
 {
     match words {
         [attach, spot, value] => {
-            add_match(tables, machine, attach.items(), spot.items(), value.items())
+            add_match(index, draft, attach.items(), spot.items(), value.items())
         }
         _ => Err(LineStop::Code(1)),
     }
 }
 
 /// Adds what stands behind `style`.
-fn add_style_line(tables: &Tables, machine: &mut Machine, words: &[Text]) -> Result<(), LineStop>
-    requires counted { CountedTables tables.now }
-    requires few { length machine.old.spots ≤ 1024 }
-    ensures left { Leaves (after_line tables.now machine.old (style_line words.now)) result machine.new }
-    ensures few { length machine.new.spots ≤ 1024 }
+fn add_style_line(index: &Index, draft: &mut Draft, words: &[Text]) -> Result<(), LineStop>
+    requires index { IsIndex index.now }
+    requires draft { IsDraft draft.old }
+    ensures left { Leaves (after_line index.now.tables.now draft.old.machine (style_line words.now)) result draft.new.machine }
+    ensures draft { OnOk result (IsDraft draft.new) }
 {
     match words {
         [attach, attr, style] => {
-            add_style(tables, machine, attach.items(), attr.items(), style.items())
+            add_style(index, draft, attach.items(), attr.items(), style.items())
         }
         _ => Err(LineStop::Code(1)),
     }
@@ -248,17 +263,17 @@ fn add_style_line(tables: &Tables, machine: &mut Machine, words: &[Text]) -> Res
 /// Adds what stands behind `driver`.
 fn add_driver_line(
     alloc: Global,
-    tables: &Tables,
-    machine: &mut Machine,
+    index: &Index,
+    draft: &mut Draft,
     words: &[Text],
 ) -> Result<(), LineStop>
-    requires counted { CountedTables tables.now }
-    requires few { length machine.old.spots ≤ 1024 }
-    ensures left { Leaves (after_line tables.now machine.old (driver_line words.now)) result machine.new }
-    ensures few { length machine.new.spots ≤ 1024 }
+    requires index { IsIndex index.now }
+    requires draft { IsDraft draft.old }
+    ensures left { Leaves (after_line index.now.tables.now draft.old.machine (driver_line words.now)) result draft.new.machine }
+    ensures draft { OnOk result (IsDraft draft.new) }
 {
     match words.split_first() {
-        Some((attach, policies)) => { add_driver(alloc, tables, machine, attach.items(), policies) }
+        Some((attach, policies)) => { add_driver(alloc, index, draft, attach.items(), policies) }
         None => Err(LineStop::Code(1)),
     }
 }
@@ -266,27 +281,27 @@ fn add_driver_line(
 /// Adds what stands behind the first word of a line.
 fn add_rest(
     alloc: Global,
-    tables: &Tables,
-    machine: &mut Machine,
+    index: &Index,
+    draft: &mut Draft,
     word: &[u8],
     rest: &[Text],
 ) -> Result<(), LineStop>
-    requires counted { CountedTables tables.now }
-    requires few { length machine.old.spots ≤ 1024 }
-    ensures left { Leaves (after_line tables.now machine.old (line_form (word.now ∷ rest.now))) result machine.new }
-    ensures few { length machine.new.spots ≤ 1024 }
+    requires index { IsIndex index.now }
+    requires draft { IsDraft draft.old }
+    ensures left { Leaves (after_line index.now.tables.now draft.old.machine (line_form (word.now ∷ rest.now))) result draft.new.machine }
+    ensures draft { OnOk result (IsDraft draft.new) }
 {
     if spells(word, b"spot") {
-        return add_spot_line(alloc, tables, machine, rest);
+        return add_spot_line(alloc, index, draft, rest);
     }
     if spells(word, b"match") {
-        return add_match_line(tables, machine, rest);
+        return add_match_line(index, draft, rest);
     }
     if spells(word, b"style") {
-        return add_style_line(tables, machine, rest);
+        return add_style_line(index, draft, rest);
     }
     if spells(word, b"driver") {
-        return add_driver_line(alloc, tables, machine, rest);
+        return add_driver_line(alloc, index, draft, rest);
     }
     Err(LineStop::Code(1))
 }
@@ -294,17 +309,17 @@ fn add_rest(
 /// Adds what a line of these words says.
 pub fn add_line(
     alloc: Global,
-    tables: &Tables,
-    machine: &mut Machine,
+    index: &Index,
+    draft: &mut Draft,
     words: &[Text],
 ) -> Result<(), LineStop>
-    requires counted { CountedTables tables.now }
-    requires few { length machine.old.spots ≤ 1024 }
-    ensures left { Leaves (after_line tables.now machine.old (line_form words.now)) result machine.new }
-    ensures few { length machine.new.spots ≤ 1024 }
+    requires index { IsIndex index.now }
+    requires draft { IsDraft draft.old }
+    ensures left { Leaves (after_line index.now.tables.now draft.old.machine (line_form words.now)) result draft.new.machine }
+    ensures draft { OnOk result (IsDraft draft.new) }
 {
     match words.split_first() {
-        Some((word, rest)) => add_rest(alloc, tables, machine, word.items(), rest),
+        Some((word, rest)) => add_rest(alloc, index, draft, word.items(), rest),
         None => Err(LineStop::Code(1)),
     }
 }

@@ -1,12 +1,14 @@
-ghost use Rattle.std.specs.Prelude.{◌≡◌, ◌==◌, IfOk, bytes_eq, length, map, not, option_map, take_while};
+ghost use Rattle.std.specs.Prelude.{◌≡◌, ◌==◌, IfOk, length, map, not, option_map, take_while};
 ghost use Rattle.std.specs.List.{after_first, before_first, list_any};
 ghost use Rattle.config_rules.specs.Form.{each};
-ghost use Rattle.config_rules.specs.MachineText.{differ, given_value, is_located, is_one, located};
+ghost use Rattle.config_rules.specs.MachineText.{differ, given_value, is_located, located};
 ghost use Rattle.machine_model.specs.Found.{given_of, names_of};
 
+use crate::numbers::{add_name, number_in};
 use crate::word::ranged;
 use cf_types::{List, Memory, Text};
 use std::alloc::Global;
+use std::collections::BTreeMap;
 
 /// A value that a spot gives for a locator, `None` where the number is out of its range.
 #[derive(Drop)]
@@ -90,29 +92,23 @@ pub fn count_located(words: &[Text]) -> usize
         .count()
 }
 
-fn has_name(found: &[FoundValue], name: &[u8]) -> bool
-    ensures { result ≡ list_any (λ g. bytes_eq name.now g.name) found.now }
-{
-    found.iter().any(|value| name == value.name.items())
-}
-
 /// Whether no name stands twice.
-fn differ_by_name(found: &[FoundValue]) -> bool
-    ensures { result ≡ differ (names_of found.now) }
+fn differ_by_name(alloc: Global, found: &[FoundValue]) -> Result<bool, Memory>
+    ensures { IfOk result (λ apart. apart ≡ differ (names_of found.now)) }
 {
-    let mut rest = found;
-    while let Some((first, more)) = rest.split_first() {
-        if has_name(more, first.name.items()) {
-            return false;
+    let mut seen = BTreeMap::new(alloc);
+    for (i, value) in found.iter().enumerate() {
+        if number_in(&seen, value.name.items()).is_some() {
+            return Ok(false);
         }
-        rest = more;
+        add_name(alloc, &mut seen, value.name.items(), i)?;
     }
-    true
+    Ok(true)
 }
 
 /// Whether no locator stands twice.
-pub fn names_differ(found: &[FoundValue]) -> bool
-    ensures { result ≡ differ (map (λ g. g.name) (map given_of found.now)) }
+pub fn names_differ(alloc: Global, found: &[FoundValue]) -> Result<bool, Memory>
+    ensures { IfOk result (λ apart. apart ≡ differ (map (λ g. g.name) (map given_of found.now))) }
 {
-    differ_by_name(found)
+    differ_by_name(alloc, found)
 }

@@ -3,13 +3,17 @@ ghost use Rattle.config_rules.specs.Formed.{CountedTables, FittingMachine};
 ghost use Rattle.config_rules.specs.MachineText.{after_lines, machine_of, no_machine};
 ghost use Rattle.cf_types.specs.Policies.{no_policy};
 ghost use Rattle.machine_text.specs.Records.{word_line};
+ghost use Rattle.machine_model.specs.Indexed.{IsIndex};
 ghost use Rattle.machine_model.specs.Left.{Gives};
 
+use crate::draft::Draft;
+use crate::index::{Index, index_of};
 use crate::line::add_line;
 use crate::stop::LineStop;
 use cf_types::{Attach, List, Machine, Memory, Policy, Tables};
 use machine_text::{Line, MachineStop, records};
 use std::alloc::Global;
+use std::collections::BTreeMap;
 
 fn no_policy() -> Policy
     ensures { result ≡ no_policy }
@@ -48,14 +52,17 @@ fn no_machine(alloc: Global, tables: &Tables) -> Result<Machine, Memory>
 }
 
 /// The machine that these lines describe.
-fn read_lines(alloc: Global, tables: &Tables, lines: &[Line]) -> Result<Machine, MachineStop>
-    requires { CountedTables tables.now }
-    ensures gives { Gives (after_lines tables.now (map word_line lines.now) (no_machine tables.now)) result }
+fn read_with(alloc: Global, index: &Index, lines: &[Line]) -> Result<Machine, MachineStop>
+    requires { IsIndex index.now }
+    ensures gives { Gives (after_lines index.now.tables.now (map word_line lines.now) (no_machine index.now.tables.now)) result }
     ensures few_spots { IfOk result (λ m. length m.spots ≤ 1024) }
 {
-    let mut machine = no_machine(alloc, tables)?;
+    let mut draft = Draft {
+        machine: no_machine(alloc, index.tables)?,
+        numbers: BTreeMap::new(alloc),
+    };
     for line in lines {
-        match add_line(alloc, tables, &mut machine, line.words.items()) {
+        match add_line(alloc, index, &mut draft, line.words.items()) {
             Ok(()) => {}
             Err(LineStop::Code(code)) => {
                 return Err(MachineStop::Fault {
@@ -66,7 +73,18 @@ fn read_lines(alloc: Global, tables: &Tables, lines: &[Line]) -> Result<Machine,
             Err(LineStop::Memory) => return Err(MachineStop::Memory),
         }
     }
+    let Draft { machine, .. } = draft;
     Ok(machine)
+}
+
+/// The machine that these lines describe, by the names of the tables.
+fn read_lines(alloc: Global, tables: &Tables, lines: &[Line]) -> Result<Machine, MachineStop>
+    requires { CountedTables tables.now }
+    ensures gives { Gives (after_lines tables.now (map word_line lines.now) (no_machine tables.now)) result }
+    ensures few_spots { IfOk result (λ m. length m.spots ≤ 1024) }
+{
+    let index = index_of(alloc, tables)?;
+    read_with(alloc, &index, lines)
 }
 
 /// Reads a machine file of at most 1,048,576 bytes, for tables of at most 65,536 attributes and attachments and 16

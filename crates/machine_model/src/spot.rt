@@ -1,13 +1,15 @@
 ghost use Rattle.std.specs.Prelude.{◌≡◌, ◌≤◌, ◌<◌, ◌&&◌, IfOk, bytes_eq, codes, find, is_none, length, map, not, option_and_then, slice_get};
 ghost use Rattle.std.specs.List.{list_any};
-ghost use Rattle.config_rules.specs.Formed.{CountedTables};
 ghost use Rattle.config_rules.specs.MachineText.{depth_of, found_fault, found_value, spot_above, spot_fault, spot_locators, spot_of};
 ghost use Rattle.machine_model.specs.Found.{given_of};
+ghost use Rattle.machine_model.specs.Indexed.{IsDraft, IsIndex};
 
+use crate::draft::Draft;
+use crate::index::Index;
 use crate::locator::FoundValue;
 use crate::lookup::{spot_above, spot_locators, spot_number, spot_place};
 use crate::word::{is_one, spells};
-use cf_types::{Locator, Locs, Memory, Name, Place, Spot, Tables, Text};
+use cf_types::{Locator, Locs, Memory, Name, Place, Spot, Text};
 use std::alloc::Global;
 
 /// The most spots of a machine.
@@ -115,43 +117,44 @@ fn depth_below(spots: &[Spot], above: Option<u16>) -> usize
 }
 
 /// Whether a parent was given by no earlier line.
-fn is_orphan(spots: &[Spot], parent: &[u8]) -> bool
-    requires { length spots.now ≤ 1024 }
-    ensures { result ≡ (not (bytes_eq parent.now (codes "root")) && is_none (spot_above spots.now parent.now)) }
+fn is_orphan(draft: &Draft, parent: &[u8]) -> bool
+    requires { IsDraft draft.now }
+    ensures { result ≡ (not (bytes_eq parent.now (codes "root")) && is_none (spot_above draft.now.machine.spots parent.now)) }
 {
-    !spells(parent, b"root") && spot_above(spots, parent).is_none()
+    !spells(parent, b"root") && spot_above(draft, parent).is_none()
 }
 
 /// The first code of a spot after these, from 2 to 9.
 pub fn spot_fault(
-    tables: &Tables,
-    spots: &[Spot],
+    index: &Index,
+    draft: &Draft,
     name: &[u8],
     parent: &[u8],
     attr: &[u8],
     found: &[FoundValue],
 ) -> Option<u8>
-    requires counted { CountedTables tables.now }
-    requires few { length spots.now ≤ 1024 }
-    ensures code { result ≡ spot_fault tables.now spots.now name.now parent.now attr.now (map given_of found.now) }
-    ensures not_full { result ≡ None → length spots.now < 1024 }
+    requires index { IsIndex index.now }
+    requires draft { IsDraft draft.now }
+    ensures code { result ≡ spot_fault index.now.tables.now draft.now.machine.spots name.now parent.now attr.now (map given_of found.now) }
+    ensures not_full { result ≡ None → length draft.now.machine.spots < 1024 }
 {
-    if spot_number(spots, name).is_some() {
+    if spot_number(draft, name).is_some() {
         return Some(2);
     }
-    if is_orphan(spots, parent) {
+    if is_orphan(draft, parent) {
         return Some(3);
     }
-    if spot_place(tables, parent, attr).is_none() {
+    if spot_place(index, parent, attr).is_none() {
         return Some(4);
     }
-    if let Some(code) = found_fault(spot_locators(tables, parent, attr), found) {
+    if let Some(code) = found_fault(spot_locators(index, parent, attr), found) {
         return Some(code);
     }
+    let spots = draft.machine.spots.items();
     if MAX_SPOTS <= spots.len() {
         return Some(8);
     }
-    if MAX_DEPTH < depth_below(spots, spot_above(spots, parent)) {
+    if MAX_DEPTH < depth_below(spots, spot_above(draft, parent)) {
         return Some(9);
     }
     None
@@ -160,29 +163,29 @@ pub fn spot_fault(
 /// The spot of a line after these.
 pub fn make_spot(
     alloc: Global,
-    tables: &Tables,
-    spots: &[Spot],
+    index: &Index,
+    draft: &Draft,
     name: &[u8],
     parent: &[u8],
     attr: &[u8],
     found: &[FoundValue],
     marks: &[Text],
 ) -> Result<Spot, Memory>
-    requires counted { CountedTables tables.now }
-    requires few { length spots.now ≤ 1024 }
+    requires index { IsIndex index.now }
+    requires draft { IsDraft draft.now }
     requires not_empty { 1 ≤ length name.now }
     requires not_long { length name.now ≤ 63 }
-    ensures { IfOk result (λ s. s ≡ spot_of tables.now spots.now name.now parent.now attr.now (map given_of found.now) marks.now) }
+    ensures { IfOk result (λ s. s ≡ spot_of index.now.tables.now draft.now.machine.spots name.now parent.now attr.now (map given_of found.now) marks.now) }
 {
-    let place = match spot_place(tables, parent, attr) {
+    let place = match spot_place(index, parent, attr) {
         Some(place) => place,
         None => Place::Root,
     };
     Ok(Spot {
         name: Name::make(alloc, name)?,
-        parent: spot_above(spots, parent),
+        parent: spot_above(draft, parent),
         place,
-        found: found_values(found, spot_locators(tables, parent, attr)),
+        found: found_values(found, spot_locators(index, parent, attr)),
         late: is_one(marks, b"late"),
         absent: is_one(marks, b"absent"),
         bad: is_one(marks, b"bad"),

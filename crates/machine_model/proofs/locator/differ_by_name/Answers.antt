@@ -1,21 +1,22 @@
-use Rattle.std.proofs.Common.{◌∙◌, ap, sym, List, ℕ, bytes_eq}
-use Rattle.std.specs.List.{list_any}
-use Rattle.config_rules.specs.MachineText.{differ}
+use Rattle.std.proofs.Common.{◌≡◌, ◌∙◌, ℕ, List, true, false, ap, sym}
+use Rattle.std.specs.Prelude.{is_some}
 use Rattle.machine_model.specs.declared.locator.FoundValue.{FoundValue}
-use Rattle.machine_model.specs.Found.{names_of}
-use Rattle.machine_model.proofs.WordLemmas.{any_map, once, twice}
+use Rattle.machine_model.specs.Numbers.{number_in}
+use Rattle.machine_model.proofs.NumberLemmas.{not_apart, apart_more, numbers_more}
 use Rattle.machine_model.proofs.locator.differ_by_name.Goals as goal
 
-pub returns-then-has_name : goal.returns-then-has_name
-returns-then-has_name c =
-    let first = c.in-Some.first.now in
-    let more = c.in-Some.more.now in
-    sym (twice first.name (names_of more) (any_map (bytes_eq first.name) (λ (v : FoundValue). v.name) more ∙ ap (λ (n : List ℕ). list_any (λ (g : FoundValue). bytes_eq n g.name) more) (sym c.items.ensures) ∙ sym c.has_name.ensures ∙ c.if-has_name.true))
-    ∙ ap (λ (found : List FoundValue). differ (names_of found)) (sym c.in-Some.ensures.cases.0) ∙ c.loop-first.invariant
+pub returns-then-is_some : goal.returns-then-is_some
+returns-then-is_some c =
+    let at : FoundValue = c.index-found-i.result in
+    let known : is_some (number_in c.loop-i.seen at.name) ≡ true = ap (λ (n : List ℕ). is_some (number_in c.loop-i.seen n)) (sym c.items.ensures) ∙ ap is_some (sym c.number_in.ensures) ∙ sym c.is_some.ensures ∙ c.if-is_some.true in
+    sym (not_apart (λ (v : FoundValue). v.name) c.args.found.now c.loop-i.i at c.loop-i.seen c.loop-i-test.true c.index-found-i.is c.loop-i.invariant.numbers known)
 
-pub loop-first-preserved : goal.loop-first-preserved
-loop-first-preserved c =
-    let first = c.in-Some.first.now in
-    let more = c.in-Some.more.now in
-    sym (once first.name (names_of more) (any_map (bytes_eq first.name) (λ (v : FoundValue). v.name) more ∙ ap (λ (n : List ℕ). list_any (λ (g : FoundValue). bytes_eq n g.name) more) (sym c.items.ensures) ∙ sym c.has_name.ensures ∙ c.if-has_name.false))
-    ∙ ap (λ (found : List FoundValue). differ (names_of found)) (sym c.in-Some.ensures.cases.0) ∙ c.loop-first.invariant
+pub loop-i-preserved : goal.loop-i-preserved
+loop-i-preserved c =
+    let at : FoundValue = c.index-found-i.result in
+    let unknown : is_some (number_in c.loop-i.seen at.name) ≡ false = ap (λ (n : List ℕ). is_some (number_in c.loop-i.seen n)) (sym c.items.ensures) ∙ ap is_some (sym c.number_in.ensures) ∙ sym c.is_some.ensures ∙ c.if-is_some.false in
+    record {
+      numbers = numbers_more (λ (v : FoundValue). v.name) c.args.found.now c.loop-i.i at c.loop-i.seen c.add_name.new.numbers c.loop-i-test.true c.index-found-i.is c.loop-i.invariant.numbers
+          (λ names are size. rw (sym c.items-in-loop-i.ensures) (c.in_ok-add_name.ensures names are size));
+      apart = apart_more (λ (v : FoundValue). v.name) c.args.found.now c.loop-i.i at c.loop-i.seen c.loop-i-test.true c.index-found-i.is c.loop-i.invariant.numbers c.loop-i.invariant.apart unknown;
+    }

@@ -1,16 +1,10 @@
-use Rattle.std.proofs.Common.{◌≡◌, ◌∙◌, sym, rules, tests, bytes_eq}
-use Rattle.std.proofs.lemmas.Iterator.{YieldsList-from_slice}
-use Rattle.std.proofs.lemmas.Iterator.Search.{position_from_yields_List}
-use Rattle.config_rules.specs.MachineText.{attr_number}
-use Rattle.machine_model.proofs.lookup.attr_number.Goals.{In-Some, In-None}
+use Rattle.std.proofs.Common.{◌∙◌, sym}
+use Rattle.cf_types.specs.declared.tables.Attr.{Attr}
+use Rattle.machine_model.proofs.NumberLemmas.{number_is}
 use Rattle.machine_model.proofs.lookup.attr_number.Goals as goal
 
 pub returns-in-Some : goal.returns-in-Some
-returns-in-Some c =
-    let found : c.position.result ≡ attr_number c.args.tables.now c.args.name.now = position_from_yields_List (λ x. bytes_eq x.name c.args.name.now) _ _ c.position.result c.position.ensures.ran (YieldsList-from_slice _ (c.iter.ensures.rest ∙ c.items.ensures)) (λ x b q k. search (rules, tests)) in
-    sym c.in-Some.is ∙ found
+returns-in-Some c = sym c.in-Some.is ∙ number_is (λ (x : Attr). x.name) c.args.index.now.tables.now.attrs c.args.index.now.attrs c.number_in.result c.args.name.now c.requires.attrs c.number_in.ensures
 
 pub returns-in-None : goal.returns-in-None
-returns-in-None c =
-    let found : c.position.result ≡ attr_number c.args.tables.now c.args.name.now = position_from_yields_List (λ x. bytes_eq x.name c.args.name.now) _ _ c.position.result c.position.ensures.ran (YieldsList-from_slice _ (c.iter.ensures.rest ∙ c.items.ensures)) (λ x b q k. search (rules, tests)) in
-    sym c.in-None.is ∙ found
+returns-in-None c = sym c.in-None.is ∙ number_is (λ (x : Attr). x.name) c.args.index.now.tables.now.attrs c.args.index.now.attrs c.number_in.result c.args.name.now c.requires.attrs c.number_in.ensures
