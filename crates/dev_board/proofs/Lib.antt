@@ -1,9 +1,14 @@
 pub mod FormedNames
-pub mod OwnOffers
 pub mod OneField
+pub mod InputLaws
+pub mod GraphLaws
+pub mod LateLaws
+pub mod PlanLaws
+pub mod TurnLaws
 pub mod Opening
 pub mod Moves
 pub mod Tops
+pub mod Free
 pub mod Sounds
 pub mod Kept
 pub mod Agree

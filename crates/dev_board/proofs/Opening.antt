@@ -1,41 +1,62 @@
 -- The board before any event shows the opening world.
-use Rattle.std.proofs.Common.{◌≡◌, ℕ, zero, suc, false, cond, [], ◌∷◌, length, refl, sym, arith}
+use Rattle.std.proofs.Common.{◌≡◌, ℕ, zero, suc, true, false, cond, List, [], ◌∷◌, length, refl, sym, ◌∙◌, ap, subst, arith}
+use Rattle.std.specs.List.{AllByRecursion}
 use Rattle.std.proofs.lemmas.List.Sums.{sum_by-append}
 use Rattle.run_rules.specs.declared.world.Setup.{Setup}
-use Rattle.run_rules.specs.World.{opening}
+use Rattle.run_rules.specs.World.{opening, late_spots}
 use Rattle.cf_types.specs.Numbers.{below}
 use Rattle.run_rules.specs.Search.{is_occupied}
 use Rattle.dev_board.specs.Left.{free_spots}
+use Rattle.dev_board.specs.Parts.{Parts}
+use Rattle.dev_board.specs.Input.{Bounded}
+use Rattle.dev_board.specs.Keeping.{SoundParts}
+use Rattle.dev_board.specs.Plans.{first_parts}
 use Rattle.dev_board.specs.declared.parts.Core.{Core}
-use Rattle.dev_board.specs.Plain.{IsPlain}
-use Rattle.dev_board.specs.Plans.{IsFirst}
-use Rattle.dev_board.specs.View.{world_of, CoreKept}
+use Rattle.dev_board.specs.View.{world_of, parts_of, IsFirst, CoreKept}
 
-pub opening_is : (s : Setup) → IsPlain s → world_of s [] 1 (record { serial = 0; from = 0 } ∷ []) false false ≡ opening s
+opening_is : (s : Setup) → Bounded s → world_of s (first_parts s) false ≡ opening s
 unfolding opening
-opening_is s plain = rw plain.no_scripts refl
+opening_is s bounded = rw bounded.no_scripts refl
 
 -- with no device each spot is free
 all_free : (n : ℕ) → free_spots [] n ≡ n
 all_free zero = refl
 all_free (suc n) = omega (arith, sum_by-append (λ x. cond (is_occupied [] x) 0 1) (below n) (n ∷ []), all_free n)
 
-pub begins : (s : Setup) (c : Core) → IsPlain s → IsFirst c → CoreKept s c
-begins s c plain f = record {
-  run = rw (f.live, f.next, f.searches, f.phase, f.ended, f.events) (sym (opening_is s plain));
-  sound = record {
-    devices = rw (f.live, f.next) (record { placed = tt; apart = tt });
-    known = rw (f.live, f.searches) (refl, tt);
-    few = rw f.live (omega (arith, all_free (length s.machine.spots)));
-    rows = rw f.live tt;
-    units = rw f.live tt;
-    low = omega (arith, f.next);
-  };
-  names = rw f.live tt;
-  plain = plain;
-  formed = rw f.events tt;
-  next_high = omega (arith, f.next);
-}
+all_bare : (xs : List ℕ) → AllByRecursion (λ x. is_occupied [] x ≡ false) xs
+all_bare [] = tt
+all_bare (x ∷ xs) = (refl, all_bare xs)
 
-pub begun : (s : Setup) (c : Core) → IsPlain s → IsFirst c → world_of s c.live.items c.next c.searches.items c.phase c.ended ≡ opening s
-begun s c plain f = rw (f.live, f.next, f.searches, f.phase, f.ended) (opening_is s plain)
+first_sound : (s : Setup) → SoundParts s (first_parts s)
+first_sound s = record {
+  devices = record { placed = tt; apart = tt };
+  known = (refl, tt);
+  put_off = tt;
+  called = tt;
+  few = omega (arith, all_free (length s.machine.spots));
+  few_called = omega (arith, all_free (length s.machine.spots));
+  rows = tt;
+  units = tt;
+  low = omega arith;
+  bare = all_bare (late_spots s);
+  some_called = λ h. absurd (clash h);
+}
+  where
+    clash : false ≡ true → ⊥
+    clash h = cc
+
+pub begun : (s : Setup) (c : Core) → Bounded s → IsFirst s c → world_of s (parts_of c) c.ended ≡ opening s
+begun s c bounded f = rw f.ended (ap (λ (p : Parts). world_of s p false) f.parts ∙ opening_is s bounded)
+
+pub begins : (s : Setup) (c : Core) → Bounded s → IsFirst s c → CoreKept s c
+begins s c bounded f =
+    let live : c.live.items ≡ [] = ap (λ (p : Parts). p.live) f.parts in
+    let next : c.next ≡ 1 = ap (λ (p : Parts). p.next) f.parts in
+    record {
+      run = rw f.events (sym (begun s c bounded f));
+      sound = subst (λ (p : Parts). SoundParts s p) (sym f.parts) (first_sound s);
+      names = rw live tt;
+      bounded = bounded;
+      formed = rw f.events tt;
+      next_high = omega (arith, next);
+    }

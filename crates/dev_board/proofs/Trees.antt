@@ -11,7 +11,7 @@ use Rattle.run_rules.specs.declared.world.Setup.{Setup}
 use Rattle.run_rules.specs.declared.world.Dev.{Dev}
 use Rattle.run_rules.specs.World.{children}
 use Rattle.run_rules.specs.Tree.{tree_below, tree_lines, holders_of}
-use Rattle.dev_board.specs.declared.parts.Search.{Search}
+use Rattle.dev_board.specs.Parts.{Parts}
 use Rattle.dev_board.specs.PlainTree.{plain_line}
 use Rattle.dev_board.specs.View.{world_of}
 
@@ -64,7 +64,6 @@ pub told_whole : (s : Setup) (live : List Dev) (n depth p i : ℕ) → (n ≡ 0 
 told_whole s live n depth p i some e = rw (e, take_all (length live) live (omega arith)) (ap (map (plain_line s live)) (one_level n live depth p (omega arith)))
 
 -- in a world without references the lines are these
-pub lines_are : (s : Setup) (live : List Dev) (n : ℕ) (xs : List Search) (phase ended : Bool)
-    → map (plain_line s live) (tree_below (length live) live 0 0) ≡ tree_lines (world_of s live n xs phase ended)
+pub lines_are : (s : Setup) (p : Parts) (ended : Bool) → map (plain_line s p.live) (tree_below (length p.live) p.live 0 0) ≡ tree_lines (world_of s p ended)
 unfolding tree_lines holders_of
-lines_are s live n xs phase ended = refl
+lines_are s p ended = refl

@@ -1,4 +1,8 @@
-pub mod Plain
+pub mod Input
+pub mod Turns
+pub mod Late
+pub mod Parts
+pub mod Keeping
 pub mod Witness
 pub mod Agreement
 pub mod Shown
@@ -9,6 +13,7 @@ pub mod Plans
 pub mod PlainTree
 pub mod View
 pub mod BoardView
+pub use Rattle.config_rules.specs.Formed
 pub use Rattle.run_rules.specs.World
 pub use Rattle.run_rules.specs.Search
 pub use Rattle.run_rules.specs.Deeds

@@ -1,16 +1,23 @@
--- What a board of plain input does next, as a deed of the run.
-use Rattle.std.specs.Prelude.{◌≡◌, ◌≤◌, ◌<◌, ◌^◌, ◌||◌, ◌==◌, IsTrue, ⊤, ℕ, ◌+◌, List, [], ◌∷◌, ◌++◌, true, false, Some, None, Option, length, slice_get, slice_set}
-use Rattle.std.specs.List.{AllByRecursion}
+-- What a board does next, as a deed of the run, and what that changes.
+use Rattle.std.specs.Prelude.{◌≡◌, ◌≤◌, ◌<◌, ◌^◌, ⊤, ℕ, ◌+◌, ◌&&◌, ◌==◌, not, Bool, List, [], ◌∷◌, ◌++◌, true, false, Some, None, Option, length, filter, map, slice_get, slice_set, IfSome, if◌then◌else◌}
 use Rattle.run_rules.specs.declared.world.Setup.{Setup}
 use Rattle.run_rules.specs.declared.world.Dev.{Dev}
-use Rattle.run_rules.specs.World.{is_live, driver_of, absent_spots, late_spots}
-use Rattle.run_rules.specs.Search.{is_taken, is_occupied, Turn, due}
+use Rattle.run_rules.specs.declared.world.Deferred.{Deferred}
+use Rattle.run_rules.specs.declared.world.Key.{Key}
+use Rattle.run_rules.specs.declared.world.Key.TheVariants as key
+use Rattle.run_rules.specs.declared.world.Position.{Position}
+use Rattle.run_rules.specs.declared.world.Arrival.{Arrival}
+use Rattle.run_rules.specs.declared.world.Placing.{Placing}
+use Rattle.run_rules.specs.declared.world.Placing.TheVariants.{Nowhere, Queued, PutOff, Pushed}
+use Rattle.std.specs.Option.{option_map_or}
+use Rattle.run_rules.specs.World.{has, name_of, device_at, driver_of, policy_of, offered_by, absent_spots, late_spots, start}
+use Rattle.run_rules.specs.Search.{is_taken, is_occupied}
 use Rattle.run_rules.specs.Next.{next_scan}
-use Rattle.run_rules.specs.Sound.{HasSoundDevices}
-use Rattle.run_rules.specs.Deeds.{Deed, Search as Searched, EndScan, BeginInterrupts, EndCaller}
-use Rattle.dev_board.specs.Left.{free_spots}
+use Rattle.run_rules.specs.After.{same_key, scan_placing}
+use Rattle.run_rules.specs.Deeds.{Deed, Search as Searched, EndScan, BeginInterrupts, Finalise, EndCaller}
+use Rattle.dev_board.specs.Left.{turns_left}
+use Rattle.dev_board.specs.Parts.{Parts}
 use Rattle.dev_board.specs.declared.parts.Search.{Search}
-use Rattle.dev_board.specs.declared.parts.Core.{Core}
 use Rattle.ref_ledger.specs.declared.state.SlotState.{SlotState}
 use Rattle.ref_ledger.specs.declared.state.SlotState.TheVariants.{Free, Live}
 use Rattle.dev_board.specs.declared.plan.Plan.{Plan}
@@ -18,96 +25,199 @@ use Rattle.dev_board.specs.declared.plan.Plan.TheVariants as plan
 
 abbrev pub deed_of : Plan → Deed
 deed_of (plan.EndScan serial) = EndScan serial
-deed_of (plan.Pass serial spot) = Searched serial (record { attr = 0; row = 0; spot = spot + 1 }) None
-deed_of (plan.Attach serial spot row unit) =
-    Searched serial (record { attr = 0; row = 0; spot = spot + 1 }) (Some (record { row = row; unit = unit; parent = serial; spot = spot }))
+deed_of (plan.Turn serial moved got) = Searched serial moved got
 deed_of plan.Interrupts = BeginInterrupts
+deed_of (plan.Quiet serial place anew) = Finalise serial None None (Some place) anew
+deed_of (plan.Shows serial spot got place anew) = Finalise serial (Some spot) got (Some place) anew
 deed_of plan.End = EndCaller
 
--- the turn of a search that is due, and what is done next on it
-abbrev pub due_of : Setup → List Dev → Search → Option Turn
-due_of s live f = due s live (absent_spots s) (late_spots s) f.serial None [] (record { attr = 0; row = 0; spot = f.from })
+-- what is done next on a scan
+abbrev pub scan_deed : Setup → List Dev → List ℕ → Search → Deed
+scan_deed s live hidden f = next_scan s live (absent_spots s) hidden f.serial None [] f.position
 
-abbrev pub scan_deed : Setup → List Dev → Search → Deed
-scan_deed s live f = next_scan s live (absent_spots s) (late_spots s) f.serial None [] (record { attr = 0; row = 0; spot = f.from })
+-- ---- what a plan changes
 
--- the search on top is of this device
+abbrev pub new_search : ℕ → Search
+new_search n = record { serial = n; position = start }
+
+-- a stack without its top, and with its top moved
+abbrev pub under_top : List Search → List Search
+under_top [] = []
+under_top (f ∷ fs) = fs
+
+abbrev pub moved_top : Position → List Search → List Search
+moved_top to [] = []
+moved_top to (f ∷ fs) = record f { position = to } ∷ fs
+
+-- the scans that were put off to a key, the first of them first
+abbrev pub released_searches : List Deferred → Key → List Search
+released_searches entries which = map (λ e. new_search e.child) (filter (λ e. same_key e.key which) entries)
+
+abbrev pub left_off : List Deferred → Key → List Deferred
+left_off entries which = filter (λ e. not (same_key e.key which)) entries
+
+abbrev pub released : Parts → Key → List Search → Parts
+released p which rest = record p { deferred = left_off p.deferred which; stack = released_searches p.deferred which ++ rest }
+
+-- what a device that comes adds to the stack, to what is put off and to the finalisers
+abbrev pub searched_too : Placing → List Search → ℕ → List Search
+searched_too Pushed xs n = new_search n ∷ xs
+searched_too Nowhere xs n = xs
+searched_too Queued xs n = xs
+searched_too PutOff xs n = xs
+
+abbrev pub put_off_too : Placing → List Deferred → ℕ → ℕ → List Deferred
+put_off_too Queued es parent n = es ++ record { key = key.Interrupts; child = n } ∷ []
+put_off_too PutOff es parent n = es ++ record { key = key.Parent parent; child = n } ∷ []
+put_off_too Nowhere es parent n = es
+put_off_too Pushed es parent n = es
+
+abbrev pub called_too : Bool → List ℕ → ℕ → List ℕ
+called_too finaliser xs n = if finaliser then xs ++ n ∷ [] else xs
+
+abbrev pub device_of : ℕ → Arrival → Dev
+device_of n a = record { serial = n; row = a.row; unit = a.unit; parent = a.parent; spot = a.spot; asleep = false; condemned = None }
+
+abbrev pub placing_of : Setup → Bool → Arrival → Bool → Placing
+placing_of s phase a may_defer = scan_placing (policy_of s a.row) (offered_by s a.row) phase may_defer
+
+abbrev pub come : Setup → Parts → Arrival → Bool → Parts
+come s p a may_defer = record p {
+  live = p.live ++ device_of p.next a ∷ [];
+  next = p.next + 1;
+  deferred = put_off_too (placing_of s p.phase a may_defer) p.deferred a.parent p.next;
+  finalisers = called_too (policy_of s a.row).finaliser p.finalisers p.next;
+  stack = searched_too (placing_of s p.phase a may_defer) p.stack p.next;
+}
+
+abbrev pub come_if : Setup → Parts → Option Arrival → Bool → Parts
+come_if s p None may_defer = p
+come_if s p (Some a) may_defer = come s p a may_defer
+
+abbrev pub unhidden : List ℕ → ℕ → List ℕ
+unhidden hidden x = filter (λ y. not (y == x)) hidden
+
+abbrev pub done : Setup → Parts → Plan → Parts
+done s p (plan.EndScan serial) = released p (key.Parent serial) (under_top p.stack)
+done s p (plan.Turn serial moved got) = come_if s (record p { stack = moved_top moved p.stack }) got true
+done s p plan.Interrupts = released (record p { phase = true }) key.Interrupts p.stack
+done s p (plan.Quiet serial place anew) = record p { place = place + 1; again = not anew && p.again }
+done s p (plan.Shows serial spot got place anew) =
+    record (come_if s (record p { hidden = unhidden p.hidden spot }) got false) { place = place + 1; again = true }
+done s p plan.End = p
+
+-- whether caller 0 has ended then
+abbrev pub ends : Plan → Bool
+ends plan.End = true
+ends (plan.EndScan serial) = false
+ends (plan.Turn serial moved got) = false
+ends plan.Interrupts = false
+ends (plan.Quiet serial place anew) = false
+ends (plan.Shows serial spot got place anew) = false
+
+-- ---- what is known of a plan
+
+-- a turn that brings no device leaves the scan fewer turns
+abbrev pub Lessens : ℕ → Position → Position → Option Arrival → Type 0
+Lessens n from moved None = turns_left n moved < turns_left n from
+Lessens n from moved (Some a) = ⊤
+
+-- the scan on top is of this device
 abbrev pub TopIs : List Search → ℕ → Type 0
-TopIs xs serial = (rest : List Search) × (from : ℕ) × (xs ≡ rest ++ record { serial = serial; from = from } ∷ [])
+TopIs xs serial = (rest : List Search) × (from : Position) × (xs ≡ record { serial = serial; position = from } ∷ rest)
 
--- and it has not passed this spot
-abbrev pub Forward : List Search → ℕ → ℕ → Type 0
-Forward xs serial spot = (top : TopIs xs serial) × (top.1 ≤ spot)
+-- the place of a finaliser's call: the next one of this pass, or the first one of a new pass
+abbrev pub PlaceIs : Parts → ℕ → Bool → Type 0
+PlaceIs p place false = (place ≡ p.place) × (p.place < length p.finalisers)
+PlaceIs p place true = (place ≡ 0) × (length p.finalisers ≤ p.place) × (p.again ≡ true)
 
--- the stack is as the plan needs it
-abbrev pub PlanFits : Core → Plan → Type 0
-PlanFits c (plan.EndScan serial) = TopIs c.searches.items serial
-PlanFits c (plan.Pass serial spot) = Forward c.searches.items serial spot × (spot < 1024)
-PlanFits c (plan.Attach serial spot row unit) = Forward c.searches.items serial spot × (spot < 1024)
-PlanFits c plan.Interrupts = (c.searches.items ≡ []) × (c.phase ≡ false)
-PlanFits c plan.End = (c.searches.items ≡ []) × (c.phase ≡ true)
+-- the plan is one of these parts
+abbrev pub Fits : Setup → Parts → Plan → Type 0
+Fits s p (plan.EndScan serial) = TopIs p.stack serial
+Fits s p (plan.Turn serial moved got) = (top : TopIs p.stack serial) × Lessens (length s.machine.spots) top.1 moved got
+Fits s p plan.Interrupts = (p.stack ≡ []) × (p.phase ≡ false)
+Fits s p (plan.Quiet serial place anew) = (p.stack ≡ []) × PlaceIs p place anew × (slice_get p.finalisers place ≡ Some serial)
+Fits s p (plan.Shows serial spot got place anew) = (p.stack ≡ []) × PlaceIs p place anew × (slice_get p.finalisers place ≡ Some serial)
+Fits s p plan.End = p.stack ≡ []
 
--- it is a plan of this search
-abbrev pub PlansScan : Plan → Search → Type 0
-PlansScan (plan.EndScan s) f = s ≡ f.serial
-PlansScan (plan.Pass s spot) f = (s ≡ f.serial) × (spot < 1024) × (f.from ≤ spot)
-PlansScan (plan.Attach s spot row unit) f = (s ≡ f.serial) × (spot < 1024) × (f.from ≤ spot)
-PlansScan plan.Interrupts f = ⊥
-PlansScan plan.End f = ⊥
+-- a device may come: its unit and its spot are free, the spot is not hidden, and its row and its spot are there
+pub record MayCome (s : Setup) (live : List Dev) (hidden : List ℕ) (serial : ℕ) (a : Arrival) : Type 0 where
+  pub parent : a.parent ≡ serial
+  pub unit : is_taken s live (driver_of s a.row) a.unit ≡ false
+  pub bare : is_occupied live a.spot ≡ false
+  pub seen : has hidden a.spot ≡ false
+  pub spot : a.spot < length s.machine.spots
+  pub row : a.row < length s.tables.rows
+  pub small : a.unit < 2 ^ 32
 
--- with the search of a new device, if it offers an attribute
-abbrev pub searched_too : Option ℕ → List Search → ℕ → List Search
-searched_too None xs n = xs
-searched_too (Some a) xs n = xs ++ record { serial = n; from = 0 } ∷ []
+-- what comes by a plan may come, and what a finaliser shows was hidden
+abbrev pub Ready : Setup → Parts → Plan → Type 0
+Ready s p (plan.EndScan serial) = ⊤
+Ready s p (plan.Turn serial moved got) = IfSome got (MayCome s p.live p.hidden serial)
+Ready s p plan.Interrupts = ⊤
+Ready s p (plan.Quiet serial place anew) = ⊤
+Ready s p (plan.Shows serial spot got place anew) = IfSome got (MayCome s p.live (unhidden p.hidden spot) serial) × (has p.hidden spot ≡ true)
+Ready s p plan.End = ⊤
 
--- the spot and the unit of a device that is to come are free
-abbrev pub PlanReady : Setup → List Dev → Plan → Type 0
-PlanReady s live (plan.Attach serial spot row unit) =
-    (is_taken s live (driver_of s row) unit ≡ false) × (is_occupied live spot ≡ false) × (spot < length s.machine.spots) × (row < length s.tables.rows)
-PlanReady s live (plan.EndScan serial) = ⊤
-PlanReady s live (plan.Pass serial spot) = spot < length s.machine.spots
-PlanReady s live plan.Interrupts = ⊤
-PlanReady s live plan.End = ⊤
+-- ---- slots
 
-abbrev pub IsKnown : List Dev → Search → Type 0
-IsKnown live f = IsTrue (f.serial == 0 || is_live live f.serial)
-
--- each live device came by a row of the tables
-abbrev pub HaveRows : Setup → List Dev → Type 0
-HaveRows s live = AllByRecursion (λ d. d.row < length s.tables.rows) live
-
--- the devices are sound and no more than there are spots, and each search is of the root or of a live device
-pub record CoreSound (s : Setup) (c : Core) : Type 0 where
-  pub devices : HasSoundDevices s c.live.items c.next
-  pub known : AllByRecursion (IsKnown c.live.items) c.searches.items
-  pub few : length c.live.items + free_spots c.live.items (length s.machine.spots) ≤ length s.machine.spots
-  pub rows : HaveRows s c.live.items
-  pub units : AllByRecursion (λ d. d.unit < 2 ^ 32) c.live.items
-  pub low : 0 < c.next
+-- the device that comes by a plan
+abbrev pub got_of : Plan → Option Arrival
+got_of (plan.Turn serial moved got) = got
+got_of (plan.Shows serial spot got place anew) = got
+got_of (plan.EndScan serial) = None
+got_of plan.Interrupts = None
+got_of (plan.Quiet serial place anew) = None
+got_of plan.End = None
 
 -- the slot of a device that is to come is free
-abbrev pub SlotReady : Plan → List SlotState → Type 0
-SlotReady (plan.Attach serial spot row unit) states = slice_get states spot ≡ Some Free
-SlotReady (plan.EndScan serial) states = ⊤
-SlotReady (plan.Pass serial spot) states = ⊤
-SlotReady plan.Interrupts states = ⊤
-SlotReady plan.End states = ⊤
+abbrev pub SlotReady : Option Arrival → List SlotState → Type 0
+SlotReady got states = IfSome got (λ a. slice_get states a.spot ≡ Some Free)
 
 -- the states once it has come
-abbrev pub published : Plan → List SlotState → List SlotState
-published (plan.Attach serial spot row unit) states = slice_set states spot Live
-published (plan.EndScan serial) states = states
-published (plan.Pass serial spot) states = states
-published plan.Interrupts states = states
-published plan.End states = states
+abbrev pub published : Option Arrival → List SlotState → List SlotState
+published None states = states
+published (Some a) states = slice_set states a.spot Live
 
--- the parts before any event
-pub record IsFirst (c : Core) : Type 0 where
-  pub live : c.live.items ≡ []
-  pub next : c.next ≡ 1
-  pub searches : c.searches.items ≡ record { serial = 0; from = 0 } ∷ []
-  pub phase : c.phase ≡ false
-  pub ended : c.ended ≡ false
-  pub stops : c.stops ≡ 0
-  pub stopped : c.stopped ≡ None
-  pub events : c.events.items ≡ []
+-- ---- the beginning
+
+-- the parts before any event: the scan of the root is before caller 0
+abbrev pub first_parts : Setup → Parts
+first_parts s = record {
+  live = [];
+  next = 1;
+  hidden = late_spots s;
+  phase = false;
+  deferred = [];
+  finalisers = [];
+  place = 0;
+  again = false;
+  stack = new_search 0 ∷ [];
+}
+
+-- ---- what is known of the plans of a scan and of a call
+
+-- a plan of this search: what comes may come, and a turn without a device leaves the scan fewer turns
+abbrev pub PlansScan : Setup → List Dev → List ℕ → Search → Plan → Type 0
+PlansScan s live hidden f (plan.EndScan serial) = serial ≡ f.serial
+PlansScan s live hidden f (plan.Turn serial moved got) =
+    (serial ≡ f.serial) × Lessens (length s.machine.spots) f.position moved got × IfSome got (MayCome s live hidden serial)
+PlansScan s live hidden f plan.Interrupts = ⊥
+PlansScan s live hidden f (plan.Quiet serial place anew) = ⊥
+PlansScan s live hidden f (plan.Shows serial spot got place anew) = ⊥
+PlansScan s live hidden f plan.End = ⊥
+
+-- a plan of the finaliser at this place
+abbrev pub PlansCall : Setup → Parts → ℕ → Bool → Plan → Type 0
+PlansCall s p place anew (plan.Quiet serial at new) = (at ≡ place) × (new ≡ anew) × (slice_get p.finalisers place ≡ Some serial)
+PlansCall s p place anew (plan.Shows serial spot got at new) =
+    (at ≡ place) × (new ≡ anew) × (slice_get p.finalisers place ≡ Some serial) × IfSome got (MayCome s p.live (unhidden p.hidden spot) serial)
+    × (has p.hidden spot ≡ true)
+PlansCall s p place anew (plan.EndScan serial) = ⊥
+PlansCall s p place anew (plan.Turn serial moved got) = ⊥
+PlansCall s p place anew plan.Interrupts = ⊥
+PlansCall s p place anew plan.End = ⊥
+
+-- the name of a device that is live
+abbrev pub name_live : Setup → List Dev → ℕ → List ℕ
+name_live s live x = option_map_or (name_of s) (device_at live x) []

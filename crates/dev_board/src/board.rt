@@ -1,6 +1,7 @@
 ghost use Rattle.std.specs.Prelude.{◌≡◌, ◌<◌, ◌≤◌, ◌+◌, ◌^◌, ◌-◌, [], IfOk, Some, None, length, min, slice_get};
 ghost use Rattle.std.specs.List.{AllByRecursion};
 ghost use Rattle.std.specs.Option.{option_or};
+ghost use Rattle.config_rules.specs.Formed.{FormedTables, FittingMachine};
 ghost use Rattle.run_rules.specs.Counts.{ends_of};
 ghost use Rattle.run_rules.specs.Lines.{IsFormed};
 ghost use Rattle.run_rules.specs.Run.{Run};
@@ -10,16 +11,17 @@ ghost use Rattle.run_rules.specs.Tree as tree;
 ghost use Rattle.run_rules.specs.World.{opening, setup_of};
 ghost use Rattle.dev_board.specs.Agreement.{slots_of};
 ghost use Rattle.dev_board.specs.Left.{boot_left};
-ghost use Rattle.dev_board.specs.Plain.{IsPlain};
 ghost use Rattle.dev_board.specs.Shown.{began};
 ghost use Rattle.dev_board.specs.Stepping.{StepIs, IsDid};
 
 use crate::closed::closed_in;
+use crate::graph::graph_of;
 use crate::parts::{Core, begin};
 use crate::search;
 use crate::step::step_core;
 use crate::stepped::Stepped;
 use crate::tree::tree_of;
+use attr_graph::Graph;
 use cf_types::{DevLine, List, Machine, Memory, Script, Tables};
 use ref_ledger::Slots;
 use run_rules::{Event, Setup};
@@ -31,6 +33,7 @@ use std::marker::Model;
 #[derive(Drop)]
 pub struct Board {
     alloc: Global,
+    graph: Graph,
     setup: Setup,
     core: Core,
 }
@@ -54,19 +57,24 @@ impl Board {
         machine: Machine,
         scripts: List<Script>,
     ) -> Result<Board, Memory>
-        requires { IsPlain (setup_of tables machine scripts) }
+        requires tables { FormedTables tables }
+        requires machine { FittingMachine tables machine }
+        requires scripts { scripts ≡ [] }
         ensures world { IfOk result (λ b. b.world ≡ opening (setup_of tables machine scripts)) }
         ensures events { IfOk result (λ b. b.events ≡ []) }
         ensures stops { IfOk result (λ b. (b.stops ≡ 0) × (b.stopped ≡ None)) }
     {
-        let core = begin(alloc)?;
+        let graph = graph_of(alloc, &tables)?;
+        let setup = Setup {
+            tables,
+            machine,
+            scripts,
+        };
+        let core = begin(alloc, &setup)?;
         Ok(Board {
             alloc,
-            setup: Setup {
-                tables,
-                machine,
-                scripts,
-            },
+            graph,
+            setup,
             core,
         })
     }
@@ -79,7 +87,14 @@ impl Board {
         ensures agree { S.states slots.new ≡ slots_of self.new.world }
         ensures falls { IsDid result → boot_left self.new.world < boot_left self.old.world }
     {
-        step_core(self.alloc, &self.setup, &mut self.core, caller, slots)
+        step_core(
+            self.alloc,
+            &self.graph,
+            &self.setup,
+            &mut self.core,
+            caller,
+            slots,
+        )
     }
 
     /// Stops the board in the name of a caller. Each later step answers so, and nothing else changes; the first stop stays.

@@ -1,4 +1,4 @@
-//! The board: a world and its history, one event at a time. Its input is plain for now: root and direct buses, no policies and no scripts.
+//! The board: a world and its history, one event at a time. It boots formed tables on each machine that fits them; scripts it does not run yet.
 #![tactic(auto)]
 
 mod answer;
@@ -6,6 +6,8 @@ mod board;
 mod boot;
 mod closed;
 mod commit;
+mod graph;
+mod late;
 mod line;
 mod names;
 mod parts;

@@ -3,8 +3,8 @@ ghost use Rattle.std.specs.Prelude.{◌≡◌, ◌<◌, ◌++◌, length, IfOk, 
 ghost use Rattle.cf_text.specs.Shapes.{is_written};
 ghost use Rattle.run_rules.specs.Lines.{IsDeviceName, IsFormedName};
 ghost use Rattle.run_rules.specs.World as world;
-ghost use Rattle.dev_board.specs.Plain.{IsPlainTables};
-ghost use Rattle.dev_board.specs.Plans.{HaveRows};
+ghost use Rattle.dev_board.specs.Input.{Bounded};
+ghost use Rattle.dev_board.specs.Keeping.{HaveRows};
 
 use crate::search::{device_at, driver_of};
 use cf_types::{Memory, Name};
@@ -34,7 +34,7 @@ fn joined(alloc: Global, name: &[u8], unit: u32) -> Result<Name, Memory>
 /// The name of a row's driver and a unit.
 #[tactic(auto, unfolding(run_rules::specs::World::unit_name))]
 pub fn unit_name(alloc: Global, setup: &Setup, row: u32, unit: u32) -> Result<Name, Memory>
-    requires plain { IsPlainTables setup.now.tables }
+    requires bounded { Bounded setup.now }
     requires row { row < length setup.now.tables.rows }
     ensures text { IfOk result (λ n. n ≡ world.unit_name setup.now row unit) }
     ensures formed { IfOk result IsDeviceName }
@@ -45,7 +45,7 @@ pub fn unit_name(alloc: Global, setup: &Setup, row: u32, unit: u32) -> Result<Na
 /// The name of a parent, which may be the root.
 #[tactic(auto, unfolding(run_rules::specs::World::parent_name, run_rules::specs::World::root_name))]
 pub fn parent_name(alloc: Global, setup: &Setup, live: &[Dev], serial: u64) -> Result<Name, Memory>
-    requires plain { IsPlainTables setup.now.tables }
+    requires bounded { Bounded setup.now }
     requires rows { HaveRows setup.now live.now }
     ensures text { IfOk result (λ n. n ≡ world.parent_name setup.now live.now serial) }
     ensures formed { IfOk result IsFormedName }

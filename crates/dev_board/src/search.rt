@@ -1,14 +1,17 @@
 //! Which row takes a spot, and under which unit.
-ghost use Rattle.std.specs.Prelude.{◌≡◌, ◌≤◌, ◌+◌, length, ◌==◌, ◌&&◌, not, is_some, find, reverse, option_to_list, option_and_then, nat_lt, slice_get, true};
+ghost use Rattle.std.specs.Prelude.{◌≡◌, ◌≤◌, ◌<◌, ◌+◌, ◌^◌, false, IfSome, length, ◌==◌, ◌&&◌, not, is_some, find, reverse, nat_lt, true};
 ghost use Rattle.cf_types.specs.Locators as shared;
 ghost use Rattle.cf_types.specs.Offers as offer;
 ghost use Rattle.run_rules.specs.World as world;
+ghost use Rattle.run_rules.specs.Next as next;
 ghost use Rattle.run_rules.specs.Search as rule;
 ghost use Rattle.std.specs.Option.{option_map_or};
-ghost use Rattle.dev_board.specs.Plain.{IsPlainTables};
+ghost use Rattle.dev_board.specs.Input.{BoundedTables, IsGraphOf};
 
+use crate::graph::offered;
+use attr_graph::Graph;
 use cf_types::{Locator, Machine, MatchLine, ParentSpec, Place, Row, Tables};
-use run_rules::{Dev, ParentRef, Setup};
+use run_rules::{Arrival, Dev, ParentRef, Setup};
 
 /// The live device with the serial.
 pub fn device_at(live: &[Dev], serial: u64) -> Option<Dev>
@@ -146,72 +149,40 @@ pub fn same_place(a: Place, b: Place) -> bool
     }
 }
 
-fn is_interface(tables: &Tables, attr: u32) -> bool
-    ensures { result ≡ offer.is_interface tables.now.attrs attr }
+/// Whether a list has a number.
+pub fn has(list: &[u32], n: u32) -> bool
+    ensures { result ≡ world.has list.now n }
 {
-    match tables.attrs.items().get(attr as usize) {
-        Some(a) => a.iface,
-        None => false,
-    }
-}
-
-/// The attribute of a driver's own name, if it has one.
-fn own_attribute(tables: &Tables, device: u32) -> Option<u32>
-    ensures { result ≡ option_and_then (λ d. d.own) (slice_get tables.now.devices device) }
-{
-    match tables.devices.items().get(device as usize) {
-        Some(d) => d.own,
-        None => None,
-    }
-}
-
-/// The one interface attribute of a driver: these drivers offer no other than their own.
-pub fn own_interface(tables: &Tables, device: u32) -> Option<u32>
-    requires { IsPlainTables tables.now }
-    ensures { offer.interfaces tables.now.attrs tables.now.devices device ≡ option_to_list result }
-{
-    match own_attribute(tables, device) {
-        Some(a) => {
-            if is_interface(tables, a) {
-                Some(a)
-            } else {
-                None
-            }
-        }
-        None => None,
-    }
+    list.iter().any(|x| *x == n)
 }
 
 /// Whether a driver offers an attribute.
 #[tactic(auto, unfolding(cf_types::specs::Offers::offers))]
-fn offers(tables: &Tables, device: u32, attr: u32) -> bool
-    requires { IsPlainTables tables.now }
+fn offers(graph: &Graph, tables: &Tables, device: u32, attr: u32) -> bool
+    requires graph { IsGraphOf tables.now graph.now }
     ensures { result ≡ offer.offers tables.now.attrs tables.now.devices device attr }
 {
-    match own_interface(tables, device) {
-        Some(a) => a == attr,
-        None => false,
-    }
+    has(offered(graph, tables, device), attr)
 }
 
-fn parent_offers(tables: &Tables, parent: ParentRef, place: Place) -> bool
-    requires { IsPlainTables tables.now }
+fn parent_offers(graph: &Graph, tables: &Tables, parent: ParentRef, place: Place) -> bool
+    requires graph { IsGraphOf tables.now graph.now }
     ensures { result ≡ rule.parent_offers tables.now parent place }
 {
     match (parent, place) {
         (ParentRef::Root, Place::Root) => true,
         (ParentRef::Root, Place::At(_)) => false,
         (ParentRef::Dev { device: _, unit: _ }, Place::Root) => false,
-        (ParentRef::Dev { device, unit: _ }, Place::At(a)) => offers(tables, device, a),
+        (ParentRef::Dev { device, unit: _ }, Place::At(a)) => offers(graph, tables, device, a),
     }
 }
 
-fn fits(tables: &Tables, parent: ParentRef, place: Place, row: &Row) -> bool
-    requires { IsPlainTables tables.now }
+fn fits(graph: &Graph, tables: &Tables, parent: ParentRef, place: Place, row: &Row) -> bool
+    requires graph { IsGraphOf tables.now graph.now }
     ensures { result ≡ rule.fits tables.now parent place row.now }
 {
     same_place(row.place, place)
-        && parent_offers(tables, parent, place)
+        && parent_offers(graph, tables, parent, place)
         && names_parent(row.parent, parent)
 }
 
@@ -239,6 +210,7 @@ fn found_at(machine: &Machine, spot: u16) -> &[i64]
 /// Whether the row is a live row that fits, passes submatch and has a match value above 0.
 #[tactic(auto, unfolding(run_rules::specs::Search::is_candidate))]
 fn is_candidate(
+    graph: &Graph,
     setup: &Setup,
     live: &[Dev],
     parent: ParentRef,
@@ -246,13 +218,13 @@ fn is_candidate(
     spot: u16,
     row: u32,
 ) -> bool
-    requires { IsPlainTables setup.now.tables }
+    requires graph { IsGraphOf setup.now.tables graph.now }
     ensures { result ≡ rule.is_candidate setup.now live.now parent place spot row }
 {
     match setup.tables.rows.items().get(row as usize) {
         Some(r) => {
             (r.star || !is_taken(setup, live, r.device, r.unit))
-                && fits(&setup.tables, parent, place, r)
+                && fits(graph, &setup.tables, parent, place, r)
                 && submatch(
                     locators_at(&setup.tables, place),
                     r.locs.items(),
@@ -276,18 +248,22 @@ fn value_of(setup: &Setup, row: u32, spot: u16) -> u32
 
 /// The best candidate for the spot: the earliest of greatest match value.
 pub fn winner(
+    graph: &Graph,
     setup: &Setup,
     live: &[Dev],
     parent: ParentRef,
     place: Place,
     spot: u16,
 ) -> Option<u32>
-    requires { IsPlainTables setup.now.tables }
+    requires graph { IsGraphOf setup.now.tables graph.now }
+    requires bounded { BoundedTables setup.now.tables }
     ensures { rule.winner setup.now live.now parent place spot ≡ result }
 {
     let mut best = None;
     for row in 0..setup.tables.rows.len() as u32 {
-        if is_candidate(setup, live, parent, place, spot, row) && is_above(setup, row, best, spot) {
+        if is_candidate(graph, setup, live, parent, place, spot, row)
+            && is_above(setup, row, best, spot)
+        {
             best = Some(row);
         }
     }
@@ -307,7 +283,7 @@ fn is_above(setup: &Setup, row: u32, best: Option<u32>, spot: u16) -> bool
 /// The least unit from the first one on that no live device of the driver has.
 fn free_unit(setup: &Setup, live: &[Dev], device: u32, first: u32) -> u32
     requires live { length live.now ≤ 1024 }
-    requires first { first ≤ 65535 }
+    requires first { first ≤ 65536 }
     ensures { first + rule.free_after setup.now live.now device first ≡ result }
 {
     for after in 0..live.len() as u32 + 1 {
@@ -321,7 +297,7 @@ fn free_unit(setup: &Setup, live: &[Dev], device: u32, first: u32) -> u32
 /// The unit that a row gives: its own, or, where it is starred, the least free one from its first unit on.
 #[tactic(auto, unfolding(run_rules::specs::Search::unit_of))]
 pub fn unit_of(setup: &Setup, live: &[Dev], row: u32) -> u32
-    requires plain { IsPlainTables setup.now.tables }
+    requires bounded { BoundedTables setup.now.tables }
     requires live { length live.now ≤ 1024 }
     ensures { rule.unit_of setup.now live.now row ≡ result }
 {
@@ -334,5 +310,39 @@ pub fn unit_of(setup: &Setup, live: &[Dev], row: u32) -> u32
             }
         }
         None => 0,
+    }
+}
+
+/// The device that comes to a spot below a parent, if a row takes it.
+#[tactic(auto, unfolding(run_rules::specs::Next::arrival))]
+pub fn arrival(
+    graph: &Graph,
+    setup: &Setup,
+    live: &[Dev],
+    parent: u64,
+    place: Place,
+    spot: u16,
+) -> Option<Arrival>
+    requires graph { IsGraphOf setup.now.tables graph.now }
+    requires bounded { BoundedTables setup.now.tables }
+    requires live { length live.now ≤ 1024 }
+    ensures arrival { next.arrival setup.now live.now parent place spot ≡ result }
+    ensures ready { IfSome result (λ a. (a.parent ≡ parent) × (a.spot ≡ spot) × (rule.is_taken setup.now live.now (world.driver_of setup.now a.row) a.unit ≡ false) × (a.row < length setup.now.tables.rows) × (a.unit < 2 ^ 32)) }
+{
+    match winner(
+        graph,
+        setup,
+        live,
+        parent_ref(setup, live, parent),
+        place,
+        spot,
+    ) {
+        Some(row) => Some(Arrival {
+            row,
+            unit: unit_of(setup, live, row),
+            parent,
+            spot,
+        }),
+        None => None,
     }
 }

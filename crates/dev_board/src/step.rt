@@ -1,13 +1,15 @@
 //! One step over the parts of a board.
-ghost use Rattle.std.specs.Prelude.{◌≡◌, ◌<◌, ◌≤◌, length, None, IfOk, OnOk, vec_len, vec_capacity};
+ghost use Rattle.std.specs.Prelude.{◌≡◌, ◌<◌, ◌≤◌, ◌+◌, ◌^◌, length, None, IfOk, OnOk, vec_len, vec_capacity};
 ghost use Rattle.run_rules.specs.Lines.{IsFormed};
 ghost use Rattle.run_rules.specs.Run.{event_of};
 ghost use Rattle.dev_board.specs.Agreement.{slots_of};
 ghost use Rattle.dev_board.specs.Left.{boot_left};
-ghost use Rattle.dev_board.specs.Plain.{IsPlain};
-ghost use Rattle.dev_board.specs.Plans.{deed_of, HaveRows, PlanReady, SlotReady, published};
+ghost use Rattle.dev_board.specs.Input.{Bounded, IsGraphOf};
+ghost use Rattle.dev_board.specs.Keeping.{SoundParts};
+ghost use Rattle.dev_board.specs.Plans as plans;
+ghost use Rattle.dev_board.specs.Plans.{deed_of, Fits, Ready, SlotReady, published};
 ghost use Rattle.dev_board.specs.Stepping.{StepIs, IsDid};
-ghost use Rattle.dev_board.specs.View.{shown_of, SameCore, CoreKept};
+ghost use Rattle.dev_board.specs.View.{parts_of, shown_of, SameCore, CoreKept};
 
 use crate::commit::commit;
 use crate::line::planned_event;
@@ -15,58 +17,96 @@ use crate::parts::{Core, append};
 use crate::plan::{Plan, next_plan};
 use crate::stepped::Stepped;
 use crate::told::Told;
+use attr_graph::Graph;
 use cf_types::Memory;
 use ref_ledger::Slots;
-use run_rules::{Event, Setup};
+use run_rules::{Arrival, Event, Setup};
 use std::alloc::Global;
 
 /// Makes room for all that an event may append.
 fn reserve(core: &mut Core) -> Result<(), Memory>
     ensures same { SameCore core.old core.new }
     ensures live_room { OnOk result (vec_len core.new.live < vec_capacity core.new.live) }
-    ensures search_room { OnOk result (vec_len core.new.searches < vec_capacity core.new.searches) }
+    ensures search_room { OnOk result (vec_len core.new.searches + vec_len core.new.deferred < vec_capacity core.new.searches) }
+    ensures deferred_room { OnOk result (vec_len core.new.deferred < vec_capacity core.new.deferred) }
+    ensures call_room { OnOk result (vec_len core.new.finalisers < vec_capacity core.new.finalisers) }
     ensures event_room { OnOk result (vec_len core.new.events < vec_capacity core.new.events) }
 {
     core.live.reserve(1)?;
-    core.searches.reserve(1)?;
+    core.searches.reserve(core.deferred.len() + 1)?;
+    core.deferred.reserve(1)?;
+    core.finalisers.reserve(1)?;
     core.events.reserve(1)?;
     Ok(())
 }
 
 /// Takes all the memory that a plan needs. The event is made last, so that no exit has to drop one.
 fn prepare(alloc: Global, setup: &Setup, core: &mut Core, plan: Plan) -> Result<Event, Memory>
-    requires plain { IsPlain setup.now }
-    requires rows { HaveRows setup.now core.old.live.items }
-    requires ready { PlanReady setup.now core.old.live.items plan }
+    requires bounded { Bounded setup.now }
+    requires sound { SoundParts setup.now (parts_of core.old) }
+    requires fits { Fits setup.now (parts_of core.old) plan }
+    requires ready { Ready setup.now (parts_of core.old) plan }
     ensures same { SameCore core.old core.new }
     ensures formed { IfOk result IsFormed }
     ensures event { IfOk result (λ e. e ≡ event_of (shown_of setup.now core.new).world 0 (deed_of plan)) }
     ensures live_room { OnOk result (vec_len core.new.live < vec_capacity core.new.live) }
-    ensures search_room { OnOk result (vec_len core.new.searches < vec_capacity core.new.searches) }
+    ensures search_room { OnOk result (vec_len core.new.searches + vec_len core.new.deferred < vec_capacity core.new.searches) }
+    ensures deferred_room { OnOk result (vec_len core.new.deferred < vec_capacity core.new.deferred) }
+    ensures call_room { OnOk result (vec_len core.new.finalisers < vec_capacity core.new.finalisers) }
     ensures event_room { OnOk result (vec_len core.new.events < vec_capacity core.new.events) }
 {
     reserve(core)?;
     planned_event(alloc, setup, core, plan)
 }
 
-/// Publishes the slot of a device that comes.
-fn publish<S: Slots>(slots: &mut S, plan: Plan)
-    requires { SlotReady plan (S.states slots.old) }
-    ensures { S.states slots.new ≡ published plan (S.states slots.old) }
+/// The device that comes by a plan.
+fn got_of(plan: Plan) -> Option<Arrival>
+    ensures { result ≡ plans.got_of plan }
 {
-    if let Plan::Attach {
-        serial: _,
-        spot,
-        row: _,
-        unit: _,
-    } = plan
-    {
-        slots.publish(spot);
+    match plan {
+        Plan::Turn {
+            serial: _,
+            moved: _,
+            got,
+        } => got,
+        Plan::Shows {
+            serial: _,
+            spot: _,
+            got,
+            place: _,
+            anew: _,
+        } => got,
+        Plan::EndScan { serial: _ } => None,
+        Plan::Interrupts => None,
+        Plan::Quiet {
+            serial: _,
+            place: _,
+            anew: _,
+        } => None,
+        Plan::End => None,
+    }
+}
+
+/// Publishes the slot of a device that comes.
+fn publish<S: Slots>(slots: &mut S, got: Option<Arrival>)
+    requires { SlotReady got (S.states slots.old) }
+    ensures { S.states slots.new ≡ published got (S.states slots.old) }
+{
+    match got {
+        Some(arrival) => slots.publish(arrival.spot),
+        None => {}
     }
 }
 
 /// The next event of caller 0, on a board that was not stopped.
-fn next_step<S: Slots>(alloc: Global, setup: &Setup, core: &mut Core, slots: &mut S) -> Stepped
+fn next_step<S: Slots>(
+    alloc: Global,
+    graph: &Graph,
+    setup: &Setup,
+    core: &mut Core,
+    slots: &mut S,
+) -> Stepped
+    requires graph { IsGraphOf setup.now.tables graph.now }
     requires kept { CoreKept setup.now core.old }
     requires agree { S.states slots.old ≡ slots_of (shown_of setup.now core.old).world }
     requires goes_on { core.old.stopped ≡ None }
@@ -78,15 +118,15 @@ fn next_step<S: Slots>(alloc: Global, setup: &Setup, core: &mut Core, slots: &mu
     if core.ended {
         return Stepped::Closed;
     }
-    let plan = next_plan(setup, core);
+    let plan = next_plan(graph, setup, core);
     match prepare(alloc, setup, core, plan) {
         Err(_) => Stepped::Memory,
         Ok(event) => {
             let place = core.events.len() as u64;
             let told = Told::of_event(setup, 0, place, &event);
             append(&mut core.events, event);
-            commit(setup, core, plan);
-            publish(slots, plan);
+            commit(graph, setup, core, plan);
+            publish(slots, got_of(plan));
             Stepped::Did(place, told)
         }
     }
@@ -95,11 +135,13 @@ fn next_step<S: Slots>(alloc: Global, setup: &Setup, core: &mut Core, slots: &mu
 /// One step of a caller; without scripts it is caller 0.
 pub fn step_core<S: Slots>(
     alloc: Global,
+    graph: &Graph,
     setup: &Setup,
     core: &mut Core,
     caller: u8,
     slots: &mut S,
 ) -> Stepped
+    requires graph { IsGraphOf setup.now.tables graph.now }
     requires kept { CoreKept setup.now core.old }
     requires caller { caller ≤ length setup.now.scripts }
     requires agree { S.states slots.old ≡ slots_of (shown_of setup.now core.old).world }
@@ -110,6 +152,6 @@ pub fn step_core<S: Slots>(
 {
     match core.stopped {
         Some(first) => Stepped::Stopped(first, Told::of_stop(setup, caller, first)),
-        None => next_step(alloc, setup, core, slots),
+        None => next_step(alloc, graph, setup, core, slots),
     }
 }

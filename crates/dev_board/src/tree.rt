@@ -1,9 +1,9 @@
 //! The lines of the device tree.
 ghost use Rattle.std.specs.Prelude.{◌≡◌, ◌≤◌, ◌<◌, ◌+◌, ◌++◌, ◌^◌, ◌∷◌, IfOk, OnOk, length, map, flat_map, filter};
 ghost use Rattle.run_rules.specs.Tree as rule;
-ghost use Rattle.dev_board.specs.Plain.{IsPlainTables};
+ghost use Rattle.dev_board.specs.Input.{Bounded};
 ghost use Rattle.dev_board.specs.PlainTree.{plain_line};
-ghost use Rattle.dev_board.specs.Plans.{HaveRows};
+ghost use Rattle.dev_board.specs.Keeping.{HaveRows};
 ghost use Rattle.dev_board.specs.View.{shown_of, CoreKept};
 
 use crate::names::{parent_name, unit_name};
@@ -21,7 +21,7 @@ fn line_of(
     depth: u32,
     device: Dev,
 ) -> Result<DevLine, Memory>
-    requires plain { IsPlainTables setup.now.tables }
+    requires bounded { Bounded setup.now }
     requires rows { HaveRows setup.now live.now }
     requires row { device.row < length setup.now.tables.rows }
     ensures { IfOk result (λ line. line ≡ plain_line setup.now live.now (depth, device)) }
@@ -49,7 +49,7 @@ fn push_below(
     parent: u64,
     lines: &mut List<DevLine>,
 ) -> Result<(), Memory>
-    requires plain { IsPlainTables setup.now.tables }
+    requires bounded { Bounded setup.now }
     requires rows { HaveRows setup.now live.now }
     requires shallow { depth + levels < 2 ^ 32 }
     ensures { OnOk result (lines.new ≡ lines.old ++ map (plain_line setup.now live.now) (rule.tree_below levels live.now depth parent)) }

@@ -7,7 +7,8 @@ use Rattle.run_rules.specs.declared.world.Setup.{Setup}
 use Rattle.run_rules.specs.declared.world.Dev.{Dev}
 use Rattle.run_rules.specs.declared.world.Position.{Position}
 use Rattle.run_rules.specs.World.{World, opening, root_name, name_of, unit_name, parent_name, device_at}
-use Rattle.run_rules.specs.Deeds.{Arrival, Deed, Search, EndScan, BeginInterrupts, EndCaller}
+use Rattle.run_rules.specs.Deeds.{Deed, Search, EndScan, BeginInterrupts, EndCaller}
+use Rattle.run_rules.specs.declared.world.Arrival.{Arrival}
 use Rattle.run_rules.specs.After.{after, new_device}
 use Rattle.run_rules.specs.Run.{event_of, printed}
 use Rattle.run_rules.specs.Laws.{attached_name, attached_below, freed_name, is_name, lives}

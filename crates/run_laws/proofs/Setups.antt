@@ -3,8 +3,11 @@ use Rattle.std.proofs.Common.{◌≡◌, ℕ, Bool, true, false, cond, List, [],
 use Rattle.run_rules.specs.declared.event.Event.{Event}
 use Rattle.cf_types.specs.declared.machine.Policy.{Policy}
 use Rattle.run_rules.specs.World.{World, caller_at, has_ended, policy_of, offered_by}
-use Rattle.run_rules.specs.Deeds.{Arrival, Deed, Search, EndScan, BeginInterrupts, Finalise, EndCaller, Drop, Answer, Open, Close, Start, Done, Detach, Free, Rescan, BeginPower, Sleep, Wake, EndPower, Plug, Unplug, Tell}
-use Rattle.run_rules.specs.After.{after, released, attached, arrived, listed, finaliser_placed, scan_placed, Placing, Nowhere, Queued, PutOff, Pushed, finaliser_placing, place_finaliser, scan_placing, place_scan, show_spot, list_moved, finaliser_done, freeing_target, freed, over}
+use Rattle.run_rules.specs.Deeds.{Deed, Search, EndScan, BeginInterrupts, Finalise, EndCaller, Drop, Answer, Open, Close, Start, Done, Detach, Free, Rescan, BeginPower, Sleep, Wake, EndPower, Plug, Unplug, Tell}
+use Rattle.run_rules.specs.declared.world.Arrival.{Arrival}
+use Rattle.run_rules.specs.After.{after, released, attached, arrived, listed, finaliser_placed, scan_placed, finaliser_placing, place_finaliser, scan_placing, place_scan, show_spot, list_moved, finaliser_done, freeing_target, freed, over}
+use Rattle.run_rules.specs.declared.world.Placing.{Placing}
+use Rattle.run_rules.specs.declared.world.Placing.TheVariants.{Nowhere, Queued, PutOff, Pushed}
 use Rattle.run_rules.specs.Run.{Run}
 
 final_setup : (c : Placing) (w : World) (k s : ℕ) → (place_finaliser c w k s).setup ≡ w.setup

@@ -32,7 +32,7 @@ later_snoc : {A : Type 0} (R : A → A → Type 0) (xs : List A) (y : A) → Eac
 later_snoc R [] y h here = (tt, tt)
 later_snoc R (x ∷ xs) y h here = (all_snoc (R x) xs y h.0 here.0, later_snoc R xs y h.1 here.1)
 
-or_false : (a b : Bool) → (a || b) ≡ false → (a ≡ false) × (b ≡ false)
+pub or_false : (a b : Bool) → (a || b) ≡ false → (a ≡ false) × (b ≡ false)
 or_false true b h = absurd cc
 or_false false b h = (refl, h)
 

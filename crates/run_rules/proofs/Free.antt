@@ -6,11 +6,10 @@ use Rattle.run_rules.specs.declared.world.Dev.{Dev}
 use Rattle.run_rules.specs.declared.world.Position.{Position}
 use Rattle.run_rules.specs.declared.world.Wanted.{Wanted}
 use Rattle.run_rules.specs.declared.world.ParentRef.{ParentRef}
-use Rattle.run_rules.specs.World.{has}
-use Rattle.run_rules.specs.Search.{Turn, turns, is_before, is_due, is_open, is_occupied, passes_filter, found_at, due, is_winner, winner}
-use Rattle.std.proofs.Common.{◌≤◌, ◌<◌, nat_lt, arith}
-use Rattle.std.proofs.lemmas.Bool.Decides.{nat_tests}
-use Rattle.run_rules.specs.Direct.{direct}
+use Rattle.run_rules.specs.World.{has, is_number}
+use Rattle.run_rules.specs.Search.{turns, is_before, is_due, is_open, is_occupied, passes_filter, found_at, due, is_winner, winner, winner_at}
+use Rattle.run_rules.specs.declared.world.Turn.{Turn}
+use Rattle.std.proofs.Common.{◌<◌, ◌||◌}
 use Rattle.run_rules.proofs.Below.{and_both, find_below}
 
 -- what is found passes the test
@@ -40,16 +39,37 @@ due_free s live absent hidden p only wanted from t e =
     let opens = and_both (is_open s.machine live absent hidden wanted t.at.spot) _ (and_both (not (is_before t.at from)) _ passes).1 in
     open_free (not (has absent t.at.spot)) (not (has hidden t.at.spot)) (is_occupied live t.at.spot) (passes_filter (found_at s.machine t.at.spot) wanted) opens.0
 
-not_less : (x from : ℕ) → not (nat_lt x from) ≡ true → from ≤ x
-not_less x from h = grind (arith, nat_tests)
+-- what is due passes the tests
+due_passes : (s : Setup) (live : List Dev) (absent hidden : List ℕ) (p : ℕ) (only : Option ℕ) (wanted : List Wanted) (from : Position) (t : Turn)
+    → due s live absent hidden p only wanted from ≡ Some t → (not (is_before t.at from) ≡ true) × (is_due s live absent hidden p wanted t ≡ true)
+unfolding due
+due_passes s live absent hidden p only wanted from t e =
+    and_both (not (is_before t.at from)) (is_due s live absent hidden p wanted t)
+    (find_true (λ u. not (is_before u.at from) && is_due s live absent hidden p wanted u) (turns s live p only) t e)
 
-pub due_after : (s : Setup) (live : List Dev) (absent hidden : List ℕ) (p : ℕ) (only : Option ℕ) (wanted : List Wanted) (from : ℕ) (place : Place) (x : ℕ)
-    → due s live absent hidden p only wanted (record { attr = 0; row = 0; spot = from }) ≡ Some (direct place x) → from ≤ x
-unfolding due is_before
-due_after s live absent hidden p only wanted from place x e =
-    let start : Position = record { attr = 0; row = 0; spot = from } in
-    let passes = find_true (λ u. not (is_before u.at start) && is_due s live absent hidden p wanted u) (turns s live p only) (direct place x) e in
-    not_less x from (and_both (not (nat_lt x from)) _ passes).0
+pub due_forward : (s : Setup) (live : List Dev) (absent hidden : List ℕ) (p : ℕ) (only : Option ℕ) (wanted : List Wanted) (from : Position) (t : Turn)
+    → due s live absent hidden p only wanted from ≡ Some t → is_before t.at from ≡ false
+due_forward s live absent hidden p only wanted from t e = not_false (is_before t.at from) (due_passes s live absent hidden p only wanted from t e).0
+
+open_seen : (a h o f : Bool) → (a && not h && not o && f) ≡ true → h ≡ false
+open_seen a h o f e = not_false h (and_both a (not h) (and_both (a && not h) (not o) (and_both (a && not h && not o) f e).0).0).1
+
+-- its spot is not hidden
+pub due_seen : (s : Setup) (live : List Dev) (absent hidden : List ℕ) (p : ℕ) (only : Option ℕ) (wanted : List Wanted) (from : Position) (t : Turn)
+    → due s live absent hidden p only wanted from ≡ Some t → has hidden t.at.spot ≡ false
+unfolding is_due is_open
+due_seen s live absent hidden p only wanted from t e =
+    let opens = and_both (is_open s.machine live absent hidden wanted t.at.spot) _ (due_passes s live absent hidden p only wanted from t e).1 in
+    open_seen (not (has absent t.at.spot)) (has hidden t.at.spot) (is_occupied live t.at.spot) (passes_filter (found_at s.machine t.at.spot) wanted) opens.0
+
+-- and on an indirect bus its row is the winner there
+pub due_wins : (s : Setup) (live : List Dev) (absent hidden : List ℕ) (p : ℕ) (only : Option ℕ) (wanted : List Wanted) (from : Position) (t : Turn)
+    → due s live absent hidden p only wanted from ≡ Some t → t.indirect ≡ true → is_number (winner_at s live p t.place t.at.spot) t.at.row ≡ true
+unfolding is_due
+due_wins s live absent hidden p only wanted from t e indirect =
+    let both = and_both (is_open s.machine live absent hidden wanted t.at.spot) (not t.indirect || is_number (winner_at s live p t.place t.at.spot) t.at.row)
+    (due_passes s live absent hidden p only wanted from t e).1 in
+    rw indirect at both.1
 
 pub winner_below : (s : Setup) (live : List Dev) (p : ParentRef) (place : Place) (x r : ℕ) → winner s live p place x ≡ Some r → r < length s.tables.rows
 unfolding winner

@@ -3,8 +3,11 @@ use Rattle.std.proofs.Common.{◌≡◌, ℕ, Bool, true, List, [], ◌∷◌, �
 use Rattle.cf_types.specs.declared.machine.Policy.{Policy}
 use Rattle.run_rules.specs.declared.world.Position.{Position}
 use Rattle.run_rules.specs.World.{World, has_ended, policy_of, offered_by, caller_at}
-use Rattle.run_rules.specs.Deeds.{Arrival, Search, EndScan, BeginInterrupts, EndCaller}
-use Rattle.run_rules.specs.After.{after, released, attached, listed, finaliser_placed, scan_placed, new_device, Placing, Nowhere, Queued, PutOff, Pushed, finaliser_placing, place_finaliser, scan_placing, place_scan, with_stack, moved_top}
+use Rattle.run_rules.specs.Deeds.{Search, EndScan, BeginInterrupts, EndCaller}
+use Rattle.run_rules.specs.declared.world.Arrival.{Arrival}
+use Rattle.run_rules.specs.After.{after, released, attached, listed, finaliser_placed, scan_placed, new_device, finaliser_placing, place_finaliser, scan_placing, place_scan, with_stack, moved_top}
+use Rattle.run_rules.specs.declared.world.Placing.{Placing}
+use Rattle.run_rules.specs.declared.world.Placing.TheVariants.{Nowhere, Queued, PutOff, Pushed}
 
 place_finaliser_live : (c : Placing) (w : World) (k s : ℕ) → (place_finaliser c w k s).live ≡ w.live
 place_finaliser_live Nowhere w k s = refl

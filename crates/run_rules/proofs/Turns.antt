@@ -1,5 +1,5 @@
--- The due turn of a scan of one direct place is the first of its child spots that is open.
-use Rattle.std.proofs.Common.{◌≡◌, ℕ, zero, suc, ◌<◌, ◌≤◌, Bool, true, false, not, ◌&&◌, ◌||◌, ◌==◌, nat_lt, List, [], ◌∷◌, ◌++◌, map, filter, length, find, Option, Some, None, option_map, refl, ap, inl, inr, arith, cond, slice_get, eq-eqb}
+-- The due turn of a scan is the first that is due, place by place, row by row and spot by spot.
+use Rattle.std.proofs.Common.{◌≡◌, ℕ, zero, suc, ◌<◌, ◌≤◌, Bool, true, false, not, ◌&&◌, ◌||◌, ◌==◌, List, [], ◌∷◌, ◌++◌, map, filter, length, find, Option, Some, None, option_map, refl, ap, ◌∙◌, inl, inr, arith, cond, slice_get, eq-eqb}
 use Rattle.std.specs.List.{list_any}
 use Rattle.std.specs.Option.{option_map_or}
 use Rattle.std.proofs.lemmas.Bool.{cases_lt}
@@ -10,10 +10,16 @@ use Rattle.cf_types.specs.declared.tables.Place.TheVariants.{Root, At}
 use Rattle.run_rules.specs.declared.world.Setup.{Setup}
 use Rattle.run_rules.specs.declared.world.Dev.{Dev}
 use Rattle.run_rules.specs.declared.world.Position.{Position}
-use Rattle.run_rules.specs.World.{device_at, absent_spots, late_spots, has}
+use Rattle.run_rules.specs.World.{device_at, offered_by, absent_spots, has}
+use Rattle.cf_types.specs.declared.machine.Machine.{Machine}
+use Rattle.run_rules.specs.declared.world.Turn.{Turn}
+use Rattle.run_rules.specs.declared.world.Wanted.{Wanted}
+use Rattle.std.specs.List.{enumerate_from}
+use Rattle.std.specs.Prelude.{flat_map}
+use Rattle.std.proofs.lemmas.List.Folds.{find-append}
+use Rattle.std.proofs.lemmas.Grind.{flat_map-append}
 use Rattle.cf_types.specs.Numbers.{below}
-use Rattle.run_rules.specs.Direct.{direct, spot_is_due}
-use Rattle.run_rules.specs.Search.{is_child, is_occupied, Turn, child_spots, spot_of, scan_places, is_indirect, turns_at, turns, is_before, is_due, is_open, due}
+use Rattle.run_rules.specs.Search.{is_child, is_occupied, child_spots, scan_places, turns_at, turns, is_before, is_due, is_open, due}
 
 pub find_map : {A B : Type 0} (q : B → Bool) (f : A → B) (xs : List A) → find q (map f xs) ≡ option_map f (find (λ x. q (f x)) xs)
 find_map q f [] = refl
@@ -30,32 +36,57 @@ pub find_same : {A : Type 0} (p q : A → Bool) (xs : List A) → ((x : A) → p
 find_same p q [] h = refl
 find_same p q (x ∷ xs) h = rw (h x, find_same p q xs h) refl
 
--- ---- a turn of a direct place
+-- ---- the first that passes, list by list
 
-turn_is : (s : Setup) (live : List Dev) (absent hidden : List ℕ) (p from : ℕ) (place : Place) (x : ℕ)
-    → (not (is_before (direct place x).at (record { attr = 0; row = 0; spot = from })) && is_due s live absent hidden p [] (direct place x))
-    ≡ (not (nat_lt x from) && is_open s.machine live absent hidden [] x)
-unfolding is_before is_due
-turn_is s live absent hidden p from place x =
-    elim (is_open s.machine live absent hidden [] x) as (λ b. (not (nat_lt x from) && (b && true)) ≡ (not (nat_lt x from) && b)) [ true ↦ refl | false ↦ refl ]
+pub find_first : {A B : Type 0} (q : B → Bool) (f : A → List B) (x : A) (xs : List A) (t : B) → find q (f x) ≡ Some t → find q (flat_map f (x ∷ xs)) ≡ Some t
+find_first q f x xs t e = rw (find-append q (f x) (flat_map f xs), e) refl
 
-pub due_direct : (s : Setup) (live : List Dev) (absent hidden : List ℕ) (p from : ℕ) (place : Place)
-    → scan_places s live p None ≡ place ∷ [] → is_indirect s live p place ≡ false
-    → due s live absent hidden p None [] (record { attr = 0; row = 0; spot = from })
-    ≡ option_map (direct place) (find (spot_is_due s live absent hidden p place from) (below (length s.machine.spots)))
-unfolding due turns turns_at child_spots
-due_direct s live absent hidden p from place one straight =
-    let m = s.machine in
-    let q : Turn → Bool = λ t. not (is_before t.at (record { attr = 0; row = 0; spot = from })) && is_due s live absent hidden p [] t in
-    let kids : List ℕ = filter (is_child m (spot_of live p) place) (below (length m.spots)) in
-    rw (one, straight, append-nil (map (direct place) kids), find_map q (direct place) kids, find_filter (λ x. q (direct place x)) (is_child m (spot_of live p) place) (below (length m.spots)))
-    (ap (option_map (direct place)) (find_same _ (spot_is_due s live absent hidden p place from) (below (length m.spots))
-    (λ x. ap (λ (b : Bool). is_child m (spot_of live p) place x && b) (turn_is s live absent hidden p from place x))))
+pub find_later : {A B : Type 0} (q : B → Bool) (f : A → List B) (x : A) (xs : List A) (o : Option B) → find q (f x) ≡ None → find q (flat_map f xs) ≡ o → find q (flat_map f (x ∷ xs)) ≡ o
+find_later q f x xs o e h = rw (find-append q (f x) (flat_map f xs), e) h
 
-pub due_nowhere : (s : Setup) (live : List Dev) (absent hidden : List ℕ) (p : ℕ) (from : Position)
-    → scan_places s live p None ≡ [] → due s live absent hidden p None [] from ≡ None
-unfolding due turns
-due_nowhere s live absent hidden p from none = rw none refl
+flat_below : {B : Type 0} (f : ℕ → List B) (n : ℕ) → flat_map f (below (suc n)) ≡ flat_map f (below n) ++ f n
+flat_below f n = rw (flat_map-append f (below n) (n ∷ []), append-nil (f n)) refl
+
+pub flat_none : {B : Type 0} (q : B → Bool) (f : ℕ → List B) (n : ℕ) → ((k : ℕ) → k < n → find q (f k) ≡ None) → find q (flat_map f (below n)) ≡ None
+flat_none q f zero h = refl
+flat_none q f (suc n) h =
+    rw (flat_below f n, find-append q (flat_map f (below n)) (f n), flat_none q f n (λ k lt. h k (omega arith))) (h n (omega arith))
+
+pub flat_is : {B : Type 0} (q : B → Bool) (f : ℕ → List B) (n r : ℕ) (t : B) → r < n → find q (f r) ≡ Some t → ((k : ℕ) → k < r → find q (f k) ≡ None) → find q (flat_map f (below n)) ≡ Some t
+flat_is q f zero r t lt here before = absurd (omega arith)
+flat_is q f (suc n) r t lt here before =
+    elim (cases_lt r n) [
+      | inl less ↦ rw (flat_below f n, find-append q (flat_map f (below n)) (f n), flat_is q f n r t less here before) refl
+      | inr more ↦
+          let same : r ≡ n = omega arith in
+          let now : find q (f n) ≡ Some t = rw (← same) here in
+          rw (flat_below f n, find-append q (flat_map f (below n)) (f n), flat_none q f n (λ k less. before k (omega arith))) now
+    ]
+
+-- ---- the turns of one place
+
+-- the turns of the children of a place, with a test
+pub find_children : {B : Type 0} (q : B → Bool) (f : ℕ → B) (m : Machine) (parent : Option ℕ) (place : Place)
+    → find q (map f (child_spots m parent place)) ≡ option_map f (find (λ x. is_child m parent place x && q (f x)) (below (length m.spots)))
+unfolding child_spots
+find_children q f m parent place =
+    find_map q f (filter (is_child m parent place) (below (length m.spots))) ∙ ap (option_map f) (find_filter (λ x. q (f x)) (is_child m parent place) (below (length m.spots)))
+
+-- ---- the turns of a scan
+
+pub due_below : (s : Setup) (live : List Dev) (absent hidden : List ℕ) (p : ℕ) (wanted : List Wanted) (from : Position) (d : Dev) (o : Option Turn)
+    → device_at live p ≡ Some d
+    → find (λ t. not (is_before t.at from) && is_due s live absent hidden p wanted t) (flat_map (turns_at s live p) (enumerate_from 0 (map At (offered_by s d.row)))) ≡ o
+    → due s live absent hidden p None wanted from ≡ o
+unfolding due turns scan_places
+due_below s live absent hidden p wanted from d o there e = rw there e
+
+pub due_at_root : (s : Setup) (live : List Dev) (absent hidden : List ℕ) (p : ℕ) (wanted : List Wanted) (from : Position) (o : Option Turn)
+    → device_at live p ≡ None
+    → find (λ t. not (is_before t.at from) && is_due s live absent hidden p wanted t) (turns_at s live p (0, Root)) ≡ o
+    → due s live absent hidden p None wanted from ≡ o
+unfolding due turns scan_places
+due_at_root s live absent hidden p wanted from o none e = rw (none, append-nil (turns_at s live p (0, Root))) e
 
 -- ---- tests of listed numbers
 
@@ -99,29 +130,16 @@ pub absent_is : (s : Setup) (x : ℕ) → x < length s.machine.spots → has (ab
 unfolding absent_spots
 absent_is s x lt = has_filter (λ y. option_map_or (λ spot. spot.absent) (slice_get s.machine.spots y) false) (length s.machine.spots) x lt
 
-pub late_is : (s : Setup) (x : ℕ) → x < length s.machine.spots → has (late_spots s) x ≡ option_map_or (λ spot. spot.late) (slice_get s.machine.spots x) false
-unfolding late_spots
-late_is s x lt = has_filter (λ y. option_map_or (λ spot. spot.late) (slice_get s.machine.spots y) false) (length s.machine.spots) x lt
-
-pub open_is : (s : Setup) (live : List Dev) (x : ℕ) (absent late occupied : Bool) → x < length s.machine.spots
+pub open_is : (s : Setup) (live : List Dev) (hidden : List ℕ) (x : ℕ) (absent late occupied : Bool) → x < length s.machine.spots
     → absent ≡ option_map_or (λ spot. spot.absent) (slice_get s.machine.spots x) false
-    → late ≡ option_map_or (λ spot. spot.late) (slice_get s.machine.spots x) false
+    → late ≡ has hidden x
     → occupied ≡ is_occupied live x
-    → is_open s.machine live (absent_spots s) (late_spots s) [] x ≡ (not absent && not late && not occupied)
+    → is_open s.machine live (absent_spots s) hidden [] x ≡ (not absent && not late && not occupied)
 unfolding is_open
-open_is s live x absent late occupied lt a b c =
-    rw (absent_is s x lt, late_is s x lt, ← a, ← b, ← c) (last (not absent && not late) (not occupied))
+open_is s live hidden x absent late occupied lt a b c =
+    rw (absent_is s x lt, ← a, ← b, ← c) (last (not absent && not late) (not occupied))
   where
     last : (p q : Bool) → (p && q && true) ≡ (p && q)
     last true true = refl
     last true false = refl
     last false q = refl
-
-pub straight : (s : Setup) (live : List Dev) (p : ℕ) (place : Place) → s.machine.styles ≡ [] → is_indirect s live p place ≡ false
-unfolding is_indirect
-straight s live p Root none = refl
-straight s live p (At a) none = simp none (nothing (device_at live p))
-  where
-    nothing : (d : Option Dev) → option_map_or (λ _. false) d false ≡ false
-    nothing None = refl
-    nothing (Some d) = refl

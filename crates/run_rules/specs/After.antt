@@ -6,12 +6,15 @@ use Rattle.run_rules.specs.declared.world.Frame.{Frame}
 use Rattle.run_rules.specs.declared.world.Frame.TheVariants.{Scan, Finaliser}
 use Rattle.run_rules.specs.declared.world.Position.{Position}
 use Rattle.run_rules.specs.declared.world.Key.{Key}
+use Rattle.run_rules.specs.declared.world.Placing.{Placing}
+use Rattle.run_rules.specs.declared.world.Placing.TheVariants.{Nowhere, Queued, PutOff, Pushed}
 use Rattle.run_rules.specs.declared.world.Key.TheVariants as key
 use Rattle.run_rules.specs.declared.world.Activity.{Activity}
 use Rattle.run_rules.specs.declared.world.Activity.TheVariants as activity
 use Rattle.run_rules.specs.World.{World, Caller, is_under, policy_of, offered_by, caller_at, has_ended, scan_of}
 use Rattle.run_rules.specs.Next.{has_nothing}
-use Rattle.run_rules.specs.Deeds.{Arrival, Deed, Search, EndScan, BeginInterrupts, Finalise, EndCaller, Drop, Answer, Open, Close, Start, Done, Detach, Free, Rescan, BeginPower, Sleep, Wake, EndPower, Plug, Unplug, Tell}
+use Rattle.run_rules.specs.Deeds.{Deed, Search, EndScan, BeginInterrupts, Finalise, EndCaller, Drop, Answer, Open, Close, Start, Done, Detach, Free, Rescan, BeginPower, Sleep, Wake, EndPower, Plug, Unplug, Tell}
+use Rattle.run_rules.specs.declared.world.Arrival.{Arrival}
 
 abbrev pub with_caller : World → ℕ → Caller → World
 with_caller w k c = record w { callers = slice_set w.callers k c }
@@ -54,15 +57,6 @@ new_device w a = record { serial = w.next; row = a.row; unit = a.unit; parent = 
 -- the device is in the list, and has the next serial
 unfoldable pub listed : World → Arrival → World
 listed w a = record w { live = w.live ++ new_device w a ∷ []; next = w.next + 1 }
-
--- where the work of a new device goes
-pub data Placing : Type 0 where
-  Nowhere : Placing
-  -- to the boot's list, or for a scan to the interrupts queue
-  Queued : Placing
-  -- to the parent's queue
-  PutOff : Placing
-  Pushed : Placing
 
 unfoldable pub finaliser_placing : Policy → Bool → Placing
 finaliser_placing p booted = if p.finaliser then (if booted then Pushed else Queued) else Nowhere

@@ -6,14 +6,8 @@ use Rattle.run_rules.specs.declared.event.Reply.{Reply}
 use Rattle.run_rules.specs.declared.event.PowerKind.{PowerKind}
 use Rattle.run_rules.specs.declared.world.Frame.{Frame}
 use Rattle.run_rules.specs.declared.world.Position.{Position}
+use Rattle.run_rules.specs.declared.world.Arrival.{Arrival}
 use Rattle.run_rules.specs.declared.world.Wait.{Wait}
-
--- a device that comes: its row and unit, its parent and its spot
-pub record Arrival : Type 0 where
-  pub row : ℕ
-  pub unit : ℕ
-  pub parent : ℕ
-  pub spot : ℕ
 
 pub data Deed : Type 0 where
   -- a turn of the scan of `parent`: the position after it, and what came

@@ -25,7 +25,8 @@ use Rattle.run_rules.specs.declared.world.Setup.{Setup}
 use Rattle.run_rules.specs.World.{World, has, is_number, serial_of, device_at, device_on, is_live, is_under, name_of, device_named, policy_of, offered_by, is_pinned, is_held, is_referred, is_condemned, caller_at, has_ended, start}
 use Rattle.cf_types.specs.Numbers.{below}
 use Rattle.run_rules.specs.Search.{winner_at, unit_of, due, after_turn}
-use Rattle.run_rules.specs.Deeds.{Arrival, Deed, Choice, Search, EndScan, BeginInterrupts, Finalise, EndCaller, Drop, Answer, Open, Close, Start, Done, Detach, Free, Rescan, BeginPower, Sleep, Wake, EndPower, Plug, Unplug, Tell, Ended, Waits, Does}
+use Rattle.run_rules.specs.Deeds.{Deed, Choice, Search, EndScan, BeginInterrupts, Finalise, EndCaller, Drop, Answer, Open, Close, Start, Done, Detach, Free, Rescan, BeginPower, Sleep, Wake, EndPower, Plug, Unplug, Tell, Ended, Waits, Does}
+use Rattle.run_rules.specs.declared.world.Arrival.{Arrival}
 
 abbrev pub name_at : World → ℕ → List ℕ
 name_at w s = option_map_or (name_of w.setup) (device_at w.live s) []

@@ -19,7 +19,8 @@ use Rattle.run_rules.specs.Tree.{tree_below}
 use Rattle.run_rules.specs.World.{World, children, name_of, unit_name, parent_name, device_named, caller_at, has_ended}
 use Rattle.run_rules.specs.Next.{next, command_of, name_at}
 use Rattle.run_rules.specs.After.{after}
-use Rattle.run_rules.specs.Deeds.{Arrival, Deed, Choice, Search, EndScan, BeginInterrupts, Finalise, EndCaller, Drop, Answer, Open, Close, Start, Done, Detach, Free, Rescan, BeginPower, Sleep, Wake, EndPower, Plug, Unplug, Tell, Does}
+use Rattle.run_rules.specs.Deeds.{Deed, Choice, Search, EndScan, BeginInterrupts, Finalise, EndCaller, Drop, Answer, Open, Close, Start, Done, Detach, Free, Rescan, BeginPower, Sleep, Wake, EndPower, Plug, Unplug, Tell, Does}
+use Rattle.run_rules.specs.declared.world.Arrival.{Arrival}
 
 -- the number of a caller's next event
 abbrev pub number_of : World → ℕ → ℕ

@@ -14,6 +14,7 @@ use Rattle.cf_types.specs.declared.machine.Machine.{Machine}
 use Rattle.run_rules.specs.declared.world.Dev.{Dev}
 use Rattle.run_rules.specs.declared.world.Position.{Position}
 use Rattle.run_rules.specs.declared.world.Wanted.{Wanted}
+use Rattle.run_rules.specs.declared.world.Turn.{Turn}
 use Rattle.run_rules.specs.declared.world.ParentRef.{ParentRef}
 use Rattle.run_rules.specs.declared.world.ParentRef.TheVariants as under
 use Rattle.run_rules.specs.declared.world.Setup.{Setup}
@@ -131,12 +132,6 @@ is_indirect s live p (At a) =
     option_map_or (λ d.
     option_map_or (λ line. line.indirect) (find (λ line. line.attach == attach_of s d.row && line.attr == a) (reverse s.machine.styles)) false)
     (device_at live p) false
-
--- a turn: its position, and whether it is of an indirect attribute
-pub record Turn : Type 0 where
-  pub at : Position
-  pub place : Place
-  pub indirect : Bool
 
 -- the turns of one place: the child spots, or the pairs of row and child spot, rows first
 unfoldable pub turns_at : Setup → List Dev → ℕ → ℕ × Place → List Turn

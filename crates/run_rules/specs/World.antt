@@ -17,7 +17,7 @@ use Rattle.run_rules.specs.declared.world.Dev.{Dev}
 use Rattle.run_rules.specs.declared.world.Frame.{Frame}
 use Rattle.run_rules.specs.declared.world.Frame.TheVariants.{Scan, Finaliser}
 use Rattle.run_rules.specs.declared.world.Position.{Position}
-use Rattle.run_rules.specs.declared.world.Key.{Key}
+use Rattle.run_rules.specs.declared.world.Deferred.{Deferred}
 use Rattle.run_rules.specs.declared.world.Activity.{Activity}
 use Rattle.run_rules.specs.declared.world.Activity.TheVariants as activity
 
@@ -25,11 +25,6 @@ use Rattle.run_rules.specs.declared.world.Activity.TheVariants as activity
 pub record Ref : Type 0 where
   pub serial : ℕ
   pub caller : ℕ
-
--- a scan that was put off
-pub record Deferred : Type 0 where
-  pub key : Key
-  pub child : ℕ
 
 -- a caller: how many of its commands are over, what it is in the middle of, and its frames, the top first
 pub record Caller : Type 0 where

@@ -5,4 +5,7 @@ mod event;
 mod world;
 
 pub use event::{Act, DepthName, Event, IoAnswer, PowerKind, Reply};
-pub use world::{Activity, Dev, Frame, Key, ParentRef, Position, Setup, Wait, Wanted};
+pub use world::{
+    Activity, Arrival, Deferred, Dev, Frame, Key, ParentRef, Placing, Position, Setup, Turn, Wait,
+    Wanted,
+};

@@ -1,5 +1,5 @@
 use crate::event::PowerKind;
-use cf_types::{List, Machine, Script, Tables, Ticket};
+use cf_types::{List, Machine, Place, Script, Tables, Ticket};
 
 /// What a run goes by. No event changes it.
 #[derive(Drop)]
@@ -35,6 +35,24 @@ pub struct Position {
     pub spot: u16,
 }
 
+/// A turn of a scan: its position, the place that is searched there, and whether that place is an indirect bus. See
+/// autoconf(9).
+#[derive(Clone, Copy)]
+pub struct Turn {
+    pub at: Position,
+    pub place: Place,
+    pub indirect: bool,
+}
+
+/// A device that comes: its row and its unit, the serial of its parent, and its spot.
+#[derive(Clone, Copy)]
+pub struct Arrival {
+    pub row: u32,
+    pub unit: u32,
+    pub parent: u64,
+    pub spot: u16,
+}
+
 /// A locator value that a spot has to have in a rescan: the place of the locator in its attribute, and the value.
 #[derive(Clone, Copy)]
 pub struct Wanted {
@@ -63,6 +81,24 @@ pub enum Frame {
 pub enum Key {
     Parent(u64),
     Interrupts,
+}
+
+/// A scan that was put off: to what, and of which device.
+#[derive(Clone, Copy)]
+pub struct Deferred {
+    pub key: Key,
+    pub child: u64,
+}
+
+/// Where the work of a new device goes. See config_defer(9) and config_interrupts(9).
+#[derive(Clone, Copy)]
+pub enum Placing {
+    Nowhere,
+    /// To the boot's list, or for a scan to the interrupts queue.
+    Queued,
+    /// To the parent's queue.
+    PutOff,
+    Pushed,
 }
 
 /// What a caller is in the middle of.

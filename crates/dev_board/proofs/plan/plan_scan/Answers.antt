@@ -1,15 +1,12 @@
-use Rattle.run_rules.specs.World.{absent_spots, late_spots}
-use Rattle.run_rules.specs.Direct.{direct}
-use Rattle.run_rules.proofs.Free.{due_free, winner_below}
-use Rattle.run_rules.proofs.Units.{winner_free}
+use Rattle.std.proofs.Common.{refl}
+use Rattle.dev_board.proofs.TurnLaws.{lessens, turn_comes}
 use Rattle.dev_board.proofs.plan.plan_scan.Goals as goal
 
-pub returns-in-Some-winner-clause-ready : goal.returns-in-Some-winner-clause-ready
-returns-in-Some-winner-clause-ready c =
-    let s = c.args.setup.now in
-    let live = c.args.live.now in (
-      rw c.unit_of.ensures at (winner_free s live _ c.in-Some.turn.place c.in-Some.turn.spot c.in-Some-winner.row c.in-Some-winner.ensures),
-      due_free s live (absent_spots s) (late_spots s) c.args.search.serial _ _ _ (direct c.in-Some.turn.place c.in-Some.turn.spot) c.in-Some.ensures.turn,
-      c.in-Some.ensures.in_range,
-      winner_below s live _ c.in-Some.turn.place c.in-Some.turn.spot c.in-Some-winner.row c.in-Some-winner.ensures,
+pub returns-in-Some-clause-same : goal.returns-in-Some-clause-same
+returns-in-Some-clause-same c =
+    let s = c.args.setup.now in (
+      refl,
+      lessens s c.args.live.now c.args.hidden.now c.args.search.serial c.args.search.position c.after_turn.result c.in-Some.turn c.arrival.result c.in-Some.ensures.due c.arrival.ensures.arrival c.after_turn.ensures
+          c.in-Some.ensures.spot.0 c.in-Some.ensures.spot.1 c.in-Some.ensures.straight,
+      turn_comes s c.args.live.now c.args.hidden.now c.args.search.serial c.args.search.position c.in-Some.turn c.arrival.result c.in-Some.ensures.due c.arrival.ensures.ready c.in-Some.ensures.spot.0,
     )

@@ -1,0 +1,32 @@
+-- What a board may start from: formed tables, a machine that fits them, and, so far, no scripts. The definitions of the run have no such premise.
+use Rattle.std.specs.Prelude.{◌≡◌, ℕ, ◌≤◌, [], length, map}
+use Rattle.std.specs.List.{AllByRecursion}
+use Rattle.attr_graph.specs.Reach.{Shape}
+use Rattle.cf_types.specs.declared.tables.Tables.{Tables}
+use Rattle.cf_types.specs.Offers.{interfaces, nodes_of, named_by}
+use Rattle.config_rules.specs.Formed.{FormedTables, FittingMachine}
+use Rattle.run_rules.specs.Formed.{HasFormedDevices}
+use Rattle.run_rules.specs.declared.world.Setup.{Setup}
+
+pub record MayStart (s : Setup) : Type 0 where
+  pub tables : FormedTables s.tables
+  pub machine : FittingMachine s.tables s.machine
+  pub no_scripts : s.scripts ≡ []
+
+-- what a board uses of formed tables
+pub record BoundedTables (t : Tables) : Type 0 where
+  pub formed : HasFormedDevices t
+  pub few_rows : length t.rows ≤ 8192
+  pub low_units : AllByRecursion (λ r. r.unit ≤ 65536) t.rows
+  pub few_offered : (d : ℕ) → length (interfaces t.attrs t.devices d) ≤ 64
+
+-- and of the machine
+pub record Bounded (s : Setup) : Type 0 where
+  pub tables : BoundedTables s.tables
+  pub few_spots : length s.machine.spots ≤ 1024
+  pub no_scripts : s.scripts ≡ []
+
+-- the graph has the attributes and devices of the tables
+pub record IsGraphOf (t : Tables) (g : Shape) : Type 0 where
+  pub attrs : g.attrs ≡ nodes_of t.attrs
+  pub devices : g.devices ≡ map named_by t.devices
