@@ -1,0 +1,2 @@
+pub mod Best
+pub use Rattle.run_rules.specs.Search

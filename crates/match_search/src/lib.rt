@@ -1,0 +1,10 @@
+//! Which row of the tables takes a spot: the best match of autoconf(9).
+#![tactic(auto)]
+
+mod choice;
+mod fits;
+mod live;
+mod value;
+
+pub use choice::best;
+pub use live::LiveRows;
