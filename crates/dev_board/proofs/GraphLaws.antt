@@ -1,46 +1,9 @@
--- What a graph of the tables offers, and how it is made.
-use Rattle.std.proofs.Common.{◌≡◌, ◌<◌, ◌≤◌, ℕ, zero, suc, List, [], ◌∷◌, map, length, Option, Some, None, option_map, take, get_or, slice_get, slice_index_or, refl, ◌∙◌, ap, arith}
+-- How a graph of the tables is made.
+use Rattle.std.proofs.Common.{◌≡◌, ◌<◌, ℕ, zero, suc, List, [], ◌∷◌, length, take, get_or, refl, ◌∙◌, ap, arith}
 use Rattle.std.specs.List.{All}
 use Rattle.cf_types.specs.declared.tables.Attr.{Attr}
-use Rattle.cf_types.specs.declared.tables.Device.{Device}
-use Rattle.cf_types.specs.declared.tables.Tables.{Tables}
-use Rattle.cf_types.specs.Offers.{nodes_of, named_by, interfaces_of, interfaces, needs_at}
-use Rattle.std.proofs.lemmas.Option.{slice_get-map}
+use Rattle.cf_types.specs.Offers.{nodes_of, needs_at}
 use Rattle.attr_graph.specs.Reach.{Shape}
-use Rattle.dev_board.specs.Input.{IsGraphOf}
-
-there : {A : Type 0} (xs : List A) (i : ℕ) → i < length xs → (x : A) × (slice_get xs i ≡ Some x)
-there [] i lt = absurd (omega arith)
-there (x ∷ xs) zero lt = (x, refl)
-there (x ∷ xs) (suc i) lt = there xs i (omega arith)
-
-past : {A : Type 0} (xs : List A) (i : ℕ) → length xs ≤ i → slice_get xs i ≡ None
-past [] i le = refl
-past (x ∷ xs) zero le = absurd (omega arith)
-past (x ∷ xs) (suc i) le = past xs i (omega arith)
-
-index_is : (xs : List (List ℕ)) (i : ℕ) (x : List ℕ) → slice_get xs i ≡ Some x → slice_index_or xs i [] ≡ x
-index_is [] i x e = absurd cc
-index_is (y ∷ ys) zero x e = cc
-index_is (y ∷ ys) (suc i) x e = index_is ys i x e
-
-pub offered_is : (t : Tables) (g : Shape) (d : ℕ) → IsGraphOf t g → d < length t.devices → interfaces_of g.attrs (slice_index_or g.devices d []) ≡ interfaces t.attrs t.devices d
-unfolding interfaces
-offered_is t g d is lt =
-    let device = there t.devices d lt in
-    let named : slice_get (map named_by t.devices) d ≡ Some (named_by device.0) = slice_get-map named_by t.devices d ∙ ap (λ (o : Option Device). option_map named_by o) device.1 in
-    rw (is.attrs, is.devices, index_is (map named_by t.devices) d (named_by device.0) named, device.1) refl
-
-pub offered_none : (t : Tables) (d : ℕ) → length t.devices ≤ d → interfaces t.attrs t.devices d ≡ []
-unfolding interfaces
-offered_none t d le = rw (past t.devices d le) refl
-
-pub devices_there : (t : Tables) (g : Shape) → IsGraphOf t g → length g.devices ≡ length t.devices
-devices_there t g is = ap length is.devices ∙ same_length t.devices
-  where
-    same_length : (xs : List Device) → length (map named_by xs) ≡ length xs
-    same_length [] = refl
-    same_length (x ∷ xs) = ap suc (same_length xs)
 
 -- ---- how it is made
 

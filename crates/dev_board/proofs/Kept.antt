@@ -17,6 +17,7 @@ use Rattle.run_rules.specs.declared.world.Arrival.{Arrival}
 use Rattle.dev_board.specs.declared.parts.Core.{Core}
 use Rattle.dev_board.specs.declared.plan.Plan.{Plan}
 use Rattle.dev_board.specs.declared.plan.Plan.TheVariants as plan
+use Rattle.match_search.specs.Best.{live_rows}
 use Rattle.dev_board.specs.Agreement.{slots_of}
 use Rattle.dev_board.specs.Left.{boot_left}
 use Rattle.dev_board.specs.Parts.{Parts}
@@ -134,8 +135,8 @@ kept_slots s old new x is ready =
     let before : (shown_of s old).world ≡ world_of s (parts_of old) false = ap (λ (b : Bool). world_of s (parts_of old) b) is.was in
     rw (now, before) (slots_step s (parts_of old) x ready)
 
-pub kept_step : (s : Setup) (old new : Core) (d : Deed) → CoreKept s old → SoundParts s (parts_of new) → Committed s old new d → CoreKept s new
-kept_step s old new d kept sound did =
+pub kept_step : (s : Setup) (old new : Core) (d : Deed) → CoreKept s old → SoundParts s (parts_of new) → new.rows ≡ live_rows s new.live.items → Committed s old new d → CoreKept s new
+kept_step s old new d kept sound marks did =
     let w : World = (shown_of s old).world in
     let long : Run (opening s) (old.events.items ++ event_of w 0 d ∷ []) (after w 0 d) = run_on (opening s) old.events.items w 0 d kept.run did.chosen in
     let moved : Run (opening s) new.events.items (after w 0 d) = subst (λ (h : List Event). Run (opening s) h (after w 0 d)) (sym did.events) long in
@@ -143,6 +144,7 @@ kept_step s old new d kept sound did =
       run = subst (λ (v : World). Run (opening s) new.events.items v) (sym did.world) moved;
       sound = sound;
       names = names_own s new.live.items kept.bounded.tables.formed sound.rows sound.units sound.devices.apart;
+      marks = marks;
       bounded = kept.bounded;
       formed = subst (AllByRecursion IsFormed) (sym did.events) (all_snoc IsFormed old.events.items (event_of w 0 d) kept.formed did.formed);
       next_high = omega (arith, did.next, kept.next_high, ap length did.events, length-append old.events.items (event_of w 0 d ∷ []));

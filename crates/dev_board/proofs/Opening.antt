@@ -6,6 +6,7 @@ use Rattle.run_rules.specs.declared.world.Setup.{Setup}
 use Rattle.run_rules.specs.World.{opening, late_spots}
 use Rattle.cf_types.specs.Numbers.{below}
 use Rattle.run_rules.specs.Search.{is_occupied}
+use Rattle.dev_board.proofs.MarkLaws.{first_marks}
 use Rattle.dev_board.specs.Left.{free_spots}
 use Rattle.dev_board.specs.Parts.{Parts}
 use Rattle.dev_board.specs.Input.{Bounded}
@@ -56,6 +57,7 @@ begins s c bounded f =
       run = rw f.events (sym (begun s c bounded f));
       sound = subst (λ (p : Parts). SoundParts s p) (sym f.parts) (first_sound s);
       names = rw live tt;
+      marks = rw (f.rows, live) (first_marks s);
       bounded = bounded;
       formed = rw f.events tt;
       next_high = omega (arith, next);

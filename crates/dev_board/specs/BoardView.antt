@@ -1,6 +1,6 @@
 -- What a board shows, and what it keeps.
 use Rattle.dev_board.specs.declared.board.Board.TheInside.{Inside}
-use Rattle.dev_board.specs.Input.{IsGraphOf}
+use Rattle.match_search.specs.Best.{IsGraphOf}
 use Rattle.dev_board.specs.Shown.{Shown}
 use Rattle.dev_board.specs.View.{shown_of, CoreKept}
 

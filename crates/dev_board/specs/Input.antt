@@ -1,9 +1,8 @@
 -- What a board may start from: formed tables, a machine that fits them, and, so far, no scripts. The definitions of the run have no such premise.
-use Rattle.std.specs.Prelude.{◌≡◌, ℕ, ◌≤◌, [], length, map}
+use Rattle.std.specs.Prelude.{◌≡◌, ℕ, ◌≤◌, [], length}
 use Rattle.std.specs.List.{AllByRecursion}
-use Rattle.attr_graph.specs.Reach.{Shape}
 use Rattle.cf_types.specs.declared.tables.Tables.{Tables}
-use Rattle.cf_types.specs.Offers.{interfaces, nodes_of, named_by}
+use Rattle.cf_types.specs.Offers.{interfaces}
 use Rattle.config_rules.specs.Formed.{FormedTables, FittingMachine}
 use Rattle.run_rules.specs.Formed.{HasFormedDevices}
 use Rattle.run_rules.specs.declared.world.Setup.{Setup}
@@ -25,8 +24,3 @@ pub record Bounded (s : Setup) : Type 0 where
   pub tables : BoundedTables s.tables
   pub few_spots : length s.machine.spots ≤ 1024
   pub no_scripts : s.scripts ≡ []
-
--- the graph has the attributes and devices of the tables
-pub record IsGraphOf (t : Tables) (g : Shape) : Type 0 where
-  pub attrs : g.attrs ≡ nodes_of t.attrs
-  pub devices : g.devices ≡ map named_by t.devices

@@ -1,6 +1,7 @@
 pub mod Input
 pub mod Turns
 pub mod Late
+pub mod Marks
 pub mod Parts
 pub mod Keeping
 pub mod Witness

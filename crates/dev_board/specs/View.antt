@@ -1,5 +1,5 @@
 -- The world of a board, and what every board keeps.
-use Rattle.std.specs.Prelude.{◌≡◌, ◌≤◌, ◌+◌, Bool, false, [], ◌∷◌, map, reverse, length, None, cond}
+use Rattle.std.specs.Prelude.{◌≡◌, ◌≤◌, ◌+◌, Bool, true, false, [], ◌∷◌, map, reverse, length, None, cond}
 use Rattle.std.specs.List.{AllByRecursion}
 use Rattle.run_rules.specs.declared.world.Setup.{Setup}
 use Rattle.run_rules.specs.declared.world.Frame.{Frame}
@@ -12,6 +12,7 @@ use Rattle.run_rules.specs.Run.{Run}
 use Rattle.run_rules.specs.Sound.{HaveOwnNames}
 use Rattle.dev_board.specs.declared.parts.Search.{Search}
 use Rattle.dev_board.specs.declared.parts.Core.{Core}
+use Rattle.match_search.specs.Best.{live_rows}
 use Rattle.dev_board.specs.Input.{Bounded}
 use Rattle.dev_board.specs.Parts.{Parts}
 use Rattle.dev_board.specs.Keeping.{SoundParts}
@@ -64,11 +65,12 @@ shown_of s c = record {
   stopped = c.stopped;
 }
 
--- the history leads from the opening world to this one, and its events are formed; what changes is sound, and the devices print names of their own; the next serial is at most one more than the events
+-- the history leads from the opening world to this one, and its events are formed; what changes is sound, the rows are marked as they are live, and the devices print names of their own; the next serial is at most one more than the events
 pub record CoreKept (s : Setup) (c : Core) : Type 0 where
   pub run : Run (opening s) (shown_of s c).events (shown_of s c).world
   pub sound : SoundParts s (parts_of c)
   pub names : HaveOwnNames s c.live.items
+  pub marks : c.rows ≡ live_rows s c.live.items
   pub bounded : Bounded s
   pub formed : AllByRecursion IsFormed c.events.items
   pub next_high : c.next ≤ length c.events.items + 1
@@ -76,6 +78,7 @@ pub record CoreKept (s : Setup) (c : Core) : Type 0 where
 -- the lists and marks of two cores are the same
 pub record SameCore (old new : Core) : Type 0 where
   pub parts : parts_of new ≡ parts_of old
+  pub rows : new.rows ≡ old.rows
   pub ended : new.ended ≡ old.ended
   pub stops : new.stops ≡ old.stops
   pub stopped : new.stopped ≡ old.stopped
@@ -84,6 +87,7 @@ pub record SameCore (old new : Core) : Type 0 where
 -- the parts before any event
 pub record IsFirst (s : Setup) (c : Core) : Type 0 where
   pub parts : parts_of c ≡ first_parts s
+  pub rows : c.rows ≡ map (λ r. true) s.tables.rows
   pub ended : c.ended ≡ false
   pub stops : c.stops ≡ 0
   pub stopped : c.stopped ≡ None

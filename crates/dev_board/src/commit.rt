@@ -2,12 +2,14 @@
 ghost use Rattle.std.specs.Prelude.{◌≡◌, ◌<◌, ◌≤◌, ◌+◌, ◌^◌, ◌++◌, ◌∷◌, ◌||◌, [], not, filter, map, reverse, length, vec_len, vec_capacity};
 ghost use Rattle.run_rules.specs.After as after;
 ghost use Rattle.run_rules.specs.World as world;
-ghost use Rattle.dev_board.specs.Input.{IsGraphOf};
+ghost use Rattle.match_search.specs.Best.{IsGraphOf, live_rows};
+ghost use Rattle.dev_board.specs.Input.{Bounded};
 ghost use Rattle.dev_board.specs.Plans as plans;
 ghost use Rattle.dev_board.specs.Plans.{done, ends, come, come_if, TopIs, Fits};
 ghost use Rattle.dev_board.specs.View.{parts_of};
 
 use crate::graph::offered;
+use crate::marks::mark_taken;
 use crate::parts::{Core, Search, append, new_search};
 use crate::plan::Plan;
 use crate::search::driver_of;
@@ -72,6 +74,7 @@ fn leave_off(deferred: &mut Vec<Deferred>, which: Key)
 fn release(core: &mut Core, which: Key)
     requires room { vec_len core.old.searches + vec_len core.old.deferred ≤ vec_capacity core.old.searches }
     ensures parts { parts_of core.new ≡ plans.released (parts_of core.old) which (parts_of core.old).stack }
+    ensures rows { core.new.rows ≡ core.old.rows }
     ensures ended { core.new.ended ≡ core.old.ended }
     ensures stops { core.new.stops ≡ core.old.stops }
     ensures stopped { core.new.stopped ≡ core.old.stopped }
@@ -176,7 +179,10 @@ fn attach(graph: &Graph, setup: &Setup, core: &mut Core, arrival: Arrival, may_d
     requires deferred_room { vec_len core.old.deferred < vec_capacity core.old.deferred }
     requires call_room { vec_len core.old.finalisers < vec_capacity core.old.finalisers }
     requires next { core.old.next + 1 < 2 ^ 64 }
+    requires marks { core.old.rows ≡ live_rows setup.now core.old.live.items }
+    requires bounded { Bounded setup.now }
     ensures parts { parts_of core.new ≡ come setup.now (parts_of core.old) arrival may_defer }
+    ensures marks { core.new.rows ≡ live_rows setup.now core.new.live.items }
     ensures ended { core.new.ended ≡ core.old.ended }
     ensures stops { core.new.stops ≡ core.old.stops }
     ensures stopped { core.new.stopped ≡ core.old.stopped }
@@ -198,6 +204,12 @@ fn attach(graph: &Graph, setup: &Setup, core: &mut Core, arrival: Arrival, may_d
             condemned: None,
         },
     );
+    mark_taken(
+        &setup.tables,
+        &mut core.rows,
+        driver_of(setup, arrival.row),
+        arrival.unit,
+    );
     call_later(&mut core.finalisers, policy.finaliser, serial);
     push_search(&mut core.searches, placing, serial);
     put_off(&mut core.deferred, placing, arrival.parent, serial);
@@ -212,7 +224,10 @@ fn attach_if(graph: &Graph, setup: &Setup, core: &mut Core, got: Option<Arrival>
     requires deferred_room { vec_len core.old.deferred < vec_capacity core.old.deferred }
     requires call_room { vec_len core.old.finalisers < vec_capacity core.old.finalisers }
     requires next { core.old.next + 1 < 2 ^ 64 }
+    requires marks { core.old.rows ≡ live_rows setup.now core.old.live.items }
+    requires bounded { Bounded setup.now }
     ensures parts { parts_of core.new ≡ come_if setup.now (parts_of core.old) got may_defer }
+    ensures marks { core.new.rows ≡ live_rows setup.now core.new.live.items }
     ensures ended { core.new.ended ≡ core.old.ended }
     ensures stops { core.new.stops ≡ core.old.stops }
     ensures stopped { core.new.stopped ≡ core.old.stopped }
@@ -240,7 +255,10 @@ pub fn commit(graph: &Graph, setup: &Setup, core: &mut Core, plan: Plan)
     requires deferred_room { vec_len core.old.deferred < vec_capacity core.old.deferred }
     requires call_room { vec_len core.old.finalisers < vec_capacity core.old.finalisers }
     requires next { core.old.next + 1 < 2 ^ 64 }
+    requires marks { core.old.rows ≡ live_rows setup.now core.old.live.items }
+    requires bounded { Bounded setup.now }
     ensures parts { parts_of core.new ≡ done setup.now (parts_of core.old) plan }
+    ensures marks { core.new.rows ≡ live_rows setup.now core.new.live.items }
     ensures ended { core.new.ended ≡ (ends plan || core.old.ended) }
     ensures stops { core.new.stops ≡ core.old.stops }
     ensures stopped { core.new.stopped ≡ core.old.stopped }

@@ -2,7 +2,7 @@
 ghost use Rattle.std.specs.Prelude.{◌≡◌, [], map, IfOk, OnOk};
 ghost use Rattle.cf_types.specs.Offers as offer;
 ghost use Rattle.config_rules.specs.Formed.{FormedTables};
-ghost use Rattle.dev_board.specs.Input.{IsGraphOf};
+ghost use Rattle.match_search.specs.Best.{IsGraphOf};
 
 use attr_graph::{Graph, GraphStop};
 use cf_types::{Memory, Tables};

@@ -4,7 +4,7 @@ ghost use Rattle.std.specs.Option.{option_map_or};
 ghost use Rattle.cf_types.specs.Numbers.{below};
 ghost use Rattle.run_rules.specs.Next as next;
 ghost use Rattle.run_rules.specs.World as world;
-ghost use Rattle.dev_board.specs.Input.{IsGraphOf};
+ghost use Rattle.match_search.specs.Best.{IsGraphOf};
 ghost use Rattle.dev_board.specs.Late as late;
 ghost use Rattle.dev_board.specs.Late.{late_test, place_on};
 

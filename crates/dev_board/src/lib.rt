@@ -9,6 +9,7 @@ mod commit;
 mod graph;
 mod late;
 mod line;
+mod marks;
 mod names;
 mod parts;
 mod plan;

@@ -6,6 +6,7 @@ ghost use Rattle.dev_board.specs.View.{IsFirst};
 
 use crate::turn::is_late;
 use cf_types::Memory;
+use match_search::LiveRows;
 use run_rules::{Deferred, Dev, Event, Position, Setup};
 use std::alloc::Global;
 
@@ -20,6 +21,8 @@ pub struct Search {
 #[derive(Drop)]
 pub struct Core {
     pub live: Vec<Dev>,
+    /// Of each row whether it is live.
+    pub rows: LiveRows,
     pub next: u64,
     /// The late spots that no finaliser has shown yet.
     pub hidden: Vec<u16>,
@@ -73,10 +76,12 @@ pub fn begin(alloc: Global, setup: &Setup) -> Result<Core, Memory>
     ensures { IfOk result (IsFirst setup.now) }
 {
     let hidden = late_spots(alloc, setup)?;
+    let rows = LiveRows::make(alloc, &setup.tables)?;
     let mut searches = Vec::new(alloc);
     searches.push(new_search(0))?;
     Ok(Core {
         live: Vec::new(alloc),
+        rows,
         next: 1,
         hidden,
         phase: false,

@@ -3,7 +3,8 @@ ghost use Rattle.std.specs.Prelude.{◌≡◌, ◌≤◌, ◌<◌, ◌+◌, ◌-
 ghost use Rattle.run_rules.specs.Deeds.{Does};
 ghost use Rattle.run_rules.specs.Next.{next, finalise};
 ghost use Rattle.run_rules.specs.Search as rule;
-ghost use Rattle.dev_board.specs.Input.{IsGraphOf, Bounded};
+ghost use Rattle.match_search.specs.Best.{IsGraphOf, live_rows};
+ghost use Rattle.dev_board.specs.Input.{Bounded};
 ghost use Rattle.dev_board.specs.Keeping.{SoundParts};
 ghost use Rattle.dev_board.specs.View.{parts_of, world_of, shown_of};
 ghost use Rattle.dev_board.specs.Plans.{deed_of, scan_deed, Fits, Ready, PlansScan, PlansCall};
@@ -13,6 +14,7 @@ use crate::parts::{Core, Search};
 use crate::search::arrival;
 use crate::turn::due_turn;
 use attr_graph::Graph;
+use match_search::LiveRows;
 use run_rules::{Arrival, Dev, Position, Setup, Turn};
 
 /// What is done next. A finaliser's call has its place in the list, and whether a new pass begins with it.
@@ -78,20 +80,28 @@ fn after_turn(turn: Turn) -> Position
 
 /// What is done next on a scan.
 #[tactic(auto, unfolding(run_rules::specs::Next::next_scan))]
-fn plan_scan(graph: &Graph, setup: &Setup, live: &[Dev], hidden: &[u16], search: Search) -> Plan
+fn plan_scan(
+    graph: &Graph,
+    setup: &Setup,
+    rows: &LiveRows,
+    live: &[Dev],
+    hidden: &[u16],
+    search: Search,
+) -> Plan
     requires graph { IsGraphOf setup.now.tables graph.now }
     requires bounded { Bounded setup.now }
+    requires marks { rows.now ≡ live_rows setup.now live.now }
     requires live { length live.now ≤ 1024 }
     ensures same { PlansScan setup.now live.now hidden.now search result }
     ensures deed { scan_deed setup.now live.now hidden.now search ≡ deed_of result }
 {
     let serial = search.serial;
-    match due_turn(graph, setup, live, hidden, search) {
+    match due_turn(graph, setup, rows, live, hidden, search) {
         None => Plan::EndScan { serial },
         Some(turn) => Plan::Turn {
             serial,
             moved: after_turn(turn),
-            got: arrival(graph, setup, live, serial, turn.place, turn.at.spot),
+            got: arrival(graph, setup, rows, live, serial, turn.place, turn.at.spot),
         },
     }
 }
@@ -101,6 +111,7 @@ fn plan_call(graph: &Graph, setup: &Setup, core: &Core, place: u64, anew: bool) 
     requires graph { IsGraphOf setup.now.tables graph.now }
     requires bounded { Bounded setup.now }
     requires sound { SoundParts setup.now (parts_of core.now) }
+    requires marks { core.now.rows ≡ live_rows setup.now core.now.live.items }
     requires place { place < length core.now.finalisers.items }
     ensures same { PlansCall setup.now (parts_of core.now) place anew result }
     ensures deed { finalise (world_of setup.now (parts_of core.now) false) (slice_index_or core.now.finalisers.items place 0) (Some place) anew ≡ deed_of result }
@@ -118,6 +129,7 @@ fn plan_call(graph: &Graph, setup: &Setup, core: &Core, place: u64, anew: bool) 
             got: arrival(
                 graph,
                 setup,
+                &core.rows,
                 &core.live,
                 serial,
                 place_of(setup, spot),
@@ -135,6 +147,7 @@ fn plan_boot(graph: &Graph, setup: &Setup, core: &Core) -> Plan
     requires graph { IsGraphOf setup.now.tables graph.now }
     requires bounded { Bounded setup.now }
     requires sound { SoundParts setup.now (parts_of core.now) }
+    requires marks { core.now.rows ≡ live_rows setup.now core.now.live.items }
     requires idle { core.now.searches.items ≡ [] }
     ensures chosen { next (world_of setup.now (parts_of core.now) false) 0 ≡ Does (deed_of result) }
     ensures fits { Fits setup.now (parts_of core.now) result }
@@ -157,13 +170,14 @@ pub fn next_plan(graph: &Graph, setup: &Setup, core: &Core) -> Plan
     requires graph { IsGraphOf setup.now.tables graph.now }
     requires bounded { Bounded setup.now }
     requires sound { SoundParts setup.now (parts_of core.now) }
+    requires marks { core.now.rows ≡ live_rows setup.now core.now.live.items }
     requires goes_on { core.now.ended ≡ false }
     ensures chosen { next (shown_of setup.now core.now).world 0 ≡ Does (deed_of result) }
     ensures fits { Fits setup.now (parts_of core.now) result }
     ensures ready { Ready setup.now (parts_of core.now) result }
 {
     match top(&core.searches) {
-        Some(search) => plan_scan(graph, setup, &core.live, &core.hidden, search),
+        Some(search) => plan_scan(graph, setup, &core.rows, &core.live, &core.hidden, search),
         None => plan_boot(graph, setup, core),
     }
 }

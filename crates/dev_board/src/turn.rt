@@ -6,14 +6,16 @@ ghost use Rattle.cf_types.specs.Numbers.{below};
 ghost use Rattle.cf_types.specs.declared.tables.Place.TheVariants.{At};
 ghost use Rattle.run_rules.specs.World as world;
 ghost use Rattle.run_rules.specs.Search as rule;
-ghost use Rattle.dev_board.specs.Input.{IsGraphOf, Bounded};
+ghost use Rattle.match_search.specs.Best.{IsGraphOf, live_rows};
+ghost use Rattle.dev_board.specs.Input.{Bounded};
 ghost use Rattle.dev_board.specs.Turns.{turn_test, turn_on, IsOn};
 
 use crate::graph::offered;
 use crate::parts::Search;
-use crate::search::{device_at, driver_of, is_occupied, parent_ref, same_place, winner};
+use crate::search::{device_at, driver_of, is_occupied, same_place, winner_at};
 use attr_graph::Graph;
 use cf_types::{Place, StyleLine};
+use match_search::LiveRows;
 use run_rules::{Dev, Position, Setup, Turn};
 
 /// A place that a scan goes through: the number of the attribute among those that are offered, the place, and whether
@@ -110,14 +112,21 @@ fn is_row(winner: Option<u32>, row: u32) -> bool
 }
 
 /// Whether the turn's row is the winner at its spot.
-fn wins(graph: &Graph, setup: &Setup, live: &[Dev], serial: u64, turn: Turn) -> bool
+fn wins(
+    graph: &Graph,
+    setup: &Setup,
+    rows: &LiveRows,
+    live: &[Dev],
+    serial: u64,
+    turn: Turn,
+) -> bool
     requires graph { IsGraphOf setup.now.tables graph.now }
     requires bounded { Bounded setup.now }
+    requires marks { rows.now ≡ live_rows setup.now live.now }
     ensures { result ≡ world.is_number (rule.winner_at setup.now live.now serial turn.place turn.at.spot) turn.at.row }
 {
-    let parent = parent_ref(setup, live, serial);
     is_row(
-        winner(graph, setup, live, parent, turn.place, turn.at.spot),
+        winner_at(graph, setup, rows, live, serial, turn.place, turn.at.spot),
         turn.at.row,
     )
 }
@@ -127,6 +136,7 @@ fn wins(graph: &Graph, setup: &Setup, live: &[Dev], serial: u64, turn: Turn) -> 
 fn is_due(
     graph: &Graph,
     setup: &Setup,
+    rows: &LiveRows,
     live: &[Dev],
     hidden: &[u16],
     search: Search,
@@ -134,18 +144,20 @@ fn is_due(
 ) -> bool
     requires graph { IsGraphOf setup.now.tables graph.now }
     requires bounded { Bounded setup.now }
+    requires marks { rows.now ≡ live_rows setup.now live.now }
     requires spot { turn.at.spot < length setup.now.machine.spots }
     ensures { turn_test setup.now live.now hidden.now search turn ≡ result }
 {
     !is_before(turn.at, search.position)
         && (is_open(setup, live, hidden, turn.at.spot)
-            && (!turn.indirect || wins(graph, setup, live, search.serial, turn)))
+            && (!turn.indirect || wins(graph, setup, rows, live, search.serial, turn)))
 }
 
 /// Whether the turn's spot hangs below the parent at the turn's place, and the turn is due.
 fn is_due_child(
     graph: &Graph,
     setup: &Setup,
+    rows: &LiveRows,
     live: &[Dev],
     hidden: &[u16],
     search: Search,
@@ -154,17 +166,19 @@ fn is_due_child(
 ) -> bool
     requires graph { IsGraphOf setup.now.tables graph.now }
     requires bounded { Bounded setup.now }
+    requires marks { rows.now ≡ live_rows setup.now live.now }
     requires spot { turn.at.spot < length setup.now.machine.spots }
     ensures { (rule.is_child setup.now.machine parent turn.place turn.at.spot && turn_test setup.now live.now hidden.now search turn) ≡ result }
 {
     is_child(setup, parent, turn.place, turn.at.spot)
-        && is_due(graph, setup, live, hidden, search, turn)
+        && is_due(graph, setup, rows, live, hidden, search, turn)
 }
 
 /// The first due turn of a bus and a row.
 fn due_spot(
     graph: &Graph,
     setup: &Setup,
+    rows: &LiveRows,
     live: &[Dev],
     hidden: &[u16],
     search: Search,
@@ -173,6 +187,7 @@ fn due_spot(
 ) -> Option<Turn>
     requires graph { IsGraphOf setup.now.tables graph.now }
     requires bounded { Bounded setup.now }
+    requires marks { rows.now ≡ live_rows setup.now live.now }
     ensures on { IfSome result (IsOn bus (length setup.now.machine.spots)) }
     ensures first { find (turn_test setup.now live.now hidden.now search) (map (turn_on bus row) (rule.child_spots setup.now.machine (rule.spot_of live.now search.serial) bus.place)) ≡ result }
     ensures row { IfSome result (λ t. t.at.row ≡ row) }
@@ -188,7 +203,7 @@ fn due_spot(
             place: bus.place,
             indirect: bus.indirect,
         };
-        if is_due_child(graph, setup, live, hidden, search, parent, turn) {
+        if is_due_child(graph, setup, rows, live, hidden, search, parent, turn) {
             return Some(turn);
         }
     }
@@ -199,6 +214,7 @@ fn due_spot(
 fn due_row(
     graph: &Graph,
     setup: &Setup,
+    rows: &LiveRows,
     live: &[Dev],
     hidden: &[u16],
     search: Search,
@@ -206,11 +222,12 @@ fn due_row(
 ) -> Option<Turn>
     requires graph { IsGraphOf setup.now.tables graph.now }
     requires bounded { Bounded setup.now }
+    requires marks { rows.now ≡ live_rows setup.now live.now }
     ensures on { IfSome result (IsOn bus (length setup.now.machine.spots)) }
     ensures first { find (turn_test setup.now live.now hidden.now search) (flat_map (λ r. map (turn_on bus r) (rule.child_spots setup.now.machine (rule.spot_of live.now search.serial) bus.place)) (below (length setup.now.tables.rows))) ≡ result }
 {
     for row in 0..setup.tables.rows.len() as u32 {
-        match due_spot(graph, setup, live, hidden, search, bus, row) {
+        match due_spot(graph, setup, rows, live, hidden, search, bus, row) {
             Some(turn) => return Some(turn),
             None => {}
         }
@@ -266,6 +283,7 @@ fn is_indirect(setup: &Setup, live: &[Dev], serial: u64, place: Place) -> bool
 fn due_at(
     graph: &Graph,
     setup: &Setup,
+    rows: &LiveRows,
     live: &[Dev],
     hidden: &[u16],
     search: Search,
@@ -274,6 +292,7 @@ fn due_at(
 ) -> Option<Turn>
     requires graph { IsGraphOf setup.now.tables graph.now }
     requires bounded { Bounded setup.now }
+    requires marks { rows.now ≡ live_rows setup.now live.now }
     ensures first { find (turn_test setup.now live.now hidden.now search) (rule.turns_at setup.now live.now search.serial (attr, place)) ≡ result }
     ensures spot { IfSome result (λ t. (t.at.spot < length setup.now.machine.spots) × (t.at.attr ≡ attr)) }
     ensures straight { IfSome result (λ t. t.indirect ≡ false → t.at.row ≡ 0) }
@@ -284,14 +303,14 @@ fn due_at(
             place,
             indirect: true,
         };
-        due_row(graph, setup, live, hidden, search, bus)
+        due_row(graph, setup, rows, live, hidden, search, bus)
     } else {
         let bus = Bus {
             attr,
             place,
             indirect: false,
         };
-        due_spot(graph, setup, live, hidden, search, bus, 0)
+        due_spot(graph, setup, rows, live, hidden, search, bus, 0)
     }
 }
 
@@ -299,6 +318,7 @@ fn due_at(
 fn due_among(
     graph: &Graph,
     setup: &Setup,
+    rows: &LiveRows,
     live: &[Dev],
     hidden: &[u16],
     search: Search,
@@ -307,6 +327,7 @@ fn due_among(
 ) -> Option<Turn>
     requires graph { IsGraphOf setup.now.tables graph.now }
     requires bounded { Bounded setup.now }
+    requires marks { rows.now ≡ live_rows setup.now live.now }
     requires few { from + length attrs.now ≤ 64 }
     ensures first { find (turn_test setup.now live.now hidden.now search) (flat_map (rule.turns_at setup.now live.now search.serial) (enumerate_from from (map At attrs.now))) ≡ result }
     ensures spot { IfSome result (λ t. (t.at.spot < length setup.now.machine.spots) × (t.at.attr < 64)) }
@@ -315,10 +336,19 @@ fn due_among(
     match attrs {
         [] => None,
         [attr, rest @ ..] => {
-            let here = due_at(graph, setup, live, hidden, search, from, Place::At(*attr));
+            let here = due_at(
+                graph,
+                setup,
+                rows,
+                live,
+                hidden,
+                search,
+                from,
+                Place::At(*attr),
+            );
             match here {
                 Some(turn) => Some(turn),
-                None => due_among(graph, setup, live, hidden, search, rest, from + 1),
+                None => due_among(graph, setup, rows, live, hidden, search, rest, from + 1),
             }
         }
     }
@@ -328,12 +358,14 @@ fn due_among(
 pub fn due_turn(
     graph: &Graph,
     setup: &Setup,
+    rows: &LiveRows,
     live: &[Dev],
     hidden: &[u16],
     search: Search,
 ) -> Option<Turn>
     requires graph { IsGraphOf setup.now.tables graph.now }
     requires bounded { Bounded setup.now }
+    requires marks { rows.now ≡ live_rows setup.now live.now }
     ensures due { rule.due setup.now live.now (world.absent_spots setup.now) hidden.now search.serial None [] search.position ≡ result }
     ensures spot { IfSome result (λ t. (t.at.spot < length setup.now.machine.spots) × (t.at.attr < 64)) }
     ensures straight { IfSome result (λ t. t.indirect ≡ false → t.at.row ≡ 0) }
@@ -341,8 +373,8 @@ pub fn due_turn(
     match device_at(live, search.serial) {
         Some(d) => {
             let attrs = offered(graph, &setup.tables, driver_of(setup, d.row));
-            due_among(graph, setup, live, hidden, search, attrs, 0)
+            due_among(graph, setup, rows, live, hidden, search, attrs, 0)
         }
-        None => due_at(graph, setup, live, hidden, search, 0, Place::Root),
+        None => due_at(graph, setup, rows, live, hidden, search, 0, Place::Root),
     }
 }

@@ -1,5 +1,5 @@
 use Rattle.std.proofs.Common.{◌∙◌, arith, sym}
-use Rattle.dev_board.proofs.GraphLaws.{offered_is, offered_none, devices_there}
+use Rattle.match_search.proofs.BestLaws.{offered_is, offered_none, devices_there}
 use Rattle.dev_board.proofs.graph.offered.Goals as goal
 
 pub interfaces-requires : goal.interfaces-requires

@@ -51,7 +51,7 @@ returns-in-Ok-clause-kept g c =
     committed s c.args.core.now c.prepare.new.core c.commit.new.core plan c.in-Ok.event c.in-Ok.ensures.same is c.next_plan-plan.ensures.chosen c.in-Ok.ensures.event c.in-Ok.ensures.formed
     (rw c.commit.ensures.events c.append.ensures.items) c.commit.ensures.stops c.commit.ensures.stopped in
     kept_step s c.args.core.now c.commit.new.core (deed_of plan) c.requires.kept
-    (kept_sound s c.args.core.now c.commit.new.core plan is c.requires.kept.sound c.next_plan-plan.ensures.fits c.next_plan-plan.ensures.ready) did
+    (kept_sound s c.args.core.now c.commit.new.core plan is c.requires.kept.sound c.next_plan-plan.ensures.fits c.next_plan-plan.ensures.ready) c.commit.ensures.marks did
 
 pub returns-in-Ok-clause-agree : goal.returns-in-Ok-clause-agree
 returns-in-Ok-clause-agree g c =
