@@ -20,6 +20,7 @@ mod stepped;
 mod told;
 mod tree;
 mod turn;
+mod unit;
 
 pub use answer::{Answer, LeaseStep};
 pub use board::Board;

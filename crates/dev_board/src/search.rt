@@ -6,6 +6,7 @@ ghost use Rattle.run_rules.specs.Search as rule;
 ghost use Rattle.match_search.specs.Best.{IsGraphOf, live_rows};
 ghost use Rattle.dev_board.specs.Input.{BoundedTables};
 
+use crate::unit::unit_of;
 use attr_graph::Graph;
 use cf_types::Place;
 use match_search::{LiveRows, best};
@@ -26,14 +27,6 @@ pub fn driver_of(setup: &Setup, row: u32) -> u32
         Some(r) => r.device,
         None => 0,
     }
-}
-
-/// Whether a live device has the driver and the unit.
-pub fn is_taken(setup: &Setup, live: &[Dev], device: u32, unit: u32) -> bool
-    ensures { result ≡ rule.is_taken setup.now live.now device unit }
-{
-    live.iter()
-        .any(|d| driver_of(setup, d.row) == device && d.unit == unit)
 }
 
 /// Whether a live device stands on the spot.
@@ -71,39 +64,6 @@ pub fn has(list: &[u32], n: u32) -> bool
     ensures { result ≡ world.has list.now n }
 {
     list.iter().any(|x| *x == n)
-}
-
-/// The least unit from the first one on that no live device of the driver has.
-fn free_unit(setup: &Setup, live: &[Dev], device: u32, first: u32) -> u32
-    requires live { length live.now ≤ 1024 }
-    requires first { first ≤ 65536 }
-    ensures { first + rule.free_after setup.now live.now device first ≡ result }
-{
-    for after in 0..live.len() as u32 + 1 {
-        if !is_taken(setup, live, device, first + after) {
-            return first + after;
-        }
-    }
-    first
-}
-
-/// The unit that a row gives: its own, or, where it is starred, the least free one from its first unit on.
-#[tactic(auto, unfolding(run_rules::specs::Search::unit_of))]
-pub fn unit_of(setup: &Setup, live: &[Dev], row: u32) -> u32
-    requires bounded { BoundedTables setup.now.tables }
-    requires live { length live.now ≤ 1024 }
-    ensures { rule.unit_of setup.now live.now row ≡ result }
-{
-    match setup.tables.rows.items().get(row as usize) {
-        Some(r) => {
-            if r.star {
-                free_unit(setup, live, r.device, r.unit)
-            } else {
-                r.unit
-            }
-        }
-        None => 0,
-    }
 }
 
 /// The row that takes a spot below a parent.
