@@ -50,7 +50,7 @@ impl Model for Board {
 }
 
 impl Board {
-    /// The board before any event.
+    /// The board before any event, of formed tables, a machine that fits them, and no scripts yet.
     pub fn start(
         alloc: Global,
         tables: Tables,
