@@ -17,7 +17,7 @@ fn add_attrs(graph: &mut Graph, tables: &Tables) -> Result<(), Memory>
     for attr in tables.attrs.items() {
         match graph.add_attr(attr.iface, attr.needs.items()) {
             Ok(_) => {}
-            Err(GraphStop::TooMany) => return Err(Memory),
+            Err(GraphStop::TooMany) => unreachable!(),
             Err(GraphStop::Memory) => return Err(Memory),
         }
     }
@@ -33,7 +33,7 @@ fn add_devices(graph: &mut Graph, tables: &Tables) -> Result<(), Memory>
     for device in tables.devices.items() {
         match graph.add_device(device.own, device.needs.items()) {
             Ok(_) => {}
-            Err(GraphStop::TooMany) => return Err(Memory),
+            Err(GraphStop::TooMany) => unreachable!(),
             Err(GraphStop::Memory) => return Err(Memory),
         }
     }
