@@ -126,7 +126,7 @@ names_push spots s names free new =
 abbrev pub Earlier : List Spot → Type 0
 Earlier spots = (i : ℕ) → IfSome (slice_get spots i) (λ s. IfSome s.parent (λ p. p < i))
 
-depth_none : (n : ℕ) (spots : List Spot) → depth_of n spots None ≡ 1
+pub depth_none : (n : ℕ) (spots : List Spot) → depth_of n spots None ≡ 1
 depth_none zero spots = refl
 depth_none (suc n) spots = refl
 

@@ -11,6 +11,7 @@ use Rattle.cf_types.specs.Locators.{locators_at}
 use Rattle.config_rules.specs.Form.{given, ◌or◌}
 use Rattle.config_rules.specs.Formed.{CountedTables}
 use Rattle.config_rules.specs.MachineText.{depth_of, spot_locators, spot_place}
+pub use Rattle.config_rules.proofs.MachineLaws.{depth_none}
 
 -- ---- one code after the other
 
@@ -31,10 +32,6 @@ none true code h = absurd (cc)
 none false code h = refl
 
 -- ---- depths
-
-pub depth_none : (n : ℕ) (spots : List Spot) → depth_of n spots None ≡ 1
-depth_none zero spots = refl
-depth_none (suc n) spots = refl
 
 pub depth_some : (n m : ℕ) (spots : List Spot) (x : ℕ) → n ≡ m + 1 → depth_of n spots (Some x) ≡ depth_of m spots (option_and_then (λ s. s.parent) (slice_get spots x)) + 1
 depth_some zero m spots x e = absurd (omega arith)

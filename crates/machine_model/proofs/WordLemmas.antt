@@ -1,7 +1,6 @@
 -- The numbers of words, and words that differ.
-use Rattle.std.proofs.Common.{◌≡◌, ℕ, ◌≤◌, length, map, ◌||◌, Bool, true, false, not, cond, ◌&&◌, Option, Some, None, List, [], ◌∷◌, refl, ap, sym, ◌∙◌, arith, ℤ, pos, negsuc}
+use Rattle.std.proofs.Common.{◌≡◌, ℕ, ◌≤◌, length, map, Bool, true, false, not, cond, ◌&&◌, Option, Some, None, List, [], ◌∷◌, refl, ap, sym, ◌∙◌, arith, ℤ, pos, negsuc}
 use Rattle.std.specs.Prelude.{nat_abs, nat_le, option_and_then, option_map}
-use Rattle.std.specs.List.{list_any}
 use Rattle.std.proofs.lemmas.Bool.Decides.{nat_tests}
 use Rattle.cf_text.specs.declared.number.NumberRead.{NumberRead}
 use Rattle.cf_text.specs.declared.number.NumberRead.TheVariants.{Not, OutOfRange, Value}
@@ -63,10 +62,6 @@ once w ws h = ap (λ b. not b && differ ws) h
 pub none_differ : (ws : List (List ℕ)) → length ws ≤ 0 → differ ws ≡ true
 none_differ [] h = refl
 none_differ (w ∷ ws) h = absurd (omega arith)
-
-pub any_map : {X Y : Type 0} (p : Y → Bool) (f : X → Y) (xs : List X) → list_any p (map f xs) ≡ list_any (λ x. p (f x)) xs
-any_map p f [] = refl
-any_map p f (x ∷ xs) = ap (λ b. p (f x) || b) (any_map p f xs)
 
 pub names_given : (found : List FoundValue) → map (λ g. g.name) (map given_of found) ≡ names_of found
 names_given [] = refl
