@@ -2,6 +2,7 @@ pub mod Below
 pub mod Winner
 pub mod Turns
 pub mod Runs
+pub mod Setups
 pub mod Devices
 pub mod Free
 pub mod Units

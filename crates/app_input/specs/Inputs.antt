@@ -1,0 +1,132 @@
+-- What the words and the files call for, and what reading them answers.
+use Rattle.std.specs.Prelude.{◌≡◌, ℕ, ◌<◌, ◌≤◌, ◌⊎◌, nat_le, Option, Some, None, IfSome, Result, List, length, if◌then◌else◌, ⊤}
+use Rattle.std.specs.Prelude as std
+use Rattle.cf_types.specs.declared.machine.Machine.{Machine}
+use Rattle.cf_types.specs.declared.tables.Refusal.{Refusal}
+use Rattle.cf_types.specs.declared.tables.Tables.{Tables}
+use Rattle.cf_io.specs.Faults.{Rose}
+use Rattle.cf_io.specs.declared.files.TheConstants.{MAX_FILE}
+use Rattle.config_rules.specs.Fault.{first_fault}
+use Rattle.config_rules.specs.Formed.{FittingMachine, FormedTables}
+use Rattle.config_rules.specs.MachineText.{machine_of}
+use Rattle.config_rules.specs.Meaning.{Means}
+use Rattle.config_rules.specs.Reading.{Files}
+use Rattle.app_input.specs.declared.inputs.Inputs.{Inputs}
+use Rattle.app_input.specs.declared.inputs.Inputs.TheVariants.{Ioconf, Boot}
+use Rattle.app_input.specs.declared.status.Status.{Status}
+use Rattle.app_input.specs.declared.status.Status.TheVariants.{Ok, ConfigRefused, Usage, MachineRefused, Absent, TooLong, ReadFault, WriteFault, Memory}
+use Rattle.app_input.specs.Words.{Form, ioconf, boot, config_of}
+
+-- where the files are told, the configuration means the tables
+abbrev pub IsMeant : Option Files → List ℕ → Tables → Type 0
+IsMeant told file tables = IfSome told (λ files. Means files file tables)
+
+-- where the files are told, the machine file is there, has no more bytes than a file may have, and describes this with the tables
+abbrev pub IsDescribed : Option Files → List ℕ → Tables → Result Machine (ℕ × ℕ) → Type 0
+IsDescribed told name tables described =
+    IfSome told (λ files. (text : List ℕ) × (files name ≡ Some text) × (length text ≤ MAX_FILE) × (machine_of tables text ≡ described))
+
+-- where the files are told, this is the first fault of the configuration
+abbrev pub IsFirstFault : Option Files → List ℕ → Refusal → Type 0
+IsFirstFault told file refusal = IfSome told (λ files. first_fault files file ≡ Some refusal)
+
+-- where the files are told, there is none of this name
+abbrev pub IsLacking : Option Files → List ℕ → Type 0
+IsLacking told name = IfSome told (λ files. files name ≡ None)
+
+-- where the files are told, that of this name has more bytes than a file may have
+abbrev pub IsLong : Option Files → List ℕ → Type 0
+IsLong told name = IfSome told (λ files. (text : List ℕ) × (files name ≡ Some text) × (MAX_FILE < length text))
+
+-- why the configuration was read as tables, or refused
+abbrev pub ReadsTables : Option Files → List ℕ → Result Tables Status → Type 0
+ReadsTables told file (std.Ok tables) = IsMeant told file tables
+ReadsTables told file (std.Err (ConfigRefused name line code)) = IsFirstFault told file (record { file = name; line = line; code = code })
+ReadsTables told file (std.Err ReadFault) = ⊤
+ReadsTables told file (std.Err Memory) = ⊤
+ReadsTables told file (std.Err _) = ⊥
+
+-- why the machine file was read as a machine of the tables, or refused
+abbrev pub ReadsMachine : Option Files → List ℕ → Tables → Result Machine Status → Type 0
+ReadsMachine told name tables (std.Ok machine) = IsDescribed told name tables (std.Ok machine)
+ReadsMachine told name tables (std.Err (MachineRefused line code)) = IsDescribed told name tables (std.Err (line, code))
+ReadsMachine told name tables (std.Err (Absent absent)) = (absent ≡ name) × IsLacking told name
+ReadsMachine told name tables (std.Err (TooLong long)) = (long ≡ name) × IsLong told name
+ReadsMachine told name tables (std.Err ReadFault) = ⊤
+ReadsMachine told name tables (std.Err Memory) = ⊤
+ReadsMachine told name tables (std.Err _) = ⊥
+
+-- the status tells that the file is absent, or memory ran out
+abbrev pub IsAbsent : List ℕ → Status → Type 0
+IsAbsent name status = (status ≡ Absent name) ⊎ (status ≡ Memory)
+
+-- the status tells that the file is too long, or memory ran out
+abbrev pub IsTooLong : List ℕ → Status → Type 0
+IsTooLong name status = (status ≡ TooLong name) ⊎ (status ≡ Memory)
+
+-- the machine that a text describes, or its first bad line with its code, or memory ran out
+abbrev pub Describes : Result Machine (ℕ × ℕ) → Result Machine Status → Type 0
+Describes described (std.Ok machine) = described ≡ std.Ok machine
+Describes described (std.Err (MachineRefused line code)) = described ≡ std.Err (line, code)
+Describes described (std.Err Memory) = ⊤
+Describes described (std.Err _) = ⊥
+
+-- the words ask for a boot, the configuration means the tables, and P holds of the machine file with them
+abbrev pub Boots : Option Form → Option Files → (List ℕ → Tables → Type 0) → Type 0
+Boots form told P = (file name : List ℕ) × (tables : Tables) × (form ≡ Some (boot file name)) × IsMeant told file tables × P name tables
+
+-- why the words and the files were read as these inputs, or refused
+abbrev pub Reads : Option Form → Option Files → Result Inputs Status → Type 0
+Reads form told (std.Ok (Ioconf tables)) = (file : List ℕ) × (form ≡ Some (ioconf file)) × IsMeant told file tables
+Reads form told (std.Ok (Boot tables machine)) =
+    (file name : List ℕ) × (form ≡ Some (boot file name)) × IsMeant told file tables × IsDescribed told name tables (std.Ok machine)
+Reads form told (std.Err (ConfigRefused file line code)) =
+    (f : Form) × (form ≡ Some f) × IsFirstFault told (config_of f) (record { file = file; line = line; code = code })
+Reads form told (std.Err Usage) = form ≡ None
+Reads form told (std.Err (MachineRefused line code)) = Boots form told (λ name tables. IsDescribed told name tables (std.Err (line, code)))
+Reads form told (std.Err (Absent absent)) = Boots form told (λ name tables. (absent ≡ name) × IsLacking told name)
+Reads form told (std.Err (TooLong long)) = Boots form told (λ name tables. (long ≡ name) × IsLong told name)
+Reads form told (std.Err ReadFault) = (f : Form) × (form ≡ Some f)
+Reads form told (std.Err Memory) = ⊤
+Reads form told (std.Err Ok) = ⊥
+Reads form told (std.Err WriteFault) = ⊥
+
+-- the count of faults rose at `ReadFault`, or stands at its last value, and is as before at every other answer
+abbrev pub Counts : {A : Type 0} → ℕ → ℕ → Result A Status → Type 0
+Counts before after (std.Ok inputs) = after ≡ before
+Counts before after (std.Err ReadFault) = (before ≤ after) × Rose before after
+Counts before after (std.Err _) = after ≡ before
+
+-- the tables are formed, and the machine fits them
+abbrev pub FormedInputs : Inputs → Type 0
+FormedInputs (Ioconf tables) = FormedTables tables
+FormedInputs (Boot tables machine) = FormedTables tables × FittingMachine tables machine
+
+-- what a machine file gives with the tables
+abbrev pub booted : Tables → Result Machine (ℕ × ℕ) → Result Inputs Status
+booted tables (std.Ok machine) = std.Ok (Boot tables machine)
+booted tables (std.Err fault) = std.Err (MachineRefused fault.0 fault.1)
+
+-- the same of a file that may be absent, or too long
+abbrev pub booted_from : Tables → List ℕ → Option (List ℕ) → Result Inputs Status
+booted_from tables name None = std.Err (Absent name)
+booted_from tables name (Some text) = if nat_le (length text) MAX_FILE then booted tables (machine_of tables text) else std.Err (TooLong name)
+
+-- what a form gives where its configuration means the tables
+abbrev pub given_by : Form → Files → Tables → Result Inputs Status
+given_by (ioconf file) files tables = std.Ok (Ioconf tables)
+given_by (boot file name) files tables = booted_from tables name (files name)
+
+-- the refusal of a configuration
+abbrev pub refused_by : Refusal → Result Inputs Status
+refused_by refusal = std.Err (ConfigRefused refusal.file refusal.line refusal.code)
+
+-- the answer is the refusal of a configuration with this first fault, or what its tables give where there is none
+abbrev pub IsDueAt : Form → Files → Option Refusal → Result Inputs Status → Type 0
+IsDueAt form files None answer = (tables : Tables) × Means files (config_of form) tables × (answer ≡ given_by form files tables)
+IsDueAt form files (Some refusal) answer = answer ≡ refused_by refusal
+
+-- the answer is the one that the words and the files call for
+abbrev pub IsDue : Option Form → Files → Result Inputs Status → Type 0
+IsDue None files answer = answer ≡ std.Err Usage
+IsDue (Some form) files answer = IsDueAt form files (first_fault files (config_of form)) answer

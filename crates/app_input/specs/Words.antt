@@ -1,0 +1,67 @@
+-- The forms that the words of a program may have.
+use Rattle.std.specs.Prelude.{◌≡◌, ℕ, Bool, ◌&&◌, ◌==◌, nat_lt, not, Option, Some, None, Result, List, [], ◌∷◌, length, slice_index, codes, if◌then◌else◌, ⊤}
+use Rattle.std.specs.Prelude as std
+use Rattle.std.specs.List.{list_all}
+use Rattle.std.specs.Str.{bytes_eq}
+use Rattle.app_input.specs.declared.inputs.Program.{Program}
+use Rattle.app_input.specs.declared.inputs.Program.TheVariants.{Devconf}
+use Rattle.app_input.specs.declared.words.Words.{Words}
+use Rattle.app_input.specs.declared.words.Words.TheVariants as words
+use Rattle.app_input.specs.declared.words.WordStop.{WordStop}
+use Rattle.clap.specs.declared.error.kind.ErrorKind.{ErrorKind}
+use Rattle.clap.specs.declared.error.kind.ErrorKind.TheVariants as kind
+use Rattle.app_input.specs.declared.words.WordStop.TheVariants.{Usage, Memory}
+
+-- what words ask for: the listing of a configuration, or the boot of a machine by a configuration
+pub data Form : Type 0 where
+  ioconf : List ℕ → Form
+  boot : List ℕ → List ℕ → Form
+
+-- a word that is not empty and does not begin with `-`
+abbrev pub is_operand : List ℕ → Bool
+is_operand word = nat_lt 0 (length word) && not (slice_index word 0 == 45)
+
+-- `FILE`
+abbrev pub ioconf_form : List (List ℕ) → Option Form
+ioconf_form [] = None
+ioconf_form (file ∷ []) = Some (ioconf file)
+ioconf_form (file ∷ other ∷ more) = None
+
+-- `FILE MACHINE`
+abbrev pub boot_form : List (List ℕ) → Option Form
+boot_form [] = None
+boot_form (file ∷ []) = None
+boot_form (file ∷ machine ∷ []) = Some (boot file machine)
+boot_form (file ∷ machine ∷ other ∷ more) = None
+
+-- the operands behind the first word, which is compared byte for byte
+abbrev pub form_named : List ℕ → List (List ℕ) → Option Form
+form_named word operands =
+    if bytes_eq word (codes "ioconf") then ioconf_form operands
+    else (if bytes_eq word (codes "boot") then boot_form operands else None)
+
+-- the form of the words of `devconf`: each word behind the first is an operand
+abbrev pub devconf_form : List (List ℕ) → Option Form
+devconf_form [] = None
+devconf_form (word ∷ operands) = if list_all is_operand operands then form_named word operands else None
+
+-- the form of the words behind a program's name
+abbrev pub form_of : Program → List (List ℕ) → Option Form
+form_of Devconf words = devconf_form words
+
+-- the configuration that a form names
+abbrev pub config_of : Form → List ℕ
+config_of (ioconf file) = file
+config_of (boot file machine) = file
+
+-- the words were read as their form, or refused where they have none
+abbrev pub HasForm : Option Form → Result Words WordStop → Type 0
+HasForm form (std.Ok (words.Ioconf file)) = form ≡ Some (ioconf file.now)
+HasForm form (std.Ok (words.Boot file machine)) = form ≡ Some (boot file.now machine.now)
+HasForm form (std.Err Usage) = form ≡ None
+HasForm form (std.Err Memory) = ⊤
+
+-- a parse that failed for another cause than memory refuses the words
+abbrev pub stop_of : ErrorKind → WordStop
+stop_of kind.OutOfMemory = Memory
+stop_of _ = Usage

@@ -1,0 +1,108 @@
+ghost use Rattle.std.specs.Prelude.{◌≡◌, ◌⊎◌, Err, IfOk, IfSome, Some, map, string_bytes};
+ghost use Rattle.cf_io.specs.Faults.{Rose};
+ghost use Rattle.config_rules.specs.Formed.{FormedTables};
+ghost use Rattle.app_input.specs.Inputs.{Counts, FormedInputs, IsDue, Reads, ReadsTables};
+ghost use Rattle.app_input.specs.Words.{boot, form_of, ioconf};
+
+use crate::machine_file::load_machine;
+use crate::status::Status;
+use crate::words::{WordStop, Words, read_words};
+use cf_compile::{CompileStop, compile};
+use cf_io::Files;
+use cf_types::{Machine, Refusal, Tables};
+use std::alloc::Global;
+
+/// The program whose words are read.
+#[derive(Clone, Copy)]
+pub enum Program {
+    /// The compiler of configurations, which also boots machines by them.
+    Devconf,
+}
+
+/// What the words and the files that they name give.
+#[derive(Drop)]
+pub enum Inputs {
+    /// The tables of a configuration. See config(5).
+    Ioconf { tables: Tables },
+    /// The tables of a configuration, and a machine that is to boot by them.
+    Boot { tables: Tables, machine: Machine },
+}
+
+/// Compiles the configuration.
+fn read_tables<F: Files>(alloc: Global, files: &mut F, file: &[u8]) -> Result<Tables, Status>
+    ensures told { F.told files.new ≡ F.told files.old }
+    ensures reads { ReadsTables (F.told files.old) file.now result }
+    ensures counted { Counts (F.faults files.old) (F.faults files.new) result }
+    ensures formed { IfOk result FormedTables }
+{
+    match compile(alloc, files, file) {
+        Ok(tables) => Ok(tables),
+        Err(CompileStop::Refused(Refusal { file, line, code })) => {
+            Err(Status::ConfigRefused { file, line, code })
+        }
+        Err(CompileStop::ReadFault) => Err(Status::ReadFault),
+        Err(CompileStop::Memory) => Err(Status::Memory),
+    }
+}
+
+/// Reads the inputs of `ioconf FILE`.
+fn read_ioconf<F: Files>(alloc: Global, files: &mut F, file: &[u8]) -> Result<Inputs, Status>
+    ensures told { F.told files.new ≡ F.told files.old }
+    ensures reads { Reads (Some (ioconf file.now)) (F.told files.old) result }
+    ensures counted { Counts (F.faults files.old) (F.faults files.new) result }
+    ensures formed { IfOk result FormedInputs }
+{
+    match read_tables(alloc, files, file) {
+        Ok(tables) => Ok(Inputs::Ioconf { tables }),
+        Err(status) => Err(status),
+    }
+}
+
+/// Reads the inputs of `boot FILE MACHINE`: the configuration first.
+fn read_boot<F: Files>(
+    alloc: Global,
+    files: &mut F,
+    file: &[u8],
+    name: &[u8],
+) -> Result<Inputs, Status>
+    ensures told { F.told files.new ≡ F.told files.old }
+    ensures reads { Reads (Some (boot file.now name.now)) (F.told files.old) result }
+    ensures counted { Counts (F.faults files.old) (F.faults files.new) result }
+    ensures formed { IfOk result FormedInputs }
+{
+    let tables = match read_tables(alloc, files, file) {
+        Ok(tables) => tables,
+        Err(status) => return Err(status),
+    };
+    match load_machine(alloc, files, name, &tables) {
+        Ok(machine) => Ok(Inputs::Boot { tables, machine }),
+        Err(status) => Err(status),
+    }
+}
+
+/// Reads the words behind a program's name and the files that they name, the configuration before the machine: what they
+/// give, or the first refusal in this order: the words, the configuration, the machine file. See config(1) and config(5).
+pub fn read_inputs<F: Files>(
+    alloc: Global,
+    program: Program,
+    words: &[String],
+    files: &mut F,
+) -> Result<Inputs, Status>
+    ensures told { F.told files.new ≡ F.told files.old }
+    ensures reads { Reads (form_of program (map string_bytes words.now)) (F.told files.old) result }
+    ensures counted { Counts (F.faults files.old) (F.faults files.new) result }
+    ensures formed { IfOk result FormedInputs }
+
+    // With files that are told and no fault, the answer is the one that is due, or memory ran out.
+    ensures due { IfSome (F.told files.old) (λ named. ¬ Rose (F.faults files.old) (F.faults files.new)
+        → (result ≡ Err Status.Memory) ⊎ IsDue (form_of program (map string_bytes words.now)) named result) }
+{
+    match read_words(alloc, program, words) {
+        Ok(Words::Ioconf { file }) => read_ioconf(alloc, files, file.as_bytes()),
+        Ok(Words::Boot { file, machine }) => {
+            read_boot(alloc, files, file.as_bytes(), machine.as_bytes())
+        }
+        Err(WordStop::Usage) => Err(Status::Usage),
+        Err(WordStop::Memory) => Err(Status::Memory),
+    }
+}

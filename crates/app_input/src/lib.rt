@@ -1,0 +1,11 @@
+//! Reads the words of the programs, and all the files that the words name. See config(1).
+#![tactic(auto)]
+
+mod inputs;
+mod machine_file;
+mod operands;
+mod status;
+mod words;
+
+pub use inputs::{Inputs, Program, read_inputs};
+pub use status::Status;

@@ -1,0 +1,68 @@
+ghost use Rattle.std.specs.Prelude.{◌≡◌, ◌≤◌, IfOk, length};
+ghost use Rattle.cf_io.specs.declared.files.TheConstants.{MAX_FILE};
+ghost use Rattle.config_rules.specs.MachineText.{machine_of};
+ghost use Rattle.config_rules.specs.Formed.{FittingMachine, FormedTables};
+ghost use Rattle.app_input.specs.Inputs.{Counts, Describes, IsAbsent, IsTooLong, ReadsMachine};
+
+use crate::status::Status;
+use cf_io::{Files, Load};
+use cf_types::{List, Machine, Tables};
+use machine_model::{MachineStop, read_machine};
+use std::alloc::Global;
+
+/// There is no file of this name.
+fn absent(alloc: Global, name: &[u8]) -> Status
+    ensures { IsAbsent name.now result }
+{
+    match List::copied(alloc, name) {
+        Ok(name) => Status::Absent { name },
+        Err(_) => Status::Memory,
+    }
+}
+
+/// The file of this name is too long.
+fn too_long(alloc: Global, name: &[u8]) -> Status
+    ensures { IsTooLong name.now result }
+{
+    match List::copied(alloc, name) {
+        Ok(name) => Status::TooLong { name },
+        Err(_) => Status::Memory,
+    }
+}
+
+/// The machine that a text describes.
+fn judge(alloc: Global, text: &[u8], tables: &Tables) -> Result<Machine, Status>
+    requires short { length text.now ≤ MAX_FILE }
+    requires formed { FormedTables tables.now }
+    ensures describes { Describes (machine_of tables.now text.now) result }
+    ensures fits { IfOk result (λ machine. FittingMachine tables.now machine) }
+{
+    match read_machine(alloc, text, tables) {
+        Ok(machine) => Ok(machine),
+        Err(MachineStop::Fault { line, code }) => Err(Status::MachineRefused { line, code }),
+        Err(MachineStop::Memory) => Err(Status::Memory),
+    }
+}
+
+/// Loads the machine file and reads it with the tables of the configuration.
+pub fn load_machine<F: Files>(
+    alloc: Global,
+    files: &mut F,
+    name: &[u8],
+    tables: &Tables,
+) -> Result<Machine, Status>
+    requires { FormedTables tables.now }
+    ensures told { F.told files.new ≡ F.told files.old }
+    ensures reads { ReadsMachine (F.told files.old) name.now tables.now result }
+    ensures counted { Counts (F.faults files.old) (F.faults files.new) result }
+    ensures fits { IfOk result (λ machine. FittingMachine tables.now machine) }
+{
+    let mut text = Vec::new(alloc);
+    match files.load(name, &mut text) {
+        Load::Whole => judge(alloc, &text, tables),
+        Load::Absent => Err(absent(alloc, name)),
+        Load::TooLong => Err(too_long(alloc, name)),
+        Load::Failed => Err(Status::ReadFault),
+        Load::Memory => Err(Status::Memory),
+    }
+}

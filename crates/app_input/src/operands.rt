@@ -1,0 +1,90 @@
+ghost use Rattle.std.specs.Prelude.{◌≡◌, IfOk, false, true, map, string_bytes};
+ghost use Rattle.std.specs.List.{list_all};
+ghost use Rattle.clap.specs.Words.{app_of, kind_of, rule_of};
+ghost use Rattle.app_input.specs.Commands.{bare_app, boot_app, ioconf_app, required_rule};
+ghost use Rattle.app_input.specs.Words.{HasForm, boot_form, ioconf_form, is_operand, stop_of};
+ghost use Rattle.app_input.specs.declared.words.WordStop.TheVariants as stops;
+
+use crate::words::{WordStop, Words};
+use clap::error::ErrorKind;
+use clap::{Arg, Command, Error};
+use std::alloc::{AllocError, Global};
+
+impl From<AllocError> for WordStop {
+    ghost from_gives = { λ _ stop. stop ≡ stops.Memory };
+
+    fn from(_error: AllocError) -> WordStop {
+        WordStop::Memory
+    }
+}
+
+impl From<Error> for WordStop {
+    ghost from_gives = { λ error stop. stop ≡ stop_of (kind_of error) };
+
+    fn from(error: Error) -> WordStop {
+        match error.kind() {
+            ErrorKind::OutOfMemory => WordStop::Memory,
+            _ => WordStop::Usage,
+        }
+    }
+}
+
+/// An argument that has to be there.
+fn required<'a>(alloc: Global, id: &'a str) -> Arg<'a>
+    ensures rule { rule_of result ≡ required_rule id.entry.now }
+    ensures local { result.global ≡ false }
+{
+    Arg::new(alloc, id).required(true)
+}
+
+/// A command without help, whose first word is an argument.
+fn bare<'a>(alloc: Global, name: &'a str) -> Command<'a>
+    ensures { app_of result ≡ bare_app name.entry.now }
+{
+    Command::new(alloc, name)
+        .no_binary_name(true)
+        .disable_help_flag(true)
+}
+
+fn ioconf_command<'a>(alloc: Global) -> Result<Command<'a>, AllocError>
+    ensures { IfOk result (λ command. app_of command ≡ ioconf_app) }
+{
+    bare(alloc, "ioconf").arg(required(alloc, "file"))
+}
+
+fn boot_command<'a>(alloc: Global) -> Result<Command<'a>, AllocError>
+    ensures { IfOk result (λ command. app_of command ≡ boot_app) }
+{
+    bare(alloc, "boot")
+        .arg(required(alloc, "file"))?
+        .arg(required(alloc, "machine"))
+}
+
+/// Reads the operand `FILE`.
+pub fn ioconf_words<'a>(alloc: Global, operands: &'a [String]) -> Result<Words<'a>, WordStop>
+    requires { list_all is_operand (map string_bytes operands.now) ≡ true }
+    ensures { HasForm (ioconf_form (map string_bytes operands.now)) result }
+{
+    let command = ioconf_command(alloc)?;
+    let matches = command.try_get_matches_from(operands)?;
+    match matches.get_str("file") {
+        Some(file) => Ok(Words::Ioconf { file }),
+        None => Err(WordStop::Usage),
+    }
+}
+
+/// Reads the operands `FILE MACHINE`.
+pub fn boot_words<'a>(alloc: Global, operands: &'a [String]) -> Result<Words<'a>, WordStop>
+    requires { list_all is_operand (map string_bytes operands.now) ≡ true }
+    ensures { HasForm (boot_form (map string_bytes operands.now)) result }
+{
+    let command = boot_command(alloc)?;
+    let matches = command.try_get_matches_from(operands)?;
+    let Some(file) = matches.get_str("file") else {
+        return Err(WordStop::Usage);
+    };
+    let Some(machine) = matches.get_str("machine") else {
+        return Err(WordStop::Usage);
+    };
+    Ok(Words::Boot { file, machine })
+}

@@ -1,0 +1,47 @@
+ghost use Rattle.std.specs.Prelude.{◌≡◌};
+ghost use Rattle.app_input.specs.Status.{status_number};
+
+use cf_types::Text;
+
+/// How a run of a program ended.
+#[derive(Drop)]
+pub enum Status {
+    /// All was written.
+    Ok,
+    /// The configuration has a fault: its file, the line, counted from 1, or 0 for the file itself, and the code. See
+    /// config(5).
+    ConfigRefused { file: Text, line: u32, code: u8 },
+    /// The words have none of the forms.
+    Usage,
+    /// The machine file has a fault: the line, counted from 1, and the code.
+    MachineRefused { line: u32, code: u8 },
+    /// There is no file of this name.
+    Absent { name: Text },
+    /// The file of this name has more than 1,048,576 bytes.
+    TooLong { name: Text },
+    /// Reading a file failed.
+    ReadFault,
+    /// Writing the output failed.
+    WriteFault,
+    /// Memory ran out.
+    Memory,
+}
+
+impl Status {
+    /// The exit status of the program, 0 to 10.
+    pub fn number(&self) -> u8
+        ensures { result ≡ status_number self.now }
+    {
+        match self {
+            Status::Ok => 0,
+            Status::ConfigRefused { .. } => 1,
+            Status::Usage => 2,
+            Status::MachineRefused { .. } => 3,
+            Status::Absent { .. } => 6,
+            Status::TooLong { .. } => 7,
+            Status::ReadFault => 8,
+            Status::WriteFault => 9,
+            Status::Memory => 10,
+        }
+    }
+}

@@ -1,0 +1,68 @@
+ghost use Rattle.std.specs.Prelude.{◌≡◌, map, string_bytes};
+ghost use Rattle.std.specs.List.{list_all};
+ghost use Rattle.app_input.specs.Words.{HasForm, devconf_form, form_of, is_operand};
+
+use crate::inputs::Program;
+use crate::operands::{boot_words, ioconf_words};
+use std::alloc::Global;
+
+/// What words ask for.
+#[derive(Drop)]
+pub enum Words<'a> {
+    /// `ioconf FILE`
+    Ioconf { file: &'a str },
+    /// `boot FILE MACHINE`
+    Boot { file: &'a str, machine: &'a str },
+}
+
+/// Why words were not read.
+#[derive(Drop)]
+pub enum WordStop {
+    /// They have none of the forms.
+    Usage,
+    /// Memory ran out.
+    Memory,
+}
+
+fn is_operand(word: &[u8]) -> bool
+    ensures { result ≡ is_operand word.now }
+{
+    !word.is_empty() && word[0] != b'-'
+}
+
+fn are_operands(words: &[String]) -> bool
+    ensures { result ≡ list_all is_operand (map string_bytes words.now) }
+{
+    words.iter().all(|word| is_operand(word.as_bytes()))
+}
+
+fn devconf_words<'a>(alloc: Global, words: &'a [String]) -> Result<Words<'a>, WordStop>
+    ensures { HasForm (devconf_form (map string_bytes words.now)) result }
+{
+    let Some((word, operands)) = words.split_first() else {
+        return Err(WordStop::Usage);
+    };
+    if !are_operands(operands) {
+        return Err(WordStop::Usage);
+    }
+    if word.as_bytes() == b"ioconf".as_slice() {
+        return ioconf_words(alloc, operands);
+    }
+    if word.as_bytes() == b"boot".as_slice() {
+        return boot_words(alloc, operands);
+    }
+    Err(WordStop::Usage)
+}
+
+/// Reads the words behind the program's name as the form that they have.
+pub fn read_words<'a>(
+    alloc: Global,
+    program: Program,
+    words: &'a [String],
+) -> Result<Words<'a>, WordStop>
+    ensures { HasForm (form_of program (map string_bytes words.now)) result }
+{
+    match program {
+        Program::Devconf => devconf_words(alloc, words),
+    }
+}
