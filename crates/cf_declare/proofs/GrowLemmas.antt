@@ -1,13 +1,17 @@
 -- What a statement without a code adds fits what is declared.
-use Rattle.std.proofs.Common.{◌≡◌, ℕ, ◌+◌, ◌<◌, ◌≤◌, true, false, Option, Some, None, List, [], ◌∷◌, ◌++◌, length, map, refl, arith, length-append, All, get_or}
+use Rattle.std.proofs.Common.{◌≡◌, ℕ, ◌+◌, ◌<◌, ◌≤◌, true, false, Option, Some, None, List, [], ◌∷◌, ◌++◌, length, map, refl, ap, sym, ◌∙◌, subst, arith, length-append, All, get_or}
 use Rattle.std.specs.Prelude.{unwrap_or, IfSome}
-use Rattle.std.specs.Option.{option_to_list}
+use Rattle.std.specs.Option.{option_map_or, option_to_list}
+use Rattle.std.proofs.lemmas.List.{length-map}
 use Rattle.std.proofs.lemmas.List.Elements.{All-cons, All-nil, All-append}
 use Rattle.cf_types.specs.declared.stmt.Stmt.{Stmt}
 use Rattle.cf_types.specs.declared.stmt.Stmt.TheVariants as stmt
 use Rattle.cf_types.specs.declared.tables.Attr.{Attr}
 use Rattle.cf_types.specs.declared.tables.Locator.{Locator}
-use Rattle.cf_types.specs.Offers.{named_by}
+use Rattle.cf_types.specs.declared.tables.Device.{Device}
+use Rattle.cf_types.specs.Offers.{named_by, node_of}
+use Rattle.attr_graph.specs.Graphs.{IsGraphOf}
+use Rattle.attr_graph.specs.Reach.{Shape}
 use Rattle.config_rules.specs.Declared.{Declared, attr}
 use Rattle.config_rules.specs.Fault.{attr_numbers, repeats, repeats_locator, lacks_attr, code_of}
 use Rattle.cf_declare.specs.Declare.{new_attr, new_device, declare}
@@ -69,3 +73,14 @@ new_names d n (stmt.Device name (Some locs) needs) h =
     (below_more (attr_numbers d needs) (length d.attrs) m (omega (arith, size))
     (numbers_within d needs (no_code (lacks_attr d needs) 8 _ (no_code _ 15 _ (no_code _ 18 _ h).1).1).0))
 new_names d n _ h = tt
+
+own_names : (own : Option ℕ) → option_map_or (λ a. a ∷ []) own [] ≡ option_to_list own
+own_names None = refl
+own_names (Some a) = refl
+
+-- what a device names is there in the graph
+pub names_there : (d : Declared) (g : Shape) (x : Device) (needs : List ℕ) → IsGraphOf d g → All (λ a. a < length d.attrs) (named_by x) → needs ≡ x.needs → All (λ a. a < length g.attrs) (option_to_list x.own ++ needs)
+names_there d g x needs graph known e =
+    let size : length g.attrs ≡ length d.attrs = ap length graph.attrs ∙ length-map d.attrs node_of in
+    subst (λ (names : List ℕ). All (λ a. a < length g.attrs) names) (ap (λ (names : List ℕ). names ++ x.needs) (own_names x.own) ∙ ap (λ (names : List ℕ). option_to_list x.own ++ names) (sym e))
+    (subst (λ (n : ℕ). All (λ a. a < n) (named_by x)) (sym size) known)

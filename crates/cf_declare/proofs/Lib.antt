@@ -9,6 +9,7 @@ pub mod InstanceLaws
 pub mod JoinLaws
 pub mod JoinLemmas
 pub mod LimitLaws
+mod LookupLemmas
 pub mod LoopLaws
 pub mod ListFacts
 pub mod NameFacts

@@ -10,7 +10,8 @@ use crate::grow::grow;
 use crate::join::join;
 use crate::judge::code_of;
 use attr_graph::Graph;
-use cf_types::{AtSpec, Declared, GivenLoc, Joined, List, Memory, Stmt};
+use cf_names::Catalog;
+use cf_types::{AtSpec, Declared, GivenLoc, Joined, Memory, Stmt};
 use std::alloc::Global;
 use std::marker::Model;
 
@@ -18,7 +19,7 @@ use std::marker::Model;
 /// of attributes, devices and attachments. See config(5).
 #[derive(Drop)]
 pub struct Declarations {
-    lists: Declared,
+    lists: Catalog,
     graph: Graph,
 }
 
@@ -40,11 +41,7 @@ impl Declarations {
         ensures { result ≡ record { attrs = []; devices = []; attaches = [] } }
     {
         Declarations {
-            lists: Declared {
-                attrs: List::make(alloc),
-                devices: List::make(alloc),
-                attaches: List::make(alloc),
-            },
+            lists: Catalog::make(alloc),
             graph: Graph::make(alloc),
         }
     }
@@ -80,11 +77,8 @@ impl Declarations {
         requires devices { length self.devices < 65536 }
         ensures { IfOk result (λ d. d ≡ declare self stmt.now) }
     {
-        let Declarations {
-            mut lists,
-            mut graph,
-        } = self;
-        grow(alloc, &mut lists, &mut graph, stmt)?;
+        let Declarations { lists, mut graph } = self;
+        let lists = grow(alloc, lists, &mut graph, stmt)?;
         Ok(Declarations { lists, graph })
     }
 
@@ -94,6 +88,6 @@ impl Declarations {
         ensures graph { IsGraphOf result.0 result.1 }
     {
         let Declarations { lists, graph } = self;
-        (lists, graph)
+        (lists.into_lists(), graph)
     }
 }

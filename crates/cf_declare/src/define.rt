@@ -6,11 +6,12 @@ ghost use Rattle.config_rules.specs.Fault.{attr_numbers, is_class, has_classes, 
 use crate::fault::{attr_numbers, has_attr, has_device, lacks_attr, repeats_locator};
 use crate::lookup::is_root;
 use attr_graph::Graph;
-use cf_types::{Declared, List, Locator, Memory, Name};
+use cf_names::Catalog;
+use cf_types::{List, Locator, Memory, Name};
 use std::alloc::Global;
 
 /// The numbers of attributes that are all there.
-fn known_numbers(alloc: Global, declared: &Declared, names: &[Name]) -> Result<List<u32>, Memory>
+fn known_numbers(alloc: Global, declared: &Catalog, names: &[Name]) -> Result<List<u32>, Memory>
     requires few { length declared.now.attrs ≤ 65536 }
     requires known { lacks_attr declared.now names.now ≡ false }
     ensures numbers { IfOk result (λ numbers. numbers ≡ attr_numbers declared.now names.now) }
@@ -23,7 +24,7 @@ fn known_numbers(alloc: Global, declared: &Declared, names: &[Name]) -> Result<L
 /// Whether an interface list would have more than 64 entries.
 fn offers_too_much(
     alloc: Global,
-    declared: &Declared,
+    declared: &Catalog,
     graph: &mut Graph,
     locators: &Option<List<Locator>>,
     needs: &[Name],
@@ -42,7 +43,7 @@ fn offers_too_much(
 /// The first code of an attribute.
 pub fn define_fault(
     alloc: Global,
-    declared: &Declared,
+    declared: &Catalog,
     graph: &mut Graph,
     name: &[u8],
     locators: &Option<List<Locator>>,
@@ -69,7 +70,7 @@ pub fn define_fault(
 }
 
 /// Whether one of these numbers is a device class other than this one.
-fn has_other_class(declared: &Declared, numbers: &[u32], class: u32) -> bool
+fn has_other_class(declared: &Catalog, numbers: &[u32], class: u32) -> bool
     ensures { result ≡ list_any (λ a. is_class declared.now a && not (a == class)) numbers.now }
 {
     numbers
@@ -77,16 +78,16 @@ fn has_other_class(declared: &Declared, numbers: &[u32], class: u32) -> bool
         .any(|&number| is_class(declared, number) && number != class)
 }
 
-fn is_class(declared: &Declared, attr: u32) -> bool
+fn is_class(declared: &Catalog, attr: u32) -> bool
     ensures { result ≡ is_class declared.now attr }
 {
-    match declared.attrs.items().get(attr as usize) {
+    match declared.attrs().get(attr as usize) {
         Some(attr) => attr.class,
         None => false,
     }
 }
 
-fn first_class(declared: &Declared, numbers: &[u32]) -> Option<u32>
+fn first_class(declared: &Catalog, numbers: &[u32]) -> Option<u32>
     ensures { result ≡ find (is_class declared.now) numbers.now }
 {
     numbers
@@ -96,7 +97,7 @@ fn first_class(declared: &Declared, numbers: &[u32]) -> Option<u32>
 }
 
 /// Whether these attributes are of two device classes.
-fn has_classes(declared: &Declared, numbers: &[u32]) -> bool
+fn has_classes(declared: &Catalog, numbers: &[u32]) -> bool
     ensures { result ≡ nat_lt 1 (length (firsts (filter (is_class declared.now) numbers.now))) }
 {
     match first_class(declared, numbers) {
@@ -106,7 +107,7 @@ fn has_classes(declared: &Declared, numbers: &[u32]) -> bool
 }
 
 /// Whether the attributes of a device are of two device classes.
-fn names_classes(alloc: Global, declared: &Declared, needs: &[Name]) -> Result<bool, Memory>
+fn names_classes(alloc: Global, declared: &Catalog, needs: &[Name]) -> Result<bool, Memory>
     requires { length declared.now.attrs ≤ 65536 }
     ensures { IfOk result (λ two. two ≡ has_classes declared.now needs.now) }
 {
@@ -117,7 +118,7 @@ fn names_classes(alloc: Global, declared: &Declared, needs: &[Name]) -> Result<b
 /// The first code of a device.
 pub fn device_fault(
     alloc: Global,
-    declared: &Declared,
+    declared: &Catalog,
     graph: &mut Graph,
     name: &[u8],
     locators: &Option<List<Locator>>,

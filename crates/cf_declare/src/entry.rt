@@ -4,8 +4,9 @@ ghost use Rattle.config_rules.specs.Fault.{attr_numbers};
 ghost use Rattle.cf_declare.specs.Declare.{new_attr, new_device, new_attach, place_named};
 
 use crate::fault::attr_numbers;
-use crate::lookup::{attr_number, device_number, is_root};
-use cf_types::{Attach, Attr, Declared, Device, List, Locator, Memory, Name, Place, Stmt};
+use crate::lookup::is_root;
+use cf_names::Catalog;
+use cf_types::{Attach, Attr, Device, List, Locator, Memory, Name, Place, Stmt};
 use std::alloc::Global;
 
 fn copied_locator(locator: &Locator) -> Result<Locator, Memory>
@@ -41,7 +42,7 @@ fn locators_of(alloc: Global, locators: &Option<List<Locator>>) -> Result<List<L
 /// An attribute of `define` or `defpseudo`.
 fn defined(
     alloc: Global,
-    declared: &Declared,
+    declared: &Catalog,
     name: &Name,
     pseudo: bool,
     locators: &Option<List<Locator>>,
@@ -88,7 +89,7 @@ fn class_attr(alloc: Global, name: &Name) -> Result<Attr, Memory>
 }
 
 /// The attribute that a statement adds.
-pub fn new_attr(alloc: Global, declared: &Declared, stmt: &Stmt) -> Result<Option<Attr>, Memory>
+pub fn new_attr(alloc: Global, declared: &Catalog, stmt: &Stmt) -> Result<Option<Attr>, Memory>
     requires { length declared.now.attrs ≤ 65536 }
     ensures { IfOk result (λ a. a ≡ new_attr declared.now stmt.now) }
 {
@@ -120,7 +121,7 @@ pub fn new_attr(alloc: Global, declared: &Declared, stmt: &Stmt) -> Result<Optio
 }
 
 /// The device that a statement adds.
-pub fn new_device(alloc: Global, declared: &Declared, stmt: &Stmt) -> Result<Option<Device>, Memory>
+pub fn new_device(alloc: Global, declared: &Catalog, stmt: &Stmt) -> Result<Option<Device>, Memory>
     requires { length declared.now.attrs ≤ 65536 }
     ensures { IfOk result (λ d. d ≡ new_device declared.now stmt.now) }
 {
@@ -135,27 +136,27 @@ pub fn new_device(alloc: Global, declared: &Declared, stmt: &Stmt) -> Result<Opt
 }
 
 /// The number that a device's own attribute gets.
-fn own_number(declared: &Declared, locators: &Option<List<Locator>>) -> Option<u32>
+fn own_number(declared: &Catalog, locators: &Option<List<Locator>>) -> Option<u32>
     requires { length declared.now.attrs ≤ 65536 }
     ensures { result ≡ option_map (λ l. length declared.now.attrs) locators.now }
 {
     match locators {
-        Some(_) => Some(declared.attrs.len() as u32),
+        Some(_) => Some(declared.attrs().len() as u32),
         None => None,
     }
 }
 
-fn place_named(declared: &Declared, name: &[u8]) -> Place
+fn place_named(declared: &Catalog, name: &[u8]) -> Place
     requires { length declared.now.attrs ≤ 65536 }
     ensures { result ≡ place_named declared.now name.now }
 {
     if is_root(name) {
         return Place::Root;
     }
-    Place::At(attr_number(declared, name).unwrap_or(0) as u32)
+    Place::At(declared.attr_number(name).unwrap_or(0) as u32)
 }
 
-fn places_named(alloc: Global, declared: &Declared, names: &[Name]) -> Result<List<Place>, Memory>
+fn places_named(alloc: Global, declared: &Catalog, names: &[Name]) -> Result<List<Place>, Memory>
     requires { length declared.now.attrs ≤ 65536 }
     ensures { IfOk result (λ places. places ≡ map (place_named declared.now) names.now) }
 {
@@ -166,15 +167,15 @@ fn places_named(alloc: Global, declared: &Declared, names: &[Name]) -> Result<Li
     Ok(places)
 }
 
-fn device_or_zero(declared: &Declared, name: &[u8]) -> u32
+fn device_or_zero(declared: &Catalog, name: &[u8]) -> u32
     requires { length declared.now.devices ≤ 65536 }
     ensures { result ≡ unwrap_or (device_number declared.now name.now) 0 }
 {
-    device_number(declared, name).unwrap_or(0) as u32
+    declared.device_number(name).unwrap_or(0) as u32
 }
 
 /// The attachment that a statement adds.
-pub fn new_attach(alloc: Global, declared: &Declared, stmt: &Stmt) -> Result<Option<Attach>, Memory>
+pub fn new_attach(alloc: Global, declared: &Catalog, stmt: &Stmt) -> Result<Option<Attach>, Memory>
     requires attrs { length declared.now.attrs ≤ 65536 }
     requires devices { length declared.now.devices ≤ 65536 }
     ensures { IfOk result (λ a. a ≡ new_attach declared.now stmt.now) }

@@ -3,39 +3,40 @@ ghost use Rattle.std.specs.List.{list_any};
 ghost use Rattle.config_rules.specs.Declared.{attr_number};
 ghost use Rattle.config_rules.specs.Fault.{repeats, repeats_locator, place_fault, lacks_attr, attr_numbers, has_attr, has_device, places_fault, attach_fault, is_pseudo};
 
-use crate::lookup::{attr_named, attr_number, device_number, has_attach, is_root};
-use cf_types::{Declared, List, Locator, Memory, Name};
+use crate::lookup::{attr_named, is_root};
+use cf_names::Catalog;
+use cf_types::{List, Locator, Memory, Name};
 use std::alloc::Global;
 
-pub fn has_attr(declared: &Declared, name: &[u8]) -> bool
+pub fn has_attr(declared: &Catalog, name: &[u8]) -> bool
     ensures { result ≡ has_attr declared.now name.now }
 {
-    attr_number(declared, name).is_some()
+    declared.attr_number(name).is_some()
 }
 
-pub fn has_device(declared: &Declared, name: &[u8]) -> bool
+pub fn has_device(declared: &Catalog, name: &[u8]) -> bool
     ensures { result ≡ has_device declared.now name.now }
 {
-    device_number(declared, name).is_some()
+    declared.device_number(name).is_some()
 }
 
 /// Whether one of these names is no attribute.
-pub fn lacks_attr(declared: &Declared, names: &[Name]) -> bool
+pub fn lacks_attr(declared: &Catalog, names: &[Name]) -> bool
     ensures { result ≡ lacks_attr declared.now names.now }
 {
     names.iter().any(|name| !has_attr(declared, name.bytes()))
 }
 
 /// The number of an attribute, 0 where there is none.
-fn number_or_zero(declared: &Declared, name: &[u8]) -> u32
+fn number_or_zero(declared: &Catalog, name: &[u8]) -> u32
     requires { length declared.now.attrs ≤ 65536 }
     ensures { result ≡ unwrap_or (attr_number declared.now name.now) 0 }
 {
-    attr_number(declared, name).unwrap_or(0) as u32
+    declared.attr_number(name).unwrap_or(0) as u32
 }
 
 /// The numbers of these attributes.
-pub fn attr_numbers(alloc: Global, declared: &Declared, names: &[Name]) -> Result<List<u32>, Memory>
+pub fn attr_numbers(alloc: Global, declared: &Catalog, names: &[Name]) -> Result<List<u32>, Memory>
     requires { length declared.now.attrs ≤ 65536 }
     ensures { IfOk result (λ numbers. numbers ≡ attr_numbers declared.now names.now) }
 {
@@ -77,7 +78,7 @@ fn is_named(locators: &[Locator], name: &[u8]) -> bool
 }
 
 /// The code of a place: unknown, or no interface attribute.
-fn place_fault(declared: &Declared, place: &[u8]) -> Option<u8>
+fn place_fault(declared: &Catalog, place: &[u8]) -> Option<u8>
     ensures { result ≡ place_fault declared.now place.now }
 {
     if is_root(place) {
@@ -90,7 +91,7 @@ fn place_fault(declared: &Declared, place: &[u8]) -> Option<u8>
 }
 
 /// The first code of these places.
-fn places_fault(declared: &Declared, places: &[Name]) -> Option<u8>
+fn places_fault(declared: &Catalog, places: &[Name]) -> Option<u8>
     ensures { result ≡ places_fault declared.now places.now }
 {
     for place in places {
@@ -103,7 +104,7 @@ fn places_fault(declared: &Declared, places: &[Name]) -> Option<u8>
 
 /// The first code of an attachment.
 pub fn attach_fault(
-    declared: &Declared,
+    declared: &Catalog,
     device: &[u8],
     places: &[Name],
     name: &[u8],
@@ -117,7 +118,7 @@ pub fn attach_fault(
     if let Some(code) = places_fault(declared, places) {
         return Some(code);
     }
-    if is_root(name) || has_attach(declared, name) {
+    if is_root(name) || declared.has_attach(name) {
         return Some(18);
     }
     if lacks_attr(declared, needs) {
@@ -127,7 +128,7 @@ pub fn attach_fault(
 }
 
 /// Whether the attribute of this name is that of a pseudo-device.
-pub fn is_pseudo(declared: &Declared, name: &[u8]) -> bool
+pub fn is_pseudo(declared: &Catalog, name: &[u8]) -> bool
     ensures { result ≡ is_pseudo declared.now name.now }
 {
     match attr_named(declared, name) {

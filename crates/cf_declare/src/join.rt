@@ -5,24 +5,22 @@ ghost use Rattle.cf_types.specs.Offers.{offers};
 ghost use Rattle.config_rules.specs.Declared.{attr_number};
 ghost use Rattle.config_rules.specs.Joined.{attr_target, target_of, suits, spots_of, fill, join, parent_of};
 ghost use Rattle.attr_graph.specs.Graphs.{IsGraphOf};
-ghost use Rattle.cf_declare.specs.Graphs.{LocatorsFit, placed_of};
+ghost use Rattle.cf_declare.specs.Graphs.{LocatorsFit, placed_at};
 
-use crate::lookup::{attr_number, device_number};
 use attr_graph::Graph;
-use cf_types::{
-    AtSpec, Attach, AttachPlace, Declared, GivenLoc, Joined, Locs, ParentSpec, Place, Target,
-};
+use cf_names::Catalog;
+use cf_types::{AtSpec, AttachPlace, GivenLoc, Joined, Locs, ParentSpec, Place, Target};
 use locator_rules::fill;
 
 /// An attribute that an instance attaches to: unknown, no interface attribute, or written with a unit.
-fn attr_target(declared: &Declared, name: &[u8], unit: Option<u32>) -> Result<Target, u8>
+fn attr_target(declared: &Catalog, name: &[u8], unit: Option<u32>) -> Result<Target, u8>
     requires { length declared.now.attrs ≤ 65536 }
     ensures { result ≡ attr_target declared.now unit (attr_number declared.now name.now) }
 {
-    let Some(number) = attr_number(declared, name) else {
+    let Some(number) = declared.attr_number(name) else {
         return Err(8);
     };
-    if !declared.attrs.items()[number].iface {
+    if !declared.attrs()[number].iface {
         return Err(9);
     }
     if unit.is_some() {
@@ -32,14 +30,14 @@ fn attr_target(declared: &Declared, name: &[u8], unit: Option<u32>) -> Result<Ta
 }
 
 /// What an instance attaches to. A name that is a device and an attribute is read as the device.
-fn target_of(declared: &Declared, at: &AtSpec) -> Result<Target, u8>
+fn target_of(declared: &Catalog, at: &AtSpec) -> Result<Target, u8>
     requires attrs { length declared.now.attrs ≤ 65536 }
     requires devices { length declared.now.devices ≤ 65536 }
     ensures { result ≡ target_of declared.now at.now }
 {
     match at {
         AtSpec::Root => Ok(Target::AtRoot),
-        AtSpec::Named { base, unit } => match device_number(declared, base.bytes()) {
+        AtSpec::Named { base, unit } => match declared.device_number(base.bytes()) {
             Some(device) => Ok(Target::Below(ParentSpec {
                 device: device as u32,
                 unit: *unit,
@@ -50,18 +48,18 @@ fn target_of(declared: &Declared, at: &AtSpec) -> Result<Target, u8>
 }
 
 /// Whether a device offers an attribute.
-fn offers(declared: &Declared, graph: &Graph, device: u32, attr: u32) -> bool
+fn offers(declared: &Catalog, graph: &Graph, device: u32, attr: u32) -> bool
     requires { IsGraphOf declared.now graph.now }
     ensures { result ≡ offers declared.now.attrs declared.now.devices device attr }
 {
-    if device as usize >= declared.devices.len() {
+    if device as usize >= declared.devices().len() {
         return false;
     }
     graph.offers(device, attr)
 }
 
 /// Whether a place is what an instance attaches to.
-fn suits(declared: &Declared, graph: &Graph, target: Target, place: Place) -> bool
+fn suits(declared: &Catalog, graph: &Graph, target: Target, place: Place) -> bool
     requires { IsGraphOf declared.now graph.now }
     ensures { result ≡ suits declared.now target place }
 {
@@ -76,7 +74,7 @@ fn suits(declared: &Declared, graph: &Graph, target: Target, place: Place) -> bo
 }
 
 /// The first of these places that suits.
-fn suitable(declared: &Declared, graph: &Graph, target: Target, places: &[Place]) -> Option<Place>
+fn suitable(declared: &Catalog, graph: &Graph, target: Target, places: &[Place]) -> Option<Place>
     requires { IsGraphOf declared.now graph.now }
     ensures { result ≡ find (suits declared.now target) places.now }
 {
@@ -88,31 +86,24 @@ fn suitable(declared: &Declared, graph: &Graph, target: Target, places: &[Place]
     None
 }
 
-/// The first place of an attachment that suits, where it is one of the device.
-fn place_of(
-    declared: &Declared,
-    graph: &Graph,
-    target: Target,
-    device: u32,
-    number: u32,
-    attach: &Attach,
-) -> Option<AttachPlace>
-    requires { IsGraphOf declared.now graph.now }
-    ensures { result ≡ placed_of declared.now target device number attach.now }
+/// The first place of the attachment of this number that suits.
+fn place_of(declared: &Catalog, graph: &Graph, target: Target, number: usize) -> Option<AttachPlace>
+    requires graph { IsGraphOf declared.now graph.now }
+    requires few { length declared.now.attaches ≤ 65536 }
+    requires within { number < length declared.now.attaches }
+    ensures { result ≡ placed_at declared.now target number }
 {
-    if attach.device != device {
-        return None;
-    }
+    let attach = &declared.attaches()[number];
     let place = suitable(declared, graph, target, attach.places.items())?;
     Some(AttachPlace {
-        attach: number,
+        attach: number as u32,
         place,
     })
 }
 
 /// The first attachment of a device, with its first place, that suits.
 fn attach_place(
-    declared: &Declared,
+    declared: &Catalog,
     graph: &Graph,
     target: Target,
     device: u32,
@@ -121,8 +112,8 @@ fn attach_place(
     requires few { length declared.now.attaches ≤ 65536 }
     ensures { result ≡ find (λ s. suits declared.now target s.place) (spots_of declared.now device) }
 {
-    for (number, attach) in declared.attaches.items().iter().enumerate() {
-        match place_of(declared, graph, target, device, number as u32, attach) {
+    for number in declared.attaches_of(device) {
+        match place_of(declared, graph, target, *number) {
             Some(place) => return Some(place),
             None => {}
         }
@@ -131,21 +122,20 @@ fn attach_place(
 }
 
 /// Whether a device has an attachment.
-fn is_attached(declared: &Declared, device: u32) -> bool
+fn is_attached(declared: &Catalog, device: u32) -> bool
     ensures { result ≡ list_any (λ a. a.device == device) declared.now.attaches }
 {
-    let attaches = declared.attaches.items();
-    attaches.iter().any(|attach| attach.device == device)
+    !declared.attaches_of(device).is_empty()
 }
 
 /// The locator values of an instance at a place.
-fn fill_at(declared: &Declared, place: Place, pairs: &[GivenLoc]) -> Result<Locs, u8>
+fn fill_at(declared: &Catalog, place: Place, pairs: &[GivenLoc]) -> Result<Locs, u8>
     requires { LocatorsFit declared.now }
     ensures { result ≡ fill (locators_at declared.now.attrs place) pairs.now }
 {
     match place {
         Place::Root => fill_nothing(pairs),
-        Place::At(attr) => match declared.attrs.items().get(attr as usize) {
+        Place::At(attr) => match declared.attrs().get(attr as usize) {
             Some(attr) => fill(attr, pairs),
             None => fill_nothing(pairs),
         },
@@ -165,7 +155,7 @@ fn fill_nothing(pairs: &[GivenLoc]) -> Result<Locs, u8>
 /// What an instance joins, or its first code.
 #[tactic(auto, unfolding(config_rules::specs::Joined::join))]
 pub fn join(
-    declared: &Declared,
+    declared: &Catalog,
     graph: &Graph,
     base: &[u8],
     at: &AtSpec,
@@ -178,7 +168,7 @@ pub fn join(
     requires locators { LocatorsFit declared.now }
     ensures { result ≡ join declared.now base.now at.now pairs.now }
 {
-    let Some(device) = device_number(declared, base) else {
+    let Some(device) = declared.device_number(base) else {
         return Err(10);
     };
     let device = device as u32;

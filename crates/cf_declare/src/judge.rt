@@ -8,14 +8,15 @@ use crate::fault::{attach_fault, has_attr, is_pseudo};
 use crate::join::join;
 use crate::lookup::is_root;
 use attr_graph::Graph;
-use cf_types::{AtSpec, Declared, GivenLoc, Memory, Stmt};
+use cf_names::Catalog;
+use cf_types::{AtSpec, GivenLoc, Memory, Stmt};
 use std::alloc::Global;
 
 /// How many instance statements there may be.
 const MAX_INSTANCES: usize = 8_192;
 
 /// The code of a device class.
-fn class_fault(declared: &Declared, name: &[u8]) -> Option<u8>
+fn class_fault(declared: &Catalog, name: &[u8]) -> Option<u8>
     ensures { result ≡ class_fault declared.now name.now }
 {
     if is_root(name) || has_attr(declared, name) {
@@ -26,7 +27,7 @@ fn class_fault(declared: &Declared, name: &[u8]) -> Option<u8>
 
 /// The first code of an instance behind so many others.
 fn instance_fault(
-    declared: &Declared,
+    declared: &Catalog,
     graph: &Graph,
     instances: usize,
     base: &[u8],
@@ -48,7 +49,7 @@ fn instance_fault(
 }
 
 /// The code of a pseudo-device.
-fn pseudo_fault(declared: &Declared, name: &[u8]) -> Option<u8>
+fn pseudo_fault(declared: &Catalog, name: &[u8]) -> Option<u8>
     ensures { result ≡ pseudo_fault declared.now name.now }
 {
     if is_pseudo(declared, name) {
@@ -60,7 +61,7 @@ fn pseudo_fault(declared: &Declared, name: &[u8]) -> Option<u8>
 /// The first code of a statement behind what is declared and so many instances.
 pub fn code_of(
     alloc: Global,
-    declared: &Declared,
+    declared: &Catalog,
     graph: &mut Graph,
     instances: usize,
     stmt: &Stmt,

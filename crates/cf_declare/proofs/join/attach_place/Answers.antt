@@ -1,22 +1,36 @@
 use Rattle.std.proofs.Common.{◌∙◌, ◌+◌, ap, sym, drop}
-use Rattle.cf_declare.proofs.JoinLemmas.{first_from, first_here, or_else}
+use Rattle.std.specs.Prelude.{find}
+use Rattle.std.proofs.lemmas.List.{drop_all}
+use Rattle.config_rules.specs.Joined.{suits}
+use Rattle.cf_types.specs.declared.instance.AttachPlace.{AttachPlace}
+use Rattle.cf_declare.proofs.JoinLemmas.{first_of, first_here, or_else, spots_are}
 use Rattle.cf_declare.proofs.join.attach_place.Goals as goal
 
 pub returns-in-Some : goal.returns-in-Some
 returns-in-Some c =
     let d = c.args.declared.now in
-    let all = c.items-attach-items.result.now in
-    let n = c.loop-number.number in
-    ap (λ o. or_else o (first_from d c.args.target c.args.device (n + 1) (drop (n + 1) all))) c.in-Some.ensures
-    ∙ sym (first_here d c.args.target c.args.device n all c.attach-item.result c.loop-number-test.true c.attach-item.is)
+    let numbers = c.attaches_of-number-items.result.now in
+    let i = c.loop-number.number-index in
+    ap (λ o. or_else o (first_of d c.args.target (drop (i + 1) numbers))) c.in-Some.ensures
+    ∙ sym (first_here d c.args.target numbers i c.loop-number-test.true)
     ∙ c.loop-number.invariant
-    ∙ ap (first_from d c.args.target c.args.device 0) c.items-attach-items.ensures
+    ∙ ap (first_of d c.args.target) c.attaches_of-number-items.ensures.numbers
+    ∙ ap (find (λ (s : AttachPlace). suits d c.args.target s.place)) (spots_are d c.args.device)
+
+pub returns : goal.returns
+returns c =
+    let d = c.args.declared.now in
+    let numbers = c.attaches_of-number-items.result.now in
+    ap (first_of d c.args.target) (sym (drop_all c.loop-number.number-index numbers c.loop-number-test.false))
+    ∙ c.loop-number.invariant
+    ∙ ap (first_of d c.args.target) c.attaches_of-number-items.ensures.numbers
+    ∙ ap (find (λ (s : AttachPlace). suits d c.args.target s.place)) (spots_are d c.args.device)
 
 pub loop-number-preserved : goal.loop-number-preserved
 loop-number-preserved c =
     let d = c.args.declared.now in
-    let all = c.items-attach-items.result.now in
-    let n = c.loop-number.number in
-    ap (λ o. or_else o (first_from d c.args.target c.args.device (n + 1) (drop (n + 1) all))) c.in-None.ensures
-    ∙ sym (first_here d c.args.target c.args.device n all c.attach-item.result c.loop-number-test.true c.attach-item.is)
+    let numbers = c.attaches_of-number-items.result.now in
+    let i = c.loop-number.number-index in
+    ap (λ o. or_else o (first_of d c.args.target (drop (i + 1) numbers))) c.in-None.ensures
+    ∙ sym (first_here d c.args.target numbers i c.loop-number-test.true)
     ∙ c.loop-number.invariant

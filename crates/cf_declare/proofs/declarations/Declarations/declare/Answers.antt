@@ -9,6 +9,6 @@ pub invariant_of-result : goal.invariant_of-result
 invariant_of-result c =
     let accepted : code_of c.self.inside.lists 0 c.args.stmt.now ≡ None =
     subst (λ (d : Declared). code_of d 0 c.args.stmt.now ≡ None) (sym c.self.view_is) c.requires.accepted in (
-      c.in_ok-grow.ensures.graph,
-      subst (λ (d : Declared). LocatorsFit d) (sym c.in_ok-grow.ensures.added) (locators_more c.self.inside.lists 0 c.args.stmt.now c.self.invariant.1 accepted c.requires.few),
+      c.in_ok-lists.ensures.graph,
+      subst (λ (d : Declared). LocatorsFit d) (sym c.in_ok-lists.ensures.added) (locators_more c.self.inside.lists 0 c.args.stmt.now c.self.invariant.1 accepted c.requires.few),
     )

@@ -1,0 +1,3 @@
+pub mod Attaches
+pub mod Indexed
+pub mod Numbers
