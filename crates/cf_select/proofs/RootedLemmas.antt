@@ -1,10 +1,21 @@
--- Marks that are spread from the root in rounds mark all that is rooted.
-use Rattle.std.proofs.Common.{◌⊎◌, inl, inr, zero, suc, subst, length-set, below_more, ◌≡◌, ℕ, ◌<◌, ◌≤◌, ◌+◌, Bool, true, false, not, cond, List, [], ◌∷◌, length, get_or, map, refl, ap, sym, ◌∙◌, arith}
-use Rattle.std.specs.Prelude.{count_by, set}
-use Rattle.std.proofs.lemmas.List.Sums.{sum_by-set}
+-- Marks that are spread from the root, along a list of those that are marked, mark all that is rooted.
+use Rattle.std.proofs.Common.{◌⊎◌, inl, inr, zero, suc, take, drop, subst, ◌||◌, ◌==◌, ◌≡◌, ℕ, ◌<◌, ◌≤◌, ◌+◌, Bool, true, false, List, [], ◌∷◌, length, get_or, map, refl, ap, sym, ◌∙◌, arith}
+use Rattle.std.specs.Prelude.{All, Some, None, slice_get}
+use Rattle.attr_graph.specs.Reach.{Shape}
+use Rattle.std.specs.List.{list_any}
+use Rattle.std.specs.HashMap.{HashMap}
+use Rattle.std.proofs.lemmas.Bool.Decides.{nat_tests}
+use Rattle.std.proofs.lemmas.List.{take_all, take-append-drop, take-append-le, length-append, length-map, get_or_default}
+use Rattle.std.proofs.lemmas.List.Elements.{All-get_or}
+use Rattle.std.proofs.lemmas.Option.{slice_get_cases}
+use Rattle.std.proofs.lemmas.List.Folds.{list_any_at, list_any_more}
+use Rattle.cf_types.specs.Gather.{is_in}
 use Rattle.config_rules.specs.Select.{LeadsToRoot, Rooted, AllRooted, AreRooted, Closed, is_at_root, is_at_root_at}
 use Rattle.cf_select.specs.declared.instance.Inst.{Inst}
+use Rattle.cf_select.specs.declared.want.Want.{Want}
 use Rattle.cf_select.specs.Carried.{inst_of}
+use Rattle.cf_select.specs.Reached.{AreMarked, AreWaiting, AreWithin, Serves}
+use Rattle.cf_select.proofs.ReachedLemmas.{eq_same, or_true}
 
 -- marks that are closed and mark those at the root mark all that is rooted
 pub closed_marks : (at_root : ℕ → Bool) (carries : ℕ → ℕ → Bool) (n : ℕ) (marks : List Bool) → ((i : ℕ) → i < n → at_root i ≡ true → get_or marks i false ≡ true) → Closed carries n marks
@@ -29,75 +40,63 @@ in_range [] j h = absurd (cc)
 in_range (x ∷ xs) zero h = omega arith
 in_range (x ∷ xs) (suc j) h = let e : j < length xs = in_range xs j h in omega arith
 
-set_kept : (xs : List Bool) (i k : ℕ) → get_or xs k false ≡ true → get_or (set xs i true) k false ≡ true
-set_kept [] i k h = h
-set_kept (x ∷ xs) zero zero h = refl
-set_kept (x ∷ xs) zero (suc k) h = h
-set_kept (x ∷ xs) (suc i) zero h = h
-set_kept (x ∷ xs) (suc i) (suc k) h = set_kept xs i k h
+is_or : (a b : Bool) → (a || b) ≡ true → (a ≡ true) ⊎ (b ≡ true)
+is_or true b h = inl refl
+is_or false b h = inr h
 
--- what is marked then was marked, or is the one
-set_was : (xs : List Bool) (i k : ℕ) → get_or (set xs i true) k false ≡ true → (k ≡ i) ⊎ (get_or xs k false ≡ true)
-set_was [] i k h = inr h
-set_was (x ∷ xs) zero zero h = inl refl
-set_was (x ∷ xs) zero (suc k) h = inr h
-set_was (x ∷ xs) (suc i) zero h = inr h
-set_was (x ∷ xs) (suc i) (suc k) h = elim (set_was xs i k h) [ inl e ↦ inl (ap suc e) | inr e ↦ inr e ]
+-- ---- the marks while they spread, where those before place `next` of the list have marked all that they carry
 
-set_fewer : (xs : List Bool) (i : ℕ) → i < length xs → get_or xs i false ≡ false → count_by not (set xs i true) + 1 ≡ count_by not xs
-set_fewer xs i h e =
-    let s : ◌≡◌ {A = ℕ} (count_by not (set xs i true) + cond (not (get_or xs i false)) 1 0) (count_by not xs + 0) = sum_by-set (λ x. cond (not x) 1 0) xs i true false h in
-    let f : ◌≡◌ {A = ℕ} (cond (not (get_or xs i false)) 1 0) 1 = rw e refl in
-    omega (arith, s, f)
+pub record Spreads {S : Type 0} (at_root : ℕ → Bool) (carries : ℕ → ℕ → Bool) (wanted : Want → ℕ → Bool) (n : ℕ) (waiting : HashMap Want (List ℕ) S) (marks : List Bool) (order : List ℕ) (next : ℕ) : Type 0 where
+  pub sound : AllRooted at_root carries n marks
+  pub roots : (i : ℕ) → i < n → at_root i ≡ true → get_or marks i false ≡ true
+  pub listed : AreMarked marks order
+  pub within : AreWithin waiting marks
+  pub left : AreWaiting wanted waiting marks
+  pub past : next ≤ length order
+  pub done : (j i : ℕ) → is_in j (take next order) ≡ true → carries j i ≡ true → get_or marks i false ≡ true
 
-marked_sound : (at_root : ℕ → Bool) (carries : ℕ → ℕ → Bool) (n : ℕ) (marks : List Bool) (i j : ℕ) → i < n → get_or marks j false ≡ true → carries j i ≡ true
-    → AllRooted at_root carries n marks → AllRooted at_root carries n (set marks i true)
-marked_sound at_root carries n marks i j h m c all = record {
-  as_many = length-set marks i true ∙ all.as_many;
-  sound = λ k p e. elim (set_was marks i k e) [
-    | inl same ↦ (let P : ℕ → Type 0 = λ x. Rooted at_root carries n x in subst P (sym same) (rooted_above at_root carries n j i h c (all.sound j (omega (arith, in_range marks j m, all.as_many)) m)))
-    | inr was ↦ all.sound k p was
-  ];
-}
+-- each place in the list is below n
+pub listed_below : {S : Type 0} (at_root : ℕ → Bool) (carries : ℕ → ℕ → Bool) (wanted : Want → ℕ → Bool) (n : ℕ) (waiting : HashMap Want (List ℕ) S) (marks : List Bool) (order : List ℕ) (next : ℕ)
+    → next < length order → Spreads at_root carries wanted n waiting marks order next → (get_or marks (get_or order next 0) false ≡ true) × (get_or order next 0 < n)
+listed_below at_root carries wanted n waiting marks order next h r =
+    let marked : get_or marks (get_or order next 0) false ≡ true = sym (r.listed.same (get_or order next 0)) ∙ list_any_at (λ y. y == get_or order next 0) order next 0 h (eq_same (get_or order next 0)) in
+    (marked, omega (arith, in_range marks (get_or order next 0) marked, r.sound.as_many))
 
--- what a round keeps: the marks at its start, those now, and whether one was marked, before place i
-pub record Round (at_root : ℕ → Bool) (carries : ℕ → ℕ → Bool) (first now : List Bool) (changed : Bool) (i : ℕ) : Type 0 where
-  pub sound : AllRooted at_root carries (length first) first → AllRooted at_root carries (length first) now
-  pub kept : (k : ℕ) → get_or first k false ≡ true → get_or now k false ≡ true
-  pub same : changed ≡ false → now ≡ first
-  pub closed : changed ≡ false → (j k : ℕ) → k < i → get_or first j false ≡ true → carries j k ≡ true → get_or first k false ≡ true
-  pub most : count_by not now ≤ count_by not first
-  pub fewer : changed ≡ true → count_by not now < count_by not first
+pub spread_more : {S : Type 0} (at_root : ℕ → Bool) (carries : ℕ → ℕ → Bool) (wanted : Want → ℕ → Bool) (n : ℕ) (w : HashMap Want (List ℕ) S) (m : List Bool) (o : List ℕ) (next : ℕ) (w1 : HashMap Want (List ℕ) S) (m1 : List Bool) (o1 : List ℕ) (ws : List Want)
+    → next < length o → Spreads at_root carries wanted n w m o next → Serves w m o w1 m1 o1 ws → ((x : ℕ) → list_any (λ q. wanted q x) ws ≡ carries (get_or o next 0) x)
+    → Spreads at_root carries wanted n w1 m1 o1 (next + 1)
+spread_more at_root carries wanted n w m o next w1 m1 o1 ws h r serves same =
+    let j : ℕ = get_or o next 0 in
+    let here = listed_below at_root carries wanted n w m o next h r in
+    let more = serves.served wanted r.left in
+    let kept : (i : ℕ) → get_or m i false ≡ true → get_or m1 i false ≡ true = λ i e. more.marked i ∙ ap (λ b. b || list_any (λ q. wanted q i) ws) e in
+    let whole : length (take (length o) o1) + length (drop (length o) o1) ≡ length o1 = sym (length-append (take (length o) o1) (drop (length o) o1)) ∙ ap length (take-append-drop (length o) o1) in
+    let longer : next + 1 ≤ length o1 = omega (arith, whole, ap length more.front) in
+    let short : next + 1 ≤ length (take (length o) o1) = omega (arith, ap length more.front) in
+    let front : take (next + 1) o1 ≡ take (next + 1) o = ap (take (next + 1)) (sym (take-append-drop (length o) o1)) ∙ take-append-le (next + 1) (take (length o) o1) (drop (length o) o1) short ∙ ap (take (next + 1)) more.front in
+    record {
+      sound = record {
+        as_many = more.size ∙ r.sound.as_many;
+        sound = λ i p e. elim (is_or (get_or m i false) (list_any (λ q. wanted q i) ws) (sym (more.marked i) ∙ e)) [
+          | inl was ↦ r.sound.sound i p was
+          | inr new ↦ rooted_above at_root carries n j i p (sym (same i) ∙ new) (r.sound.sound j here.1 here.0)
+        ];
+      };
+      roots = λ i p e. kept i (r.roots i p e);
+      listed = more.listed r.listed;
+      within = serves.within;
+      left = serves.left wanted r.left;
+      past = longer;
+      done = λ k i e c. elim (is_or (is_in k (take next o)) (j == k) (sym (ap (is_in k) front ∙ list_any_more (λ y. y == k) o next 0 h) ∙ e)) [
+        | inl before ↦ kept i (r.done k i before c)
+        | inr now ↦ (let is : j ≡ k = grind (arith, nat_tests) in more.marked i ∙ ap (λ b. get_or m i false || b) (same i ∙ ap (λ x. carries x i) is ∙ c) ∙ or_true (get_or m i false))
+      ];
+    }
 
-pub round_marks : (at_root : ℕ → Bool) (carries : ℕ → ℕ → Bool) (first now : List Bool) (changed : Bool) (i j : ℕ) → i < length first → length now ≡ length first → get_or now i false ≡ false → get_or now j false ≡ true → carries j i ≡ true
-    → Round at_root carries first now changed i → Round at_root carries first (set now i true) true (i + 1)
-round_marks at_root carries first now changed i j h len e m c r = record {
-  sound = λ all. marked_sound at_root carries (length first) now i j h m c (r.sound all);
-  kept = λ k p. set_kept now i k (r.kept k p);
-  same = λ f. absurd (cc);
-  closed = λ f. absurd (cc);
-  most = omega (arith, r.most, set_fewer now i (omega (arith, h, len)) e);
-  fewer = λ f. omega (arith, r.most, set_fewer now i (omega (arith, h, len)) e);
-}
-
-pub round_leaves : (at_root : ℕ → Bool) (carries : ℕ → ℕ → Bool) (first now : List Bool) (changed : Bool) (i : ℕ)
-    → (get_or now i false ≡ true) ⊎ ((j : ℕ) → j < length now → get_or now j false ≡ true → carries j i ≡ false)
-    → Round at_root carries first now changed i → Round at_root carries first now changed (i + 1)
-round_leaves at_root carries first now changed i left r = record {
-  sound = r.sound;
-  kept = r.kept;
-  same = r.same;
-  closed = λ f j k p. (below_more (λ k. (j : ℕ) → get_or first j false ≡ true → carries j k ≡ true → get_or first k false ≡ true) i (λ k p j. r.closed f j k p) (here f left)) k p j;
-  most = r.most;
-  fewer = r.fewer;
-}
-  where
-    here : changed ≡ false → (get_or now i false ≡ true) ⊎ ((j : ℕ) → j < length now → get_or now j false ≡ true → carries j i ≡ false) → (j : ℕ) → get_or first j false ≡ true → carries j i ≡ true → get_or first i false ≡ true
-    here f (inl e) j m c = ap (λ xs. get_or xs i false) (sym (r.same f)) ∙ e
-    here f (inr none) j m c =
-        let m2 : get_or now j false ≡ true = ap (λ xs. get_or xs j false) (r.same f) ∙ m in
-        let no_way : carries j i ≡ false = none j (in_range now j m2) m2 in
-        absurd (cc)
+pub spread_all : {S : Type 0} (at_root : ℕ → Bool) (carries : ℕ → ℕ → Bool) (wanted : Want → ℕ → Bool) (n : ℕ) (w : HashMap Want (List ℕ) S) (m : List Bool) (o : List ℕ) (next : ℕ)
+    → length o ≤ next → Spreads at_root carries wanted n w m o next → AreRooted at_root carries n m
+spread_all at_root carries wanted n w m o next h r =
+    are_rooted at_root carries n m r.sound r.roots (λ j i p e c. r.done j i (ap (is_in j) (take_all next o h) ∙ r.listed.same j ∙ e) c)
 
 -- ---- the marks at the start
 
@@ -109,5 +108,20 @@ root_read (x ∷ insts) (suc i) = root_read insts i
 pub roots_marked : (insts : List Inst) (marks : List Bool) (i : ℕ) → marks ≡ map (λ x. is_at_root (inst_of x)) insts → is_at_root_at (map inst_of insts) i ≡ true → get_or marks i false ≡ true
 roots_marked insts marks i e root = ap (λ xs. get_or xs i false) e ∙ root_read insts i ∙ root
 
-pub marked_roots : (carries : ℕ → ℕ → Bool) (insts : List Inst) (marks : List Bool) → marks ≡ map (λ x. is_at_root (inst_of x)) insts → AllRooted (is_at_root_at (map inst_of insts)) carries (length marks) marks
-marked_roots carries insts marks e = record { as_many = refl; sound = λ i h m. ([], (h, sym (root_read insts i) ∙ ap (λ xs. get_or xs i false) (sym e) ∙ m)) }
+pub marked_roots : (carries : ℕ → ℕ → Bool) (insts : List Inst) (marks : List Bool) → marks ≡ map (λ x. is_at_root (inst_of x)) insts → AllRooted (is_at_root_at (map inst_of insts)) carries (length insts) marks
+marked_roots carries insts marks e = record {
+  as_many = ap length e ∙ length-map insts (λ x. is_at_root (inst_of x));
+  sound = λ i h m. ([], (h, sym (root_read insts i) ∙ ap (λ xs. get_or xs i false) (sym e) ∙ m));
+}
+
+-- what is read at a place
+pub read_at : (xs : List ℕ) (i r : ℕ) → i < length xs → r ≡ get_or xs i r → r ≡ get_or xs i 0
+read_at xs i r h e = e ∙ get_or_default xs i r 0 h
+
+pub known_at : (graph : Shape) (insts : List Inst) (n : ℕ) (i : Inst) → All (λ x. x.device < length graph.devices) insts → slice_get insts n ≡ Some i → i.device < length graph.devices
+known_at graph insts n i known is = elim (slice_get_cases insts n).1 [
+  | inl e ↦ (let P : Inst → Type 0 = λ x. x.device < length graph.devices in
+      let same : e.0 ≡ i = cc (is, e.2) in
+      subst P same (subst P e.3 (All-get_or P insts n e.0 e.1 known)))
+  | inr e ↦ (let no_way : Some i ≡ None = sym is ∙ e.1 in absurd (cc))
+]

@@ -1,7 +1,7 @@
 -- What stands after one more statement.
-use Rattle.std.proofs.Common.{◌≡◌, ℕ, ◌+◌, ◌<◌, ◌≤◌, ◌||◌, ◌&&◌, not, Bool, true, false, cond, suc, List, [], ◌∷◌, ◌++◌, length, get_or, take, drop, drop-cons, add-one, refl, ap, sym, ◌∙◌, append_assoc, arith, set}
+use Rattle.std.proofs.Common.{◌≡◌, ℕ, ◌+◌, ◌<◌, ◌≤◌, ◌||◌, ◌&&◌, not, Bool, true, false, cond, suc, List, [], ◌∷◌, ◌++◌, length, get_or, take, drop, drop-cons, add-one, refl, ap, sym, ◌∙◌, append_assoc, arith}
 use Rattle.std.specs.List.{list_any}
-use Rattle.std.proofs.lemmas.List.{drop_all, append-nil, length-map, drop-set-lt, take_more_set, take_all, length-take-le, get_or_default}
+use Rattle.std.proofs.lemmas.List.{drop_all, append-nil, length-map, take_all, length-take-le}
 use Rattle.std.proofs.lemmas.List.Folds.{list_any-append}
 use Rattle.cf_types.specs.declared.stmt.Placed.{Placed}
 use Rattle.cf_types.specs.declared.stmt.Stmt.{Stmt}
@@ -102,72 +102,12 @@ idle_free (stmt.Free word rest) before = refl
 
 -- ---- the loops
 
-without_front : (n : Stmt) (before : List Placed) (marks : List Bool) (i : ℕ) (p : Placed) → i < length before → i < length marks → p ≡ get_or before i p
-    → without n (stmts_of (drop i before)) (drop i marks) ≡ (get_or marks i false && not (names n p.stmt)) ∷ without n (stmts_of (drop (i + 1) before)) (drop (i + 1) marks)
-unfolding without
-without_front n before marks i p h r is =
-    rw (add-one, drop-cons before i p, drop-cons marks i false)
-    (ap (λ (q : Placed). (get_or marks i false && not (names n q.stmt)) ∷ without n (stmts_of (drop (suc i) before)) (drop (suc i) marks)) (sym is))
-
-names_front : (n : Stmt) (before : List Placed) (marks : List Bool) (i : ℕ) (p : Placed) → i < length before → i < length marks → p ≡ get_or before i p
-    → names_one n (stmts_of (drop i before)) (drop i marks) ≡ ((names n p.stmt && get_or marks i false) || names_one n (stmts_of (drop (i + 1) before)) (drop (i + 1) marks))
-unfolding names_one
-names_front n before marks i p h r is =
-    rw (add-one, drop-cons before i p, drop-cons marks i false)
-    (ap (λ (q : Placed). (names n q.stmt && get_or marks i false) || names_one n (stmts_of (drop (suc i) before)) (drop (suc i) marks)) (sym is))
-
 instances_front : (placed : List Placed) (marks : List Bool) (i : ℕ) (p : Placed) → i < length placed → i < length marks → p ≡ get_or placed i p
     → instances (stmts_of (drop i placed)) (drop i marks) ≡ (is_instance p.stmt && get_or marks i false) ∷ instances (stmts_of (drop (i + 1) placed)) (drop (i + 1) marks)
 unfolding instances
 instances_front placed marks i p h r is =
     rw (add-one, drop-cons placed i p, drop-cons marks i false)
     (ap (λ (q : Placed). (is_instance q.stmt && get_or marks i false) ∷ instances (stmts_of (drop (suc i) placed)) (drop (suc i) marks)) (sym is))
-
-both_same : (m named a b : Bool) → m ≡ a → named ≡ b → (m && not named) ≡ (a && not b)
-both_same m named a b e f = ap (λ x. x && not named) e ∙ ap (λ x. a && not x) f
-
--- what is left of the marks, with one more statement
-pub free_step : (n : Stmt) (before : List Placed) (marks all : List Bool) (i : ℕ) (p : Placed) (m named : Bool) → i < length before → length marks ≡ length before → p ≡ get_or before i p → m ≡ get_or marks i m → named ≡ names n p.stmt
-    → take i marks ++ without n (stmts_of (drop i before)) (drop i marks) ≡ all
-    → take (i + 1) (set marks i (m && not named)) ++ without n (stmts_of (drop (i + 1) before)) (drop (i + 1) (set marks i (m && not named))) ≡ all
-free_step n before marks all i p m named h size is e f so_far =
-    let r : i < length marks = omega arith in
-    let more : i < i + 1 = omega arith in
-    let b = m && not named in
-    let rest = without n (stmts_of (drop (i + 1) before)) (drop (i + 1) marks) in
-    rw (take_more_set marks i b r, drop-set-lt (i + 1) marks i b more)
-    (append_assoc (take i marks) (b ∷ []) rest ∙ ap (λ x. take i marks ++ x ∷ rest) (both_same m named (get_or marks i false) (names n p.stmt) (e ∙ get_or_default marks i m false r) f)
-    ∙ ap (λ xs. take i marks ++ xs) (sym (without_front n before marks i p h r is)) ∙ so_far)
-
-or_assoc : (a b c : Bool) → ((a || b) || c) ≡ (a || (b || c))
-or_assoc true b c = refl
-or_assoc false b c = refl
-
--- whether one was named, with one more statement
-pub found_step : (n : Stmt) (before : List Placed) (marks : List Bool) (found all : Bool) (i : ℕ) (p : Placed) (m named b : Bool) → i < length before → length marks ≡ length before → p ≡ get_or before i p → m ≡ get_or marks i m → named ≡ names n p.stmt
-    → (found || names_one n (stmts_of (drop i before)) (drop i marks)) ≡ all
-    → ((found || (named && m)) || names_one n (stmts_of (drop (i + 1) before)) (drop (i + 1) (set marks i b))) ≡ all
-found_step n before marks found all i p m named b h size is e f so_far =
-    let r : i < length marks = omega arith in
-    let more : i < i + 1 = omega arith in
-    let rest = names_one n (stmts_of (drop (i + 1) before)) (drop (i + 1) marks) in
-    rw (drop-set-lt (i + 1) marks i b more)
-    (or_assoc found (named && m) rest ∙ ap (λ x. found || ((x && m) || rest)) f ∙ ap (λ x. found || ((names n p.stmt && x) || rest)) (e ∙ get_or_default marks i m false r)
-    ∙ ap (λ x. found || x) (sym (names_front n before marks i p h r is)) ∙ so_far)
-
-pub free_ends : (n : Stmt) (before : List Placed) (marks all : List Bool) (i : ℕ) → length before ≤ i → length marks ≡ length before → take i marks ++ without n (stmts_of (drop i before)) (drop i marks) ≡ all → marks ≡ all
-unfolding without
-free_ends n before marks all i h size so_far =
-    let k : length marks ≤ i = omega arith in
-    let none : marks ++ [] ≡ all = rw (drop_all i before h, take_all i marks k) at so_far in sym (append-nil marks) ∙ none
-
-or_false : (a : Bool) → (a || false) ≡ a
-or_false true = refl
-or_false false = refl
-
-pub found_ends : (n : Stmt) (before : List Placed) (marks : List Bool) (found all : Bool) (i : ℕ) → length before ≤ i → (found || names_one n (stmts_of (drop i before)) (drop i marks)) ≡ all → found ≡ all
-unfolding names_one
-found_ends n before marks found all i h so_far = let none : (found || false) ≡ all = rw (drop_all i before h) at so_far in sym (or_false found) ∙ none
 
 pub instances_step : (placed : List Placed) (marks now next all : List Bool) (i : ℕ) (p : Placed) (b m : Bool) → i < length placed → length marks ≡ length placed → p ≡ get_or placed i p → b ≡ is_instance p.stmt → m ≡ get_or marks i false
     → now ++ instances (stmts_of (drop i placed)) (drop i marks) ≡ all → next ≡ now ++ (b && m) ∷ [] → next ++ instances (stmts_of (drop (i + 1) placed)) (drop (i + 1) marks) ≡ all

@@ -1,5 +1,9 @@
 pub mod Carried
+pub mod Naming
+pub mod Places
+pub mod Reached
 pub mod Selected
+pub mod Wanted
 pub use Rattle.attr_graph.specs.Reach
 pub use Rattle.config_rules.specs.Declared
 pub use Rattle.config_rules.specs.Fault

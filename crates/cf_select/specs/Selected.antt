@@ -1,16 +1,10 @@
 -- Which of the statements no later one names, and what is left where one more statement takes back what it names.
-use Rattle.std.specs.Prelude.{Bool, true, false, not, ◌&&◌, ◌||◌, List, [], ◌∷◌, Option}
+use Rattle.std.specs.Prelude.{Bool, true, false, not, ◌&&◌, ◌||◌, List, [], ◌∷◌}
 use Rattle.std.specs.List.{list_any}
-use Rattle.std.specs.Option.{option_map_or}
-use Rattle.cf_types.specs.declared.stmt.AtSpec.{AtSpec}
 use Rattle.cf_types.specs.declared.stmt.Stmt.{Stmt}
 use Rattle.cf_types.specs.declared.stmt.Stmt.TheVariants as stmt
 use Rattle.config_rules.specs.Fault.{is_instance}
-use Rattle.config_rules.specs.Select.{names, same_at}
-
--- an instance attaches as a negation says, where it says so
-abbrev pub fits_at : Option AtSpec → AtSpec → Bool
-fits_at at x = option_map_or (λ a. same_at a x) at true
+use Rattle.config_rules.specs.Select.{names}
 
 -- a negation of instances
 abbrev pub is_negation : Stmt → Bool

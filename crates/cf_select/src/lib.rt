@@ -2,9 +2,13 @@
 #![tactic(auto)]
 
 mod instance;
+mod lists;
 mod marks;
+mod named;
 mod negations;
 mod standing;
+mod want;
+mod wants;
 
 pub use instance::Inst;
 pub use marks::rooted;

@@ -1,91 +1,188 @@
-ghost use Rattle.std.specs.Prelude.{◌≡◌, ◌<◌, ℕ, true, false, not, count_by, length, map, All, IfOk, MatchBool};
+ghost use Rattle.std.specs.Prelude.{◌≡◌, ◌<◌, ℕ, true, false, not, [], ◌∷◌, ◌++◌, ◌==◌, length, map, slice_get, Some, if◌then◌else◌, All, IfOk, OnOk};
 ghost use Rattle.std.specs.List.{slice_index_or};
 ghost use Rattle.config_rules.specs.Declared.{Declared};
 ghost use Rattle.config_rules.specs.Select.{AllRooted, AreRooted, Closed, RootedInsts, is_at_root, is_at_root_at};
 ghost use Rattle.attr_graph.specs.Graphs.{IsGraphOf};
+ghost use Rattle.cf_types.specs.Gather.{is_in};
+ghost use Rattle.cf_types.specs.Offers.{interfaces_of};
 ghost use Rattle.cf_select.specs.Carried.{RootedIn, carries_at, inst_of};
+ghost use Rattle.cf_select.specs.Reached.{AreMarked, AreWaiting, AreWithin, Marks, Serves};
+ghost use Rattle.cf_select.specs.Wanted.{carriers_of, wants_at, wants_of};
+ghost use Rattle.cf_select.specs.declared.want.Want.{Want as Wanted};
 
-use crate::instance::{Inst, carries, is_at_root};
+use crate::instance::{Inst, is_at_root};
+use crate::lists::take_places;
+use crate::want::{Carrier, Want};
+use crate::wants::{own_carrier, waiting_lists};
 use attr_graph::Graph;
 use cf_types::{List, Memory};
-use std::alloc::{AllocError, Global};
+use std::alloc::Global;
+use std::collections::HashMap;
 
-/// Whether the instance at one place carries the one at another.
-fn carries_at(graph: &Graph, insts: &[Inst], carrier: usize, place: usize) -> bool
-    requires known { All (λ i. i.device < length graph.now.devices) insts.now }
-    requires carrier { carrier < length insts.now }
-    requires place { place < length insts.now }
-    ensures { result ≡ carries_at graph.now (map inst_of insts.now) carrier place }
+/// Marks a place, and appends it to those that are marked, unless it is one of them.
+fn mark(marks: &mut Vec<bool>, order: &mut Vec<usize>, place: usize) -> Result<(), Memory>
+    requires { place < length marks.old.items }
+    ensures { OnOk result (Marks marks.old.items order.old.items marks.new.items order.new.items (λ x. place == x)) }
 {
-    carries(graph, &insts[carrier], &insts[place])
-}
-
-/// Whether one that is marked can carry this one.
-fn has_carrier(graph: &Graph, insts: &[Inst], marks: &[bool], place: usize) -> bool
-    requires known { All (λ i. i.device < length graph.now.devices) insts.now }
-    requires size { length marks.now ≡ length insts.now }
-    requires place { place < length insts.now }
-    ensures { MatchBool result
-        ((j : ℕ) × (j < length marks.now) × (slice_index_or marks.now j false ≡ true) × (carries_at graph.now (map inst_of insts.now) j place ≡ true))
-        ((j : ℕ) → j < length marks.now → slice_index_or marks.now j false ≡ true → carries_at graph.now (map inst_of insts.now) j place ≡ false) }
-{
-    for j in 0..marks.len() {
-        if marks[j] && carries_at(graph, insts, j, place) {
-            return true;
-        }
+    if !marks[place] {
+        order.push(place)?;
+        marks[place] = true;
     }
-    false
+    Ok(())
 }
 
-/// Marks each one that a marked one can carry, and tells whether there was one.
-fn mark_round(graph: &Graph, insts: &[Inst], marks: &mut [bool]) -> bool
-    requires known { All (λ i. i.device < length graph.now.devices) insts.now }
-    requires size { length marks.old ≡ length insts.now }
-    ensures sound { AllRooted (is_at_root_at (map inst_of insts.now)) (carries_at graph.now (map inst_of insts.now)) (length marks.old) marks.old
-        → AllRooted (is_at_root_at (map inst_of insts.now)) (carries_at graph.now (map inst_of insts.now)) (length marks.old) marks.new }
-    ensures kept { (i : ℕ) → slice_index_or marks.old i false ≡ true → slice_index_or marks.new i false ≡ true }
-    ensures closed { result ≡ false → Closed (carries_at graph.now (map inst_of insts.now)) (length marks.old) marks.new }
-    ensures fewer { result ≡ true → count_by not marks.new < count_by not marks.old }
+/// Marks these places.
+fn mark_all(marks: &mut Vec<bool>, order: &mut Vec<usize>, places: &[usize]) -> Result<(), Memory>
+    requires { All (λ x. x < length marks.old.items) places.now }
+    ensures { OnOk result (Marks marks.old.items order.old.items marks.new.items order.new.items (λ x. is_in x places.now)) }
 {
-    let mut changed = false;
-    for i in 0..marks.len() {
-        if !marks[i] && has_carrier(graph, insts, marks, i) {
-            marks[i] = true;
-            changed = true;
-        }
+    for place in places {
+        mark(marks, order, *place)?;
     }
-    changed
+    Ok(())
 }
 
-/// Marks all that are rooted, where those at the root are marked.
-fn mark_rooted(graph: &Graph, insts: &[Inst], marks: &mut [bool])
-    requires known { All (λ i. i.device < length graph.now.devices) insts.now }
-    requires size { length marks.old ≡ length insts.now }
-    requires sound { AllRooted (is_at_root_at (map inst_of insts.now)) (carries_at graph.now (map inst_of insts.now)) (length marks.old) marks.old }
-    requires roots { (i : ℕ) → i < length marks.old → is_at_root_at (map inst_of insts.now) i ≡ true → slice_index_or marks.old i false ≡ true }
-    ensures { AreRooted (is_at_root_at (map inst_of insts.now)) (carries_at graph.now (map inst_of insts.now)) (length marks.old) marks.new }
+/// Marks all that wait for this, and they wait no longer.
+fn serve_want(
+    alloc: Global,
+    waiting: &mut HashMap<Want, List<usize>>,
+    marks: &mut Vec<bool>,
+    order: &mut Vec<usize>,
+    want: Want,
+) -> Result<(), Memory>
+    requires { AreWithin waiting.old marks.old.items }
+    ensures { OnOk result (Serves waiting.old marks.old.items order.old.items waiting.new marks.new.items order.new.items (want ∷ [])) }
 {
-    while mark_round(graph, insts, marks) {}
+    let places = take_places(alloc, waiting, &want);
+    mark_all(marks, order, places.items())?;
+    Ok(())
 }
 
-/// For each instance whether it is at the root.
-fn root_marks(alloc: Global, insts: &[Inst]) -> Result<Vec<bool>, AllocError>
-    ensures { IfOk result (λ marks. marks.items ≡ map (λ i. is_at_root (inst_of i)) insts.now) }
+/// Marks all that wait for an instance because of an attribute that it offers.
+fn serve_attr(
+    alloc: Global,
+    waiting: &mut HashMap<Want, List<usize>>,
+    marks: &mut Vec<bool>,
+    order: &mut Vec<usize>,
+    attr: u32,
+    inst: &Inst,
+) -> Result<(), Memory>
+    requires { AreWithin waiting.old marks.old.items }
+    ensures { OnOk result (Serves waiting.old marks.old.items order.old.items waiting.new marks.new.items order.new.items (wants_of (inst_of inst.now) (attr ∷ []))) }
 {
-    let mut marks = Vec::new(alloc);
-    for inst in insts {
-        marks.push(is_at_root(inst))?;
+    let any = Carrier::Any;
+    let of_device = Carrier::Of(inst.device);
+    let own = own_carrier(inst);
+    serve_want(alloc, waiting, marks, order, Want { attr, carrier: any })?;
+    serve_want(
+        alloc,
+        waiting,
+        marks,
+        order,
+        Want {
+            attr,
+            carrier: of_device,
+        },
+    )?;
+    serve_want(alloc, waiting, marks, order, Want { attr, carrier: own })?;
+    Ok(())
+}
+
+/// Marks all that an instance can carry, of those that wait.
+fn serve(
+    alloc: Global,
+    graph: &Graph,
+    waiting: &mut HashMap<Want, List<usize>>,
+    marks: &mut Vec<bool>,
+    order: &mut Vec<usize>,
+    inst: &Inst,
+) -> Result<(), Memory>
+    requires known { inst.now.device < length graph.now.devices }
+    requires within { AreWithin waiting.old marks.old.items }
+    ensures { OnOk result (Serves waiting.old marks.old.items order.old.items waiting.new marks.new.items order.new.items (wants_of (inst_of inst.now) (interfaces_of graph.now.attrs (slice_index_or graph.now.devices inst.now.device [])))) }
+{
+    for attr in graph.interfaces(inst.device) {
+        serve_attr(alloc, waiting, marks, order, *attr, inst)?;
     }
-    Ok(marks)
+    Ok(())
+}
+
+/// The instance at a place.
+fn inst_at(insts: &[Inst], place: usize) -> &Inst
+    requires { place < length insts.now }
+    ensures { slice_get insts.now place ≡ Some result.now }
+{
+    &insts[place]
+}
+
+/// Marks all that are rooted, where those at the root are marked and the others wait.
+fn spread(
+    alloc: Global,
+    graph: &Graph,
+    insts: &[Inst],
+    waiting: &mut HashMap<Want, List<usize>>,
+    marks: &mut Vec<bool>,
+    order: &mut Vec<usize>,
+) -> Result<(), Memory>
+    requires known { All (λ i. i.device < length graph.now.devices) insts.now }
+    requires size { length marks.old.items ≡ length insts.now }
+    requires order { AreMarked marks.old.items order.old.items }
+    requires within { AreWithin waiting.old marks.old.items }
+    requires waiting { AreWaiting (wants_at (map inst_of insts.now)) waiting.old marks.old.items }
+    requires sound { AllRooted (is_at_root_at (map inst_of insts.now)) (carries_at graph.now (map inst_of insts.now)) (length insts.now) marks.old.items }
+    requires roots { (i : ℕ) → i < length insts.now → is_at_root_at (map inst_of insts.now) i ≡ true → slice_index_or marks.old.items i false ≡ true }
+    ensures { OnOk result (AreRooted (is_at_root_at (map inst_of insts.now)) (carries_at graph.now (map inst_of insts.now)) (length insts.now) marks.new.items) }
+{
+    let mut next = 0;
+    while next < order.len() {
+        serve(
+            alloc,
+            graph,
+            waiting,
+            marks,
+            order,
+            inst_at(insts, order[next]),
+        )?;
+        next += 1;
+    }
+    Ok(())
+}
+
+/// Appends a place, if it is that of an instance at the root.
+fn push_root(order: &mut Vec<usize>, is_root: bool, place: usize) -> Result<(), Memory>
+    ensures { OnOk result (order.new.items ≡ (if is_root then order.old.items ++ place ∷ [] else order.old.items)) }
+{
+    if is_root {
+        order.push(place)?;
+    }
+    Ok(())
+}
+
+/// For each instance whether it is at the root, and the places of those that are.
+fn mark_roots(marks: &mut Vec<bool>, order: &mut Vec<usize>, insts: &[Inst]) -> Result<(), Memory>
+    requires marks { marks.old.items ≡ [] }
+    requires order { order.old.items ≡ [] }
+    ensures marks { OnOk result (marks.new.items ≡ map (λ i. is_at_root (inst_of i)) insts.now) }
+    ensures order { OnOk result (AreMarked marks.new.items order.new.items) }
+{
+    for (place, inst) in insts.iter().enumerate() {
+        let is_root = is_at_root(inst);
+        push_root(order, is_root, place)?;
+        marks.push(is_root)?;
+    }
+    Ok(())
 }
 
 /// The marks of the instances that are rooted.
-fn rooted_marks(alloc: Global, graph: &Graph, insts: &[Inst]) -> Result<Vec<bool>, AllocError>
+fn rooted_marks(alloc: Global, graph: &Graph, insts: &[Inst]) -> Result<Vec<bool>, Memory>
     requires { All (λ i. i.device < length graph.now.devices) insts.now }
     ensures { IfOk result (λ marks. RootedIn graph.now (map inst_of insts.now) marks.items) }
 {
-    let mut marks = root_marks(alloc, insts)?;
-    mark_rooted(graph, insts, &mut marks);
+    let mut marks = Vec::new(alloc);
+    let mut order = Vec::new(alloc);
+    mark_roots(&mut marks, &mut order, insts)?;
+    let mut waiting = waiting_lists(alloc, insts)?;
+    spread(alloc, graph, insts, &mut waiting, &mut marks, &mut order)?;
     Ok(marks)
 }
 

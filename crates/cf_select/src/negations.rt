@@ -1,82 +1,76 @@
-ghost use Rattle.std.specs.Prelude.{◌≡◌};
+ghost use Rattle.std.specs.Prelude.{◌≡◌, ℕ, ◌&&◌, ◌||◌, ◌==◌, Some, None, if◌then◌else◌, OnOk};
+ghost use Rattle.std.specs.Option.{option_map};
 ghost use Rattle.config_rules.specs.Fault.{is_instance};
-ghost use Rattle.config_rules.specs.Select.{names, same_at, same_mark, same_number};
-ghost use Rattle.cf_select.specs.Selected.{fits_at, is_negation};
+ghost use Rattle.config_rules.specs.Select.{names};
+ghost use Rattle.cf_select.specs.Naming.{at_of, is_listed, mark_of, negation_of};
+ghost use Rattle.cf_select.specs.Selected.{is_negation};
+ghost use Rattle.cf_select.specs.declared.named.Named.{Named as Key};
 
-use cf_types::{AtSpec, Stmt, UnitMark};
+use crate::lists::push_place;
+use crate::named::{Attachment, Named};
+use cf_types::{AtSpec, List, Memory, Stmt, UnitMark};
+use std::alloc::Global;
+use std::collections::HashMap;
 
-/// Whether two marks are the same unit, or both starred.
-pub fn same_mark(a: UnitMark, b: UnitMark) -> bool
-    ensures { result ≡ same_mark a b }
+/// The unit of a mark that is not starred.
+fn unit_of(mark: UnitMark) -> Option<u32>
+    ensures { mark_of result ≡ mark }
 {
-    match (a, b) {
-        (UnitMark::Fixed(unit), UnitMark::Fixed(other)) => unit == other,
-        (UnitMark::Star, UnitMark::Star) => true,
-        _ => false,
+    match mark {
+        UnitMark::Fixed(unit) => Some(unit),
+        UnitMark::Star => None,
     }
 }
 
-/// Whether two units are the same number, or both `?`.
-fn same_number(a: Option<u32>, b: Option<u32>) -> bool
-    ensures { result ≡ same_number a b }
-{
-    match (a, b) {
-        (Some(unit), Some(other)) => unit == other,
-        (None, None) => true,
-        _ => false,
-    }
-}
-
-/// Whether two attachments are written alike.
-fn same_at(a: &AtSpec, b: &AtSpec) -> bool
-    ensures { result ≡ same_at a.now b.now }
-{
-    match (a, b) {
-        (AtSpec::Root, AtSpec::Root) => true,
-        (
-            AtSpec::Named { base, unit },
-            AtSpec::Named {
-                base: other_base,
-                unit: other_unit,
-            },
-        ) => *base == *other_base && same_number(*unit, *other_unit),
-        _ => false,
-    }
-}
-
-/// Whether an instance attaches as a negation says, where it says so.
-fn fits_at(at: &Option<AtSpec>, instance_at: &AtSpec) -> bool
-    ensures { result ≡ fits_at at.now instance_at.now }
+/// What is attached to, with the bytes of its name.
+fn attachment(at: &AtSpec) -> Attachment<'_>
+    ensures { at_of result ≡ at.now }
 {
     match at {
-        Some(at) => same_at(at, instance_at),
-        None => true,
+        AtSpec::Root => Attachment::Root,
+        AtSpec::Named { base, unit } => Attachment::Named(base.bytes(), *unit),
     }
 }
 
-/// Whether a statement is a negation that names the other statement, an instance.
-pub fn names(negation: &Stmt, stmt: &Stmt) -> bool
-    ensures { result ≡ names negation.now stmt.now }
+/// Which instances a statement names, if it is a negation of instances.
+pub fn named_by(stmt: &Stmt) -> Option<Named<'_>>
+    ensures { option_map negation_of result ≡ (if is_negation stmt.now then Some stmt.now else None) }
+{
+    match stmt {
+        Stmt::NoInst {
+            base,
+            mark,
+            at: None,
+        } => Some(Named::Unit(base.bytes(), unit_of(*mark))),
+        Stmt::NoInst {
+            base,
+            mark,
+            at: Some(at),
+        } => Some(Named::UnitAt(base.bytes(), unit_of(*mark), attachment(at))),
+        Stmt::NoDevice { at } => Some(Named::At(attachment(at))),
+        _ => None,
+    }
+}
+
+/// Adds an instance to the lists of all that name it.
+pub fn put_instance<'a>(
+    alloc: Global,
+    lists: &mut HashMap<Named<'a>, List<usize>>,
+    stmt: &'a Stmt,
+    place: usize,
+) -> Result<(), Memory>
+    ensures { OnOk result ((q : Key) (x : ℕ) → is_listed lists.new q x ≡ (is_listed lists.old q x || (names (negation_of q) stmt.now && place == x))) }
 {
     let Stmt::Inst { base, mark, at, .. } = stmt else {
-        return false;
+        return Ok(());
     };
-    match negation {
-        Stmt::NoInst {
-            base: named,
-            mark: named_mark,
-            at: named_at,
-        } => *named == *base && same_mark(*named_mark, *mark) && fits_at(named_at, at),
-        Stmt::NoDevice { at: named_at } => same_at(named_at, at),
-        _ => false,
-    }
-}
-
-/// Whether a statement is a negation of instances.
-pub fn is_negation(stmt: &Stmt) -> bool
-    ensures { result ≡ is_negation stmt.now }
-{
-    matches!(stmt, Stmt::NoInst { .. } | Stmt::NoDevice { .. })
+    let base = base.bytes();
+    let unit = unit_of(*mark);
+    let at = attachment(at);
+    push_place(alloc, lists, Named::Unit(base, unit), place)?;
+    push_place(alloc, lists, Named::UnitAt(base, unit, at), place)?;
+    push_place(alloc, lists, Named::At(at), place)?;
+    Ok(())
 }
 
 /// Whether a statement is an instance.

@@ -1,12 +1,20 @@
-ghost use Rattle.std.specs.Prelude.{◌≡◌, ◌≤◌, ◌&&◌, not, true, [], ◌∷◌, ◌++◌, if◌then◌else◌, length, IfOk, OnOk};
+ghost use Rattle.std.specs.Prelude.{◌≡◌, ℕ, Bool, List as Items, ◌<◌, ◌≤◌, ◌&&◌, not, true, false, [], ◌∷◌, ◌++◌, if◌then◌else◌, length, All, IfOk, OnOk};
+ghost use Rattle.std.specs.List.{list_any, slice_index_or};
+ghost use Rattle.cf_types.specs.Gather.{is_in};
+ghost use Rattle.cf_types.specs.declared.stmt.Stmt.{Stmt as Statement};
 ghost use Rattle.config_rules.specs.Fault.{is_instance, stmts_of};
 ghost use Rattle.config_rules.specs.Meaning.{idle_insts};
-ghost use Rattle.config_rules.specs.Select.{kept, names};
+ghost use Rattle.config_rules.specs.Select.{kept};
+ghost use Rattle.cf_select.specs.Naming.{AreListed, AreShort, TakesBack, names_at};
+ghost use Rattle.cf_select.specs.declared.named.Named.{Named as Key};
 ghost use Rattle.cf_select.specs.Selected.{instances, is_negation, names_one, without};
 
-use crate::negations::{is_instance, is_negation, names};
+use crate::lists::take_places;
+use crate::named::Named;
+use crate::negations::{is_instance, named_by, put_instance};
 use cf_types::{List, Memory, Placed, Stmt};
 use std::alloc::Global;
+use std::collections::HashMap;
 
 /// Which statements are instances that survive, and which negations of instances take back nothing.
 #[derive(Drop)]
@@ -17,31 +25,67 @@ pub struct Kept {
     pub idle: List<u32>,
 }
 
-/// Takes back what a statement names among those before it, and tells whether there was something.
-fn take_named(free: &mut Vec<bool>, negation: &Stmt, before: &[Placed]) -> bool
-    requires { length free.old.items ≡ length before.now }
-    ensures free { free.new.items ≡ without negation.now (stmts_of before.now) free.old.items }
-    ensures found { result ≡ names_one negation.now (stmts_of before.now) free.old.items }
+/// Whether one of these is free.
+fn has_free(free: &[bool], places: &[usize]) -> bool
+    requires { All (λ x. x < length free.now) places.now }
+    ensures { result ≡ list_any (λ x. slice_index_or free.now x false) places.now }
 {
-    let mut found = false;
-    for (i, p) in before.iter().enumerate() {
-        let is_named = names(negation, &p.stmt);
-        found |= is_named & free[i];
-        free[i] &= !is_named;
+    for place in places {
+        if free[*place] {
+            return true;
+        }
     }
+    false
+}
+
+/// These are no longer free.
+fn take_all(free: &mut Vec<bool>, places: &[usize])
+    requires { All (λ x. x < length free.old.items) places.now }
+    ensures size { length free.new.items ≡ length free.old.items }
+    ensures left { (x : ℕ) → slice_index_or free.new.items x false ≡ (slice_index_or free.old.items x false && not (is_in x places.now)) }
+{
+    for place in places {
+        free[*place] = false;
+    }
+}
+
+/// Takes back what a negation names, and tells whether there was something.
+fn take_named<'a>(
+    alloc: Global,
+    free: &mut Vec<bool>,
+    lists: &mut HashMap<Named<'a>, List<usize>>,
+    key: &Named<'a>,
+) -> bool
+    requires { AreShort lists.old free.old.items }
+    ensures size { length free.new.items ≡ length free.old.items }
+    ensures short { AreShort lists.new free.new.items }
+    ensures listed { (test : Key → ℕ → Bool) → AreListed test lists.old free.old.items → AreListed test lists.new free.new.items }
+    ensures takes { (test : Key → ℕ → Bool) → AreListed test lists.old free.old.items → TakesBack (test key.now) free.old.items free.new.items result }
+{
+    let places = take_places(alloc, lists, key);
+    let found = has_free(free, places.items());
+    take_all(free, places.items());
     found
 }
 
 /// Takes back what a negation names, and tells whether a statement is a negation that takes back nothing.
-fn take_back(free: &mut Vec<bool>, stmt: &Stmt, before: &[Placed]) -> bool
-    requires { length free.old.items ≡ length before.now }
-    ensures free { free.new.items ≡ without stmt.now (stmts_of before.now) free.old.items }
-    ensures idle { result ≡ (is_negation stmt.now && not (names_one stmt.now (stmts_of before.now) free.old.items)) }
+fn take_back<'a>(
+    alloc: Global,
+    free: &mut Vec<bool>,
+    lists: &mut HashMap<Named<'a>, List<usize>>,
+    stmt: &'a Stmt,
+) -> bool
+    requires { AreShort lists.old free.old.items }
+    ensures size { length free.new.items ≡ length free.old.items }
+    ensures short { AreShort lists.new free.new.items }
+    ensures listed { (stmts : Items Statement) → AreListed (names_at stmts) lists.old free.old.items → AreListed (names_at stmts) lists.new free.new.items }
+    ensures free { (stmts : Items Statement) → length free.old.items ≡ length stmts → AreListed (names_at stmts) lists.old free.old.items → free.new.items ≡ without stmt.now stmts free.old.items }
+    ensures idle { (stmts : Items Statement) → length free.old.items ≡ length stmts → AreListed (names_at stmts) lists.old free.old.items → result ≡ (is_negation stmt.now && not (names_one stmt.now stmts free.old.items)) }
 {
-    if !is_negation(stmt) {
-        return false;
+    match named_by(stmt) {
+        Some(key) => !take_named(alloc, free, lists, &key),
+        None => false,
     }
-    !take_named(free, stmt, before)
 }
 
 /// Appends a place, if it is that of an idle negation.
@@ -74,10 +118,12 @@ pub fn survivors(alloc: Global, placed: &[Placed]) -> Result<Kept, Memory>
     ensures idle { IfOk result (λ it. it.idle ≡ idle_insts [] (stmts_of placed.now)) }
 {
     let mut free = Vec::new(alloc);
+    let mut lists = HashMap::new(alloc);
     let mut idle = List::make(alloc);
     for (i, p) in placed.iter().enumerate() {
-        let is_idle = take_back(&mut free, &p.stmt, &placed[..i]);
+        let is_idle = take_back(alloc, &mut free, &mut lists, &p.stmt);
         push_idle(&mut idle, is_idle, i as u32)?;
+        put_instance(alloc, &mut lists, &p.stmt, i)?;
         free.push(true)?;
     }
     Ok(Kept {
