@@ -1,0 +1,93 @@
+#!/bin/sh
+# Tries each fault of docs/FAULTS.md against the program: the wrong lines have to give the fault line and nothing else, and
+# the right lines have to be accepted. Usage: examples/faults.sh
+set -e
+top=$(cd "$(dirname "$0")/.." && pwd)
+folder=$(mktemp -d)
+trap 'rm -rf "$folder"' EXIT
+tried=0
+wrong=0
+tab=$(printf '\t')
+
+# The rows of a table with five cells: its fault line, its wrong lines and its right lines, parted by tabs and newline marks.
+rows() {
+    awk -F'|' -v kind="$1" '
+    function lines(cell, k, n, part, text) {
+        n = split(cell, part, "`"); text = ""
+        for (k = 2; k <= n; k += 2) text = text part[k] "\001"
+        return text
+    }
+    NF == 7 && index($5, "`" kind " ") { said = $5; gsub(/^ *`|` *$/, "", said); print said "\t" lines($4) "\t" lines($6) }
+    ' "$top/docs/FAULTS.md"
+}
+
+# Calls the program with these words; its status and its fault line have to be these, and with a fault it writes nothing.
+expect() {
+    status=$1
+    said=$2
+    shift 2
+    got=0
+    (cd "$folder" && "$top/devconf" "$@" >out 2>err) || got=$?
+    tried=$((tried + 1))
+    if [ "$got" != "$status" ] || [ "$(cat "$folder/err")" != "$said" ] || { [ "$status" != 0 ] && [ -s "$folder/out" ]; }; then
+        wrong=$((wrong + 1))
+        echo "devconf $*: status $got, '$(cat "$folder/err")', where status $status, '$said' is wanted"
+    fi
+}
+
+write() {
+    printf '%s' "$2" | tr '\001' '\n' >"$folder/$1"
+}
+
+try_config() {
+    write conf "$2"
+    expect 1 "$1" ioconf conf
+    write conf "$3"
+    expect 0 '' ioconf conf
+}
+
+try_machine() {
+    write mach "$2"
+    expect 3 "$1" boot conf mach
+    write mach "$3"
+    expect 0 '' boot conf mach
+}
+
+# So many lines of this text, in which # stands for the number of the line, counted from 0.
+count() {
+    awk -v n="$1" -v text="$2" 'BEGIN { for (i = 0; i < n; i++) { line = text; gsub(/#/, i, line); print line } }'
+}
+
+by_number() {
+    expect 1 'config nofile:0: code 1' ioconf nofile
+    head -c 1048577 /dev/zero | tr '\0' '\n' >"$folder/conf"
+    expect 1 'config conf:0: code 2' ioconf conf
+    echo 'include conf' >"$folder/conf"
+    expect 1 'config conf:1: code 20' ioconf conf
+    count 65537 'machine a' >"$folder/conf"
+    expect 1 'config conf:65537: code 23' ioconf conf
+    { printf 'device a\nattach a at root\n'; count 8193 'a0 at root'; } >"$folder/conf"
+    expect 1 'config conf:8195: code 24' ioconf conf
+    { count 65 'define i# {}'; printf 'device a: i0'; count 64 ', i#' | tr -d '\n'; printf ', i64\n'; } >"$folder/conf"
+    expect 1 'config conf:66: code 25' ioconf conf
+}
+
+machines_by_number() {
+    expect 6 'nofile: absent' boot conf nofile
+    head -c 1048577 /dev/zero | tr '\0' '\n' >"$folder/mach"
+    expect 7 'mach: too long' boot conf mach
+    count 1025 'spot s# root root' >"$folder/mach"
+    expect 3 'machine mach:1025: code 8' boot conf mach
+    { echo 'spot s0 root root'; awk 'BEGIN { for (i = 1; i < 65; i++) print "spot s" i " s" i - 1 " mainbus" }'; } >"$folder/mach"
+    expect 3 'machine mach:65: code 9' boot conf mach
+}
+
+rows config >"$folder/rows"
+while IFS=$tab read -r said wrongly rightly; do try_config "$said" "$wrongly" "$rightly"; done <"$folder/rows"
+by_number
+cp "$top/examples/small.conf" "$folder/conf"
+rows machine >"$folder/rows"
+while IFS=$tab read -r said wrongly rightly; do try_machine "$said" "$wrongly" "$rightly"; done <"$folder/rows"
+machines_by_number
+echo "$tried calls tried, $wrong of them wrong"
+[ "$wrong" = 0 ]
