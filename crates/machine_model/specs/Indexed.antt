@@ -5,7 +5,7 @@ use Rattle.cf_types.specs.declared.machine.Spot.{Spot}
 use Rattle.config_rules.specs.Formed.{CountedTables}
 use Rattle.machine_model.specs.declared.draft.Draft.{Draft}
 use Rattle.machine_model.specs.declared.index.Index.{Index}
-use Rattle.machine_model.specs.Numbers.{AreNumbers}
+use Rattle.cf_names.specs.Numbers.{AreNumbers}
 
 -- counted tables, with the numbers of their attributes and attachments
 pub record IsIndex (index : Index) : Type 0 where

@@ -1,6 +1,5 @@
 pub mod Found
 pub mod Indexed
 pub mod Left
-pub mod Numbers
 pub use Rattle.config_rules.specs.Formed
 pub use Rattle.config_rules.specs.MachineText

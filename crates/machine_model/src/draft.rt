@@ -1,4 +1,4 @@
-use crate::numbers::Numbers;
+use cf_names::Numbers;
 use cf_types::Machine;
 
 /// A machine that is read, with the numbers of its spots' names.

@@ -1,9 +1,9 @@
 ghost use Rattle.std.specs.Prelude.{◌≡◌, IfOk, map};
 ghost use Rattle.config_rules.specs.Formed.{CountedTables};
 ghost use Rattle.machine_model.specs.Indexed.{IsIndex};
-ghost use Rattle.machine_model.specs.Numbers.{AreNumbers};
+ghost use Rattle.cf_names.specs.Numbers.{AreNumbers};
 
-use crate::numbers::{Numbers, add_name};
+use cf_names::{Numbers, add_name};
 use cf_types::{Attach, Attr, Memory, Tables};
 use std::alloc::Global;
 use std::collections::BTreeMap;

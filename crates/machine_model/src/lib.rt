@@ -8,7 +8,6 @@ mod line;
 mod locator;
 mod lookup;
 mod machine;
-mod numbers;
 mod spot;
 mod stop;
 mod word;

@@ -10,7 +10,7 @@ use crate::driver::add_policies;
 use crate::index::Index;
 use crate::locator::{FoundValue, count_located, given_values, names_differ};
 use crate::lookup::{attach_number, interface_number, spot_number};
-use crate::numbers::add_name;
+use cf_names::add_name;
 use crate::spot::{make_spot, spot_fault};
 use crate::stop::LineStop;
 use crate::word::{are_marks, are_policies, differ, is_free_name, match_value, spells};

@@ -5,7 +5,7 @@ ghost use Rattle.machine_model.specs.Indexed.{IsDraft, IsIndex};
 
 use crate::draft::Draft;
 use crate::index::Index;
-use crate::numbers::number_in;
+use cf_names::number_in;
 use crate::word::spells;
 use cf_types::{Attr, Locator, Place};
 

@@ -1,5 +1,5 @@
 use Rattle.std.proofs.Common.{map, take}
-use Rattle.machine_model.specs.Numbers.{AreNumbers}
+use Rattle.cf_names.specs.Numbers.{AreNumbers}
 use Rattle.machine_model.proofs.index.attach_numbers.Given as goal
 
 abbrev pub invariant-loop-i : goal.invariant-loop-i

@@ -1,7 +1,7 @@
 use Rattle.std.proofs.Common.{◌≡◌, ◌∙◌, ℕ, List, true, false, ap, sym}
 use Rattle.std.specs.Prelude.{is_some}
 use Rattle.machine_model.specs.declared.locator.FoundValue.{FoundValue}
-use Rattle.machine_model.specs.Numbers.{number_in}
+use Rattle.cf_names.specs.Numbers.{number_in}
 use Rattle.machine_model.proofs.NumberLemmas.{not_apart, apart_more, numbers_more}
 use Rattle.machine_model.proofs.locator.differ_by_name.Goals as goal
 

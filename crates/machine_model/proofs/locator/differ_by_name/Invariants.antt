@@ -1,7 +1,7 @@
 use Rattle.std.proofs.Common.{◌≡◌, take, true}
 use Rattle.config_rules.specs.MachineText.{differ}
 use Rattle.machine_model.specs.Found.{names_of}
-use Rattle.machine_model.specs.Numbers.{AreNumbers}
+use Rattle.cf_names.specs.Numbers.{AreNumbers}
 use Rattle.machine_model.proofs.locator.differ_by_name.Given as goal
 
 abbrev pub invariant-loop-i : goal.invariant-loop-i
