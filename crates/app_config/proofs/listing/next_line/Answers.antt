@@ -1,7 +1,7 @@
 use Rattle.std.proofs.Common.{◌∙◌, [], ◌∷◌, ◌++◌, ap}
 use Rattle.config_rules.specs.Listing.{lines}
 use Rattle.app_config.proofs.Sinks.{line_there, no_line}
-use Rattle.app_config.proofs.top.next_line.Goals as goal
+use Rattle.app_config.proofs.listing.next_line.Goals as goal
 
 pub returns-then-not-branch : goal.returns-then-not-branch
 returns-then-not-branch c =

@@ -1,0 +1,38 @@
+//! Boots a machine by tables.
+ghost use Rattle.std.specs.Prelude.{◌≡◌, [], IfOk};
+ghost use Rattle.config_rules.specs.Formed.{FittingMachine, FormedTables};
+ghost use Rattle.run_rules.specs.Run.{Boot};
+ghost use Rattle.run_rules.specs.World.{opening, setup_of};
+ghost use Rattle.app_config.specs.Run.{IsBootText, PutsOne};
+
+use crate::history::put_run;
+use app_input::Status;
+use cf_io::Sink;
+use cf_types::{List, Machine, Memory, Tables};
+use dev_board::{Board, run_boot};
+use ref_ledger::PlainSlots;
+use std::alloc::Global;
+
+/// The board of a machine after its boot.
+fn booted(alloc: Global, tables: Tables, machine: Machine) -> Result<Board, Memory>
+    requires formed { FormedTables tables }
+    requires fits { FittingMachine tables machine }
+    ensures { IfOk result (λ board. Boot (opening (setup_of tables machine [])) board.events board.world × (board.world.setup ≡ setup_of tables machine [])) }
+{
+    let mut board = Board::start(alloc, tables, machine, List::make(alloc))?;
+    let mut slots = PlainSlots::make(alloc, board.spots())?;
+    run_boot(&mut board, &mut slots)?;
+    Ok(board)
+}
+
+/// Boots a machine and puts the listing of its tables, the history of its boot and its device tree. See autoconf(9).
+pub fn boot<S: Sink>(alloc: Global, tables: Tables, machine: Machine, out: &mut S) -> Status
+    requires formed { FormedTables tables }
+    requires fits { FittingMachine tables machine }
+    ensures { PutsOne (IsBootText tables machine) (S.faults out.old) (S.faults out.new) (S.bytes out.old) (S.bytes out.new) result }
+{
+    match booted(alloc, tables, machine) {
+        Ok(board) => put_run(alloc, &board, out),
+        Err(_) => Status::Memory,
+    }
+}
