@@ -927,6 +927,683 @@ include \"more\"
 read fault
 % load 2
 % status 8
+% run boot conf mach
+% file conf
+device mainbus {}
+attach mainbus at root
+device isa {[port = -1], [irq = -1]}
+attach isa at mainbus
+device com
+attach com at isa with com_isa
+mainbus0 at root
+isa0 at mainbus0
+com0 at isa? port 0x3f8 irq 4
+com* at isa?
+% file mach
+spot mb root root
+spot isa mb mainbus
+spot u0 isa isa port=0x3f8 irq=4
+spot u1 isa isa port=0x2f8 irq=3
+match mainbus mb 10
+match isa isa 10
+match com_isa * 10
+% out
+tables
+iattr mainbus
+iattr isa [port=-1] [irq=-1]
+device mainbus offers mainbus
+device isa offers isa
+device com
+attach mainbus of mainbus at root
+attach isa of isa at mainbus
+attach com_isa of com at isa
+row 0 mainbus0 at root by mainbus on root flags 0
+row 1 isa0 at mainbus0 by isa on mainbus flags 0
+row 2 com0 at isa? by com_isa on isa port=1016 irq=4 flags 0
+row 3 com* from 1 at isa? by com_isa on isa port=-1 irq=-1 flags 0
+history 1
+0.0 found root: mainbus0
+0.0 found mainbus0: isa0
+0.0 found isa0: com0
+0.0 found isa0: com1
+0.0 scan isa0: done
+0.0 scan mainbus0: done
+0.0 scan root: done
+0.0 interrupts
+0.0 end
+tree
+mainbus0 at root row 0
+  isa0 at mainbus0 row 1
+    com0 at isa0 row 2
+    com1 at isa0 row 3
+% status 0
+% run boot conf mach
+% file conf
+device mainbus {}
+attach mainbus at root
+device isa {[port = -1], [irq = -1]}
+attach isa at mainbus
+device com
+attach com at isa with com_isa
+mainbus0 at root
+isa0 at mainbus0
+com0 at isa? port 0x3f8 irq 4
+com3 at isa? port 0x2e8
+com* at isa?
+% file mach
+spot mb root root
+spot isa mb mainbus
+spot u0 isa isa port=0x3f8 irq=4
+spot u1 isa isa port=0x2f8 irq=3
+match mainbus mb 10
+match isa isa 10
+match com_isa * 10
+% out
+tables
+iattr mainbus
+iattr isa [port=-1] [irq=-1]
+device mainbus offers mainbus
+device isa offers isa
+device com
+attach mainbus of mainbus at root
+attach isa of isa at mainbus
+attach com_isa of com at isa
+row 0 mainbus0 at root by mainbus on root flags 0
+row 1 isa0 at mainbus0 by isa on mainbus flags 0
+row 2 com0 at isa? by com_isa on isa port=1016 irq=4 flags 0
+row 3 com3 at isa? by com_isa on isa port=744 irq=-1 flags 0
+row 4 com* from 4 at isa? by com_isa on isa port=-1 irq=-1 flags 0
+history 1
+0.0 found root: mainbus0
+0.0 found mainbus0: isa0
+0.0 found isa0: com0
+0.0 found isa0: com4
+0.0 scan isa0: done
+0.0 scan mainbus0: done
+0.0 scan root: done
+0.0 interrupts
+0.0 end
+tree
+mainbus0 at root row 0
+  isa0 at mainbus0 row 1
+    com0 at isa0 row 2
+    com4 at isa0 row 4
+% status 0
+% run boot conf mach
+% file conf
+% file mach
+% out
+tables
+history 1
+0.0 scan root: done
+0.0 interrupts
+0.0 end
+tree
+% status 0
+% run boot conf mach
+% file conf
+device bus {}
+attach bus at root
+device xa
+attach xa at bus
+device xb
+attach xb at bus
+device xc
+attach xc at bus
+bus0 at root
+xc0 at bus?
+xb0 at bus?
+xa0 at bus?
+% file mach
+spot b root root
+spot s b bus
+spot t b bus
+spot v b bus
+match bus b 1
+match xa * 5
+match xb * 5
+% out
+tables
+iattr bus
+device bus offers bus
+device xa
+device xb
+device xc
+attach bus of bus at root
+attach xa of xa at bus
+attach xb of xb at bus
+attach xc of xc at bus
+row 0 bus0 at root by bus on root flags 0
+row 1 xa0 at bus? by xa on bus flags 0
+row 2 xb0 at bus? by xb on bus flags 0
+row 3 xc0 at bus? by xc on bus flags 0
+history 1
+0.0 found root: bus0
+0.0 found bus0: xa0
+0.0 found bus0: xb0
+0.0 found bus0: not configured
+0.0 scan bus0: done
+0.0 scan root: done
+0.0 interrupts
+0.0 end
+tree
+bus0 at root row 0
+  xa0 at bus0 row 1
+  xb0 at bus0 row 2
+% status 0
+% run boot conf mach
+% file conf
+device bus {[slot = -1]}
+attach bus at root
+device xa
+attach xa at bus
+device xb
+attach xb at bus
+device xc
+attach xc at bus
+bus0 at root
+xa* at bus? slot 8
+xb* at bus?
+% file mach
+spot b root root
+spot s b bus slot=7
+spot t b bus slot=8
+match bus b 1
+match xa * 9
+match xb * 5
+% out
+tables
+iattr bus [slot=-1]
+device bus offers bus
+device xa
+device xb
+device xc
+attach bus of bus at root
+attach xa of xa at bus
+attach xb of xb at bus
+attach xc of xc at bus
+row 0 bus0 at root by bus on root flags 0
+row 1 xa* from 0 at bus? by xa on bus slot=8 flags 0
+row 2 xb* from 0 at bus? by xb on bus slot=-1 flags 0
+history 1
+0.0 found root: bus0
+0.0 found bus0: xb0
+0.0 found bus0: xa0
+0.0 scan bus0: done
+0.0 scan root: done
+0.0 interrupts
+0.0 end
+tree
+bus0 at root row 0
+  xb0 at bus0 row 2
+  xa0 at bus0 row 1
+% status 0
+% run boot conf mach
+% file conf
+device mainbus {}
+attach mainbus at root
+device isa {[port = -1], [irq = -1]}
+attach isa at mainbus
+device com
+attach com at isa with com_isa
+mainbus0 at root
+isa0 at mainbus0
+com0 at isa? port 0x3f8 irq 4
+% file mach
+spot mb root root
+spot isa mb mainbus
+spot u0 isa isa port=0x3f8 irq=4
+spot u1 isa isa port=0x3f8 irq=4
+match mainbus mb 10
+match isa isa 10
+match com_isa * 10
+style isa isa indirect
+% out
+tables
+iattr mainbus
+iattr isa [port=-1] [irq=-1]
+device mainbus offers mainbus
+device isa offers isa
+device com
+attach mainbus of mainbus at root
+attach isa of isa at mainbus
+attach com_isa of com at isa
+row 0 mainbus0 at root by mainbus on root flags 0
+row 1 isa0 at mainbus0 by isa on mainbus flags 0
+row 2 com0 at isa? by com_isa on isa port=1016 irq=4 flags 0
+history 1
+0.0 found root: mainbus0
+0.0 found mainbus0: isa0
+0.0 found isa0: com0
+0.0 scan isa0: done
+0.0 scan mainbus0: done
+0.0 scan root: done
+0.0 interrupts
+0.0 end
+tree
+mainbus0 at root row 0
+  isa0 at mainbus0 row 1
+    com0 at isa0 row 2
+% status 0
+% run boot conf mach
+% file conf
+device bus {}
+attach bus at root
+device hub {}
+attach hub at bus
+device leaf
+attach leaf at hub
+bus0 at root
+hub* at bus?
+leaf* at hub?
+% file mach
+spot b root root
+spot h0 b bus
+spot l0 h0 hub
+spot h1 b bus
+spot l1 h1 hub
+match bus b 1
+match hub * 1
+match leaf * 1
+driver hub defer
+% out
+tables
+iattr bus
+iattr hub
+device bus offers bus
+device hub offers hub
+device leaf
+attach bus of bus at root
+attach hub of hub at bus
+attach leaf of leaf at hub
+row 0 bus0 at root by bus on root flags 0
+row 1 hub* from 0 at bus? by hub on bus flags 0
+row 2 leaf* from 0 at hub? by leaf on hub flags 0
+history 1
+0.0 found root: bus0
+0.0 found bus0: hub0
+0.0 found bus0: hub1
+0.0 scan bus0: done
+0.0 found hub0: leaf0
+0.0 scan hub0: done
+0.0 found hub1: leaf1
+0.0 scan hub1: done
+0.0 scan root: done
+0.0 interrupts
+0.0 end
+tree
+bus0 at root row 0
+  hub0 at bus0 row 1
+    leaf0 at hub0 row 2
+  hub1 at bus0 row 1
+    leaf1 at hub1 row 2
+% status 0
+% run boot conf mach
+% file conf
+device bus {}
+attach bus at root
+device hub {}
+attach hub at bus
+device leaf
+attach leaf at hub
+bus0 at root
+hub* at bus?
+leaf* at hub?
+% file mach
+spot b root root
+spot h0 b bus
+spot l0 h0 hub
+spot h1 b bus
+spot l1 h1 hub
+match bus b 1
+match hub * 1
+match leaf * 1
+driver hub interrupts
+% out
+tables
+iattr bus
+iattr hub
+device bus offers bus
+device hub offers hub
+device leaf
+attach bus of bus at root
+attach hub of hub at bus
+attach leaf of leaf at hub
+row 0 bus0 at root by bus on root flags 0
+row 1 hub* from 0 at bus? by hub on bus flags 0
+row 2 leaf* from 0 at hub? by leaf on hub flags 0
+history 1
+0.0 found root: bus0
+0.0 found bus0: hub0
+0.0 found bus0: hub1
+0.0 scan bus0: done
+0.0 scan root: done
+0.0 interrupts
+0.0 found hub0: leaf0
+0.0 scan hub0: done
+0.0 found hub1: leaf1
+0.0 scan hub1: done
+0.0 end
+tree
+bus0 at root row 0
+  hub0 at bus0 row 1
+    leaf0 at hub0 row 2
+  hub1 at bus0 row 1
+    leaf1 at hub1 row 2
+% status 0
+% run boot conf mach
+% file conf
+device bus {}
+attach bus at root
+device hub {}
+attach hub at bus
+device leaf
+attach leaf at hub
+bus0 at root
+hub* at bus?
+leaf* at hub?
+% file mach
+spot b root root
+spot h b bus
+spot l0 h hub late
+spot l1 h hub late
+match bus b 1
+match hub * 1
+match leaf * 1
+driver hub final
+% out
+tables
+iattr bus
+iattr hub
+device bus offers bus
+device hub offers hub
+device leaf
+attach bus of bus at root
+attach hub of hub at bus
+attach leaf of leaf at hub
+row 0 bus0 at root by bus on root flags 0
+row 1 hub* from 0 at bus? by hub on bus flags 0
+row 2 leaf* from 0 at hub? by leaf on hub flags 0
+history 1
+0.0 found root: bus0
+0.0 found bus0: hub0
+0.0 scan hub0: done
+0.0 scan bus0: done
+0.0 scan root: done
+0.0 interrupts
+0.0 final hub0: 1 leaf0
+0.0 final hub0: 1 leaf1
+0.0 final hub0: 0
+0.0 end
+tree
+bus0 at root row 0
+  hub0 at bus0 row 1
+    leaf0 at hub0 row 2
+    leaf1 at hub0 row 2
+% status 0
+% run boot conf mach
+% file conf
+device bus {}
+attach bus at root
+device xa
+attach xa at bus
+device xb
+attach xb at bus
+bus0 at root
+xa* at bus?
+xb* at bus?
+% file mach
+spot b root root
+spot s b bus
+spot t b bus
+spot v b bus
+match bus b 1
+match xa * 5
+match xb * 9
+match xb s 1
+match xb t 0
+style bus bus indirect
+% out
+tables
+iattr bus
+device bus offers bus
+device xa
+device xb
+attach bus of bus at root
+attach xa of xa at bus
+attach xb of xb at bus
+row 0 bus0 at root by bus on root flags 0
+row 1 xa* from 0 at bus? by xa on bus flags 0
+row 2 xb* from 0 at bus? by xb on bus flags 0
+history 1
+0.0 found root: bus0
+0.0 found bus0: xa0
+0.0 found bus0: xa1
+0.0 found bus0: xb0
+0.0 scan bus0: done
+0.0 scan root: done
+0.0 interrupts
+0.0 end
+tree
+bus0 at root row 0
+  xa0 at bus0 row 1
+  xa1 at bus0 row 1
+  xb0 at bus0 row 2
+% status 0
+% run boot conf mach
+% file conf
+device mainbus {}
+attach mainbus at root
+device isa {[port = -1], [irq = -1]}
+attach isa at mainbus
+device com
+attach com at isa with com_isa
+mainbus0 at root
+isa0 at mainbus0
+com0 at isa? port 0x3f8 irq 4
+com* at isa?
+% file mach
+spot a b root
+% err
+machine mach:1: code 3
+% status 3
+% run boot conf none
+% file conf
+device bus {}
+attach bus at root
+device xa
+attach xa at bus
+device xb
+attach xb at bus
+device xc
+attach xc at bus
+bus0 at root
+xc0 at bus?
+xb0 at bus?
+xa0 at bus?
+% err
+none: absent
+% status 6
+% run boot none mach
+% file mach
+% err
+config none:0: code 1
+% status 1
+% run boot conf mach
+% file conf
+nope0 at root
+% file mach
+bad
+% err
+config conf:1: code 10
+% status 1
+% run boot conf mach
+% file conf
+device mainbus {}
+attach mainbus at root
+device isa {[port = -1], [irq = -1]}
+attach isa at mainbus
+device com
+attach com at isa with com_isa
+mainbus0 at root
+isa0 at mainbus0
+com0 at isa? port 0x3f8 irq 4
+com* at isa?
+% file mach
+spot mb root root
+% err
+read fault
+% load 2
+% status 8
+% run boot conf mach
+% file conf
+% file mach
+% out
+tables
+history 1
+0.0 scan root: done
+% err
+write fault
+% put 4
+% status 9
+% run boot
+% file conf
+device mainbus {}
+attach mainbus at root
+device isa {[port = -1], [irq = -1]}
+attach isa at mainbus
+device com
+attach com at isa with com_isa
+mainbus0 at root
+isa0 at mainbus0
+com0 at isa? port 0x3f8 irq 4
+com* at isa?
+% file mach
+spot mb root root
+spot isa mb mainbus
+spot u0 isa isa port=0x3f8 irq=4
+spot u1 isa isa port=0x2f8 irq=3
+match mainbus mb 10
+match isa isa 10
+match com_isa * 10
+% err
+usage: devconf ioconf FILE | boot FILE MACHINE | play FILE MACHINE ORDER SCRIPT.. | replay FILE MACHINE HISTORY SCRIPT.. | load N
+% status 2
+% run boot conf
+% file conf
+device mainbus {}
+attach mainbus at root
+device isa {[port = -1], [irq = -1]}
+attach isa at mainbus
+device com
+attach com at isa with com_isa
+mainbus0 at root
+isa0 at mainbus0
+com0 at isa? port 0x3f8 irq 4
+com* at isa?
+% file mach
+spot mb root root
+spot isa mb mainbus
+spot u0 isa isa port=0x3f8 irq=4
+spot u1 isa isa port=0x2f8 irq=3
+match mainbus mb 10
+match isa isa 10
+match com_isa * 10
+% err
+usage: devconf ioconf FILE | boot FILE MACHINE | play FILE MACHINE ORDER SCRIPT.. | replay FILE MACHINE HISTORY SCRIPT.. | load N
+% status 2
+% run boot conf mach mach
+% file conf
+device mainbus {}
+attach mainbus at root
+device isa {[port = -1], [irq = -1]}
+attach isa at mainbus
+device com
+attach com at isa with com_isa
+mainbus0 at root
+isa0 at mainbus0
+com0 at isa? port 0x3f8 irq 4
+com* at isa?
+% file mach
+spot mb root root
+spot isa mb mainbus
+spot u0 isa isa port=0x3f8 irq=4
+spot u1 isa isa port=0x2f8 irq=3
+match mainbus mb 10
+match isa isa 10
+match com_isa * 10
+% err
+usage: devconf ioconf FILE | boot FILE MACHINE | play FILE MACHINE ORDER SCRIPT.. | replay FILE MACHINE HISTORY SCRIPT.. | load N
+% status 2
+% run boot -h mach
+% file conf
+device mainbus {}
+attach mainbus at root
+device isa {[port = -1], [irq = -1]}
+attach isa at mainbus
+device com
+attach com at isa with com_isa
+mainbus0 at root
+isa0 at mainbus0
+com0 at isa? port 0x3f8 irq 4
+com* at isa?
+% file mach
+spot mb root root
+spot isa mb mainbus
+spot u0 isa isa port=0x3f8 irq=4
+spot u1 isa isa port=0x2f8 irq=3
+match mainbus mb 10
+match isa isa 10
+match com_isa * 10
+% err
+usage: devconf ioconf FILE | boot FILE MACHINE | play FILE MACHINE ORDER SCRIPT.. | replay FILE MACHINE HISTORY SCRIPT.. | load N
+% status 2
+% run boot conf --
+% file conf
+device mainbus {}
+attach mainbus at root
+device isa {[port = -1], [irq = -1]}
+attach isa at mainbus
+device com
+attach com at isa with com_isa
+mainbus0 at root
+isa0 at mainbus0
+com0 at isa? port 0x3f8 irq 4
+com* at isa?
+% file mach
+spot mb root root
+spot isa mb mainbus
+spot u0 isa isa port=0x3f8 irq=4
+spot u1 isa isa port=0x2f8 irq=3
+match mainbus mb 10
+match isa isa 10
+match com_isa * 10
+% err
+usage: devconf ioconf FILE | boot FILE MACHINE | play FILE MACHINE ORDER SCRIPT.. | replay FILE MACHINE HISTORY SCRIPT.. | load N
+% status 2
+% run boot '' mach
+% file conf
+device mainbus {}
+attach mainbus at root
+device isa {[port = -1], [irq = -1]}
+attach isa at mainbus
+device com
+attach com at isa with com_isa
+mainbus0 at root
+isa0 at mainbus0
+com0 at isa? port 0x3f8 irq 4
+com* at isa?
+% file mach
+spot mb root root
+spot isa mb mainbus
+spot u0 isa isa port=0x3f8 irq=4
+spot u1 isa isa port=0x2f8 irq=3
+match mainbus mb 10
+match isa isa 10
+match com_isa * 10
+% err
+usage: devconf ioconf FILE | boot FILE MACHINE | play FILE MACHINE ORDER SCRIPT.. | replay FILE MACHINE HISTORY SCRIPT.. | load N
+% status 2
 ";
 
 /// A bus whose first locator has to be written, an attribute that is no interface attribute, one that is, two device
@@ -1004,4 +1681,55 @@ pub const CODES: &[u8] = b"7 package
 13 leaf0 at bus? target 3
 13 leaf0 at bus?
 14 bus1 at root target 1
+";
+
+/// The configuration of a small PC.
+pub const SMALL: &[u8] = b"device mainbus {}
+attach mainbus at root
+device isa {[port = -1], [irq = -1]}
+attach isa at mainbus
+device com
+attach com at isa with com_isa
+mainbus0 at root
+isa0 at mainbus0
+com0 at isa? port 0x3f8 irq 4
+com* at isa?
+";
+
+/// The first lines of a machine file for it.
+pub const MACHINE: &[u8] = b"spot mb root root
+spot isa mb mainbus
+";
+
+/// Third lines behind those, each with the code that it is refused with, where several codes could stand together.
+pub const MACHINE_CODES: &[u8] = b"1 spot mb root
+1 spot mb nope nope port=1 port=1
+1 spot mb nope nope late late
+1 spot root nope nope
+1 spot mb nope nope port=x
+1 spot 1a nope nope
+1 match nope nope x
+1 style nope nope sideways
+1 driver nope fly
+1 fly
+2 spot mb nope nope port=1
+2 spot mb mb root
+3 spot a nope nope
+3 spot a nope root zz=1
+4 spot a mb nope zz=99999999999
+4 spot a mb root
+4 spot a root isa
+7 spot a mb isa port=99999999999 zz=1
+5 spot a isa isa zz=1 port=99999999999
+7 spot a isa isa port=99999999999 zz=1
+5 spot a mb mainbus port=1
+6 match nope nope 65536
+3 match com_isa nope 65536
+7 match com_isa * 65536
+7 match com_isa * 99999999999
+7 match com_isa * -1
+6 style nope nope direct
+4 style isa nope direct
+4 style com_isa com direct
+6 driver nope nodetach
 ";

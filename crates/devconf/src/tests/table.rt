@@ -1,6 +1,6 @@
 //! Runs that tables tell.
 
-use super::cases::{BEFORE, CODES, RUNS};
+use super::cases::{BEFORE, CODES, MACHINE, MACHINE_CODES, RUNS, SMALL};
 use super::{Case, refuses, try_case};
 use cf_types::{Memory, Text};
 use std::alloc::Global;
@@ -162,7 +162,7 @@ fn runs_answer_as_the_table_tells(rt: HostRuntime) -> Result<(), Memory> {
         }
         told = take_line(&rt, rt.alloc(), told, line)?;
     }
-    assert_eq!(rt; runs, 72);
+    assert_eq!(rt; runs, 94);
     Ok(())
 }
 
@@ -177,6 +177,36 @@ fn the_first_of_several_codes_is_told(rt: HostRuntime) -> Result<(), Memory> {
         let mut conf = Vec::from_slice(alloc, BEFORE)?;
         conf.extend_from_slice(line)?;
         refuses(&rt, alloc, &conf, 11, number(code))?;
+    }
+    Ok(())
+}
+
+/// The boot of the small PC with a machine file that goes on with this line.
+fn refuses_machine(rt: &impl Abort, alloc: Global, line: &[u8], code: u64) -> Result<(), Memory> {
+    let mut case = Case::make(alloc);
+    for word in &["boot", "conf", "mach"] {
+        case.words.push(String::from_str(alloc, word)?)?;
+    }
+    case.add_file(
+        Text::copied(alloc, b"conf")?,
+        Vec::from_slice(alloc, SMALL)?,
+    )?;
+    let mut machine = Vec::from_slice(alloc, MACHINE)?;
+    machine.extend_from_slice(line)?;
+    case.add_file(Text::copied(alloc, b"mach")?, machine)?;
+    let told = format!(in alloc; "machine mach:3: code {code}\n")?;
+    case.err.extend_from_slice(told.as_bytes())?;
+    try_case(rt, alloc, case, 3)
+}
+
+#[test]
+fn the_first_of_several_codes_of_a_machine_line_is_told(rt: HostRuntime) -> Result<(), Memory> {
+    for entry in MACHINE_CODES.split(|byte| *byte == b'\n') {
+        let (code, line) = parted(entry);
+        if line.is_empty() {
+            return Ok(());
+        }
+        refuses_machine(&rt, rt.alloc(), line, number(code))?;
     }
     Ok(())
 }
