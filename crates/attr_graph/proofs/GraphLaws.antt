@@ -1,8 +1,10 @@
 -- What the graph of lists says is what the lists say, and formed tables fit into a graph.
-use Rattle.std.proofs.Common.{◌≡◌, ℕ, zero, suc, List, [], ◌∷◌, map, refl, ap, ◌∙◌}
+use Rattle.std.proofs.Common.{◌≡◌, ◌≤◌, ℕ, zero, suc, List, [], ◌∷◌, map, length, Option, refl, ap, ◌∙◌}
 use Rattle.std.specs.Prelude.{slice_get}
 use Rattle.std.specs.List.{slice_index_or}
 use Rattle.std.specs.Option.{option_map_or}
+use Rattle.std.proofs.lemmas.List.{length-map}
+use Rattle.std.proofs.lemmas.Option.{slice_get_past}
 use Rattle.cf_types.specs.declared.declared.Declared.{Declared}
 use Rattle.cf_types.specs.declared.tables.Device.{Device}
 use Rattle.cf_types.specs.declared.tables.Tables.{Tables}
@@ -30,6 +32,16 @@ graph_interfaces d g h n =
 pub graph_offers : (d : Declared) (g : Shape) → IsGraphOf d g → (n a : ℕ) → is_in a (interfaces_of g.attrs (slice_index_or g.devices n [])) ≡ offers d.attrs d.devices n a
 unfolding offers
 graph_offers d g h n a = ap (is_in a) (graph_interfaces d g h n)
+
+-- the graph has as many devices
+pub graph_devices : (d : Declared) (g : Shape) → IsGraphOf d g → length g.devices ≡ length d.devices
+graph_devices d g h = ap length h.devices ∙ length-map d.devices named_by
+
+-- beyond the devices nothing is offered
+pub none_offered : (d : Declared) (n : ℕ) → length d.devices ≤ n → interfaces d.attrs d.devices n ≡ []
+unfolding interfaces
+none_offered d n past =
+    ap (λ (o : Option Device). option_map_or (λ x. interfaces_of (nodes_of d.attrs) (named_by x)) o []) (slice_get_past d.devices n past)
 
 -- formed tables fit into a graph
 pub formed_fit : (t : Tables) → FormedTables t → FitGraph t

@@ -1,7 +1,6 @@
 pub mod FormedNames
 pub mod OneField
 pub mod InputLaws
-pub mod GraphLaws
 pub mod LateLaws
 pub mod MarkLaws
 pub mod PlanLaws

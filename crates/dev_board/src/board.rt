@@ -15,13 +15,12 @@ ghost use Rattle.dev_board.specs.Shown.{began};
 ghost use Rattle.dev_board.specs.Stepping.{StepIs, IsDid};
 
 use crate::closed::closed_in;
-use crate::graph::graph_of;
 use crate::parts::{Core, begin};
 use crate::search;
 use crate::step::step_core;
 use crate::stepped::Stepped;
 use crate::tree::tree_of;
-use attr_graph::Graph;
+use attr_graph::{Graph, graph_of};
 use cf_types::{DevLine, List, Machine, Memory, Script, Tables};
 use ref_ledger::Slots;
 use run_rules::{Event, Setup};

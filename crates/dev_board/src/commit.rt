@@ -2,7 +2,8 @@
 ghost use Rattle.std.specs.Prelude.{◌≡◌, ◌<◌, ◌≤◌, ◌+◌, ◌^◌, ◌++◌, ◌∷◌, ◌||◌, [], not, filter, map, reverse, length, vec_len, vec_capacity};
 ghost use Rattle.run_rules.specs.After as after;
 ghost use Rattle.run_rules.specs.World as world;
-ghost use Rattle.match_search.specs.Best.{IsGraphOf, live_rows};
+ghost use Rattle.attr_graph.specs.Graphs.{IsGraphOf, declared_by};
+ghost use Rattle.match_search.specs.Best.{live_rows};
 ghost use Rattle.dev_board.specs.Input.{Bounded};
 ghost use Rattle.dev_board.specs.Plans as plans;
 ghost use Rattle.dev_board.specs.Plans.{done, ends, come, come_if, TopIs, Fits};
@@ -173,7 +174,7 @@ fn call_later(finalisers: &mut Vec<u64>, finaliser: bool, serial: u64)
 
 /// A device comes: it has the next serial, and its scan and its finaliser are placed. See config_attach(9).
 fn attach(graph: &Graph, setup: &Setup, core: &mut Core, arrival: Arrival, may_defer: bool)
-    requires graph { IsGraphOf setup.now.tables graph.now }
+    requires graph { IsGraphOf (declared_by setup.now.tables) graph.now }
     requires live_room { vec_len core.old.live < vec_capacity core.old.live }
     requires search_room { vec_len core.old.searches < vec_capacity core.old.searches }
     requires deferred_room { vec_len core.old.deferred < vec_capacity core.old.deferred }
@@ -218,7 +219,7 @@ fn attach(graph: &Graph, setup: &Setup, core: &mut Core, arrival: Arrival, may_d
 
 /// A device comes, if one was found.
 fn attach_if(graph: &Graph, setup: &Setup, core: &mut Core, got: Option<Arrival>, may_defer: bool)
-    requires graph { IsGraphOf setup.now.tables graph.now }
+    requires graph { IsGraphOf (declared_by setup.now.tables) graph.now }
     requires live_room { vec_len core.old.live < vec_capacity core.old.live }
     requires search_room { vec_len core.old.searches < vec_capacity core.old.searches }
     requires deferred_room { vec_len core.old.deferred < vec_capacity core.old.deferred }
@@ -248,7 +249,7 @@ fn show(hidden: &mut Vec<u16>, spot: u16)
 
 /// Does what is planned.
 pub fn commit(graph: &Graph, setup: &Setup, core: &mut Core, plan: Plan)
-    requires graph { IsGraphOf setup.now.tables graph.now }
+    requires graph { IsGraphOf (declared_by setup.now.tables) graph.now }
     requires fits { Fits setup.now (parts_of core.old) plan }
     requires live_room { vec_len core.old.live < vec_capacity core.old.live }
     requires search_room { vec_len core.old.searches + vec_len core.old.deferred < vec_capacity core.old.searches }

@@ -4,7 +4,7 @@ ghost use Rattle.std.specs.Option.{option_map_or};
 ghost use Rattle.cf_types.specs.Numbers.{below};
 ghost use Rattle.run_rules.specs.Next as next;
 ghost use Rattle.run_rules.specs.World as world;
-ghost use Rattle.match_search.specs.Best.{IsGraphOf};
+ghost use Rattle.attr_graph.specs.Graphs.{IsGraphOf, declared_by};
 ghost use Rattle.dev_board.specs.Late as late;
 ghost use Rattle.dev_board.specs.Late.{late_test, place_on};
 
@@ -45,7 +45,7 @@ fn offers_place(offered: &[u32], place: Place) -> bool
 
 /// Whether a spot hangs below the device, on an attribute that the device offers.
 fn hangs_below(graph: &Graph, setup: &Setup, device: Dev, spot: u16) -> bool
-    requires graph { IsGraphOf setup.now.tables graph.now }
+    requires graph { IsGraphOf (declared_by setup.now.tables) graph.now }
     ensures { result ≡ option_map_or (next.hangs_below setup.now device) (slice_get setup.now.machine.spots spot) false }
 {
     match setup.machine.spots.items().get(spot as usize) {
@@ -63,7 +63,7 @@ fn hangs_below(graph: &Graph, setup: &Setup, device: Dev, spot: u16) -> bool
 /// Whether a finaliser of the device would show the spot.
 #[tactic(auto, using(crate::proofs::LateLaws::late_is))]
 fn is_late_below(graph: &Graph, setup: &Setup, hidden: &[u16], device: Dev, spot: u16) -> bool
-    requires graph { IsGraphOf setup.now.tables graph.now }
+    requires graph { IsGraphOf (declared_by setup.now.tables) graph.now }
     requires spot { spot < length setup.now.machine.spots }
     ensures { late_test setup.now hidden.now device spot ≡ result }
 {
@@ -75,7 +75,7 @@ fn is_late_below(graph: &Graph, setup: &Setup, hidden: &[u16], device: Dev, spot
 
 /// The first spot that is late, hidden and present, and hangs below the device.
 fn late_spot(graph: &Graph, setup: &Setup, hidden: &[u16], device: Dev) -> Option<u16>
-    requires graph { IsGraphOf setup.now.tables graph.now }
+    requires graph { IsGraphOf (declared_by setup.now.tables) graph.now }
     requires few { length setup.now.machine.spots ≤ 1024 }
     ensures late { find (late_test setup.now hidden.now device) (below (length setup.now.machine.spots)) ≡ result }
     ensures inside { IfSome result (λ x. x < length setup.now.machine.spots) }
@@ -96,7 +96,7 @@ pub fn shown_by(
     hidden: &[u16],
     serial: u64,
 ) -> Option<u16>
-    requires graph { IsGraphOf setup.now.tables graph.now }
+    requires graph { IsGraphOf (declared_by setup.now.tables) graph.now }
     requires few { length setup.now.machine.spots ≤ 1024 }
     ensures shown { late.shown_by setup.now live.now hidden.now serial ≡ result }
     ensures inside { IfSome result (λ x. x < length setup.now.machine.spots) }

@@ -3,7 +3,8 @@ ghost use Rattle.std.specs.Prelude.{◌≡◌, ◌≤◌, ◌<◌, ◌+◌, ◌-
 ghost use Rattle.run_rules.specs.Deeds.{Does};
 ghost use Rattle.run_rules.specs.Next.{next, finalise};
 ghost use Rattle.run_rules.specs.Search as rule;
-ghost use Rattle.match_search.specs.Best.{IsGraphOf, live_rows};
+ghost use Rattle.attr_graph.specs.Graphs.{IsGraphOf, declared_by};
+ghost use Rattle.match_search.specs.Best.{live_rows};
 ghost use Rattle.dev_board.specs.Input.{Bounded};
 ghost use Rattle.dev_board.specs.Keeping.{SoundParts};
 ghost use Rattle.dev_board.specs.View.{parts_of, world_of, shown_of};
@@ -88,7 +89,7 @@ fn plan_scan(
     hidden: &[u16],
     search: Search,
 ) -> Plan
-    requires graph { IsGraphOf setup.now.tables graph.now }
+    requires graph { IsGraphOf (declared_by setup.now.tables) graph.now }
     requires bounded { Bounded setup.now }
     requires marks { rows.now ≡ live_rows setup.now live.now }
     requires live { length live.now ≤ 1024 }
@@ -108,7 +109,7 @@ fn plan_scan(
 
 /// What the finaliser at a place of the boot's list does.
 fn plan_call(graph: &Graph, setup: &Setup, core: &Core, place: u64, anew: bool) -> Plan
-    requires graph { IsGraphOf setup.now.tables graph.now }
+    requires graph { IsGraphOf (declared_by setup.now.tables) graph.now }
     requires bounded { Bounded setup.now }
     requires sound { SoundParts setup.now (parts_of core.now) }
     requires marks { core.now.rows ≡ live_rows setup.now core.now.live.items }
@@ -144,7 +145,7 @@ fn plan_call(graph: &Graph, setup: &Setup, core: &Core, place: u64, anew: bool) 
 /// What the boot does without a scan: interrupts first, then the finalisers, in passes until none answers 1. See
 /// autoconf(9).
 fn plan_boot(graph: &Graph, setup: &Setup, core: &Core) -> Plan
-    requires graph { IsGraphOf setup.now.tables graph.now }
+    requires graph { IsGraphOf (declared_by setup.now.tables) graph.now }
     requires bounded { Bounded setup.now }
     requires sound { SoundParts setup.now (parts_of core.now) }
     requires marks { core.now.rows ≡ live_rows setup.now core.now.live.items }
@@ -167,7 +168,7 @@ fn plan_boot(graph: &Graph, setup: &Setup, core: &Core) -> Plan
 
 /// The next thing that the board does.
 pub fn next_plan(graph: &Graph, setup: &Setup, core: &Core) -> Plan
-    requires graph { IsGraphOf setup.now.tables graph.now }
+    requires graph { IsGraphOf (declared_by setup.now.tables) graph.now }
     requires bounded { Bounded setup.now }
     requires sound { SoundParts setup.now (parts_of core.now) }
     requires marks { core.now.rows ≡ live_rows setup.now core.now.live.items }

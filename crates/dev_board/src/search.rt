@@ -3,7 +3,8 @@ ghost use Rattle.std.specs.Prelude.{◌≡◌, ◌≤◌, ◌<◌, ◌+◌, ◌^
 ghost use Rattle.run_rules.specs.World as world;
 ghost use Rattle.run_rules.specs.Next as next;
 ghost use Rattle.run_rules.specs.Search as rule;
-ghost use Rattle.match_search.specs.Best.{IsGraphOf, live_rows};
+ghost use Rattle.attr_graph.specs.Graphs.{IsGraphOf, declared_by};
+ghost use Rattle.match_search.specs.Best.{live_rows};
 ghost use Rattle.dev_board.specs.Input.{BoundedTables};
 
 use crate::unit::unit_of;
@@ -76,7 +77,7 @@ pub fn winner_at(
     place: Place,
     spot: u16,
 ) -> Option<u32>
-    requires graph { IsGraphOf setup.now.tables graph.now }
+    requires graph { IsGraphOf (declared_by setup.now.tables) graph.now }
     requires bounded { BoundedTables setup.now.tables }
     requires marks { rows.now ≡ live_rows setup.now live.now }
     ensures { rule.winner_at setup.now live.now parent place spot ≡ result }
@@ -103,7 +104,7 @@ pub fn arrival(
     place: Place,
     spot: u16,
 ) -> Option<Arrival>
-    requires graph { IsGraphOf setup.now.tables graph.now }
+    requires graph { IsGraphOf (declared_by setup.now.tables) graph.now }
     requires bounded { BoundedTables setup.now.tables }
     requires marks { rows.now ≡ live_rows setup.now live.now }
     requires live { length live.now ≤ 1024 }

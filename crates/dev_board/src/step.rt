@@ -4,7 +4,7 @@ ghost use Rattle.run_rules.specs.Lines.{IsFormed};
 ghost use Rattle.run_rules.specs.Run.{event_of};
 ghost use Rattle.dev_board.specs.Agreement.{slots_of};
 ghost use Rattle.dev_board.specs.Left.{boot_left};
-ghost use Rattle.match_search.specs.Best.{IsGraphOf};
+ghost use Rattle.attr_graph.specs.Graphs.{IsGraphOf, declared_by};
 ghost use Rattle.dev_board.specs.Input.{Bounded};
 ghost use Rattle.dev_board.specs.Keeping.{SoundParts};
 ghost use Rattle.dev_board.specs.Plans as plans;
@@ -107,7 +107,7 @@ fn next_step<S: Slots>(
     core: &mut Core,
     slots: &mut S,
 ) -> Stepped
-    requires graph { IsGraphOf setup.now.tables graph.now }
+    requires graph { IsGraphOf (declared_by setup.now.tables) graph.now }
     requires kept { CoreKept setup.now core.old }
     requires agree { S.states slots.old ≡ slots_of (shown_of setup.now core.old).world }
     requires goes_on { core.old.stopped ≡ None }
@@ -142,7 +142,7 @@ pub fn step_core<S: Slots>(
     caller: u8,
     slots: &mut S,
 ) -> Stepped
-    requires graph { IsGraphOf setup.now.tables graph.now }
+    requires graph { IsGraphOf (declared_by setup.now.tables) graph.now }
     requires kept { CoreKept setup.now core.old }
     requires caller { caller ≤ length setup.now.scripts }
     requires agree { S.states slots.old ≡ slots_of (shown_of setup.now core.old).world }

@@ -6,7 +6,8 @@ ghost use Rattle.cf_types.specs.Numbers.{below};
 ghost use Rattle.cf_types.specs.declared.tables.Place.TheVariants.{At};
 ghost use Rattle.run_rules.specs.World as world;
 ghost use Rattle.run_rules.specs.Search as rule;
-ghost use Rattle.match_search.specs.Best.{IsGraphOf, live_rows};
+ghost use Rattle.attr_graph.specs.Graphs.{IsGraphOf, declared_by};
+ghost use Rattle.match_search.specs.Best.{live_rows};
 ghost use Rattle.dev_board.specs.Input.{Bounded};
 ghost use Rattle.dev_board.specs.Turns.{turn_test, turn_on, IsOn};
 
@@ -120,7 +121,7 @@ fn wins(
     serial: u64,
     turn: Turn,
 ) -> bool
-    requires graph { IsGraphOf setup.now.tables graph.now }
+    requires graph { IsGraphOf (declared_by setup.now.tables) graph.now }
     requires bounded { Bounded setup.now }
     requires marks { rows.now ≡ live_rows setup.now live.now }
     ensures { result ≡ world.is_number (rule.winner_at setup.now live.now serial turn.place turn.at.spot) turn.at.row }
@@ -142,7 +143,7 @@ fn is_due(
     search: Search,
     turn: Turn,
 ) -> bool
-    requires graph { IsGraphOf setup.now.tables graph.now }
+    requires graph { IsGraphOf (declared_by setup.now.tables) graph.now }
     requires bounded { Bounded setup.now }
     requires marks { rows.now ≡ live_rows setup.now live.now }
     requires spot { turn.at.spot < length setup.now.machine.spots }
@@ -164,7 +165,7 @@ fn is_due_child(
     parent: Option<u16>,
     turn: Turn,
 ) -> bool
-    requires graph { IsGraphOf setup.now.tables graph.now }
+    requires graph { IsGraphOf (declared_by setup.now.tables) graph.now }
     requires bounded { Bounded setup.now }
     requires marks { rows.now ≡ live_rows setup.now live.now }
     requires spot { turn.at.spot < length setup.now.machine.spots }
@@ -185,7 +186,7 @@ fn due_spot(
     bus: Bus,
     row: u32,
 ) -> Option<Turn>
-    requires graph { IsGraphOf setup.now.tables graph.now }
+    requires graph { IsGraphOf (declared_by setup.now.tables) graph.now }
     requires bounded { Bounded setup.now }
     requires marks { rows.now ≡ live_rows setup.now live.now }
     ensures on { IfSome result (IsOn bus (length setup.now.machine.spots)) }
@@ -220,7 +221,7 @@ fn due_row(
     search: Search,
     bus: Bus,
 ) -> Option<Turn>
-    requires graph { IsGraphOf setup.now.tables graph.now }
+    requires graph { IsGraphOf (declared_by setup.now.tables) graph.now }
     requires bounded { Bounded setup.now }
     requires marks { rows.now ≡ live_rows setup.now live.now }
     ensures on { IfSome result (IsOn bus (length setup.now.machine.spots)) }
@@ -290,7 +291,7 @@ fn due_at(
     attr: u16,
     place: Place,
 ) -> Option<Turn>
-    requires graph { IsGraphOf setup.now.tables graph.now }
+    requires graph { IsGraphOf (declared_by setup.now.tables) graph.now }
     requires bounded { Bounded setup.now }
     requires marks { rows.now ≡ live_rows setup.now live.now }
     ensures first { find (turn_test setup.now live.now hidden.now search) (rule.turns_at setup.now live.now search.serial (attr, place)) ≡ result }
@@ -325,7 +326,7 @@ fn due_among(
     attrs: &[u32],
     from: u16,
 ) -> Option<Turn>
-    requires graph { IsGraphOf setup.now.tables graph.now }
+    requires graph { IsGraphOf (declared_by setup.now.tables) graph.now }
     requires bounded { Bounded setup.now }
     requires marks { rows.now ≡ live_rows setup.now live.now }
     requires few { from + length attrs.now ≤ 64 }
@@ -363,7 +364,7 @@ pub fn due_turn(
     hidden: &[u16],
     search: Search,
 ) -> Option<Turn>
-    requires graph { IsGraphOf setup.now.tables graph.now }
+    requires graph { IsGraphOf (declared_by setup.now.tables) graph.now }
     requires bounded { Bounded setup.now }
     requires marks { rows.now ≡ live_rows setup.now live.now }
     ensures due { rule.due setup.now live.now (world.absent_spots setup.now) hidden.now search.serial None [] search.position ≡ result }

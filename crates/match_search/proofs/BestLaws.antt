@@ -1,58 +1,23 @@
--- The best row by truth values is the winner where these are the rows' liveness; and what a graph of the tables offers.
-use Rattle.std.proofs.Common.{◌≡◌, ◌<◌, ◌≤◌, ℕ, zero, suc, Bool, false, ◌&&◌, nat_lt, List, [], ◌∷◌, map, length, Option, Some, None, option_map, slice_get, slice_index_or, refl, sym, ◌∙◌, ap, arith}
+-- The best row by truth values is the winner where these are the rows' liveness.
+use Rattle.std.proofs.Common.{◌≡◌, ℕ, zero, suc, Bool, false, ◌&&◌, nat_lt, List, [], ◌∷◌, length, Option, Some, None, option_map, slice_get, slice_index_or, refl, sym, ◌∙◌, ap}
 use Rattle.std.specs.Option.{option_map_or}
 use Rattle.std.proofs.lemmas.Option.{slice_get-map}
-use Rattle.attr_graph.specs.Reach.{Shape}
 use Rattle.cf_types.specs.declared.machine.Machine.{Machine}
-use Rattle.cf_types.specs.declared.tables.Device.{Device}
 use Rattle.cf_types.specs.declared.tables.Place.{Place}
 use Rattle.cf_types.specs.declared.tables.Row.{Row}
 use Rattle.cf_types.specs.declared.tables.Tables.{Tables}
 use Rattle.cf_types.specs.Locators.{locators_at, submatch}
-use Rattle.cf_types.specs.Offers.{named_by, interfaces_of, interfaces}
 use Rattle.run_rules.specs.declared.world.Dev.{Dev}
 use Rattle.run_rules.specs.declared.world.ParentRef.{ParentRef}
 use Rattle.run_rules.specs.declared.world.Setup.{Setup}
 use Rattle.run_rules.specs.Search.{is_live_row, fits, found_at, match_value, is_candidate, value_of, winner}
 use Rattle.run_rules.proofs.Winner.{IsBestOf, IsBest, winner_is}
-use Rattle.match_search.specs.Best.{IsGraphOf, live_rows, may_take, worth}
-
--- ---- a graph of the tables
-
-there : {A : Type 0} (xs : List A) (i : ℕ) → i < length xs → (x : A) × (slice_get xs i ≡ Some x)
-there [] i lt = absurd (omega arith)
-there (x ∷ xs) zero lt = (x, refl)
-there (x ∷ xs) (suc i) lt = there xs i (omega arith)
-
-past : {A : Type 0} (xs : List A) (i : ℕ) → length xs ≤ i → slice_get xs i ≡ None
-past [] i le = refl
-past (x ∷ xs) zero le = absurd (omega arith)
-past (x ∷ xs) (suc i) le = past xs i (omega arith)
+use Rattle.match_search.specs.Best.{live_rows, may_take, worth}
 
 index_is : {A : Type 0} (xs : List A) (i : ℕ) (x d : A) → slice_get xs i ≡ Some x → slice_index_or xs i d ≡ x
 index_is [] i x d e = absurd cc
 index_is (y ∷ ys) zero x d e = cc
 index_is (y ∷ ys) (suc i) x d e = index_is ys i x d e
-
-pub offered_is : (t : Tables) (g : Shape) (d : ℕ) → IsGraphOf t g → d < length t.devices → interfaces_of g.attrs (slice_index_or g.devices d []) ≡ interfaces t.attrs t.devices d
-unfolding interfaces
-offered_is t g d is lt =
-    let device = there t.devices d lt in
-    let named : slice_get (map named_by t.devices) d ≡ Some (named_by device.0) = slice_get-map named_by t.devices d ∙ ap (λ (o : Option Device). option_map named_by o) device.1 in
-    rw (is.attrs, is.devices, index_is (map named_by t.devices) d (named_by device.0) [] named, device.1) refl
-
-pub offered_none : (t : Tables) (d : ℕ) → length t.devices ≤ d → interfaces t.attrs t.devices d ≡ []
-unfolding interfaces
-offered_none t d le = rw (past t.devices d le) refl
-
-pub devices_there : (t : Tables) (g : Shape) → IsGraphOf t g → length g.devices ≡ length t.devices
-devices_there t g is = ap length is.devices ∙ same_length t.devices
-  where
-    same_length : (xs : List Device) → length (map named_by xs) ≡ length xs
-    same_length [] = refl
-    same_length (x ∷ xs) = ap suc (same_length xs)
-
--- ---- the winner
 
 -- a row that may take the spot is a candidate
 candidate_same : (s : Setup) (devices : List Dev) (p : ParentRef) (place : Place) (x q : ℕ)

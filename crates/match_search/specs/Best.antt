@@ -1,22 +1,15 @@
 -- The rows that may take a spot, by the truth values of their liveness.
-use Rattle.std.specs.Prelude.{◌≡◌, ℕ, Bool, false, ◌&&◌, nat_lt, List, map, slice_get}
+use Rattle.std.specs.Prelude.{ℕ, Bool, false, ◌&&◌, nat_lt, List, map, slice_get}
 use Rattle.std.specs.List.{slice_index_or}
 use Rattle.std.specs.Option.{option_map_or}
-use Rattle.attr_graph.specs.Reach.{Shape}
 use Rattle.cf_types.specs.declared.machine.Machine.{Machine}
 use Rattle.cf_types.specs.declared.tables.Place.{Place}
 use Rattle.cf_types.specs.declared.tables.Tables.{Tables}
 use Rattle.cf_types.specs.Locators.{locators_at, submatch}
-use Rattle.cf_types.specs.Offers.{nodes_of, named_by}
 use Rattle.run_rules.specs.declared.world.Dev.{Dev}
 use Rattle.run_rules.specs.declared.world.ParentRef.{ParentRef}
 use Rattle.run_rules.specs.declared.world.Setup.{Setup}
 use Rattle.run_rules.specs.Search.{is_live_row, fits, found_at, match_value}
-
--- the graph has the attributes and devices of the tables
-pub record IsGraphOf (t : Tables) (g : Shape) : Type 0 where
-  pub attrs : g.attrs ≡ nodes_of t.attrs
-  pub devices : g.devices ≡ map named_by t.devices
 
 -- of each row whether it is live
 abbrev pub live_rows : Setup → List Dev → List Bool

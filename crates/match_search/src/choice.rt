@@ -4,7 +4,8 @@ ghost use Rattle.std.specs.Option.{option_map_or};
 ghost use Rattle.run_rules.specs.declared.world.Dev.{Dev};
 ghost use Rattle.run_rules.specs.declared.world.Setup.{Setup};
 ghost use Rattle.run_rules.specs.Search.{winner};
-ghost use Rattle.match_search.specs.Best.{IsGraphOf, live_rows, may_take, worth};
+ghost use Rattle.attr_graph.specs.Graphs.{IsGraphOf, declared_by};
+ghost use Rattle.match_search.specs.Best.{live_rows, may_take, worth};
 
 use crate::fits::{fits, found_at, locators_at, submatch};
 use crate::live::LiveRows;
@@ -24,7 +25,7 @@ fn takes(
     spot: u16,
     row: u32,
 ) -> bool
-    requires graph { IsGraphOf tables.now graph.now }
+    requires graph { IsGraphOf (declared_by tables.now) graph.now }
     ensures { result ≡ may_take tables.now machine.now live.now parent place spot row }
 {
     match tables.rows.items().get(row as usize) {
@@ -74,7 +75,7 @@ pub fn best(
     place: Place,
     spot: u16,
 ) -> Option<u32>
-    requires graph { IsGraphOf tables.now graph.now }
+    requires graph { IsGraphOf (declared_by tables.now) graph.now }
     requires few { length tables.now.rows ≤ 8192 }
     ensures { (s : Setup) (devices : List Dev) → s.tables ≡ tables.now → s.machine ≡ machine.now → live.now ≡ live_rows s devices → winner s devices parent place spot ≡ result }
 {

@@ -4,7 +4,7 @@ ghost use Rattle.cf_types.specs.Locators as shared;
 ghost use Rattle.cf_types.specs.Offers as offer;
 ghost use Rattle.run_rules.specs.Search as rule;
 ghost use Rattle.run_rules.specs.World as world;
-ghost use Rattle.match_search.specs.Best.{IsGraphOf};
+ghost use Rattle.attr_graph.specs.Graphs.{IsGraphOf, declared_by};
 
 use attr_graph::Graph;
 use cf_types::{Locator, Machine, ParentSpec, Place, Row, Tables};
@@ -61,7 +61,7 @@ fn same_place(a: Place, b: Place) -> bool
 /// Whether a driver offers an attribute.
 #[tactic(auto, unfolding(cf_types::specs::Offers::offers))]
 fn offers(graph: &Graph, tables: &Tables, device: u32, attr: u32) -> bool
-    requires graph { IsGraphOf tables.now graph.now }
+    requires graph { IsGraphOf (declared_by tables.now) graph.now }
     ensures { result ≡ offer.offers tables.now.attrs tables.now.devices device attr }
 {
     if (device as usize) < tables.devices.len() {
@@ -72,7 +72,7 @@ fn offers(graph: &Graph, tables: &Tables, device: u32, attr: u32) -> bool
 }
 
 fn parent_offers(graph: &Graph, tables: &Tables, parent: ParentRef, place: Place) -> bool
-    requires graph { IsGraphOf tables.now graph.now }
+    requires graph { IsGraphOf (declared_by tables.now) graph.now }
     ensures { result ≡ rule.parent_offers tables.now parent place }
 {
     match (parent, place) {
@@ -85,7 +85,7 @@ fn parent_offers(graph: &Graph, tables: &Tables, parent: ParentRef, place: Place
 
 /// Whether a row fits a parent at a place.
 pub fn fits(graph: &Graph, tables: &Tables, parent: ParentRef, place: Place, row: &Row) -> bool
-    requires graph { IsGraphOf tables.now graph.now }
+    requires graph { IsGraphOf (declared_by tables.now) graph.now }
     ensures { result ≡ rule.fits tables.now parent place row.now }
 {
     same_place(row.place, place)

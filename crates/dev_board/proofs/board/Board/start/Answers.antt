@@ -1,8 +1,12 @@
+use Rattle.attr_graph.proofs.GraphLaws.{formed_fit}
 use Rattle.run_rules.specs.declared.world.Setup.{Setup}
 use Rattle.dev_board.specs.Input.{Bounded}
 use Rattle.dev_board.proofs.InputLaws.{bounded}
 use Rattle.dev_board.proofs.Opening.{begins, begun}
 use Rattle.dev_board.proofs.board.Board.start.Goals as goal
+
+pub graph_of-requires : goal.graph_of-requires
+graph_of-requires c = formed_fit c.args.tables c.requires.tables
 
 pub begin-requires : goal.begin-requires
 begin-requires c = record { few = c.requires.machine.few_spots }
