@@ -1,0 +1,67 @@
+ghost use Rattle.std.specs.Prelude.{◌≡◌, ◌<◌, ◌≤◌, false, true, length, IfOk, OnOk, OnErr};
+ghost use Rattle.unit_alloc.specs.Taken.{GivenBack, IsLeastFree, NoneTaken, PassesFew, TakenToo, is_taken};
+
+use crate::least::least_free;
+use cf_types::Memory;
+use std::alloc::Global;
+use std::marker::Model;
+
+/// For each device the units that are taken. Contracts see a list of units for each device, whose order no clause tells.
+#[derive(Drop)]
+pub struct Units {
+    lists: Vec<Vec<u32>>,
+}
+
+impl Model for Units {
+    ghost use Rattle.std.specs.Prelude.{ℕ, List, map};
+
+    ghost Value = { List (List ℕ) };
+
+    ghost view = { λ units. map (λ list. list.items) units.lists.items };
+}
+
+impl Units {
+    /// So many devices, and no unit of any is taken.
+    pub fn make(alloc: Global, devices: u32) -> Result<Units, Memory>
+        ensures { IfOk result (NoneTaken devices) }
+    {
+        let mut lists = Vec::new(alloc);
+        for _device in 0..devices {
+            lists.push(Vec::new(alloc))?;
+        }
+        Ok(Units { lists })
+    }
+
+    /// The least unit of a device that is not below the first one and not taken, as a starred row gives it. It takes no
+    /// memory. See config(5).
+    pub fn pick(&self, device: u32, first: u32) -> u32
+        requires device { device < length self.now }
+        requires first { first ≤ 65536 }
+        requires few { PassesFew (is_taken self.now device) }
+        ensures { IsLeastFree (is_taken self.now device) first result }
+    {
+        least_free(&self.lists[device as usize], first)
+    }
+
+    /// Takes a unit of a device that is not taken. At `Memory` all is as before.
+    pub fn take(&mut self, device: u32, unit: u32) -> Result<(), Memory>
+        requires device { device < length self.old }
+        requires free { is_taken self.old device unit ≡ false }
+        ensures ok { OnOk result (TakenToo self.old self.new device unit) }
+        ensures err { OnErr result (self.new ≡ self.old) }
+    {
+        let list = &mut self.lists[device as usize];
+        list.push(unit)?;
+        Ok(())
+    }
+
+    /// Gives back a unit of a device that is taken. It takes no memory.
+    pub fn give(&mut self, device: u32, unit: u32)
+        requires device { device < length self.old }
+        requires taken { is_taken self.old device unit ≡ true }
+        ensures { GivenBack self.old self.new device unit }
+    {
+        let list = &mut self.lists[device as usize];
+        list.retain(|taken| *taken != unit);
+    }
+}
