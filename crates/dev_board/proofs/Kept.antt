@@ -27,6 +27,8 @@ use Rattle.dev_board.proofs.Moves.{world_done}
 use Rattle.dev_board.proofs.Sounds.{sound_done}
 use Rattle.dev_board.proofs.Falls.{falls_done}
 use Rattle.dev_board.proofs.SlotSteps.{slots_step}
+use Rattle.dev_board.proofs.UnitLaws.{units_done}
+use Rattle.dev_board.specs.UnitsOf.{AreUnitsOf, TakenFor}
 use Rattle.dev_board.specs.Shown.{Shown}
 use Rattle.dev_board.specs.Stepping.{DoesNext}
 use Rattle.dev_board.specs.Witness.{Witness, told_did, lease_step}
@@ -121,6 +123,11 @@ committed s old mid new x e same is chosen line formed events stops stopped =
 pub kept_sound : (s : Setup) (old new : Core) (x : Plan) → IsDone s old new x → SoundParts s (parts_of old) → Fits s (parts_of old) x → Ready s (parts_of old) x → SoundParts s (parts_of new)
 kept_sound s old new x is sound fits ready = subst (λ (p : Parts). SoundParts s p) (sym is.parts) (sound_done s (parts_of old) x sound fits ready)
 
+pub kept_units : (s : Setup) (old new : Core) (x : Plan) → IsDone s old new x → AreUnitsOf s old.live.items old.units → TakenFor s old.units new.units (got_of x) → AreUnitsOf s new.live.items new.units
+kept_units s old new x is was taken =
+    let live : new.live.items ≡ (done s (parts_of old) x).live = ap (λ (p : Parts). p.live) is.parts in
+    rw live (units_done s (parts_of old) x old.units new.units was taken)
+
 pub kept_falls : (s : Setup) (old new : Core) (x : Plan) → IsDone s old new x → SoundParts s (parts_of old) → Fits s (parts_of old) x → Ready s (parts_of old) x
     → boot_left (shown_of s new).world < boot_left (shown_of s old).world
 kept_falls s old new x is sound fits ready =
@@ -135,8 +142,8 @@ kept_slots s old new x is ready =
     let before : (shown_of s old).world ≡ world_of s (parts_of old) false = ap (λ (b : Bool). world_of s (parts_of old) b) is.was in
     rw (now, before) (slots_step s (parts_of old) x ready)
 
-pub kept_step : (s : Setup) (old new : Core) (d : Deed) → CoreKept s old → SoundParts s (parts_of new) → new.rows ≡ live_rows s new.live.items → Committed s old new d → CoreKept s new
-kept_step s old new d kept sound marks did =
+pub kept_step : (s : Setup) (old new : Core) (d : Deed) → CoreKept s old → SoundParts s (parts_of new) → new.rows ≡ live_rows s new.live.items → AreUnitsOf s new.live.items new.units → Committed s old new d → CoreKept s new
+kept_step s old new d kept sound marks units did =
     let w : World = (shown_of s old).world in
     let long : Run (opening s) (old.events.items ++ event_of w 0 d ∷ []) (after w 0 d) = run_on (opening s) old.events.items w 0 d kept.run did.chosen in
     let moved : Run (opening s) new.events.items (after w 0 d) = subst (λ (h : List Event). Run (opening s) h (after w 0 d)) (sym did.events) long in
@@ -145,6 +152,7 @@ kept_step s old new d kept sound marks did =
       sound = sound;
       names = names_own s new.live.items kept.bounded.tables.formed sound.rows sound.units sound.devices.apart;
       marks = marks;
+      units = units;
       bounded = kept.bounded;
       formed = subst (AllByRecursion IsFormed) (sym did.events) (all_snoc IsFormed old.events.items (event_of w 0 d) kept.formed did.formed);
       next_high = omega (arith, did.next, kept.next_high, ap length did.events, length-append old.events.items (event_of w 0 d ∷ []));

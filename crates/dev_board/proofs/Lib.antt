@@ -3,6 +3,7 @@ pub mod OneField
 pub mod InputLaws
 pub mod LateLaws
 pub mod MarkLaws
+pub mod UnitLaws
 pub mod PlanLaws
 pub mod TurnLaws
 pub mod Opening

@@ -7,6 +7,7 @@ use Rattle.run_rules.specs.World.{opening, late_spots}
 use Rattle.cf_types.specs.Numbers.{below}
 use Rattle.run_rules.specs.Search.{is_occupied}
 use Rattle.dev_board.proofs.MarkLaws.{first_marks}
+use Rattle.dev_board.proofs.UnitLaws.{first_units}
 use Rattle.dev_board.specs.Left.{free_spots}
 use Rattle.dev_board.specs.Parts.{Parts}
 use Rattle.dev_board.specs.Input.{Bounded}
@@ -58,6 +59,7 @@ begins s c bounded f =
       sound = subst (λ (p : Parts). SoundParts s p) (sym f.parts) (first_sound s);
       names = rw live tt;
       marks = rw (f.rows, live) (first_marks s);
+      units = rw live (first_units s c.units f.units);
       bounded = bounded;
       formed = rw f.events tt;
       next_high = omega (arith, next);

@@ -2,6 +2,7 @@ pub mod Input
 pub mod Turns
 pub mod Late
 pub mod Marks
+pub mod UnitsOf
 pub mod Parts
 pub mod Keeping
 pub mod Witness

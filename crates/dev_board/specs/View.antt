@@ -18,6 +18,8 @@ use Rattle.dev_board.specs.Parts.{Parts}
 use Rattle.dev_board.specs.Keeping.{SoundParts}
 use Rattle.dev_board.specs.Plans.{first_parts}
 use Rattle.dev_board.specs.Shown.{Shown}
+use Rattle.dev_board.specs.UnitsOf.{AreUnitsOf}
+use Rattle.unit_alloc.specs.Taken.{NoneTaken}
 
 abbrev pub frame_of : Search → Frame
 frame_of f = Scan f.serial None [] f.position
@@ -65,12 +67,13 @@ shown_of s c = record {
   stopped = c.stopped;
 }
 
--- the history leads from the opening world to this one, and its events are formed; what changes is sound, the rows are marked as they are live, and the devices print names of their own; the next serial is at most one more than the events
+-- the history leads from the opening world to this one, and its events are formed; what changes is sound, the rows are marked as they are live, exactly the units of live devices are taken, and the devices print names of their own; the next serial is at most one more than the events
 pub record CoreKept (s : Setup) (c : Core) : Type 0 where
   pub run : Run (opening s) (shown_of s c).events (shown_of s c).world
   pub sound : SoundParts s (parts_of c)
   pub names : HaveOwnNames s c.live.items
   pub marks : c.rows ≡ live_rows s c.live.items
+  pub units : AreUnitsOf s c.live.items c.units
   pub bounded : Bounded s
   pub formed : AllByRecursion IsFormed c.events.items
   pub next_high : c.next ≤ length c.events.items + 1
@@ -88,6 +91,7 @@ pub record SameCore (old new : Core) : Type 0 where
 pub record IsFirst (s : Setup) (c : Core) : Type 0 where
   pub parts : parts_of c ≡ first_parts s
   pub rows : c.rows ≡ map (λ r. true) s.tables.rows
+  pub units : NoneTaken (length s.tables.devices) c.units
   pub ended : c.ended ≡ false
   pub stops : c.stops ≡ 0
   pub stopped : c.stopped ≡ None

@@ -76,6 +76,7 @@ fn release(core: &mut Core, which: Key)
     requires room { vec_len core.old.searches + vec_len core.old.deferred ≤ vec_capacity core.old.searches }
     ensures parts { parts_of core.new ≡ plans.released (parts_of core.old) which (parts_of core.old).stack }
     ensures rows { core.new.rows ≡ core.old.rows }
+    ensures units { core.new.units ≡ core.old.units }
     ensures ended { core.new.ended ≡ core.old.ended }
     ensures stops { core.new.stops ≡ core.old.stops }
     ensures stopped { core.new.stopped ≡ core.old.stopped }
@@ -172,7 +173,7 @@ fn call_later(finalisers: &mut Vec<u64>, finaliser: bool, serial: u64)
     }
 }
 
-/// A device comes: it has the next serial, and its scan and its finaliser are placed. See config_attach(9).
+/// A device comes, whose unit is taken already: it has the next serial, and its scan and its finaliser are placed. See config_attach(9).
 fn attach(graph: &Graph, setup: &Setup, core: &mut Core, arrival: Arrival, may_defer: bool)
     requires graph { IsGraphOf (declared_by setup.now.tables) graph.now }
     requires live_room { vec_len core.old.live < vec_capacity core.old.live }
@@ -184,6 +185,7 @@ fn attach(graph: &Graph, setup: &Setup, core: &mut Core, arrival: Arrival, may_d
     requires bounded { Bounded setup.now }
     ensures parts { parts_of core.new ≡ come setup.now (parts_of core.old) arrival may_defer }
     ensures marks { core.new.rows ≡ live_rows setup.now core.new.live.items }
+    ensures units { core.new.units ≡ core.old.units }
     ensures ended { core.new.ended ≡ core.old.ended }
     ensures stops { core.new.stops ≡ core.old.stops }
     ensures stopped { core.new.stopped ≡ core.old.stopped }
@@ -229,6 +231,7 @@ fn attach_if(graph: &Graph, setup: &Setup, core: &mut Core, got: Option<Arrival>
     requires bounded { Bounded setup.now }
     ensures parts { parts_of core.new ≡ come_if setup.now (parts_of core.old) got may_defer }
     ensures marks { core.new.rows ≡ live_rows setup.now core.new.live.items }
+    ensures units { core.new.units ≡ core.old.units }
     ensures ended { core.new.ended ≡ core.old.ended }
     ensures stops { core.new.stops ≡ core.old.stops }
     ensures stopped { core.new.stopped ≡ core.old.stopped }
@@ -260,6 +263,7 @@ pub fn commit(graph: &Graph, setup: &Setup, core: &mut Core, plan: Plan)
     requires bounded { Bounded setup.now }
     ensures parts { parts_of core.new ≡ done setup.now (parts_of core.old) plan }
     ensures marks { core.new.rows ≡ live_rows setup.now core.new.live.items }
+    ensures units { core.new.units ≡ core.old.units }
     ensures ended { core.new.ended ≡ (ends plan || core.old.ended) }
     ensures stops { core.new.stops ≡ core.old.stops }
     ensures stopped { core.new.stopped ≡ core.old.stopped }

@@ -9,6 +9,7 @@ use cf_types::Memory;
 use match_search::LiveRows;
 use run_rules::{Deferred, Dev, Event, Position, Setup};
 use std::alloc::Global;
+use unit_alloc::Units;
 
 /// A scan that is going on: of which device, and from which position on.
 #[derive(Clone, Copy)]
@@ -23,6 +24,8 @@ pub struct Core {
     pub live: Vec<Dev>,
     /// Of each row whether it is live.
     pub rows: LiveRows,
+    /// The units of live devices.
+    pub units: Units,
     pub next: u64,
     /// The late spots that no finaliser has shown yet.
     pub hidden: Vec<u16>,
@@ -73,15 +76,18 @@ fn late_spots(alloc: Global, setup: &Setup) -> Result<Vec<u16>, Memory>
 /// The parts before any event: the scan of the root is before caller 0, and late spots are hidden.
 pub fn begin(alloc: Global, setup: &Setup) -> Result<Core, Memory>
     requires few { length setup.now.machine.spots ≤ 1024 }
+    requires few_devices { length setup.now.tables.devices ≤ 65536 }
     ensures { IfOk result (IsFirst setup.now) }
 {
     let hidden = late_spots(alloc, setup)?;
     let rows = LiveRows::make(alloc, &setup.tables)?;
+    let units = Units::make(alloc, setup.tables.devices.len() as u32)?;
     let mut searches = Vec::new(alloc);
     searches.push(new_search(0))?;
     Ok(Core {
         live: Vec::new(alloc),
         rows,
+        units,
         next: 1,
         hidden,
         phase: false,

@@ -7,6 +7,7 @@ ghost use Rattle.attr_graph.specs.Graphs.{IsGraphOf, declared_by};
 ghost use Rattle.match_search.specs.Best.{live_rows};
 ghost use Rattle.dev_board.specs.Input.{Bounded};
 ghost use Rattle.dev_board.specs.Keeping.{SoundParts};
+ghost use Rattle.dev_board.specs.UnitsOf.{AreUnitsOf};
 ghost use Rattle.dev_board.specs.View.{parts_of, world_of, shown_of};
 ghost use Rattle.dev_board.specs.Plans.{deed_of, scan_deed, Fits, Ready, PlansScan, PlansCall};
 
@@ -17,6 +18,7 @@ use crate::turn::due_turn;
 use attr_graph::Graph;
 use match_search::LiveRows;
 use run_rules::{Arrival, Dev, Position, Setup, Turn};
+use unit_alloc::Units;
 
 /// What is done next. A finaliser's call has its place in the list, and whether a new pass begins with it.
 #[derive(Clone, Copy)]
@@ -85,6 +87,7 @@ fn plan_scan(
     graph: &Graph,
     setup: &Setup,
     rows: &LiveRows,
+    units: &Units,
     live: &[Dev],
     hidden: &[u16],
     search: Search,
@@ -92,6 +95,7 @@ fn plan_scan(
     requires graph { IsGraphOf (declared_by setup.now.tables) graph.now }
     requires bounded { Bounded setup.now }
     requires marks { rows.now ≡ live_rows setup.now live.now }
+    requires units { AreUnitsOf setup.now live.now units.now }
     requires live { length live.now ≤ 1024 }
     ensures same { PlansScan setup.now live.now hidden.now search result }
     ensures deed { scan_deed setup.now live.now hidden.now search ≡ deed_of result }
@@ -102,7 +106,16 @@ fn plan_scan(
         Some(turn) => Plan::Turn {
             serial,
             moved: after_turn(turn),
-            got: arrival(graph, setup, rows, live, serial, turn.place, turn.at.spot),
+            got: arrival(
+                graph,
+                setup,
+                rows,
+                units,
+                live,
+                serial,
+                turn.place,
+                turn.at.spot,
+            ),
         },
     }
 }
@@ -113,6 +126,7 @@ fn plan_call(graph: &Graph, setup: &Setup, core: &Core, place: u64, anew: bool) 
     requires bounded { Bounded setup.now }
     requires sound { SoundParts setup.now (parts_of core.now) }
     requires marks { core.now.rows ≡ live_rows setup.now core.now.live.items }
+    requires units { AreUnitsOf setup.now core.now.live.items core.now.units }
     requires place { place < length core.now.finalisers.items }
     ensures same { PlansCall setup.now (parts_of core.now) place anew result }
     ensures deed { finalise (world_of setup.now (parts_of core.now) false) (slice_index_or core.now.finalisers.items place 0) (Some place) anew ≡ deed_of result }
@@ -131,6 +145,7 @@ fn plan_call(graph: &Graph, setup: &Setup, core: &Core, place: u64, anew: bool) 
                 graph,
                 setup,
                 &core.rows,
+                &core.units,
                 &core.live,
                 serial,
                 place_of(setup, spot),
@@ -149,6 +164,7 @@ fn plan_boot(graph: &Graph, setup: &Setup, core: &Core) -> Plan
     requires bounded { Bounded setup.now }
     requires sound { SoundParts setup.now (parts_of core.now) }
     requires marks { core.now.rows ≡ live_rows setup.now core.now.live.items }
+    requires units { AreUnitsOf setup.now core.now.live.items core.now.units }
     requires idle { core.now.searches.items ≡ [] }
     ensures chosen { next (world_of setup.now (parts_of core.now) false) 0 ≡ Does (deed_of result) }
     ensures fits { Fits setup.now (parts_of core.now) result }
@@ -172,13 +188,22 @@ pub fn next_plan(graph: &Graph, setup: &Setup, core: &Core) -> Plan
     requires bounded { Bounded setup.now }
     requires sound { SoundParts setup.now (parts_of core.now) }
     requires marks { core.now.rows ≡ live_rows setup.now core.now.live.items }
+    requires units { AreUnitsOf setup.now core.now.live.items core.now.units }
     requires goes_on { core.now.ended ≡ false }
     ensures chosen { next (shown_of setup.now core.now).world 0 ≡ Does (deed_of result) }
     ensures fits { Fits setup.now (parts_of core.now) result }
     ensures ready { Ready setup.now (parts_of core.now) result }
 {
     match top(&core.searches) {
-        Some(search) => plan_scan(graph, setup, &core.rows, &core.live, &core.hidden, search),
+        Some(search) => plan_scan(
+            graph,
+            setup,
+            &core.rows,
+            &core.units,
+            &core.live,
+            &core.hidden,
+            search,
+        ),
         None => plan_boot(graph, setup, core),
     }
 }

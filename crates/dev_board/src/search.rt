@@ -6,12 +6,14 @@ ghost use Rattle.run_rules.specs.Search as rule;
 ghost use Rattle.attr_graph.specs.Graphs.{IsGraphOf, declared_by};
 ghost use Rattle.match_search.specs.Best.{live_rows};
 ghost use Rattle.dev_board.specs.Input.{BoundedTables};
+ghost use Rattle.dev_board.specs.UnitsOf.{AreUnitsOf};
 
 use crate::unit::unit_of;
 use attr_graph::Graph;
 use cf_types::Place;
 use match_search::{LiveRows, best};
 use run_rules::{Arrival, Dev, ParentRef, Setup};
+use unit_alloc::Units;
 
 /// The live device with the serial.
 pub fn device_at(live: &[Dev], serial: u64) -> Option<Dev>
@@ -99,6 +101,7 @@ pub fn arrival(
     graph: &Graph,
     setup: &Setup,
     rows: &LiveRows,
+    units: &Units,
     live: &[Dev],
     parent: u64,
     place: Place,
@@ -107,6 +110,7 @@ pub fn arrival(
     requires graph { IsGraphOf (declared_by setup.now.tables) graph.now }
     requires bounded { BoundedTables setup.now.tables }
     requires marks { rows.now ≡ live_rows setup.now live.now }
+    requires units { AreUnitsOf setup.now live.now units.now }
     requires live { length live.now ≤ 1024 }
     ensures arrival { next.arrival setup.now live.now parent place spot ≡ result }
     ensures ready { IfSome result (λ a. (a.parent ≡ parent) × (a.spot ≡ spot) × (rule.is_taken setup.now live.now (world.driver_of setup.now a.row) a.unit ≡ false) × (a.row < length setup.now.tables.rows) × (a.unit < 2 ^ 32)) }
@@ -114,7 +118,7 @@ pub fn arrival(
     match winner_at(graph, setup, rows, live, parent, place, spot) {
         Some(row) => Some(Arrival {
             row,
-            unit: unit_of(setup, live, row),
+            unit: unit_of(setup, units, live, row),
             parent,
             spot,
         }),

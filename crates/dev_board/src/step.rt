@@ -1,5 +1,5 @@
 //! One step over the parts of a board.
-ghost use Rattle.std.specs.Prelude.{◌≡◌, ◌<◌, ◌≤◌, ◌+◌, ◌^◌, length, None, IfOk, OnOk, vec_len, vec_capacity};
+ghost use Rattle.std.specs.Prelude.{◌≡◌, ◌<◌, ◌≤◌, ◌+◌, ◌^◌, length, None, IfOk, OnOk, OnErr, vec_len, vec_capacity};
 ghost use Rattle.run_rules.specs.Lines.{IsFormed};
 ghost use Rattle.run_rules.specs.Run.{event_of};
 ghost use Rattle.dev_board.specs.Agreement.{slots_of};
@@ -10,6 +10,7 @@ ghost use Rattle.dev_board.specs.Keeping.{SoundParts};
 ghost use Rattle.dev_board.specs.Plans as plans;
 ghost use Rattle.dev_board.specs.Plans.{deed_of, Fits, Ready, SlotReady, published};
 ghost use Rattle.dev_board.specs.Stepping.{StepIs, IsDid};
+ghost use Rattle.dev_board.specs.UnitsOf.{AreUnitsOf, TakenFor};
 ghost use Rattle.dev_board.specs.View.{parts_of, shown_of, SameCore, CoreKept};
 
 use crate::commit::commit;
@@ -18,6 +19,7 @@ use crate::parts::{Core, append};
 use crate::plan::{Plan, next_plan};
 use crate::stepped::Stepped;
 use crate::told::Told;
+use crate::unit::take_unit;
 use attr_graph::Graph;
 use cf_types::Memory;
 use ref_ledger::Slots;
@@ -27,6 +29,7 @@ use std::alloc::Global;
 /// Makes room for all that an event may append.
 fn reserve(core: &mut Core) -> Result<(), Memory>
     ensures same { SameCore core.old core.new }
+    ensures units { core.new.units ≡ core.old.units }
     ensures live_room { OnOk result (vec_len core.new.live < vec_capacity core.new.live) }
     ensures search_room { OnOk result (vec_len core.new.searches + vec_len core.new.deferred < vec_capacity core.new.searches) }
     ensures deferred_room { OnOk result (vec_len core.new.deferred < vec_capacity core.new.deferred) }
@@ -41,13 +44,16 @@ fn reserve(core: &mut Core) -> Result<(), Memory>
     Ok(())
 }
 
-/// Takes all the memory that a plan needs. The event is made last, so that no exit has to drop one.
+/// Takes all the memory that a plan needs, and last the unit of a device that comes: so an exit leaves all as it was.
 fn prepare(alloc: Global, setup: &Setup, core: &mut Core, plan: Plan) -> Result<Event, Memory>
     requires bounded { Bounded setup.now }
     requires sound { SoundParts setup.now (parts_of core.old) }
     requires fits { Fits setup.now (parts_of core.old) plan }
     requires ready { Ready setup.now (parts_of core.old) plan }
+    requires units { AreUnitsOf setup.now core.old.live.items core.old.units }
     ensures same { SameCore core.old core.new }
+    ensures taken { OnOk result (TakenFor setup.now core.old.units core.new.units (plans.got_of plan)) }
+    ensures free { OnErr result (core.new.units ≡ core.old.units) }
     ensures formed { IfOk result IsFormed }
     ensures event { IfOk result (λ e. e ≡ event_of (shown_of setup.now core.new).world 0 (deed_of plan)) }
     ensures live_room { OnOk result (vec_len core.new.live < vec_capacity core.new.live) }
@@ -57,7 +63,9 @@ fn prepare(alloc: Global, setup: &Setup, core: &mut Core, plan: Plan) -> Result<
     ensures event_room { OnOk result (vec_len core.new.events < vec_capacity core.new.events) }
 {
     reserve(core)?;
-    planned_event(alloc, setup, core, plan)
+    let event = planned_event(alloc, setup, core, plan)?;
+    take_unit(setup, &mut core.units, got_of(plan))?;
+    Ok(event)
 }
 
 /// The device that comes by a plan.

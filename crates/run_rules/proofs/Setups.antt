@@ -1,7 +1,6 @@
 -- No event changes what a run goes by: its tables, its machine and its scripts.
 use Rattle.std.proofs.Common.{◌≡◌, ℕ, Bool, true, false, Option, Some, None, List, [], ◌∷◌, refl, ap, sym, ◌∙◌}
 use Rattle.std.specs.Prelude.{is_some, if◌then◌else◌}
-use Rattle.cf_types.specs.declared.machine.Policy.{Policy}
 use Rattle.run_rules.specs.declared.event.Event.{Event}
 use Rattle.run_rules.specs.World.{World, has_ended, policy_of, offered_by, caller_at}
 use Rattle.run_rules.specs.declared.world.Arrival.{Arrival}
@@ -9,7 +8,7 @@ use Rattle.run_rules.specs.declared.world.Placing.{Placing}
 use Rattle.run_rules.specs.declared.world.Placing.TheVariants.{Nowhere, Queued, PutOff, Pushed}
 use Rattle.run_rules.specs.Deeds.{Deed, Search, EndScan, BeginInterrupts, Finalise, EndCaller, Drop, Answer, Open, Close, Start, Done, Detach, Free, Rescan, BeginPower, Sleep, Wake, EndPower, Plug, Unplug, Tell}
 use Rattle.run_rules.specs.After.{place_finaliser, place_scan, finaliser_placing, scan_placing, finaliser_placed, scan_placed, listed, attached, arrived, released, show_spot, list_moved, finaliser_done, freeing_target, freed, over, after, with_stack, moved_top}
-use Rattle.run_rules.specs.Run.{Run, Step}
+use Rattle.run_rules.specs.Run.{Run}
 
 finaliser_setup : (x : Placing) (w : World) (k s : ℕ) → (place_finaliser x w k s).setup ≡ w.setup
 finaliser_setup Nowhere w k s = refl

@@ -1,5 +1,6 @@
 -- Of as many numbers as there are live devices and one more, one is no device's unit.
-use Rattle.std.proofs.Common.{◌≡◌, ℕ, zero, suc, ◌+◌, ◌<◌, ◌≤◌, Bool, true, false, not, ◌&&◌, ◌||◌, ◌==◌, cond, List, [], ◌∷◌, length, find, slice_get, sum_by, Option, Some, None, unwrap_or, refl, sym, ◌∙◌, inl, inr, arith}
+use Rattle.std.proofs.Common.{◌≡◌, ℕ, zero, suc, ◌+◌, ◌<◌, ◌≤◌, Bool, true, false, not, ◌&&◌, ◌||◌, ◌==◌, cond, List, [], ◌∷◌, length, find, slice_get, sum_by, Option, Some, None, unwrap_or, refl, sym, ap, ◌∙◌, inl, inr, arith}
+use Rattle.std.specs.List.{count_by}
 use Rattle.std.specs.Option.{option_or}
 use Rattle.std.proofs.lemmas.Bool.{cases_lt, eqb-true, false_from_ne_true}
 use Rattle.std.proofs.lemmas.List.Folds.{find-append}
@@ -91,6 +92,22 @@ taken_few s (d ∷ ds) device first m =
       one_hit (driver_of s d.row == device) d.unit first m,
       taken_few s ds device first m,
     )
+
+-- so few units of a device are taken, whatever test finds them
+pub units_few : (s : Setup) (live : List Dev) (device n : ℕ) (test : ℕ → Bool) → ((k : ℕ) → test k ≡ is_taken s live device k) → count_by test (below n) ≤ length live
+units_few s live device n test same =
+    omega (
+      arith,
+      total_plus (takes s live device 0) (λ k. 0) (λ k. one_if (test k)) n (λ k. at_most k),
+      total_zero (λ k. 0) n (λ k lt. refl),
+      taken_few s live device 0 n,
+    )
+  where
+    at_most : (k : ℕ) → one_if (test k) ≤ takes s live device 0 k + 0
+    at_most k =
+        let from : 0 + k ≡ k = omega arith in
+        let here : takes s live device 0 k ≡ one_if (test k) = ap (λ i. one_if (is_taken s live device i)) from ∙ ap one_if (sym (same k)) in
+        omega (arith, here)
 
 -- ---- so one is free
 

@@ -2,7 +2,7 @@ use Rattle.std.proofs.Common.{◌≡◌, refl, ap, ◌∙◌, subst, sym, arith,
 use Rattle.dev_board.specs.Parts.{Parts}
 use Rattle.dev_board.specs.Plans.{deed_of, published, Fits}
 use Rattle.dev_board.specs.View.{parts_of}
-use Rattle.dev_board.proofs.Kept.{ended_is, same_shown, IsDone, is_done, Committed, committed, kept_sound, kept_falls, kept_slots, kept_step, does_next, event_same}
+use Rattle.dev_board.proofs.Kept.{ended_is, same_shown, IsDone, is_done, Committed, committed, kept_sound, kept_units, kept_falls, kept_slots, kept_step, does_next, event_same}
 use Rattle.dev_board.proofs.SlotSteps.{slot_ready}
 use Rattle.dev_board.proofs.step.next_step.Goals as goal
 
@@ -51,7 +51,8 @@ returns-in-Ok-clause-kept g c =
     committed s c.args.core.now c.prepare.new.core c.commit.new.core plan c.in-Ok.event c.in-Ok.ensures.same is c.next_plan-plan.ensures.chosen c.in-Ok.ensures.event c.in-Ok.ensures.formed
     (rw c.commit.ensures.events c.append.ensures.items) c.commit.ensures.stops c.commit.ensures.stopped in
     kept_step s c.args.core.now c.commit.new.core (deed_of plan) c.requires.kept
-    (kept_sound s c.args.core.now c.commit.new.core plan is c.requires.kept.sound c.next_plan-plan.ensures.fits c.next_plan-plan.ensures.ready) c.commit.ensures.marks did
+    (kept_sound s c.args.core.now c.commit.new.core plan is c.requires.kept.sound c.next_plan-plan.ensures.fits c.next_plan-plan.ensures.ready) c.commit.ensures.marks
+    (kept_units s c.args.core.now c.commit.new.core plan is c.requires.kept.units (rw c.commit.ensures.units c.in-Ok.ensures.taken)) did
 
 pub returns-in-Ok-clause-agree : goal.returns-in-Ok-clause-agree
 returns-in-Ok-clause-agree g c =

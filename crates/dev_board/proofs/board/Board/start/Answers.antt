@@ -9,7 +9,7 @@ pub graph_of-requires : goal.graph_of-requires
 graph_of-requires c = formed_fit c.args.tables c.requires.tables
 
 pub begin-requires : goal.begin-requires
-begin-requires c = record { few = c.requires.machine.few_spots }
+begin-requires c = record { few = c.requires.machine.few_spots; few_devices = c.requires.tables.few_devices }
 
 pub invariant_of-result : goal.invariant_of-result
 invariant_of-result c =
