@@ -118,7 +118,7 @@ pub fn arrival(
     match winner_at(graph, setup, rows, live, parent, place, spot) {
         Some(row) => Some(Arrival {
             row,
-            unit: unit_of(setup, units, live, row),
+            unit: unit_of(setup, units, row),
             parent,
             spot,
         }),

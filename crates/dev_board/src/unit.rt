@@ -1,22 +1,24 @@
 //! Which unit a row gives to a device that comes, and that it is taken then.
-ghost use Rattle.std.specs.Prelude.{◌≡◌, ◌≤◌, OnOk, OnErr, length};
+ghost use Rattle.std.specs.Prelude.{◌≡◌, ℕ, List, OnOk, OnErr, length};
+ghost use Rattle.run_rules.specs.declared.world.Dev.{Dev};
 ghost use Rattle.run_rules.specs.Search as rule;
 ghost use Rattle.dev_board.specs.Input.{BoundedTables};
 ghost use Rattle.dev_board.specs.UnitsOf.{AreUnitsOf, TakenFor, UnitReady};
+ghost use Rattle.unit_alloc.specs.Taken.{PassesFew, is_taken};
 
 use crate::search::driver_of;
 use cf_types::Memory;
-use run_rules::{Arrival, Dev, Setup};
+use run_rules::{Arrival, Setup};
 use unit_alloc::Units;
 
-/// The unit that a row gives: its own, or, where it is starred, the least free one from its first unit on. The live
-/// devices tell which units are taken.
+/// The unit that a row gives: its own, or, where it is starred, the least free one from its first unit on. It is that of
+/// each list of live devices whose units are those that are taken.
 #[tactic(auto, unfolding(run_rules::specs::Search::unit_of))]
-pub fn unit_of(setup: &Setup, units: &Units, _live: &[Dev], row: u32) -> u32
+pub fn unit_of(setup: &Setup, units: &Units, row: u32) -> u32
     requires bounded { BoundedTables setup.now.tables }
-    requires units { AreUnitsOf setup.now _live.now units.now }
-    requires live { length _live.now ≤ 1024 }
-    ensures { rule.unit_of setup.now _live.now row ≡ result }
+    requires devices { length units.now ≡ length setup.now.tables.devices }
+    requires few { (device : ℕ) → PassesFew (is_taken units.now device) }
+    ensures { (live : List Dev) → AreUnitsOf setup.now live units.now → rule.unit_of setup.now live row ≡ result }
 {
     match setup.tables.rows.items().get(row as usize) {
         Some(r) => {
