@@ -1,4 +1,4 @@
-use Rattle.std.proofs.Common.{◌∙◌, ℕ, Bool, List, length, ap}
+use Rattle.std.proofs.Common.{◌∙◌, ℕ, List, length, ap}
 use Rattle.std.specs.Prelude.{◌==◌, not}
 use Rattle.cf_declare.proofs.JoinLemmas.{some_attached}
 use Rattle.cf_declare.proofs.join.is_attached.Goals as goal
