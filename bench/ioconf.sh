@@ -7,14 +7,15 @@ first=${1:-16384}
 folder=$(mktemp -d)
 trap 'rm -rf "$folder"' EXIT
 
-# A configuration of so many statements, in files of at most 8,192 each: `conf` includes the others.
+# A configuration of so many statements, in files of at most 16 each: `conf` includes the others. With 65,536 statements it
+# stands at the limits of the language: statements, instances and, within a few, files.
 make_input() {
     rm -f "$folder"/*
     awk -v n="$1" -v folder="$folder" '
     function say(line) {
-        if (count % 8192 == 0) {
+        if (count % 16 == 0) {
             if (part != "") close(part)
-            name = "part" (count / 8192)
+            name = "part" (count / 16)
             part = folder "/" name
             print "include \"" name "\"" > (folder "/conf")
         }
@@ -23,7 +24,7 @@ make_input() {
     }
     function parent(j) { return "d" int((j - 1) / 2) "x" }
     BEGIN {
-        n -= 8                                  # the includes are statements too
+        n -= int(n / 17) + 1                    # the includes are statements too
         defines = int(n * 0.458); devices = int(n * 0.1526); instances = int(n * 0.125)
         say("define a0")
         for (i = 1; i < defines; i++) {
