@@ -4,8 +4,8 @@ ghost use Rattle.config_rules.specs.Form.{each};
 ghost use Rattle.config_rules.specs.MachineText.{differ, given_value, is_located, located};
 ghost use Rattle.machine_model.specs.Found.{given_of, names_of};
 
-use cf_names::{add_name, number_in};
 use crate::word::ranged;
+use cf_names::{add_name, number_in};
 use cf_types::{List, Memory, Text};
 use std::alloc::Global;
 use std::collections::BTreeMap;

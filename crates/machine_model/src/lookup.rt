@@ -5,8 +5,8 @@ ghost use Rattle.machine_model.specs.Indexed.{IsDraft, IsIndex};
 
 use crate::draft::Draft;
 use crate::index::Index;
-use cf_names::number_in;
 use crate::word::spells;
+use cf_names::number_in;
 use cf_types::{Attr, Locator, Place};
 
 fn attr_number(index: &Index, name: &[u8]) -> Option<u32>
