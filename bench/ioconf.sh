@@ -4,8 +4,7 @@
 set -e
 top=$(cd "$(dirname "$0")/.." && pwd)
 first=${1:-16384}
-folder=$(mktemp -d)
-trap 'rm -rf "$folder"' EXIT
+. "$top/bench/measure.sh"
 
 # A configuration of so many statements, in files of at most 16 each: `conf` includes the others. With 65,536 statements it
 # stands at the limits of the language: statements, instances and, within a few, files.
@@ -44,29 +43,28 @@ make_input() {
     }'
 }
 
-# The processor seconds, the seconds on the clock and the peak of memory of one call, as three words.
+# The processor seconds, the seconds on the clock and the peak of memory of one call, as three words; where GNU time is
+# missing the last two are not told.
 measure() {
     if command time -v true 2>/dev/null; then
-        (cd "$folder" && command time -v -o "$folder/time" "$top/devconf" ioconf conf >"$folder/listing")
+        (cd "$folder" && command time -v -o time "$program" ioconf conf >written)
         awk -F': ' '
         /User time|System time/ { cpu += $2 }
         /Elapsed/ { k = split($NF, part, ":"); for (i = 1; i <= k; i++) wall = wall * 60 + part[i] }
         /Maximum resident/ { peak = $2 }
         END { printf "%.2f %.2f %d\n", cpu, wall, peak }' "$folder/time"
     else
-        begun=$(date +%s)
-        (cd "$folder" && "$top/devconf" ioconf conf >"$folder/listing")
-        echo "- $(($(date +%s) - begun)) -"
+        echo "$(seconds_of 1 ioconf conf) - -"
     fi
 }
 
-"$top/devconf" ioconf "$top/examples/first.conf" >/dev/null
 echo "statements   processor s   clock s   peak KiB   lines   ratio"
-last=
+last=-
 for n in "$first" $((2 * first)) $((4 * first)); do
     make_input "$n"
     result=$(measure)
-    echo "$n $result $(wc -l <"$folder/listing") ${last:--}" |
-        awk '{ printf "%10d %13s %9s %10s %7d   %s\n", $1, $2, $3, $4, $5, ($6 > 0 ? sprintf("%.1f", $2 / $6) : "-") }'
-    last=${result%% *}
+    took=${result%% *}
+    echo "$n $result $(wc -l <"$folder/written") $(ratio "$last" "$took")" |
+        awk '{ printf "%10d %13s %9s %10s %7d   %s\n", $1, $2, $3, $4, $5, $6 }'
+    last=$took
 done

@@ -1,10 +1,9 @@
 #!/bin/sh
-# Times `devconf ioconf` on one file of 64, 128, .. 1,024 KiB, twenty calls each, and prints by how much the time grows
-# where the text is twice as long. Usage: bench/text.sh
+# Times `devconf ioconf` on one file of 64, 128, .. 1,024 KiB, as the mean of twenty calls each, and prints by how much the
+# time grows where the text is twice as long. Usage: bench/text.sh
 set -e
 top=$(cd "$(dirname "$0")/.." && pwd)
-folder=$(mktemp -d)
-trap 'rm -rf "$folder"' EXIT
+. "$top/bench/measure.sh"
 
 # A file of so many KiB: statements with comments, strings and continued lines.
 make_input() {
@@ -17,22 +16,11 @@ make_input() {
     }' >"$folder/conf"
 }
 
-# The processor seconds of twenty calls.
-measure() {
-    (
-        cd "$folder"
-        for call in 1 2 3 4 5 6 7 8 9 10 11 12 13 14 15 16 17 18 19 20; do "$program" ioconf conf >/dev/null; done
-        times
-    ) | awk 'END { for (k = 1; k <= 2; k++) { split($k, part, "[ms]"); cpu += part[1] * 60 + part[2] } printf "%.2f\n", cpu }'
-}
-
-"$top/devconf" ioconf "$top/examples/first.conf" >/dev/null
-program=$top/crates/devconf/out/devconf
 echo "    KiB   processor s   ratio"
-last=
+last=-
 for size in 64 128 256 512 1024; do
     make_input "$size"
-    took=$(measure)
-    echo "$size $took ${last:--}" | awk '{ printf "%7d %13s   %s\n", $1, $2, ($3 > 0 ? sprintf("%.1f", $2 / $3) : "-") }'
+    took=$(seconds_of 20 ioconf conf)
+    printf '%7d %13s   %s\n' "$size" "$took" "$(ratio "$last" "$took")"
     last=$took
 done

@@ -1,19 +1,23 @@
 #!/bin/sh
-# Runs all examples and compares what they write with the stored outputs. Usage: examples/run.sh
+# Runs all examples and compares what they write with the stored outputs: a line for each, and status 1 at the first that
+# differs. Without a word it runs ./devconf, which takes the program where `rt ci` leaves it too, in crates/devconf/out/, and
+# builds it only where it is missing or older than a source. Usage: examples/run.sh [PROGRAM]
 here=$(cd "$(dirname "$0")" && pwd)
-wrong=0
+program=$(readlink -f "${1:-$here/../devconf}") || exit 1
+written=$(mktemp) || exit 1
+trap 'rm -f "$written"' EXIT
 
-# In this folder, the program with these words has to write the stored output.
+# In this folder, the program with these words has to end well and to write the stored output.
 same() {
-    stored=$here/outputs/$1
-    folder=$here/$2
+    stored=$1
+    folder=$2
     shift 2
-    if (cd "$folder" && "$here/../devconf" "$@" | cmp -s - "$stored"); then
-        echo "devconf $*: as stored"
-    else
-        echo "devconf $*: not as stored in ${stored#"$here"/}"
-        wrong=$((wrong + 1))
+    if ! (cd "$here/$folder" && "$program" "$@") >"$written" || ! cmp -s "$written" "$here/outputs/$stored"; then
+        echo "devconf $*, in examples/$folder: not as stored in examples/outputs/$stored"
+        diff "$here/outputs/$stored" "$written" | head -n 10
+        exit 1
     fi
+    echo "devconf $*: as stored"
 }
 
 same first.listing . ioconf first.conf
@@ -22,4 +26,3 @@ same hub.boot . boot hub.conf hub.machine
 same pc.listing pc ioconf GENERIC
 same amd64.listing amd64 ioconf GENERIC
 same server.boot amd64 boot GENERIC ../machines/server
-exit "$wrong"

@@ -1,0 +1,25 @@
+#!/bin/sh
+# Builds the program where that is needed, runs all benches, and prints one table: what one call takes, in processor
+# seconds, and the ratio to the row before. Usage: bench/run.sh
+set -e
+top=$(cd "$(dirname "$0")/.." && pwd)
+. "$top/bench/measure.sh"
+
+row() {
+    printf '%-36s %9s   %s\n' "$1" "$2" "$3"
+}
+
+# The rows of a bench, each named by its first word between these two; a bench that says one line is told as it is.
+rows_of() {
+    "$top/bench/$1" >"$folder/table"
+    if [ "$(wc -l <"$folder/table")" -eq 1 ]; then
+        cat "$folder/table"
+    else
+        sed 1d "$folder/table" | while read -r size took rest; do row "$2 $size $3" "$took" "${rest##* }"; done
+    fi
+}
+
+row benchmark seconds ratio
+rows_of text.sh 'ioconf, a text of' KiB
+rows_of ioconf.sh ioconf, statements
+rows_of load.sh 'load, a bus with' disks
