@@ -6,10 +6,10 @@ top=$(cd "$(dirname "$0")/.." && pwd)
 . "$top/bench/measure.sh"
 
 row() {
-    printf '%-36s %9s   %s\n' "$1" "$2" "$3"
+    printf '%-30s %11s   %s\n' "$1" "$2" "$3"
 }
 
-# The rows of a bench, each named by its first word between these two; a bench that says one line is told as it is.
+# The rows of a bench, each named by its size between these two words; where it says one line alone, that line.
 rows_of() {
     "$top/bench/$1" >"$folder/table"
     if [ "$(wc -l <"$folder/table")" -eq 1 ]; then
@@ -19,7 +19,7 @@ rows_of() {
     fi
 }
 
-row benchmark seconds ratio
+row benchmark 'processor s' ratio
 rows_of text.sh 'ioconf, a text of' KiB
 rows_of ioconf.sh ioconf, statements
 rows_of load.sh 'load, a bus with' disks

@@ -13,11 +13,11 @@ same() {
     folder=$2
     shift 2
     if ! (cd "$here/$folder" && "$program" "$@") >"$written" || ! cmp -s "$written" "$here/outputs/$stored"; then
-        echo "devconf $*, in examples/$folder: not as stored in examples/outputs/$stored"
+        echo "$stored: devconf $*: not as stored in examples/outputs"
         diff "$here/outputs/$stored" "$written" | head -n 10
         exit 1
     fi
-    echo "devconf $*: as stored"
+    echo "$stored: devconf $*: as stored"
 }
 
 same first.listing . ioconf first.conf
