@@ -55,7 +55,14 @@ try_machine() {
 
 # So many lines of this text, in which # stands for the number of the line, counted from 0.
 count() {
-    awk -v n="$1" -v text="$2" 'BEGIN { for (i = 0; i < n; i++) { line = text; gsub(/#/, i, line); print line } }'
+    awk -v n="$1" -v text="$2" 'BEGIN {
+        parts = split(text, part, "#")
+        for (i = 0; i < n; i++) {
+            line = part[1]
+            for (k = 2; k <= parts; k++) line = line i part[k]
+            print line
+        }
+    }'
 }
 
 by_number() {
