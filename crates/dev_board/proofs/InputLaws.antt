@@ -6,7 +6,7 @@ use Rattle.cf_text.specs.Shapes.{is_written, ends_with_digit}
 use Rattle.cf_types.specs.declared.tables.Device.{Device}
 use Rattle.cf_types.specs.declared.tables.Row.{Row}
 use Rattle.cf_types.specs.declared.tables.Tables.{Tables}
-use Rattle.config_rules.specs.Formed.{FormedTables, FormedRow, fixed_units}
+use Rattle.config_rules.specs.Formed.{FittingMachine, FormedTables, FormedRow, fixed_units}
 use Rattle.config_rules.specs.MachineText.{differ, is_one, is_free_name}
 use Rattle.run_rules.specs.Formed.{IsNamed, HasFormedDevices}
 use Rattle.run_rules.specs.Sound.{EachLater}
@@ -14,7 +14,8 @@ use Rattle.run_rules.specs.declared.world.Setup.{Setup}
 use Rattle.std.proofs.lemmas.Slice.Eq.{bytes_eq-Decides}
 use Rattle.run_rules.proofs.Below.{and_both}
 use Rattle.run_rules.proofs.Devices.{or_false, all_imp}
-use Rattle.dev_board.specs.Input.{BoundedTables, Bounded, MayStart}
+use Rattle.run_sound.specs.Kept.{MayRun}
+use Rattle.dev_board.specs.Input.{BoundedTables, Bounded}
 
 -- ---- lists
 
@@ -104,5 +105,9 @@ bounded_tables t h =
       few_offered = h.few_offered_by_device;
     }
 
-pub bounded : (s : Setup) → MayStart s → Bounded s
-bounded s may = record { tables = bounded_tables s.tables may.tables; few_spots = may.machine.few_spots; no_scripts = may.no_scripts }
+pub bounded : (s : Setup) → MayRun s → Bounded s
+bounded s may = record { tables = bounded_tables s.tables may.tables; few_spots = may.machine.few_spots }
+
+-- without scripts formed tables and a machine that fits them may run
+pub may_run : (s : Setup) → FormedTables s.tables → FittingMachine s.tables s.machine → s.scripts ≡ [] → MayRun s
+may_run s tables machine none = record { tables = tables; machine = machine; few_scripts = rw none (omega arith); short_scripts = rw none tt }

@@ -1,52 +1,65 @@
--- The slots agree again after what is planned.
-use Rattle.std.proofs.Common.{◌≡◌, ◌<◌, ℕ, Bool, true, false, slice_get, List, [], ◌∷◌, ◌++◌, map, length, None, Some, slice_set, refl, sym, ◌∙◌, ap}
+-- The slots agree again after what caller 0 did.
+use Rattle.std.proofs.Common.{◌≡◌, ℕ, Bool, true, false, List, [], ◌∷◌, ◌++◌, map, length, Option, Some, None, is_some, refl, ◌∙◌, ap}
+use Rattle.std.specs.Prelude.{IfSome}
 use Rattle.cf_types.specs.Numbers.{below}
-use Rattle.run_rules.specs.declared.world.Setup.{Setup}
-use Rattle.run_rules.specs.declared.world.Dev.{Dev}
 use Rattle.run_rules.specs.declared.world.Arrival.{Arrival}
-use Rattle.run_rules.specs.Search.{is_occupied}
-use Rattle.dev_board.specs.Parts.{Parts}
+use Rattle.run_rules.specs.declared.world.Dev.{Dev}
+use Rattle.run_rules.specs.World.{World}
+use Rattle.run_rules.specs.After.{after, arrived, released, new_device, show_spot, list_moved, finaliser_done}
+use Rattle.ref_ledger.specs.declared.state.SlotState.{SlotState}
+use Rattle.run_sound.proofs.Comings.{attached_comes}
 use Rattle.dev_board.specs.declared.plan.Plan.{Plan}
 use Rattle.dev_board.specs.declared.plan.Plan.TheVariants as plan
-use Rattle.ref_ledger.specs.declared.state.SlotState.{SlotState}
-use Rattle.ref_ledger.specs.declared.state.SlotState.TheVariants.{Free, Live}
-use Rattle.dev_board.specs.View.{world_of}
-use Rattle.dev_board.specs.Plans.{device_of, done, ends, got_of, Ready, SlotReady, published}
 use Rattle.dev_board.specs.Agreement.{state_at, slots_of}
+use Rattle.dev_board.specs.Arrivals.{MayArrive}
+use Rattle.dev_board.specs.Plans.{deed_of, got_of, SlotReady, published}
 use Rattle.dev_board.proofs.Agree.{get_map_below, state_free, slots_come}
 
-arrival_ready : (s : Setup) (p : Parts) (ended : Bool) (x : ℕ) (states : List SlotState) → states ≡ slots_of (world_of s p ended) → is_occupied p.live x ≡ false → x < length s.machine.spots
-    → slice_get states x ≡ Some Free
+-- the slot of a device that may be listed is free
+pub slot_ready : (w : World) (got : Option Arrival) (states : List SlotState) → states ≡ slots_of w → IfSome got (MayArrive w.setup w.live) → SlotReady got states
 unfolding slots_of
-arrival_ready s p ended x states agree bare inside =
-    rw agree (get_map_below (state_at p.live) (length s.machine.spots) x inside ∙ ap Some (state_free p.live x bare))
+slot_ready w None states agree may = tt
+slot_ready w (Some a) states agree may = rw agree (get_map_below (state_at w.live) (length w.setup.machine.spots) a.spot may.spot ∙ ap Some (state_free w.live a.spot may.bare))
 
-pub slot_ready : (s : Setup) (p : Parts) (ended : Bool) (x : Plan) (states : List SlotState) → states ≡ slots_of (world_of s p ended) → Ready s p x → SlotReady (got_of x) states
-slot_ready s p ended (plan.Turn serial moved (Some a)) states agree ready = arrival_ready s p ended a.spot states agree ready.bare ready.spot
-slot_ready s p ended (plan.Turn serial moved None) states agree ready = tt
-slot_ready s p ended (plan.Shows serial spot (Some a) place anew) states agree ready = arrival_ready s p ended a.spot states agree ready.0.bare ready.0.spot
-slot_ready s p ended (plan.Shows serial spot None place anew) states agree ready = tt
-slot_ready s p ended (plan.EndScan serial) states agree ready = tt
-slot_ready s p ended plan.Interrupts states agree ready = tt
-slot_ready s p ended (plan.Quiet serial place anew) states agree ready = tt
-slot_ready s p ended plan.End states agree ready = tt
+-- ---- the live devices after a plan
 
-same_slots : (s : Setup) (p q : Parts) (e f : Bool) → p.live ≡ q.live → slots_of (world_of s p e) ≡ slots_of (world_of s q f)
+-- those that were there, and what came
+abbrev come : World → Option Arrival → List Dev
+come w None = w.live
+come w (Some a) = w.live ++ new_device w a ∷ []
+
+arrived_live : (w : World) (k : ℕ) (got : Option Arrival) (may_defer : Bool) → (arrived w k got may_defer).live ≡ come w got
+arrived_live w k None may_defer = refl
+arrived_live w k (Some a) may_defer = (attached_comes w k a may_defer).live
+
+shown_live : (w : World) (got : Option Arrival) (x : Option ℕ) → come (show_spot w x) got ≡ come w got
+shown_live w None None = refl
+shown_live w (Some a) None = refl
+shown_live w None (Some x) = refl
+shown_live w (Some a) (Some x) = refl
+
+ended_live : (w : World) (k : ℕ) (listed : Option ℕ) (anew answer : Bool) → (finaliser_done (list_moved w listed anew answer) k listed answer).live ≡ w.live
+ended_live w k None anew true = refl
+ended_live w k None anew false = refl
+ended_live w k (Some place) anew answer = refl
+
+plan_live : (w : World) (x : Plan) → (after w 0 (deed_of x)).live ≡ come w (got_of x)
+unfolding after released
+plan_live w (plan.Search parent moved None) = refl
+plan_live w (plan.Search parent moved (Some a)) = arrived_live _ 0 (Some a) true
+plan_live w (plan.EndScan of) = refl
+plan_live w plan.BeginInterrupts = refl
+plan_live w (plan.Finalise of shown got listed anew) =
+    ended_live (arrived (show_spot w shown) 0 got false) 0 listed anew (is_some shown) ∙ arrived_live (show_spot w shown) 0 got false ∙ shown_live w got shown
+plan_live w plan.EndCaller = refl
+
+published_come : (w : World) (got : Option Arrival) → IfSome got (MayArrive w.setup w.live)
+    → published got (map (state_at w.live) (below (length w.setup.machine.spots))) ≡ map (state_at (come w got)) (below (length w.setup.machine.spots))
+published_come w None may = refl
+published_come w (Some a) may = slots_come w.live (new_device w a) (length w.setup.machine.spots) may.spot may.bare refl
+
+pub slots_step : (w v : World) (x : Plan) → v ≡ after w 0 (deed_of x) → v.setup ≡ w.setup → IfSome (got_of x) (MayArrive w.setup w.live) → published (got_of x) (slots_of w) ≡ slots_of v
 unfolding slots_of
-same_slots s p q e f same = ap (λ (live : List Dev). map (state_at live) (below (length s.machine.spots))) same
-
-more_slots : (s : Setup) (p q : Parts) (e f : Bool) (a : Arrival) → q.live ≡ p.live ++ device_of p.next a ∷ [] → is_occupied p.live a.spot ≡ false → a.spot < length s.machine.spots
-    → slice_set (slots_of (world_of s p e)) a.spot Live ≡ slots_of (world_of s q f)
-unfolding slots_of
-more_slots s p q e f a same bare inside =
-    slots_come p.live (device_of p.next a) (length s.machine.spots) inside bare refl ∙ ap (λ (live : List Dev). map (state_at live) (below (length s.machine.spots))) (sym same)
-
-pub slots_step : (s : Setup) (p : Parts) (x : Plan) → Ready s p x → published (got_of x) (slots_of (world_of s p false)) ≡ slots_of (world_of s (done s p x) (ends x))
-slots_step s p (plan.Turn serial moved (Some a)) ready = more_slots s p (done s p (plan.Turn serial moved (Some a))) false false a refl ready.bare ready.spot
-slots_step s p (plan.Turn serial moved None) ready = same_slots s p (done s p (plan.Turn serial moved None)) false false refl
-slots_step s p (plan.Shows serial spot (Some a) place anew) ready = more_slots s p (done s p (plan.Shows serial spot (Some a) place anew)) false false a refl ready.0.bare ready.0.spot
-slots_step s p (plan.Shows serial spot None place anew) ready = same_slots s p (done s p (plan.Shows serial spot None place anew)) false false refl
-slots_step s p (plan.EndScan serial) ready = same_slots s p (done s p (plan.EndScan serial)) false false refl
-slots_step s p plan.Interrupts ready = same_slots s p (done s p plan.Interrupts) false false refl
-slots_step s p (plan.Quiet serial place anew) ready = same_slots s p (done s p (plan.Quiet serial place anew)) false false refl
-slots_step s p plan.End ready = same_slots s p (done s p plan.End) false true refl
+slots_step w v x is same may =
+    let live : v.live ≡ come w (got_of x) = ap (λ (u : World). u.live) is ∙ plan_live w x in
+    rw (live, same) (published_come w (got_of x) may)

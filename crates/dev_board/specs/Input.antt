@@ -1,16 +1,10 @@
 -- What a board may start from: formed tables, a machine that fits them, and, so far, no scripts. The definitions of the run have no such premise.
-use Rattle.std.specs.Prelude.{◌≡◌, ℕ, ◌≤◌, [], length}
+use Rattle.std.specs.Prelude.{ℕ, ◌≤◌, length}
 use Rattle.std.specs.List.{AllByRecursion}
 use Rattle.cf_types.specs.declared.tables.Tables.{Tables}
 use Rattle.cf_types.specs.Offers.{interfaces}
-use Rattle.config_rules.specs.Formed.{FormedTables, FittingMachine}
 use Rattle.run_rules.specs.Formed.{HasFormedDevices}
 use Rattle.run_rules.specs.declared.world.Setup.{Setup}
-
-pub record MayStart (s : Setup) : Type 0 where
-  pub tables : FormedTables s.tables
-  pub machine : FittingMachine s.tables s.machine
-  pub no_scripts : s.scripts ≡ []
 
 -- what a board uses of formed tables
 pub record BoundedTables (t : Tables) : Type 0 where
@@ -23,4 +17,3 @@ pub record BoundedTables (t : Tables) : Type 0 where
 pub record Bounded (s : Setup) : Type 0 where
   pub tables : BoundedTables s.tables
   pub few_spots : length s.machine.spots ≤ 1024
-  pub no_scripts : s.scripts ≡ []

@@ -1,98 +1,76 @@
 -- The world of a board, and what every board keeps.
-use Rattle.std.specs.Prelude.{◌≡◌, ◌≤◌, ◌+◌, Bool, true, false, [], ◌∷◌, map, reverse, length, None, cond}
+use Rattle.std.specs.Prelude.{◌≡◌, ◌≤◌, ◌+◌, true, List, [], map, length, None}
 use Rattle.std.specs.List.{AllByRecursion}
 use Rattle.run_rules.specs.declared.world.Setup.{Setup}
-use Rattle.run_rules.specs.declared.world.Frame.{Frame}
-use Rattle.run_rules.specs.declared.world.Frame.TheVariants.{Scan}
-use Rattle.run_rules.specs.declared.world.Activity.{Activity}
-use Rattle.run_rules.specs.declared.world.Activity.TheVariants.{Idle, Ended}
-use Rattle.run_rules.specs.World.{World, absent_spots, opening}
+use Rattle.run_rules.specs.World.{World, Caller, driver_of, opening}
 use Rattle.run_rules.specs.Lines.{IsFormed}
 use Rattle.run_rules.specs.Run.{Run}
-use Rattle.run_rules.specs.Sound.{HaveOwnNames}
-use Rattle.dev_board.specs.declared.parts.Search.{Search}
+use Rattle.dev_board.specs.declared.caller.CallerState.{CallerState}
 use Rattle.dev_board.specs.declared.parts.Core.{Core}
 use Rattle.match_search.specs.Best.{live_rows}
-use Rattle.dev_board.specs.Input.{Bounded}
-use Rattle.dev_board.specs.Parts.{Parts}
-use Rattle.dev_board.specs.Keeping.{SoundParts}
-use Rattle.dev_board.specs.Plans.{first_parts}
+use Rattle.run_sound.specs.Calls.{CallsDevices}
+use Rattle.run_sound.specs.Kept.{MayRun, Kept}
 use Rattle.dev_board.specs.Shown.{Shown}
 use Rattle.dev_board.specs.UnitsOf.{AreUnitsOf}
 use Rattle.unit_alloc.specs.Taken.{NoneTaken}
 
-abbrev pub frame_of : Search → Frame
-frame_of f = Scan f.serial None [] f.position
+abbrev pub caller_of : CallerState → Caller
+caller_of c = record { over = c.over; doing = c.doing; stack = c.stack.frames }
 
-abbrev pub doing_of : Bool → Activity
-doing_of ended = cond ended Ended Idle
+abbrev pub callers_of : List CallerState → List Caller
+callers_of cs = map caller_of cs
 
--- what changes, of the lists of a board; the stack has its top first
-abbrev pub parts_of : Core → Parts
-parts_of c = record {
-  live = c.live.items;
-  next = c.next;
+-- the world that the parts are
+abbrev pub world_of : Setup → Core → World
+world_of s c = record {
+  setup = s;
+  live = c.tree.live;
+  next = c.tree.next;
+  refs = c.refs;
+  absent = c.absent.items;
   hidden = c.hidden.items;
   phase = c.phase;
-  deferred = c.deferred.items;
+  turn = c.turn;
+  deferred = c.deferred;
   finalisers = c.finalisers.items;
   place = c.place;
   again = c.again;
-  stack = reverse c.searches.items;
-}
-
--- the world in which only caller 0 does something; it has no references, no power turn, and no spot that was unplugged
-abbrev pub world_of : Setup → Parts → Bool → World
-world_of s p ended = record {
-  setup = s;
-  live = p.live;
-  next = p.next;
-  refs = [];
-  absent = absent_spots s;
-  hidden = p.hidden;
-  phase = p.phase;
-  turn = None;
-  deferred = p.deferred;
-  finalisers = p.finalisers;
-  place = p.place;
-  again = p.again;
-  callers = record { over = 0; doing = doing_of ended; stack = map frame_of p.stack } ∷ [];
+  callers = callers_of c.callers.items;
 }
 
 abbrev pub shown_of : Setup → Core → Shown
-shown_of s c = record {
-  world = world_of s (parts_of c) c.ended;
-  events = c.events.items;
-  stops = c.stops;
-  stopped = c.stopped;
-}
+shown_of s c = record { world = world_of s c; events = c.events.items; stops = c.stops; stopped = c.stopped }
 
--- the history leads from the opening world to this one, and its events are formed; what changes is sound, the rows are marked as they are live, exactly the units of live devices are taken, and the devices print names of their own; the next serial is at most one more than the events
+-- the rows are marked as they are live, exactly the units of live devices are taken, and the tree knows their drivers
+pub record Books (s : Setup) (c : Core) : Type 0 where
+  pub marks : c.rows ≡ live_rows s c.tree.live
+  pub units : AreUnitsOf s c.tree.live c.units
+  pub drivers : c.tree.drivers ≡ map (λ d. driver_of s d.row) c.tree.live
+
+-- the history leads from the opening world to this one, and its events are formed; the world is sound and in its ranges, and finalisers that are before callers are of devices; the next serial is at
+-- most one more than the events
 pub record CoreKept (s : Setup) (c : Core) : Type 0 where
-  pub run : Run (opening s) (shown_of s c).events (shown_of s c).world
-  pub sound : SoundParts s (parts_of c)
-  pub names : HaveOwnNames s c.live.items
-  pub marks : c.rows ≡ live_rows s c.live.items
-  pub units : AreUnitsOf s c.live.items c.units
-  pub bounded : Bounded s
+  pub run : Run (opening s) c.events.items (world_of s c)
+  pub kept : Kept (world_of s c)
+  pub calls : CallsDevices (world_of s c)
+  pub may : MayRun s
+  pub no_scripts : s.scripts ≡ []
+  pub books : Books s c
   pub formed : AllByRecursion IsFormed c.events.items
-  pub next_high : c.next ≤ length c.events.items + 1
+  pub next_high : c.tree.next ≤ length c.events.items + 1
 
--- the lists and marks of two cores are the same
-pub record SameCore (old new : Core) : Type 0 where
-  pub parts : parts_of new ≡ parts_of old
-  pub rows : new.rows ≡ old.rows
-  pub ended : new.ended ≡ old.ended
+-- what no event of a caller touches
+pub record SameAside (old new : Core) : Type 0 where
   pub stops : new.stops ≡ old.stops
   pub stopped : new.stopped ≡ old.stopped
-  pub events : new.events.items ≡ old.events.items
+  pub events : new.events ≡ old.events
 
 -- the parts before any event
 pub record IsFirst (s : Setup) (c : Core) : Type 0 where
-  pub parts : parts_of c ≡ first_parts s
+  pub world : world_of s c ≡ opening s
   pub rows : c.rows ≡ map (λ r. true) s.tables.rows
   pub units : NoneTaken (length s.tables.devices) c.units
-  pub ended : c.ended ≡ false
+  pub drivers : c.tree.drivers ≡ []
   pub stops : c.stops ≡ 0
   pub stopped : c.stopped ≡ None
   pub events : c.events.items ≡ []

@@ -6,11 +6,11 @@ ghost use Rattle.run_rules.specs.Counts.{ends_of};
 ghost use Rattle.run_rules.specs.Lines.{IsFormed};
 ghost use Rattle.run_rules.specs.Run.{Run};
 ghost use Rattle.run_rules.specs.Search.{is_occupied};
-ghost use Rattle.run_rules.specs.Sound.{HasSoundDevices, HaveOwnNames};
+ghost use Rattle.run_rules.specs.Sound.{Sound, HaveOwnNames};
 ghost use Rattle.run_rules.specs.Tree as tree;
 ghost use Rattle.run_rules.specs.World.{opening, setup_of};
 ghost use Rattle.dev_board.specs.Agreement.{slots_of};
-ghost use Rattle.dev_board.specs.Left.{boot_left};
+ghost use Rattle.run_sound.specs.Left.{boot_left};
 ghost use Rattle.dev_board.specs.Shown.{began};
 ghost use Rattle.dev_board.specs.Stepping.{StepIs, IsDid};
 
@@ -28,7 +28,7 @@ use std::alloc::Global;
 use std::marker::Model;
 
 /// A machine that runs: a world, and the history of the events that led to it. Each value of this type keeps that the
-/// history is a run from the opening world to the world, and that the live devices are sound.
+/// history is a run from the opening world to the world, and that this world is sound.
 #[derive(Drop)]
 pub struct Board {
     alloc: Global,
@@ -112,7 +112,7 @@ impl Board {
     /// What every board keeps; nothing is done.
     pub fn stands(&self)
         ensures run { Run (began self.now) self.now.events self.now.world }
-        ensures devices { HasSoundDevices self.now.world.setup self.now.world.live self.now.world.next }
+        ensures sound { Sound self.now.world }
         ensures names { HaveOwnNames self.now.world.setup self.now.world.live }
         ensures serials { self.now.world.next ≤ length self.now.events + 1 }
         ensures formed { AllByRecursion IsFormed self.now.events }
@@ -147,7 +147,7 @@ impl Board {
         requires { slot < length self.now.world.setup.machine.spots }
         ensures { result ≡ is_occupied self.now.world.live slot }
     {
-        search::is_occupied(&self.core.live, slot)
+        search::is_occupied(&self.core.tree, slot)
     }
 
     /// The lines of the device tree, depth first, children by serial. See drvctl(8).

@@ -1,29 +1,20 @@
 //! The late spots that finalisers show.
-ghost use Rattle.std.specs.Prelude.{◌≡◌, ◌≤◌, ◌<◌, ◌&&◌, not, length, find, false, slice_get, IfSome};
+ghost use Rattle.std.specs.Prelude.{◌≡◌, ◌≤◌, ◌<◌, length, find, false, slice_get, IfSome};
 ghost use Rattle.std.specs.Option.{option_map_or};
 ghost use Rattle.cf_types.specs.Numbers.{below};
 ghost use Rattle.run_rules.specs.Next as next;
 ghost use Rattle.run_rules.specs.World as world;
 ghost use Rattle.attr_graph.specs.Graphs.{IsGraphOf, declared_by};
 ghost use Rattle.dev_board.specs.Late as late;
-ghost use Rattle.dev_board.specs.Late.{late_test, place_on};
+ghost use Rattle.dev_board.specs.Late.{late_test};
+ghost use Rattle.dev_board.specs.View.{world_of};
 
-use crate::graph::offered;
-use crate::search::{device_at, driver_of, has};
-use crate::turn::{is_absent, is_hidden};
+use crate::parts::Core;
+use crate::spots::{driver_of, has, has_spot};
 use attr_graph::Graph;
 use cf_types::Place;
 use run_rules::{Dev, Setup};
-
-/// The place of a spot.
-pub fn place_of(setup: &Setup, spot: u16) -> Place
-    ensures { result ≡ place_on setup.now spot }
-{
-    match setup.machine.spots.items().get(spot as usize) {
-        Some(s) => s.place,
-        None => Place::Root,
-    }
-}
+use scan_engine::offered;
 
 fn is_number(value: Option<u16>, n: u16) -> bool
     ensures { result ≡ world.is_number value n }
@@ -61,27 +52,24 @@ fn hangs_below(graph: &Graph, setup: &Setup, device: Dev, spot: u16) -> bool
 }
 
 /// Whether a finaliser of the device would show the spot.
-#[tactic(auto, using(crate::proofs::LateLaws::late_is))]
-fn is_late_below(graph: &Graph, setup: &Setup, hidden: &[u16], device: Dev, spot: u16) -> bool
+fn is_late_below(graph: &Graph, setup: &Setup, core: &Core, device: Dev, spot: u16) -> bool
     requires graph { IsGraphOf (declared_by setup.now.tables) graph.now }
-    requires spot { spot < length setup.now.machine.spots }
-    ensures { late_test setup.now hidden.now device spot ≡ result }
+    ensures { late_test setup.now core.now.absent.items core.now.hidden.items device spot ≡ result }
 {
-    let was_hidden = is_hidden(hidden, spot);
-    let absent = is_absent(setup, spot);
+    let hidden = has_spot(&core.hidden, spot);
+    let absent = has_spot(&core.absent, spot);
     let below = hangs_below(graph, setup, device, spot);
-    was_hidden && !absent && below
+    hidden && !absent && below
 }
 
 /// The first spot that is late, hidden and present, and hangs below the device.
-fn late_spot(graph: &Graph, setup: &Setup, hidden: &[u16], device: Dev) -> Option<u16>
+fn late_spot(graph: &Graph, setup: &Setup, core: &Core, device: Dev) -> Option<u16>
     requires graph { IsGraphOf (declared_by setup.now.tables) graph.now }
     requires few { length setup.now.machine.spots ≤ 1024 }
-    ensures late { find (late_test setup.now hidden.now device) (below (length setup.now.machine.spots)) ≡ result }
-    ensures inside { IfSome result (λ x. x < length setup.now.machine.spots) }
+    ensures { find (late_test setup.now core.now.absent.items core.now.hidden.items device) (below (length setup.now.machine.spots)) ≡ result }
 {
     for spot in 0..setup.machine.spots.len() as u16 {
-        if is_late_below(graph, setup, hidden, device, spot) {
+        if is_late_below(graph, setup, core, device, spot) {
             return Some(spot);
         }
     }
@@ -89,20 +77,13 @@ fn late_spot(graph: &Graph, setup: &Setup, hidden: &[u16], device: Dev) -> Optio
 }
 
 /// The spot that the finaliser of a device shows.
-pub fn shown_by(
-    graph: &Graph,
-    setup: &Setup,
-    live: &[Dev],
-    hidden: &[u16],
-    serial: u64,
-) -> Option<u16>
+pub fn shown_by(graph: &Graph, setup: &Setup, core: &Core, serial: u64) -> Option<u16>
     requires graph { IsGraphOf (declared_by setup.now.tables) graph.now }
     requires few { length setup.now.machine.spots ≤ 1024 }
-    ensures shown { late.shown_by setup.now live.now hidden.now serial ≡ result }
-    ensures inside { IfSome result (λ x. x < length setup.now.machine.spots) }
+    ensures { late.shown_by (world_of setup.now core.now) serial ≡ result }
 {
-    match device_at(live, serial) {
-        Some(d) => late_spot(graph, setup, hidden, d),
+    match core.tree.get(serial) {
+        Some(d) => late_spot(graph, setup, core, d),
         None => None,
     }
 }

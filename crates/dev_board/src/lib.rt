@@ -2,11 +2,13 @@
 #![tactic(auto)]
 
 mod answer;
+mod arrive;
 mod board;
 mod boot;
+mod caller;
 mod closed;
 mod commit;
-mod graph;
+mod due;
 mod late;
 mod line;
 mod marks;
@@ -15,12 +17,13 @@ mod parts;
 mod plan;
 mod search;
 mod seen;
+mod spots;
 mod step;
 mod stepped;
 mod told;
 mod tree;
-mod turn;
 mod unit;
+mod work;
 
 pub use answer::{Answer, LeaseStep};
 pub use board::Board;

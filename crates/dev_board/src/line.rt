@@ -1,20 +1,22 @@
-//! The event that a plan appends.
-ghost use Rattle.std.specs.Prelude.{◌≡◌, ◌<◌, None, Some, true, false, IfOk, IfSome, length, option_map};
+//! The event of a plan.
+ghost use Rattle.std.specs.Prelude.{◌≡◌, ◌<◌, None, IfOk, IfSome, is_some, length};
 ghost use Rattle.run_rules.specs.declared.event.Act.TheVariants as act;
 ghost use Rattle.run_rules.specs.Lines.{IsFormed, IsDeviceName};
 ghost use Rattle.run_rules.specs.Run as run;
 ghost use Rattle.run_rules.specs.Run.{event_of};
 ghost use Rattle.run_rules.specs.World as world;
+ghost use Rattle.dev_board.specs.Arrivals.{MayArrive};
 ghost use Rattle.dev_board.specs.Input.{Bounded};
-ghost use Rattle.dev_board.specs.Keeping.{SoundParts, HaveRows, IsLive};
-ghost use Rattle.dev_board.specs.View.{parts_of, shown_of};
-ghost use Rattle.dev_board.specs.Plans.{deed_of, Fits, Ready, name_live};
+ghost use Rattle.dev_board.specs.Events.{HaveRows, IsLive, AreLive, Follows, name_live};
+ghost use Rattle.dev_board.specs.Plans.{deed_of, got_of};
+ghost use Rattle.dev_board.specs.View.{world_of};
 
 use crate::names::{parent_name, unit_name};
 use crate::parts::Core;
 use crate::plan::Plan;
 use cf_types::{Memory, Name};
-use run_rules::{Act, Arrival, Dev, Event, Setup};
+use dev_tree::DevTree;
+use run_rules::{Act, Arrival, Event, Setup};
 use std::alloc::Global;
 
 /// The name of what came, if anything did.
@@ -37,17 +39,17 @@ fn got_name(alloc: Global, setup: &Setup, got: Option<Arrival>) -> Result<Option
 fn found_event(
     alloc: Global,
     setup: &Setup,
-    live: &[Dev],
+    tree: &DevTree,
     serial: u64,
     got: Option<Arrival>,
 ) -> Result<Event, Memory>
     requires bounded { Bounded setup.now }
-    requires rows { HaveRows setup.now live.now }
+    requires rows { HaveRows setup.now tree.now.live }
     requires row { IfSome got (λ a. a.row < length setup.now.tables.rows) }
-    ensures event { IfOk result (λ e. e ≡ record { caller = 0; number = 0; act = act.Found (world.parent_name setup.now live.now serial) (run.got_name setup.now got) }) }
+    ensures event { IfOk result (λ e. e ≡ record { caller = 0; number = 0; act = act.Found (world.parent_name setup.now tree.now.live serial) (run.got_name setup.now got) }) }
     ensures formed { IfOk result IsFormed }
 {
-    let parent = parent_name(alloc, setup, live, serial)?;
+    let parent = parent_name(alloc, setup, tree, serial)?;
     let got = got_name(alloc, setup, got)?;
     Ok(Event {
         caller: 0,
@@ -57,13 +59,13 @@ fn found_event(
 }
 
 /// The event of a scan that is over.
-fn scan_event(alloc: Global, setup: &Setup, live: &[Dev], serial: u64) -> Result<Event, Memory>
+fn scan_event(alloc: Global, setup: &Setup, tree: &DevTree, serial: u64) -> Result<Event, Memory>
     requires bounded { Bounded setup.now }
-    requires rows { HaveRows setup.now live.now }
-    ensures event { IfOk result (λ e. e ≡ record { caller = 0; number = 0; act = act.ScanEnd (world.parent_name setup.now live.now serial) }) }
+    requires rows { HaveRows setup.now tree.now.live }
+    ensures event { IfOk result (λ e. e ≡ record { caller = 0; number = 0; act = act.ScanEnd (world.parent_name setup.now tree.now.live serial) }) }
     ensures formed { IfOk result IsFormed }
 {
-    let device = parent_name(alloc, setup, live, serial)?;
+    let device = parent_name(alloc, setup, tree, serial)?;
     Ok(Event {
         caller: 0,
         number: 0,
@@ -71,90 +73,68 @@ fn scan_event(alloc: Global, setup: &Setup, live: &[Dev], serial: u64) -> Result
     })
 }
 
-/// The event of a finaliser that answers 0.
-fn quiet_event(alloc: Global, setup: &Setup, live: &[Dev], serial: u64) -> Result<Event, Memory>
-    requires bounded { Bounded setup.now }
-    requires rows { HaveRows setup.now live.now }
-    requires live { IsLive live.now serial }
-    ensures event { IfOk result (λ e. e ≡ record { caller = 0; number = 0; act = act.Final (name_live setup.now live.now serial) false None }) }
-    ensures formed { IfOk result IsFormed }
-{
-    let device = parent_name(alloc, setup, live, serial)?;
-    Ok(Event {
-        caller: 0,
-        number: 0,
-        act: Act::Final {
-            device,
-            answer: false,
-            got: None,
-        },
-    })
-}
-
-/// The event of a finaliser that shows a spot.
-fn shows_event(
+/// The event of a finaliser: 1 where it shows a spot.
+fn final_event(
     alloc: Global,
     setup: &Setup,
-    live: &[Dev],
+    tree: &DevTree,
     serial: u64,
+    shown: Option<u16>,
     got: Option<Arrival>,
 ) -> Result<Event, Memory>
     requires bounded { Bounded setup.now }
-    requires rows { HaveRows setup.now live.now }
-    requires live { IsLive live.now serial }
+    requires rows { HaveRows setup.now tree.now.live }
+    requires live { IsLive tree.now.live serial }
     requires row { IfSome got (λ a. a.row < length setup.now.tables.rows) }
-    ensures event { IfOk result (λ e. e ≡ record { caller = 0; number = 0; act = act.Final (name_live setup.now live.now serial) true (run.got_name setup.now got) }) }
+    requires shown { shown ≡ None → got ≡ None }
+    ensures event { IfOk result (λ e. e ≡ record { caller = 0; number = 0; act = act.Final (name_live setup.now tree.now.live serial) (is_some shown) (run.got_name setup.now got) }) }
     ensures formed { IfOk result IsFormed }
 {
-    let device = parent_name(alloc, setup, live, serial)?;
+    let device = parent_name(alloc, setup, tree, serial)?;
     let got = got_name(alloc, setup, got)?;
     Ok(Event {
         caller: 0,
         number: 0,
         act: Act::Final {
             device,
-            answer: true,
+            answer: shown.is_some(),
             got,
         },
     })
 }
 
-/// The event of what is planned.
+/// The event of what caller 0 plans.
 #[tactic(auto, unfolding(run_rules::specs::Run::event_of, run_rules::specs::Run::printed))]
 pub fn planned_event(alloc: Global, setup: &Setup, core: &Core, plan: Plan) -> Result<Event, Memory>
     requires bounded { Bounded setup.now }
-    requires sound { SoundParts setup.now (parts_of core.now) }
-    requires fits { Fits setup.now (parts_of core.now) plan }
-    requires ready { Ready setup.now (parts_of core.now) plan }
-    ensures event { IfOk result (λ e. e ≡ event_of (shown_of setup.now core.now).world 0 (deed_of plan)) }
+    requires rows { HaveRows setup.now core.now.tree.live }
+    requires called { AreLive core.now.tree.live plan }
+    requires may { IfSome (got_of plan) (MayArrive setup.now core.now.tree.live) }
+    requires shown { Follows plan }
+    ensures event { IfOk result (λ e. e ≡ event_of (world_of setup.now core.now) 0 (deed_of plan)) }
     ensures formed { IfOk result IsFormed }
 {
-    let live = &core.live;
+    let tree = &core.tree;
     match plan {
-        Plan::EndScan { serial } => scan_event(alloc, setup, live, serial),
-        Plan::Turn {
-            serial,
+        Plan::EndScan { of } => scan_event(alloc, setup, tree, of),
+        Plan::Search {
+            parent,
             moved: _,
             got,
-        } => found_event(alloc, setup, live, serial, got),
-        Plan::Quiet {
-            serial,
-            place: _,
-            anew: _,
-        } => quiet_event(alloc, setup, live, serial),
-        Plan::Shows {
-            serial,
-            spot: _,
+        } => found_event(alloc, setup, tree, parent, got),
+        Plan::Finalise {
+            of,
+            shown,
             got,
-            place: _,
+            listed: _,
             anew: _,
-        } => shows_event(alloc, setup, live, serial, got),
-        Plan::Interrupts => Ok(Event {
+        } => final_event(alloc, setup, tree, of, shown, got),
+        Plan::BeginInterrupts => Ok(Event {
             caller: 0,
             number: 0,
             act: Act::Interrupts,
         }),
-        Plan::End => Ok(Event {
+        Plan::EndCaller => Ok(Event {
             caller: 0,
             number: 0,
             act: Act::End,

@@ -4,11 +4,12 @@ ghost use Rattle.cf_text.specs.Shapes.{is_written};
 ghost use Rattle.run_rules.specs.Lines.{IsDeviceName, IsFormedName};
 ghost use Rattle.run_rules.specs.World as world;
 ghost use Rattle.dev_board.specs.Input.{Bounded};
-ghost use Rattle.dev_board.specs.Keeping.{HaveRows};
+ghost use Rattle.dev_board.specs.Events.{HaveRows};
 
-use crate::search::{device_at, driver_of};
+use crate::spots::driver_of;
 use cf_types::{Memory, Name};
-use run_rules::{Dev, Setup};
+use dev_tree::DevTree;
+use run_rules::Setup;
 use std::alloc::Global;
 
 fn driver_name(setup: &Setup, driver: u32) -> &[u8]
@@ -44,13 +45,18 @@ pub fn unit_name(alloc: Global, setup: &Setup, row: u32, unit: u32) -> Result<Na
 
 /// The name of a parent, which may be the root.
 #[tactic(auto, unfolding(run_rules::specs::World::parent_name, run_rules::specs::World::root_name))]
-pub fn parent_name(alloc: Global, setup: &Setup, live: &[Dev], serial: u64) -> Result<Name, Memory>
+pub fn parent_name(
+    alloc: Global,
+    setup: &Setup,
+    tree: &DevTree,
+    serial: u64,
+) -> Result<Name, Memory>
     requires bounded { Bounded setup.now }
-    requires rows { HaveRows setup.now live.now }
-    ensures text { IfOk result (λ n. n ≡ world.parent_name setup.now live.now serial) }
+    requires rows { HaveRows setup.now tree.now.live }
+    ensures text { IfOk result (λ n. n ≡ world.parent_name setup.now tree.now.live serial) }
     ensures formed { IfOk result IsFormedName }
 {
-    match device_at(live, serial) {
+    match tree.get(serial) {
         Some(d) => unit_name(alloc, setup, d.row, d.unit),
         None => Name::make(alloc, b"root"),
     }

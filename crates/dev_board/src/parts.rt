@@ -1,62 +1,46 @@
 //! The parts of a board that events change.
 ghost use Rattle.std.specs.Prelude.{◌≡◌, ◌≤◌, ◌<◌, ◌+◌, ◌++◌, ◌∷◌, [], length, IfOk, vec_len, vec_capacity};
 ghost use Rattle.run_rules.specs.World as world;
-ghost use Rattle.dev_board.specs.Plans as plans;
-ghost use Rattle.dev_board.specs.View.{IsFirst};
+ghost use Rattle.dev_board.specs.View.{IsFirst, callers_of};
 
-use crate::turn::is_late;
+use crate::caller::{CallerState, new_scan};
+use crate::spots::{is_absent, is_late};
 use cf_types::Memory;
+use defer_queue::Deferred;
+use dev_tree::DevTree;
 use match_search::LiveRows;
-use run_rules::{Deferred, Dev, Event, Position, Setup};
+use ref_ledger::Refs;
+use run_rules::{Event, Setup};
 use std::alloc::Global;
 use unit_alloc::Units;
-
-/// A scan that is going on: of which device, and from which position on.
-#[derive(Clone, Copy)]
-pub struct Search {
-    pub serial: u64,
-    pub position: Position,
-}
 
 /// What events change.
 #[derive(Drop)]
 pub struct Core {
-    pub live: Vec<Dev>,
+    pub tree: DevTree,
     /// Of each row whether it is live.
     pub rows: LiveRows,
     /// The units of live devices.
     pub units: Units,
-    pub next: u64,
-    /// The late spots that no finaliser has shown yet.
+    pub refs: Refs,
+    /// The spots without hardware, and the late spots that no finaliser has shown yet.
+    pub absent: Vec<u16>,
     pub hidden: Vec<u16>,
     /// Whether interrupts work.
     pub phase: bool,
-    /// The scans that were put off, in that order.
-    pub deferred: Vec<Deferred>,
+    /// The caller in whose hands the power commands are.
+    pub turn: Option<u8>,
+    /// The scans that were put off.
+    pub deferred: Deferred,
     /// The devices with a finaliser, the place in this list, and whether one of this pass answered 1.
     pub finalisers: Vec<u64>,
     pub place: u64,
     pub again: bool,
-    /// The scans of caller 0, the last one on top.
-    pub searches: Vec<Search>,
-    pub ended: bool,
+    /// Caller 0, which boots, and then the caller of each script.
+    pub callers: Vec<CallerState>,
     pub stops: u64,
     pub stopped: Option<u8>,
     pub events: Vec<Event>,
-}
-
-/// The scan of a device from its start.
-pub fn new_search(serial: u64) -> Search
-    ensures { result ≡ plans.new_search serial }
-{
-    Search {
-        serial,
-        position: Position {
-            attr: 0,
-            row: 0,
-            spot: 0,
-        },
-    }
 }
 
 /// The late spots.
@@ -73,6 +57,35 @@ fn late_spots(alloc: Global, setup: &Setup) -> Result<Vec<u16>, Memory>
     Ok(spots)
 }
 
+/// The spots without hardware.
+fn absent_spots(alloc: Global, setup: &Setup) -> Result<Vec<u16>, Memory>
+    requires few { length setup.now.machine.spots ≤ 1024 }
+    ensures { IfOk result (λ spots. spots.items ≡ world.absent_spots setup.now) }
+{
+    let mut spots = Vec::new(alloc);
+    for spot in 0..setup.machine.spots.len() as u16 {
+        if is_absent(setup, spot) {
+            spots.push(spot)?;
+        }
+    }
+    Ok(spots)
+}
+
+/// The callers before any event: the one that boots has the scan of the root before it.
+fn beginning(alloc: Global, setup: &Setup) -> Result<Vec<CallerState>, Memory>
+    ensures { IfOk result (λ callers. callers_of callers.items ≡ (world.opening setup.now).callers) }
+{
+    let mut callers = Vec::new(alloc);
+    let mut booting = CallerState::beginning(alloc);
+    booting.stack.reserve(1)?;
+    booting.push(new_scan(alloc, 0));
+    callers.push(booting)?;
+    for _script in setup.scripts.items() {
+        callers.push(CallerState::beginning(alloc))?;
+    }
+    Ok(callers)
+}
+
 /// The parts before any event: the scan of the root is before caller 0, and late spots are hidden.
 pub fn begin(alloc: Global, setup: &Setup) -> Result<Core, Memory>
     requires few { length setup.now.machine.spots ≤ 1024 }
@@ -80,23 +93,24 @@ pub fn begin(alloc: Global, setup: &Setup) -> Result<Core, Memory>
     ensures { IfOk result (IsFirst setup.now) }
 {
     let hidden = late_spots(alloc, setup)?;
+    let absent = absent_spots(alloc, setup)?;
     let rows = LiveRows::make(alloc, &setup.tables)?;
     let units = Units::make(alloc, setup.tables.devices.len() as u32)?;
-    let mut searches = Vec::new(alloc);
-    searches.push(new_search(0))?;
+    let callers = beginning(alloc, setup)?;
     Ok(Core {
-        live: Vec::new(alloc),
+        tree: DevTree::make(alloc),
         rows,
         units,
-        next: 1,
+        refs: Refs::make(alloc),
+        absent,
         hidden,
         phase: false,
-        deferred: Vec::new(alloc),
+        turn: None,
+        deferred: Deferred::make(alloc),
         finalisers: Vec::new(alloc),
         place: 0,
         again: false,
-        searches,
-        ended: false,
+        callers,
         stops: 0,
         stopped: None,
         events: Vec::new(alloc),

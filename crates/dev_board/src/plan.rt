@@ -1,63 +1,46 @@
-//! What the board does next.
-ghost use Rattle.std.specs.Prelude.{◌≡◌, ◌≤◌, ◌<◌, ◌+◌, ◌-◌, ◌++◌, ◌∷◌, [], IfSome, IfNone, Some, None, false, true, take, length, slice_index_or};
+//! What a caller does next.
+ghost use Rattle.std.specs.Prelude.{◌≡◌, ◌≤◌, ◌<◌, Some, true, false, length, slice_index_or};
 ghost use Rattle.run_rules.specs.Deeds.{Does};
-ghost use Rattle.run_rules.specs.Next.{next, finalise};
+ghost use Rattle.run_rules.specs.Next.{next, next_scan, next_boot, finalise, on_top};
 ghost use Rattle.run_rules.specs.Search as rule;
+ghost use Rattle.run_rules.specs.World.{has_ended, caller_at};
 ghost use Rattle.attr_graph.specs.Graphs.{IsGraphOf, declared_by};
-ghost use Rattle.match_search.specs.Best.{live_rows};
+ghost use Rattle.run_sound.specs.Kept.{Kept};
 ghost use Rattle.dev_board.specs.Input.{Bounded};
-ghost use Rattle.dev_board.specs.Keeping.{SoundParts};
-ghost use Rattle.dev_board.specs.UnitsOf.{AreUnitsOf};
-ghost use Rattle.dev_board.specs.View.{parts_of, world_of, shown_of};
-ghost use Rattle.dev_board.specs.Plans.{deed_of, scan_deed, Fits, Ready, PlansScan, PlansCall};
+ghost use Rattle.dev_board.specs.Plans.{deed_of};
+ghost use Rattle.dev_board.specs.View.{world_of, Books};
 
-use crate::late::{place_of, shown_by};
-use crate::parts::{Core, Search};
+use crate::due::due_turn;
+use crate::late::shown_by;
+use crate::parts::Core;
 use crate::search::arrival;
-use crate::turn::due_turn;
+use crate::spots::place_of;
 use attr_graph::Graph;
-use match_search::LiveRows;
-use run_rules::{Arrival, Dev, Position, Setup, Turn};
-use unit_alloc::Units;
+use run_rules::{Arrival, Frame, Position, Setup, Turn, Wanted};
 
-/// What is done next. A finaliser's call has its place in the list, and whether a new pass begins with it.
+/// What is done next. A finaliser that is called from the boot's list has its place there, and whether a new pass begins
+/// with it.
 #[derive(Clone, Copy)]
 pub enum Plan {
-    EndScan {
-        serial: u64,
-    },
-    Turn {
-        serial: u64,
+    /// A turn of a scan: the position after it, and what comes.
+    Search {
+        parent: u64,
         moved: Position,
         got: Option<Arrival>,
     },
-    Interrupts,
-    /// A finaliser answers 0.
-    Quiet {
-        serial: u64,
-        place: u64,
-        anew: bool,
+    EndScan {
+        of: u64,
     },
-    /// A finaliser shows a late spot, and answers 1.
-    Shows {
-        serial: u64,
-        spot: u16,
+    BeginInterrupts,
+    /// A finaliser is called: the late spot that it shows, if there is one, and what comes there.
+    Finalise {
+        of: u64,
+        shown: Option<u16>,
         got: Option<Arrival>,
-        place: u64,
+        listed: Option<u64>,
         anew: bool,
     },
-    End,
-}
-
-/// The search on top of the stack.
-fn top(searches: &[Search]) -> Option<Search>
-    ensures none { IfNone result (searches.now ≡ []) }
-    ensures some { IfSome result (λ f. searches.now ≡ take (length searches.now - 1) searches.now ++ f ∷ []) }
-{
-    match searches {
-        [] => None,
-        [.., last] => Some(*last),
-    }
+    EndCaller,
 }
 
 /// The position after a turn: behind it, or at the first pair of the same row.
@@ -86,124 +69,113 @@ fn after_turn(turn: Turn) -> Position
 fn plan_scan(
     graph: &Graph,
     setup: &Setup,
-    rows: &LiveRows,
-    units: &Units,
-    live: &[Dev],
-    hidden: &[u16],
-    search: Search,
+    core: &Core,
+    serial: u64,
+    only: Option<u32>,
+    filter: &[Wanted],
+    position: Position,
 ) -> Plan
     requires graph { IsGraphOf (declared_by setup.now.tables) graph.now }
     requires bounded { Bounded setup.now }
-    requires marks { rows.now ≡ live_rows setup.now live.now }
-    requires units { AreUnitsOf setup.now live.now units.now }
-    requires live { length live.now ≤ 1024 }
-    ensures same { PlansScan setup.now live.now hidden.now search result }
-    ensures deed { scan_deed setup.now live.now hidden.now search ≡ deed_of result }
+    requires books { Books setup.now core.now }
+    requires live { length core.now.tree.live ≤ 1024 }
+    ensures { next_scan setup.now core.now.tree.live core.now.absent.items core.now.hidden.items serial only filter.now position ≡ deed_of result }
 {
-    let serial = search.serial;
-    match due_turn(graph, setup, rows, live, hidden, search) {
-        None => Plan::EndScan { serial },
-        Some(turn) => Plan::Turn {
-            serial,
+    match due_turn(graph, setup, core, serial, only, filter, position) {
+        None => Plan::EndScan { of: serial },
+        Some(turn) => Plan::Search {
+            parent: serial,
             moved: after_turn(turn),
-            got: arrival(
-                graph,
-                setup,
-                rows,
-                units,
-                live,
-                serial,
-                turn.place,
-                turn.at.spot,
-            ),
+            got: arrival(graph, setup, core, serial, turn.place, turn.at.spot),
         },
     }
 }
 
-/// What the finaliser at a place of the boot's list does.
-fn plan_call(graph: &Graph, setup: &Setup, core: &Core, place: u64, anew: bool) -> Plan
+/// What the finaliser of a device does.
+#[tactic(auto, unfolding(run_rules::specs::Next::finalise))]
+fn plan_call(
+    graph: &Graph,
+    setup: &Setup,
+    core: &Core,
+    serial: u64,
+    listed: Option<u64>,
+    anew: bool,
+) -> Plan
     requires graph { IsGraphOf (declared_by setup.now.tables) graph.now }
     requires bounded { Bounded setup.now }
-    requires sound { SoundParts setup.now (parts_of core.now) }
-    requires marks { core.now.rows ≡ live_rows setup.now core.now.live.items }
-    requires units { AreUnitsOf setup.now core.now.live.items core.now.units }
-    requires place { place < length core.now.finalisers.items }
-    ensures same { PlansCall setup.now (parts_of core.now) place anew result }
-    ensures deed { finalise (world_of setup.now (parts_of core.now) false) (slice_index_or core.now.finalisers.items place 0) (Some place) anew ≡ deed_of result }
+    requires books { Books setup.now core.now }
+    requires live { length core.now.tree.live ≤ 1024 }
+    ensures { finalise (world_of setup.now core.now) serial listed anew ≡ deed_of result }
 {
-    let serial = core.finalisers[place as usize];
-    match shown_by(graph, setup, &core.live, &core.hidden, serial) {
-        None => Plan::Quiet {
-            serial,
-            place,
+    match shown_by(graph, setup, core, serial) {
+        None => Plan::Finalise {
+            of: serial,
+            shown: None,
+            got: None,
+            listed,
             anew,
         },
-        Some(spot) => Plan::Shows {
-            serial,
-            spot,
-            got: arrival(
-                graph,
-                setup,
-                &core.rows,
-                &core.units,
-                &core.live,
-                serial,
-                place_of(setup, spot),
-                spot,
-            ),
-            place,
+        Some(spot) => Plan::Finalise {
+            of: serial,
+            shown: Some(spot),
+            got: arrival(graph, setup, core, serial, place_of(setup, spot), spot),
+            listed,
             anew,
         },
     }
 }
 
-/// What the boot does without a scan: interrupts first, then the finalisers, in passes until none answers 1. See
+/// What the boot does without a frame: interrupts first, then the finalisers, in passes until none answers 1. See
 /// autoconf(9).
 fn plan_boot(graph: &Graph, setup: &Setup, core: &Core) -> Plan
     requires graph { IsGraphOf (declared_by setup.now.tables) graph.now }
     requires bounded { Bounded setup.now }
-    requires sound { SoundParts setup.now (parts_of core.now) }
-    requires marks { core.now.rows ≡ live_rows setup.now core.now.live.items }
-    requires units { AreUnitsOf setup.now core.now.live.items core.now.units }
-    requires idle { core.now.searches.items ≡ [] }
-    ensures chosen { next (world_of setup.now (parts_of core.now) false) 0 ≡ Does (deed_of result) }
-    ensures fits { Fits setup.now (parts_of core.now) result }
-    ensures ready { Ready setup.now (parts_of core.now) result }
+    requires books { Books setup.now core.now }
+    requires live { length core.now.tree.live ≤ 1024 }
+    requires called { core.now.again ≡ true → 0 < length core.now.finalisers.items }
+    ensures { next_boot (world_of setup.now core.now) ≡ Does (deed_of result) }
 {
     if !core.phase {
-        return Plan::Interrupts;
+        return Plan::BeginInterrupts;
     }
     if core.place < core.finalisers.len() as u64 {
-        return plan_call(graph, setup, core, core.place, false);
+        let serial = core.finalisers[core.place as usize];
+        return plan_call(graph, setup, core, serial, Some(core.place), false);
     }
     if core.again {
-        return plan_call(graph, setup, core, 0, true);
+        return plan_call(graph, setup, core, core.finalisers[0], Some(0), true);
     }
-    Plan::End
+    Plan::EndCaller
 }
 
-/// The next thing that the board does.
-pub fn next_plan(graph: &Graph, setup: &Setup, core: &Core) -> Plan
+/// What the caller that boots does next.
+pub fn plan_top(graph: &Graph, setup: &Setup, core: &Core) -> Plan
     requires graph { IsGraphOf (declared_by setup.now.tables) graph.now }
     requires bounded { Bounded setup.now }
-    requires sound { SoundParts setup.now (parts_of core.now) }
-    requires marks { core.now.rows ≡ live_rows setup.now core.now.live.items }
-    requires units { AreUnitsOf setup.now core.now.live.items core.now.units }
-    requires goes_on { core.now.ended ≡ false }
-    ensures chosen { next (shown_of setup.now core.now).world 0 ≡ Does (deed_of result) }
-    ensures fits { Fits setup.now (parts_of core.now) result }
-    ensures ready { Ready setup.now (parts_of core.now) result }
+    requires books { Books setup.now core.now }
+    requires live { length core.now.tree.live ≤ 1024 }
+    requires called { core.now.again ≡ true → 0 < length core.now.finalisers.items }
+    requires there { 0 < length core.now.callers.items }
+    ensures { on_top (world_of setup.now core.now) 0 (caller_at (world_of setup.now core.now) 0).stack ≡ Does (deed_of result) }
 {
-    match top(&core.searches) {
-        Some(search) => plan_scan(
+    match core.callers[0].stack.top() {
+        Some(
+            Frame::Scan {
+                serial,
+                only,
+                filter,
+                position,
+            },
+        ) => plan_scan(
             graph,
             setup,
-            &core.rows,
-            &core.units,
-            &core.live,
-            &core.hidden,
-            search,
+            core,
+            *serial,
+            *only,
+            filter.items(),
+            *position,
         ),
+        Some(Frame::Finaliser { serial }) => plan_call(graph, setup, core, *serial, None, false),
         None => plan_boot(graph, setup, core),
     }
 }

@@ -1,10 +1,9 @@
 //! The lines of the device tree.
-ghost use Rattle.std.specs.Prelude.{◌≡◌, ◌≤◌, ◌<◌, ◌+◌, ◌++◌, ◌^◌, ◌∷◌, IfOk, OnOk, length, map, flat_map, filter};
+ghost use Rattle.std.specs.Prelude.{◌≡◌, ◌<◌, ◌+◌, ◌++◌, ◌^◌, IfOk, OnOk, length, map};
 ghost use Rattle.run_rules.specs.Tree as rule;
+ghost use Rattle.dev_board.specs.Events.{HaveRows};
 ghost use Rattle.dev_board.specs.Input.{Bounded};
-ghost use Rattle.dev_board.specs.PlainTree.{plain_line};
-ghost use Rattle.dev_board.specs.Keeping.{HaveRows};
-ghost use Rattle.dev_board.specs.View.{shown_of, CoreKept};
+ghost use Rattle.dev_board.specs.View.{world_of};
 
 use crate::names::{parent_name, unit_name};
 use crate::parts::Core;
@@ -12,22 +11,22 @@ use cf_types::{DevLine, List, Memory};
 use run_rules::{Dev, Setup};
 use std::alloc::Global;
 
-/// The line of a device that nobody holds.
+/// The line of a device.
 #[tactic(auto, unfolding(run_rules::specs::World::unit_name))]
 fn line_of(
     alloc: Global,
     setup: &Setup,
-    live: &[Dev],
+    core: &Core,
     depth: u32,
     device: Dev,
 ) -> Result<DevLine, Memory>
     requires bounded { Bounded setup.now }
-    requires rows { HaveRows setup.now live.now }
+    requires rows { HaveRows setup.now core.now.tree.live }
     requires row { device.row < length setup.now.tables.rows }
-    ensures { IfOk result (λ line. line ≡ plain_line setup.now live.now (depth, device)) }
+    ensures { IfOk result (λ line. line ≡ rule.dev_line (world_of setup.now core.now) (depth, device)) }
 {
     let name = unit_name(alloc, setup, device.row, device.unit)?;
-    let parent = parent_name(alloc, setup, live, device.parent)?;
+    let parent = parent_name(alloc, setup, &core.tree, device.parent)?;
     Ok(DevLine {
         depth,
         name,
@@ -35,7 +34,7 @@ fn line_of(
         row: device.row,
         asleep: device.asleep,
         condemned: device.condemned.is_some(),
-        holders: 0,
+        holders: core.refs.holders(device.serial),
     })
 }
 
@@ -43,6 +42,7 @@ fn line_of(
 fn push_below(
     alloc: Global,
     setup: &Setup,
+    core: &Core,
     live: &[Dev],
     levels: u32,
     depth: u32,
@@ -50,9 +50,10 @@ fn push_below(
     lines: &mut List<DevLine>,
 ) -> Result<(), Memory>
     requires bounded { Bounded setup.now }
-    requires rows { HaveRows setup.now live.now }
+    requires rows { HaveRows setup.now core.now.tree.live }
+    requires live { live.now ≡ core.now.tree.live }
     requires shallow { depth + levels < 2 ^ 32 }
-    ensures { OnOk result (lines.new ≡ lines.old ++ map (plain_line setup.now live.now) (rule.tree_below levels live.now depth parent)) }
+    ensures { OnOk result (lines.new ≡ lines.old ++ map (rule.dev_line (world_of setup.now core.now)) (rule.tree_below levels live.now depth parent)) }
 {
     if levels == 0 {
         return Ok(());
@@ -60,11 +61,12 @@ fn push_below(
     for index in 0..live.len() {
         let device = live[index];
         if device.parent == parent {
-            let line = line_of(alloc, setup, live, depth, device)?;
+            let line = line_of(alloc, setup, core, depth, device)?;
             lines.push(line)?;
             push_below(
                 alloc,
                 setup,
+                core,
                 live,
                 levels - 1,
                 depth + 1,
@@ -78,15 +80,18 @@ fn push_below(
 
 /// The whole tree.
 pub fn tree_of(alloc: Global, setup: &Setup, core: &Core) -> Result<List<DevLine>, Memory>
-    requires { CoreKept setup.now core.now }
-    ensures { IfOk result (λ lines. lines ≡ rule.tree_lines (shown_of setup.now core.now).world) }
+    requires bounded { Bounded setup.now }
+    requires rows { HaveRows setup.now core.now.tree.live }
+    requires few { length core.now.tree.live < 2 ^ 32 }
+    ensures { IfOk result (λ lines. lines ≡ rule.tree_lines (world_of setup.now core.now)) }
 {
     let mut lines = List::make(alloc);
     push_below(
         alloc,
         setup,
-        &core.live,
-        core.live.len() as u32,
+        core,
+        core.tree.devices(),
+        core.tree.count() as u32,
         0,
         0,
         &mut lines,

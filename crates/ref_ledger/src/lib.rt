@@ -1,12 +1,14 @@
-//! The slots of the spots: for each spot, whether its device may be held, and when it may be freed.
+//! The references to devices, and the slots of the spots: whether a spot's device may be held, and when it may be freed.
 #![tactic(auto)]
 
 mod buried;
 mod plain;
+mod refs;
 mod slots;
 mod state;
 
 pub use buried::{Buried, Bury};
 pub use plain::PlainSlots;
+pub use refs::Refs;
 pub use slots::Slots;
 pub use state::SlotState;

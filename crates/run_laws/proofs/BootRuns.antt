@@ -15,7 +15,7 @@ use Rattle.run_rules.specs.declared.world.Key.TheVariants as key
 use Rattle.run_rules.specs.declared.world.Activity.TheVariants as activity
 use Rattle.run_rules.specs.declared.world.Wait.TheVariants as wait
 use Rattle.run_rules.specs.World.{start, lineage, is_under, unit_name, root_name, parent_name, is_pinned, absent_spots, late_spots, opening}
-use Rattle.run_rules.specs.Search.{match_value, is_candidate, is_winner, winner, free_after, unit_of, is_open, child_spots, scan_places, is_indirect, turns_at, turns, is_before, is_due, due, after_turn}
+use Rattle.run_rules.specs.Search.{match_value, is_candidate, is_winner, winner, free_after, unit_of, is_open, child_spots, places_of, style_of, bus_turns, turns_of, is_before, is_due, due, after_turn}
 use Rattle.run_rules.specs.Next.{arrival, next_scan, late_spot, finalise, next_boot, next_free, next_sleep, next_wake, freeing, suspending, waking, hindered, wanted_of, rescan_of, command_deed, next_command, next}
 use Rattle.run_rules.specs.After.{listed, finaliser_placing, scan_placing, finaliser_placed, scan_placed, attached, released, after}
 use Rattle.run_rules.specs.Run.{answer_of, tree_names, list_names, printed, event_of, played}
@@ -65,8 +65,8 @@ nothing : outcome nothing_setup (0 ∷ 0 ∷ 0 ∷ [])
       choices = Over ∷ [];
     }
 unfolding lineage is_under unit_name root_name parent_name walk firsts interfaces_of interfaces offers is_pinned absent_spots
-    late_spots opening submatch match_value is_candidate is_winner winner free_after unit_of is_open child_spots scan_places is_indirect
-    turns_at turns is_before is_due due after_turn arrival next_scan late_spot finalise next_boot next_free next_sleep next_wake
+    late_spots opening submatch match_value is_candidate is_winner winner free_after unit_of is_open child_spots places_of style_of
+    bus_turns turns_of is_before is_due due after_turn arrival next_scan late_spot finalise next_boot next_free next_sleep next_wake
     freeing suspending waking hindered wanted_of rescan_of command_deed next_command next listed finaliser_placing scan_placing
     finaliser_placed scan_placed attached released after answer_of tree_below tree_names list_names printed event_of played
     digits
@@ -74,8 +74,8 @@ nothing = refl
 
 nothing_sound : sound_along (opening nothing_setup) (0 ∷ 0 ∷ 0 ∷ []) ≡ true
 unfolding lineage is_under unit_name root_name parent_name walk firsts interfaces_of interfaces offers is_pinned absent_spots
-    late_spots opening submatch match_value is_candidate is_winner winner free_after unit_of is_open child_spots scan_places is_indirect
-    turns_at turns is_before is_due due after_turn arrival next_scan late_spot finalise next_boot next_free next_sleep next_wake
+    late_spots opening submatch match_value is_candidate is_winner winner free_after unit_of is_open child_spots places_of style_of
+    bus_turns turns_of is_before is_due due after_turn arrival next_scan late_spot finalise next_boot next_free next_sleep next_wake
     freeing suspending waking hindered wanted_of rescan_of command_deed next_command next listed finaliser_placing scan_placing
     finaliser_placed scan_placed attached released after answer_of tree_below tree_names list_names printed event_of played
     digits
@@ -140,8 +140,8 @@ isa_boot : outcome isa_boot_setup (0 ∷ 0 ∷ 0 ∷ 0 ∷ 0 ∷ 0 ∷ 0 ∷ 0 �
       choices = Over ∷ [];
     }
 unfolding lineage is_under unit_name root_name parent_name walk firsts interfaces_of interfaces offers is_pinned absent_spots
-    late_spots opening submatch match_value is_candidate is_winner winner free_after unit_of is_open child_spots scan_places is_indirect
-    turns_at turns is_before is_due due after_turn arrival next_scan late_spot finalise next_boot next_free next_sleep next_wake
+    late_spots opening submatch match_value is_candidate is_winner winner free_after unit_of is_open child_spots places_of style_of
+    bus_turns turns_of is_before is_due due after_turn arrival next_scan late_spot finalise next_boot next_free next_sleep next_wake
     freeing suspending waking hindered wanted_of rescan_of command_deed next_command next listed finaliser_placing scan_placing
     finaliser_placed scan_placed attached released after answer_of tree_below tree_names list_names printed event_of played
     digits
@@ -149,8 +149,8 @@ isa_boot = refl
 
 isa_boot_sound : sound_along (opening isa_boot_setup) (0 ∷ 0 ∷ 0 ∷ 0 ∷ 0 ∷ 0 ∷ 0 ∷ 0 ∷ 0 ∷ []) ≡ true
 unfolding lineage is_under unit_name root_name parent_name walk firsts interfaces_of interfaces offers is_pinned absent_spots
-    late_spots opening submatch match_value is_candidate is_winner winner free_after unit_of is_open child_spots scan_places is_indirect
-    turns_at turns is_before is_due due after_turn arrival next_scan late_spot finalise next_boot next_free next_sleep next_wake
+    late_spots opening submatch match_value is_candidate is_winner winner free_after unit_of is_open child_spots places_of style_of
+    bus_turns turns_of is_before is_due due after_turn arrival next_scan late_spot finalise next_boot next_free next_sleep next_wake
     freeing suspending waking hindered wanted_of rescan_of command_deed next_command next listed finaliser_placing scan_placing
     finaliser_placed scan_placed attached released after answer_of tree_below tree_names list_names printed event_of played
     digits
@@ -216,8 +216,8 @@ isa_first_unit : outcome isa_first_unit_setup (0 ∷ 0 ∷ 0 ∷ 0 ∷ 0 ∷ 0 �
       choices = Over ∷ [];
     }
 unfolding lineage is_under unit_name root_name parent_name walk firsts interfaces_of interfaces offers is_pinned absent_spots
-    late_spots opening submatch match_value is_candidate is_winner winner free_after unit_of is_open child_spots scan_places is_indirect
-    turns_at turns is_before is_due due after_turn arrival next_scan late_spot finalise next_boot next_free next_sleep next_wake
+    late_spots opening submatch match_value is_candidate is_winner winner free_after unit_of is_open child_spots places_of style_of
+    bus_turns turns_of is_before is_due due after_turn arrival next_scan late_spot finalise next_boot next_free next_sleep next_wake
     freeing suspending waking hindered wanted_of rescan_of command_deed next_command next listed finaliser_placing scan_placing
     finaliser_placed scan_placed attached released after answer_of tree_below tree_names list_names printed event_of played
     digits
@@ -225,8 +225,8 @@ isa_first_unit = refl
 
 isa_first_unit_sound : sound_along (opening isa_first_unit_setup) (0 ∷ 0 ∷ 0 ∷ 0 ∷ 0 ∷ 0 ∷ 0 ∷ 0 ∷ 0 ∷ []) ≡ true
 unfolding lineage is_under unit_name root_name parent_name walk firsts interfaces_of interfaces offers is_pinned absent_spots
-    late_spots opening submatch match_value is_candidate is_winner winner free_after unit_of is_open child_spots scan_places is_indirect
-    turns_at turns is_before is_due due after_turn arrival next_scan late_spot finalise next_boot next_free next_sleep next_wake
+    late_spots opening submatch match_value is_candidate is_winner winner free_after unit_of is_open child_spots places_of style_of
+    bus_turns turns_of is_before is_due due after_turn arrival next_scan late_spot finalise next_boot next_free next_sleep next_wake
     freeing suspending waking hindered wanted_of rescan_of command_deed next_command next listed finaliser_placing scan_placing
     finaliser_placed scan_placed attached released after answer_of tree_below tree_names list_names printed event_of played
     digits
@@ -292,8 +292,8 @@ equal_values : outcome equal_values_setup (0 ∷ 0 ∷ 0 ∷ 0 ∷ 0 ∷ 0 ∷ 0
       choices = Over ∷ [];
     }
 unfolding lineage is_under unit_name root_name parent_name walk firsts interfaces_of interfaces offers is_pinned absent_spots
-    late_spots opening submatch match_value is_candidate is_winner winner free_after unit_of is_open child_spots scan_places is_indirect
-    turns_at turns is_before is_due due after_turn arrival next_scan late_spot finalise next_boot next_free next_sleep next_wake
+    late_spots opening submatch match_value is_candidate is_winner winner free_after unit_of is_open child_spots places_of style_of
+    bus_turns turns_of is_before is_due due after_turn arrival next_scan late_spot finalise next_boot next_free next_sleep next_wake
     freeing suspending waking hindered wanted_of rescan_of command_deed next_command next listed finaliser_placing scan_placing
     finaliser_placed scan_placed attached released after answer_of tree_below tree_names list_names printed event_of played
     digits
@@ -301,8 +301,8 @@ equal_values = refl
 
 equal_values_sound : sound_along (opening equal_values_setup) (0 ∷ 0 ∷ 0 ∷ 0 ∷ 0 ∷ 0 ∷ 0 ∷ 0 ∷ []) ≡ true
 unfolding lineage is_under unit_name root_name parent_name walk firsts interfaces_of interfaces offers is_pinned absent_spots
-    late_spots opening submatch match_value is_candidate is_winner winner free_after unit_of is_open child_spots scan_places is_indirect
-    turns_at turns is_before is_due due after_turn arrival next_scan late_spot finalise next_boot next_free next_sleep next_wake
+    late_spots opening submatch match_value is_candidate is_winner winner free_after unit_of is_open child_spots places_of style_of
+    bus_turns turns_of is_before is_due due after_turn arrival next_scan late_spot finalise next_boot next_free next_sleep next_wake
     freeing suspending waking hindered wanted_of rescan_of command_deed next_command next listed finaliser_placing scan_placing
     finaliser_placed scan_placed attached released after answer_of tree_below tree_names list_names printed event_of played
     digits
@@ -365,8 +365,8 @@ submatch_first : outcome submatch_first_setup (0 ∷ 0 ∷ 0 ∷ 0 ∷ 0 ∷ 0 �
       choices = Over ∷ [];
     }
 unfolding lineage is_under unit_name root_name parent_name walk firsts interfaces_of interfaces offers is_pinned absent_spots
-    late_spots opening submatch match_value is_candidate is_winner winner free_after unit_of is_open child_spots scan_places is_indirect
-    turns_at turns is_before is_due due after_turn arrival next_scan late_spot finalise next_boot next_free next_sleep next_wake
+    late_spots opening submatch match_value is_candidate is_winner winner free_after unit_of is_open child_spots places_of style_of
+    bus_turns turns_of is_before is_due due after_turn arrival next_scan late_spot finalise next_boot next_free next_sleep next_wake
     freeing suspending waking hindered wanted_of rescan_of command_deed next_command next listed finaliser_placing scan_placing
     finaliser_placed scan_placed attached released after answer_of tree_below tree_names list_names printed event_of played
     digits
@@ -374,8 +374,8 @@ submatch_first = refl
 
 submatch_first_sound : sound_along (opening submatch_first_setup) (0 ∷ 0 ∷ 0 ∷ 0 ∷ 0 ∷ 0 ∷ 0 ∷ []) ≡ true
 unfolding lineage is_under unit_name root_name parent_name walk firsts interfaces_of interfaces offers is_pinned absent_spots
-    late_spots opening submatch match_value is_candidate is_winner winner free_after unit_of is_open child_spots scan_places is_indirect
-    turns_at turns is_before is_due due after_turn arrival next_scan late_spot finalise next_boot next_free next_sleep next_wake
+    late_spots opening submatch match_value is_candidate is_winner winner free_after unit_of is_open child_spots places_of style_of
+    bus_turns turns_of is_before is_due due after_turn arrival next_scan late_spot finalise next_boot next_free next_sleep next_wake
     freeing suspending waking hindered wanted_of rescan_of command_deed next_command next listed finaliser_placing scan_placing
     finaliser_placed scan_placed attached released after answer_of tree_below tree_names list_names printed event_of played
     digits
@@ -438,8 +438,8 @@ indirect_once : outcome indirect_once_setup (0 ∷ 0 ∷ 0 ∷ 0 ∷ 0 ∷ 0 ∷
       choices = Over ∷ [];
     }
 unfolding lineage is_under unit_name root_name parent_name walk firsts interfaces_of interfaces offers is_pinned absent_spots
-    late_spots opening submatch match_value is_candidate is_winner winner free_after unit_of is_open child_spots scan_places is_indirect
-    turns_at turns is_before is_due due after_turn arrival next_scan late_spot finalise next_boot next_free next_sleep next_wake
+    late_spots opening submatch match_value is_candidate is_winner winner free_after unit_of is_open child_spots places_of style_of
+    bus_turns turns_of is_before is_due due after_turn arrival next_scan late_spot finalise next_boot next_free next_sleep next_wake
     freeing suspending waking hindered wanted_of rescan_of command_deed next_command next listed finaliser_placing scan_placing
     finaliser_placed scan_placed attached released after answer_of tree_below tree_names list_names printed event_of played
     digits
@@ -447,8 +447,8 @@ indirect_once = refl
 
 indirect_once_sound : sound_along (opening indirect_once_setup) (0 ∷ 0 ∷ 0 ∷ 0 ∷ 0 ∷ 0 ∷ 0 ∷ 0 ∷ []) ≡ true
 unfolding lineage is_under unit_name root_name parent_name walk firsts interfaces_of interfaces offers is_pinned absent_spots
-    late_spots opening submatch match_value is_candidate is_winner winner free_after unit_of is_open child_spots scan_places is_indirect
-    turns_at turns is_before is_due due after_turn arrival next_scan late_spot finalise next_boot next_free next_sleep next_wake
+    late_spots opening submatch match_value is_candidate is_winner winner free_after unit_of is_open child_spots places_of style_of
+    bus_turns turns_of is_before is_due due after_turn arrival next_scan late_spot finalise next_boot next_free next_sleep next_wake
     freeing suspending waking hindered wanted_of rescan_of command_deed next_command next listed finaliser_placing scan_placing
     finaliser_placed scan_placed attached released after answer_of tree_below tree_names list_names printed event_of played
     digits
@@ -514,8 +514,8 @@ put_off : outcome put_off_setup (0 ∷ 0 ∷ 0 ∷ 0 ∷ 0 ∷ 0 ∷ 0 ∷ 0 ∷
       choices = Over ∷ [];
     }
 unfolding lineage is_under unit_name root_name parent_name walk firsts interfaces_of interfaces offers is_pinned absent_spots
-    late_spots opening submatch match_value is_candidate is_winner winner free_after unit_of is_open child_spots scan_places is_indirect
-    turns_at turns is_before is_due due after_turn arrival next_scan late_spot finalise next_boot next_free next_sleep next_wake
+    late_spots opening submatch match_value is_candidate is_winner winner free_after unit_of is_open child_spots places_of style_of
+    bus_turns turns_of is_before is_due due after_turn arrival next_scan late_spot finalise next_boot next_free next_sleep next_wake
     freeing suspending waking hindered wanted_of rescan_of command_deed next_command next listed finaliser_placing scan_placing
     finaliser_placed scan_placed attached released after answer_of tree_below tree_names list_names printed event_of played
     digits
@@ -523,8 +523,8 @@ put_off = refl
 
 put_off_sound : sound_along (opening put_off_setup) (0 ∷ 0 ∷ 0 ∷ 0 ∷ 0 ∷ 0 ∷ 0 ∷ 0 ∷ 0 ∷ 0 ∷ 0 ∷ []) ≡ true
 unfolding lineage is_under unit_name root_name parent_name walk firsts interfaces_of interfaces offers is_pinned absent_spots
-    late_spots opening submatch match_value is_candidate is_winner winner free_after unit_of is_open child_spots scan_places is_indirect
-    turns_at turns is_before is_due due after_turn arrival next_scan late_spot finalise next_boot next_free next_sleep next_wake
+    late_spots opening submatch match_value is_candidate is_winner winner free_after unit_of is_open child_spots places_of style_of
+    bus_turns turns_of is_before is_due due after_turn arrival next_scan late_spot finalise next_boot next_free next_sleep next_wake
     freeing suspending waking hindered wanted_of rescan_of command_deed next_command next listed finaliser_placing scan_placing
     finaliser_placed scan_placed attached released after answer_of tree_below tree_names list_names printed event_of played
     digits
@@ -590,8 +590,8 @@ after_interrupts : outcome after_interrupts_setup (0 ∷ 0 ∷ 0 ∷ 0 ∷ 0 ∷
       choices = Over ∷ [];
     }
 unfolding lineage is_under unit_name root_name parent_name walk firsts interfaces_of interfaces offers is_pinned absent_spots
-    late_spots opening submatch match_value is_candidate is_winner winner free_after unit_of is_open child_spots scan_places is_indirect
-    turns_at turns is_before is_due due after_turn arrival next_scan late_spot finalise next_boot next_free next_sleep next_wake
+    late_spots opening submatch match_value is_candidate is_winner winner free_after unit_of is_open child_spots places_of style_of
+    bus_turns turns_of is_before is_due due after_turn arrival next_scan late_spot finalise next_boot next_free next_sleep next_wake
     freeing suspending waking hindered wanted_of rescan_of command_deed next_command next listed finaliser_placing scan_placing
     finaliser_placed scan_placed attached released after answer_of tree_below tree_names list_names printed event_of played
     digits
@@ -599,8 +599,8 @@ after_interrupts = refl
 
 after_interrupts_sound : sound_along (opening after_interrupts_setup) (0 ∷ 0 ∷ 0 ∷ 0 ∷ 0 ∷ 0 ∷ 0 ∷ 0 ∷ 0 ∷ 0 ∷ 0 ∷ []) ≡ true
 unfolding lineage is_under unit_name root_name parent_name walk firsts interfaces_of interfaces offers is_pinned absent_spots
-    late_spots opening submatch match_value is_candidate is_winner winner free_after unit_of is_open child_spots scan_places is_indirect
-    turns_at turns is_before is_due due after_turn arrival next_scan late_spot finalise next_boot next_free next_sleep next_wake
+    late_spots opening submatch match_value is_candidate is_winner winner free_after unit_of is_open child_spots places_of style_of
+    bus_turns turns_of is_before is_due due after_turn arrival next_scan late_spot finalise next_boot next_free next_sleep next_wake
     freeing suspending waking hindered wanted_of rescan_of command_deed next_command next listed finaliser_placing scan_placing
     finaliser_placed scan_placed attached released after answer_of tree_below tree_names list_names printed event_of played
     digits
@@ -664,8 +664,8 @@ late_spots_shown : outcome late_spots_shown_setup (0 ∷ 0 ∷ 0 ∷ 0 ∷ 0 ∷
       choices = Over ∷ [];
     }
 unfolding lineage is_under unit_name root_name parent_name walk firsts interfaces_of interfaces offers is_pinned absent_spots
-    late_spots opening submatch match_value is_candidate is_winner winner free_after unit_of is_open child_spots scan_places is_indirect
-    turns_at turns is_before is_due due after_turn arrival next_scan late_spot finalise next_boot next_free next_sleep next_wake
+    late_spots opening submatch match_value is_candidate is_winner winner free_after unit_of is_open child_spots places_of style_of
+    bus_turns turns_of is_before is_due due after_turn arrival next_scan late_spot finalise next_boot next_free next_sleep next_wake
     freeing suspending waking hindered wanted_of rescan_of command_deed next_command next listed finaliser_placing scan_placing
     finaliser_placed scan_placed attached released after answer_of tree_below tree_names list_names printed event_of played
     digits
@@ -673,8 +673,8 @@ late_spots_shown = refl
 
 late_spots_shown_sound : sound_along (opening late_spots_shown_setup) (0 ∷ 0 ∷ 0 ∷ 0 ∷ 0 ∷ 0 ∷ 0 ∷ 0 ∷ 0 ∷ 0 ∷ []) ≡ true
 unfolding lineage is_under unit_name root_name parent_name walk firsts interfaces_of interfaces offers is_pinned absent_spots
-    late_spots opening submatch match_value is_candidate is_winner winner free_after unit_of is_open child_spots scan_places is_indirect
-    turns_at turns is_before is_due due after_turn arrival next_scan late_spot finalise next_boot next_free next_sleep next_wake
+    late_spots opening submatch match_value is_candidate is_winner winner free_after unit_of is_open child_spots places_of style_of
+    bus_turns turns_of is_before is_due due after_turn arrival next_scan late_spot finalise next_boot next_free next_sleep next_wake
     freeing suspending waking hindered wanted_of rescan_of command_deed next_command next listed finaliser_placing scan_placing
     finaliser_placed scan_placed attached released after answer_of tree_below tree_names list_names printed event_of played
     digits
@@ -734,8 +734,8 @@ before_the_end : outcome before_the_end_setup (1 ∷ 0 ∷ 0 ∷ 1 ∷ 2 ∷ 0 �
       choices = Then (event 0 0 (act.ScanEnd (codes "bus0"))) ∷ Stays wait.Boot ∷ Stays wait.Boot ∷ [];
     }
 unfolding lineage is_under unit_name root_name parent_name walk firsts interfaces_of interfaces offers is_pinned absent_spots
-    late_spots opening submatch match_value is_candidate is_winner winner free_after unit_of is_open child_spots scan_places is_indirect
-    turns_at turns is_before is_due due after_turn arrival next_scan late_spot finalise next_boot next_free next_sleep next_wake
+    late_spots opening submatch match_value is_candidate is_winner winner free_after unit_of is_open child_spots places_of style_of
+    bus_turns turns_of is_before is_due due after_turn arrival next_scan late_spot finalise next_boot next_free next_sleep next_wake
     freeing suspending waking hindered wanted_of rescan_of command_deed next_command next listed finaliser_placing scan_placing
     finaliser_placed scan_placed attached released after answer_of tree_below tree_names list_names printed event_of played
     digits
@@ -743,8 +743,8 @@ before_the_end = refl
 
 before_the_end_sound : sound_along (opening before_the_end_setup) (1 ∷ 0 ∷ 0 ∷ 1 ∷ 2 ∷ 0 ∷ []) ≡ true
 unfolding lineage is_under unit_name root_name parent_name walk firsts interfaces_of interfaces offers is_pinned absent_spots
-    late_spots opening submatch match_value is_candidate is_winner winner free_after unit_of is_open child_spots scan_places is_indirect
-    turns_at turns is_before is_due due after_turn arrival next_scan late_spot finalise next_boot next_free next_sleep next_wake
+    late_spots opening submatch match_value is_candidate is_winner winner free_after unit_of is_open child_spots places_of style_of
+    bus_turns turns_of is_before is_due due after_turn arrival next_scan late_spot finalise next_boot next_free next_sleep next_wake
     freeing suspending waking hindered wanted_of rescan_of command_deed next_command next listed finaliser_placing scan_placing
     finaliser_placed scan_placed attached released after answer_of tree_below tree_names list_names printed event_of played
     digits

@@ -14,7 +14,7 @@ use Rattle.run_rules.specs.declared.event.PowerKind.TheVariants as kind
 use Rattle.run_rules.specs.declared.world.Setup.{Setup}
 use Rattle.run_rules.specs.declared.world.Activity.TheVariants as activity
 use Rattle.run_rules.specs.World.{lineage, is_under, unit_name, root_name, parent_name, is_pinned, absent_spots, late_spots, opening}
-use Rattle.run_rules.specs.Search.{match_value, is_candidate, is_winner, winner, free_after, unit_of, is_open, child_spots, scan_places, is_indirect, turns_at, turns, is_before, is_due, due, after_turn}
+use Rattle.run_rules.specs.Search.{match_value, is_candidate, is_winner, winner, free_after, unit_of, is_open, child_spots, places_of, style_of, bus_turns, turns_of, is_before, is_due, due, after_turn}
 use Rattle.run_rules.specs.Next.{arrival, next_scan, late_spot, finalise, next_boot, next_free, next_sleep, next_wake, freeing, suspending, waking, hindered, wanted_of, rescan_of, command_deed, next_command, next}
 use Rattle.run_rules.specs.After.{listed, finaliser_placing, scan_placing, finaliser_placed, scan_placed, attached, released, after}
 use Rattle.run_rules.specs.Run.{answer_of, tree_names, list_names, printed, event_of, played}
@@ -83,8 +83,8 @@ no_detach : outcome no_detach_setup (0 ∷ 0 ∷ 0 ∷ 0 ∷ 0 ∷ 0 ∷ 0 ∷ 0
       choices = Over ∷ Over ∷ [];
     }
 unfolding lineage is_under unit_name root_name parent_name walk firsts interfaces_of interfaces offers is_pinned absent_spots
-    late_spots opening submatch match_value is_candidate is_winner winner free_after unit_of is_open child_spots scan_places is_indirect
-    turns_at turns is_before is_due due after_turn arrival next_scan late_spot finalise next_boot next_free next_sleep next_wake
+    late_spots opening submatch match_value is_candidate is_winner winner free_after unit_of is_open child_spots places_of style_of
+    bus_turns turns_of is_before is_due due after_turn arrival next_scan late_spot finalise next_boot next_free next_sleep next_wake
     freeing suspending waking hindered wanted_of rescan_of command_deed next_command next listed finaliser_placing scan_placing
     finaliser_placed scan_placed attached released after answer_of tree_below tree_names list_names printed event_of played
     digits
@@ -92,8 +92,8 @@ no_detach = refl
 
 no_detach_sound : sound_along (opening no_detach_setup) (0 ∷ 0 ∷ 0 ∷ 0 ∷ 0 ∷ 0 ∷ 0 ∷ 0 ∷ 0 ∷ 1 ∷ 1 ∷ []) ≡ true
 unfolding lineage is_under unit_name root_name parent_name walk firsts interfaces_of interfaces offers is_pinned absent_spots
-    late_spots opening submatch match_value is_candidate is_winner winner free_after unit_of is_open child_spots scan_places is_indirect
-    turns_at turns is_before is_due due after_turn arrival next_scan late_spot finalise next_boot next_free next_sleep next_wake
+    late_spots opening submatch match_value is_candidate is_winner winner free_after unit_of is_open child_spots places_of style_of
+    bus_turns turns_of is_before is_due due after_turn arrival next_scan late_spot finalise next_boot next_free next_sleep next_wake
     freeing suspending waking hindered wanted_of rescan_of command_deed next_command next listed finaliser_placing scan_placing
     finaliser_placed scan_placed attached released after answer_of tree_below tree_names list_names printed event_of played
     digits
@@ -161,8 +161,8 @@ pulled_out : outcome pulled_out_setup (0 ∷ 0 ∷ 0 ∷ 0 ∷ 0 ∷ 0 ∷ 0 ∷
       choices = Over ∷ Over ∷ [];
     }
 unfolding lineage is_under unit_name root_name parent_name walk firsts interfaces_of interfaces offers is_pinned absent_spots
-    late_spots opening submatch match_value is_candidate is_winner winner free_after unit_of is_open child_spots scan_places is_indirect
-    turns_at turns is_before is_due due after_turn arrival next_scan late_spot finalise next_boot next_free next_sleep next_wake
+    late_spots opening submatch match_value is_candidate is_winner winner free_after unit_of is_open child_spots places_of style_of
+    bus_turns turns_of is_before is_due due after_turn arrival next_scan late_spot finalise next_boot next_free next_sleep next_wake
     freeing suspending waking hindered wanted_of rescan_of command_deed next_command next listed finaliser_placing scan_placing
     finaliser_placed scan_placed attached released after answer_of tree_below tree_names list_names printed event_of played
     digits
@@ -170,8 +170,8 @@ pulled_out = refl
 
 pulled_out_sound : sound_along (opening pulled_out_setup) (0 ∷ 0 ∷ 0 ∷ 0 ∷ 0 ∷ 0 ∷ 0 ∷ 0 ∷ 0 ∷ 1 ∷ 1 ∷ 1 ∷ []) ≡ true
 unfolding lineage is_under unit_name root_name parent_name walk firsts interfaces_of interfaces offers is_pinned absent_spots
-    late_spots opening submatch match_value is_candidate is_winner winner free_after unit_of is_open child_spots scan_places is_indirect
-    turns_at turns is_before is_due due after_turn arrival next_scan late_spot finalise next_boot next_free next_sleep next_wake
+    late_spots opening submatch match_value is_candidate is_winner winner free_after unit_of is_open child_spots places_of style_of
+    bus_turns turns_of is_before is_due due after_turn arrival next_scan late_spot finalise next_boot next_free next_sleep next_wake
     freeing suspending waking hindered wanted_of rescan_of command_deed next_command next listed finaliser_placing scan_placing
     finaliser_placed scan_placed attached released after answer_of tree_below tree_names list_names printed event_of played
     digits
@@ -247,8 +247,8 @@ root_unnamed : outcome root_unnamed_setup (0 ∷ 0 ∷ 0 ∷ 0 ∷ 0 ∷ 0 ∷ 0
       choices = Over ∷ Then (event 1 7 act.End) ∷ [];
     }
 unfolding lineage is_under unit_name root_name parent_name walk firsts interfaces_of interfaces offers is_pinned absent_spots
-    late_spots opening submatch match_value is_candidate is_winner winner free_after unit_of is_open child_spots scan_places is_indirect
-    turns_at turns is_before is_due due after_turn arrival next_scan late_spot finalise next_boot next_free next_sleep next_wake
+    late_spots opening submatch match_value is_candidate is_winner winner free_after unit_of is_open child_spots places_of style_of
+    bus_turns turns_of is_before is_due due after_turn arrival next_scan late_spot finalise next_boot next_free next_sleep next_wake
     freeing suspending waking hindered wanted_of rescan_of command_deed next_command next listed finaliser_placing scan_placing
     finaliser_placed scan_placed attached released after answer_of tree_below tree_names list_names printed event_of played
     digits
@@ -256,8 +256,8 @@ root_unnamed = refl
 
 root_unnamed_sound : sound_along (opening root_unnamed_setup) (0 ∷ 0 ∷ 0 ∷ 0 ∷ 0 ∷ 0 ∷ 0 ∷ 0 ∷ 0 ∷ 1 ∷ 1 ∷ 1 ∷ 1 ∷ 1 ∷ 1 ∷ []) ≡ true
 unfolding lineage is_under unit_name root_name parent_name walk firsts interfaces_of interfaces offers is_pinned absent_spots
-    late_spots opening submatch match_value is_candidate is_winner winner free_after unit_of is_open child_spots scan_places is_indirect
-    turns_at turns is_before is_due due after_turn arrival next_scan late_spot finalise next_boot next_free next_sleep next_wake
+    late_spots opening submatch match_value is_candidate is_winner winner free_after unit_of is_open child_spots places_of style_of
+    bus_turns turns_of is_before is_due due after_turn arrival next_scan late_spot finalise next_boot next_free next_sleep next_wake
     freeing suspending waking hindered wanted_of rescan_of command_deed next_command next listed finaliser_placing scan_placing
     finaliser_placed scan_placed attached released after answer_of tree_below tree_names list_names printed event_of played
     digits
@@ -346,8 +346,8 @@ condemned_commands : outcome condemned_commands_setup (0 ∷ 0 ∷ 0 ∷ 0 ∷ 0
       choices = Over ∷ Then (event 1 3 act.End) ∷ Over ∷ Then (event 3 9 act.End) ∷ [];
     }
 unfolding lineage is_under unit_name root_name parent_name walk firsts interfaces_of interfaces offers is_pinned absent_spots
-    late_spots opening submatch match_value is_candidate is_winner winner free_after unit_of is_open child_spots scan_places is_indirect
-    turns_at turns is_before is_due due after_turn arrival next_scan late_spot finalise next_boot next_free next_sleep next_wake
+    late_spots opening submatch match_value is_candidate is_winner winner free_after unit_of is_open child_spots places_of style_of
+    bus_turns turns_of is_before is_due due after_turn arrival next_scan late_spot finalise next_boot next_free next_sleep next_wake
     freeing suspending waking hindered wanted_of rescan_of command_deed next_command next listed finaliser_placing scan_placing
     finaliser_placed scan_placed attached released after answer_of tree_below tree_names list_names printed event_of played
     digits
@@ -355,8 +355,8 @@ condemned_commands = refl
 
 condemned_commands_sound : sound_along (opening condemned_commands_setup) (0 ∷ 0 ∷ 0 ∷ 0 ∷ 0 ∷ 0 ∷ 0 ∷ 0 ∷ 0 ∷ 1 ∷ 2 ∷ 3 ∷ 3 ∷ 3 ∷ 3 ∷ 3 ∷ 3 ∷ 3 ∷ 3 ∷ 2 ∷ 1 ∷ 2 ∷ 2 ∷ 2 ∷ 2 ∷ []) ≡ true
 unfolding lineage is_under unit_name root_name parent_name walk firsts interfaces_of interfaces offers is_pinned absent_spots
-    late_spots opening submatch match_value is_candidate is_winner winner free_after unit_of is_open child_spots scan_places is_indirect
-    turns_at turns is_before is_due due after_turn arrival next_scan late_spot finalise next_boot next_free next_sleep next_wake
+    late_spots opening submatch match_value is_candidate is_winner winner free_after unit_of is_open child_spots places_of style_of
+    bus_turns turns_of is_before is_due due after_turn arrival next_scan late_spot finalise next_boot next_free next_sleep next_wake
     freeing suspending waking hindered wanted_of rescan_of command_deed next_command next listed finaliser_placing scan_placing
     finaliser_placed scan_placed attached released after answer_of tree_below tree_names list_names printed event_of played
     digits
@@ -434,8 +434,8 @@ other_hindrances : outcome other_hindrances_setup (0 ∷ 0 ∷ 0 ∷ 0 ∷ 0 ∷
       choices = Over ∷ Over ∷ Then (event 2 2 act.End) ∷ Then (event 3 4 act.End) ∷ [];
     }
 unfolding lineage is_under unit_name root_name parent_name walk firsts interfaces_of interfaces offers is_pinned absent_spots
-    late_spots opening submatch match_value is_candidate is_winner winner free_after unit_of is_open child_spots scan_places is_indirect
-    turns_at turns is_before is_due due after_turn arrival next_scan late_spot finalise next_boot next_free next_sleep next_wake
+    late_spots opening submatch match_value is_candidate is_winner winner free_after unit_of is_open child_spots places_of style_of
+    bus_turns turns_of is_before is_due due after_turn arrival next_scan late_spot finalise next_boot next_free next_sleep next_wake
     freeing suspending waking hindered wanted_of rescan_of command_deed next_command next listed finaliser_placing scan_placing
     finaliser_placed scan_placed attached released after answer_of tree_below tree_names list_names printed event_of played
     digits
@@ -443,8 +443,8 @@ other_hindrances = refl
 
 other_hindrances_sound : sound_along (opening other_hindrances_setup) (0 ∷ 0 ∷ 0 ∷ 0 ∷ 0 ∷ 0 ∷ 0 ∷ 0 ∷ 0 ∷ 1 ∷ 2 ∷ 1 ∷ 3 ∷ 2 ∷ 1 ∷ 3 ∷ 3 ∷ 3 ∷ 1 ∷ 3 ∷ []) ≡ true
 unfolding lineage is_under unit_name root_name parent_name walk firsts interfaces_of interfaces offers is_pinned absent_spots
-    late_spots opening submatch match_value is_candidate is_winner winner free_after unit_of is_open child_spots scan_places is_indirect
-    turns_at turns is_before is_due due after_turn arrival next_scan late_spot finalise next_boot next_free next_sleep next_wake
+    late_spots opening submatch match_value is_candidate is_winner winner free_after unit_of is_open child_spots places_of style_of
+    bus_turns turns_of is_before is_due due after_turn arrival next_scan late_spot finalise next_boot next_free next_sleep next_wake
     freeing suspending waking hindered wanted_of rescan_of command_deed next_command next listed finaliser_placing scan_placing
     finaliser_placed scan_placed attached released after answer_of tree_below tree_names list_names printed event_of played
     digits

@@ -16,7 +16,7 @@ use Rattle.run_rules.specs.declared.world.Frame.TheVariants as frame
 use Rattle.run_rules.specs.declared.world.Activity.TheVariants as activity
 use Rattle.run_rules.specs.declared.world.Wait.TheVariants as wait
 use Rattle.run_rules.specs.World.{start, lineage, is_under, unit_name, root_name, parent_name, is_pinned, absent_spots, late_spots, opening}
-use Rattle.run_rules.specs.Search.{match_value, is_candidate, is_winner, winner, free_after, unit_of, is_open, child_spots, scan_places, is_indirect, turns_at, turns, is_before, is_due, due, after_turn}
+use Rattle.run_rules.specs.Search.{match_value, is_candidate, is_winner, winner, free_after, unit_of, is_open, child_spots, places_of, style_of, bus_turns, turns_of, is_before, is_due, due, after_turn}
 use Rattle.run_rules.specs.Next.{arrival, next_scan, late_spot, finalise, next_boot, next_free, next_sleep, next_wake, freeing, suspending, waking, hindered, wanted_of, rescan_of, command_deed, next_command, next}
 use Rattle.run_rules.specs.After.{listed, finaliser_placing, scan_placing, finaliser_placed, scan_placed, attached, released, after}
 use Rattle.run_rules.specs.Run.{answer_of, tree_names, list_names, printed, event_of, played}
@@ -88,8 +88,8 @@ no_power : outcome no_power_setup (0 ∷ 0 ∷ 0 ∷ 0 ∷ 0 ∷ 0 ∷ 0 ∷ 0 �
       choices = Over ∷ Over ∷ [];
     }
 unfolding lineage is_under unit_name root_name parent_name walk firsts interfaces_of interfaces offers is_pinned absent_spots
-    late_spots opening submatch match_value is_candidate is_winner winner free_after unit_of is_open child_spots scan_places
-    is_indirect turns_at turns is_before is_due due after_turn arrival next_scan late_spot finalise next_boot next_free
+    late_spots opening submatch match_value is_candidate is_winner winner free_after unit_of is_open child_spots places_of
+    style_of bus_turns turns_of is_before is_due due after_turn arrival next_scan late_spot finalise next_boot next_free
     next_sleep next_wake freeing suspending waking hindered wanted_of rescan_of command_deed next_command next listed
     finaliser_placing scan_placing finaliser_placed scan_placed attached released after answer_of tree_below tree_names
     list_names printed event_of played digits
@@ -97,8 +97,8 @@ no_power = refl
 
 no_power_sound : sound_along (opening no_power_setup) (0 ∷ 0 ∷ 0 ∷ 0 ∷ 0 ∷ 0 ∷ 0 ∷ 0 ∷ 1 ∷ 1 ∷ 1 ∷ 1 ∷ []) ≡ true
 unfolding lineage is_under unit_name root_name parent_name walk firsts interfaces_of interfaces offers is_pinned absent_spots
-    late_spots opening submatch match_value is_candidate is_winner winner free_after unit_of is_open child_spots scan_places is_indirect
-    turns_at turns is_before is_due due after_turn arrival next_scan late_spot finalise next_boot next_free next_sleep next_wake
+    late_spots opening submatch match_value is_candidate is_winner winner free_after unit_of is_open child_spots places_of style_of
+    bus_turns turns_of is_before is_due due after_turn arrival next_scan late_spot finalise next_boot next_free next_sleep next_wake
     freeing suspending waking hindered wanted_of rescan_of command_deed next_command next listed finaliser_placing scan_placing
     finaliser_placed scan_placed attached released after answer_of tree_below tree_names list_names printed event_of played
     digits
@@ -170,8 +170,8 @@ power_turn : outcome power_turn_setup (0 ∷ 0 ∷ 0 ∷ 0 ∷ 0 ∷ 0 ∷ 0 ∷
       choices = Over ∷ Then (event 1 2 act.End) ∷ Then (event 2 2 act.End) ∷ [];
     }
 unfolding lineage is_under unit_name root_name parent_name walk firsts interfaces_of interfaces offers is_pinned absent_spots
-    late_spots opening submatch match_value is_candidate is_winner winner free_after unit_of is_open child_spots scan_places is_indirect
-    turns_at turns is_before is_due due after_turn arrival next_scan late_spot finalise next_boot next_free next_sleep next_wake
+    late_spots opening submatch match_value is_candidate is_winner winner free_after unit_of is_open child_spots places_of style_of
+    bus_turns turns_of is_before is_due due after_turn arrival next_scan late_spot finalise next_boot next_free next_sleep next_wake
     freeing suspending waking hindered wanted_of rescan_of command_deed next_command next listed finaliser_placing scan_placing
     finaliser_placed scan_placed attached released after answer_of tree_below tree_names list_names printed event_of played
     digits
@@ -179,8 +179,8 @@ power_turn = refl
 
 power_turn_sound : sound_along (opening power_turn_setup) (0 ∷ 0 ∷ 0 ∷ 0 ∷ 0 ∷ 0 ∷ 0 ∷ 0 ∷ 0 ∷ 1 ∷ 2 ∷ 1 ∷ 1 ∷ 1 ∷ 1 ∷ 2 ∷ 2 ∷ []) ≡ true
 unfolding lineage is_under unit_name root_name parent_name walk firsts interfaces_of interfaces offers is_pinned absent_spots
-    late_spots opening submatch match_value is_candidate is_winner winner free_after unit_of is_open child_spots scan_places is_indirect
-    turns_at turns is_before is_due due after_turn arrival next_scan late_spot finalise next_boot next_free next_sleep next_wake
+    late_spots opening submatch match_value is_candidate is_winner winner free_after unit_of is_open child_spots places_of style_of
+    bus_turns turns_of is_before is_due due after_turn arrival next_scan late_spot finalise next_boot next_free next_sleep next_wake
     freeing suspending waking hindered wanted_of rescan_of command_deed next_command next listed finaliser_placing scan_placing
     finaliser_placed scan_placed attached released after answer_of tree_below tree_names list_names printed event_of played
     digits
@@ -246,8 +246,8 @@ power_turn_waits : outcome power_turn_waits_setup (0 ∷ 0 ∷ 0 ∷ 0 ∷ 0 ∷
       choices = Over ∷ Then (event 1 1 (act.Sleep (codes "com1"))) ∷ Stays (wait.Power 1) ∷ [];
     }
 unfolding lineage is_under unit_name root_name parent_name walk firsts interfaces_of interfaces offers is_pinned absent_spots
-    late_spots opening submatch match_value is_candidate is_winner winner free_after unit_of is_open child_spots scan_places is_indirect
-    turns_at turns is_before is_due due after_turn arrival next_scan late_spot finalise next_boot next_free next_sleep next_wake
+    late_spots opening submatch match_value is_candidate is_winner winner free_after unit_of is_open child_spots places_of style_of
+    bus_turns turns_of is_before is_due due after_turn arrival next_scan late_spot finalise next_boot next_free next_sleep next_wake
     freeing suspending waking hindered wanted_of rescan_of command_deed next_command next listed finaliser_placing scan_placing
     finaliser_placed scan_placed attached released after answer_of tree_below tree_names list_names printed event_of played
     digits
@@ -255,8 +255,8 @@ power_turn_waits = refl
 
 power_turn_waits_sound : sound_along (opening power_turn_waits_setup) (0 ∷ 0 ∷ 0 ∷ 0 ∷ 0 ∷ 0 ∷ 0 ∷ 0 ∷ 0 ∷ 1 ∷ 2 ∷ []) ≡ true
 unfolding lineage is_under unit_name root_name parent_name walk firsts interfaces_of interfaces offers is_pinned absent_spots
-    late_spots opening submatch match_value is_candidate is_winner winner free_after unit_of is_open child_spots scan_places is_indirect
-    turns_at turns is_before is_due due after_turn arrival next_scan late_spot finalise next_boot next_free next_sleep next_wake
+    late_spots opening submatch match_value is_candidate is_winner winner free_after unit_of is_open child_spots places_of style_of
+    bus_turns turns_of is_before is_due due after_turn arrival next_scan late_spot finalise next_boot next_free next_sleep next_wake
     freeing suspending waking hindered wanted_of rescan_of command_deed next_command next listed finaliser_placing scan_placing
     finaliser_placed scan_placed attached released after answer_of tree_below tree_names list_names printed event_of played
     digits
@@ -328,8 +328,8 @@ scanned_meanwhile : outcome scanned_meanwhile_setup (0 ∷ 0 ∷ 0 ∷ 0 ∷ 0 �
       choices = Over ∷ Then (event 1 2 act.End) ∷ Then (event 2 2 act.End) ∷ [];
     }
 unfolding lineage is_under unit_name root_name parent_name walk firsts interfaces_of interfaces offers is_pinned absent_spots
-    late_spots opening submatch match_value is_candidate is_winner winner free_after unit_of is_open child_spots scan_places is_indirect
-    turns_at turns is_before is_due due after_turn arrival next_scan late_spot finalise next_boot next_free next_sleep next_wake
+    late_spots opening submatch match_value is_candidate is_winner winner free_after unit_of is_open child_spots places_of style_of
+    bus_turns turns_of is_before is_due due after_turn arrival next_scan late_spot finalise next_boot next_free next_sleep next_wake
     freeing suspending waking hindered wanted_of rescan_of command_deed next_command next listed finaliser_placing scan_placing
     finaliser_placed scan_placed attached released after answer_of tree_below tree_names list_names printed event_of played
     digits
@@ -337,8 +337,8 @@ scanned_meanwhile = refl
 
 scanned_meanwhile_sound : sound_along (opening scanned_meanwhile_setup) (0 ∷ 0 ∷ 0 ∷ 0 ∷ 0 ∷ 0 ∷ 0 ∷ 0 ∷ 0 ∷ 1 ∷ 2 ∷ 2 ∷ 2 ∷ 2 ∷ 1 ∷ 2 ∷ 2 ∷ []) ≡ true
 unfolding lineage is_under unit_name root_name parent_name walk firsts interfaces_of interfaces offers is_pinned absent_spots
-    late_spots opening submatch match_value is_candidate is_winner winner free_after unit_of is_open child_spots scan_places is_indirect
-    turns_at turns is_before is_due due after_turn arrival next_scan late_spot finalise next_boot next_free next_sleep next_wake
+    late_spots opening submatch match_value is_candidate is_winner winner free_after unit_of is_open child_spots places_of style_of
+    bus_turns turns_of is_before is_due due after_turn arrival next_scan late_spot finalise next_boot next_free next_sleep next_wake
     freeing suspending waking hindered wanted_of rescan_of command_deed next_command next listed finaliser_placing scan_placing
     finaliser_placed scan_placed attached released after answer_of tree_below tree_names list_names printed event_of played
     digits
@@ -409,8 +409,8 @@ scanned_waits : outcome scanned_waits_setup (0 ∷ 0 ∷ 0 ∷ 0 ∷ 0 ∷ 0 ∷
       choices = Over ∷ Then (event 1 1 (act.ScanEnd (codes "isa0"))) ∷ Stays (wait.Scan 2) ∷ [];
     }
 unfolding lineage is_under unit_name root_name parent_name walk firsts interfaces_of interfaces offers is_pinned absent_spots
-    late_spots opening submatch match_value is_candidate is_winner winner free_after unit_of is_open child_spots scan_places is_indirect
-    turns_at turns is_before is_due due after_turn arrival next_scan late_spot finalise next_boot next_free next_sleep next_wake
+    late_spots opening submatch match_value is_candidate is_winner winner free_after unit_of is_open child_spots places_of style_of
+    bus_turns turns_of is_before is_due due after_turn arrival next_scan late_spot finalise next_boot next_free next_sleep next_wake
     freeing suspending waking hindered wanted_of rescan_of command_deed next_command next listed finaliser_placing scan_placing
     finaliser_placed scan_placed attached released after answer_of tree_below tree_names list_names printed event_of played
     digits
@@ -418,8 +418,8 @@ scanned_waits = refl
 
 scanned_waits_sound : sound_along (opening scanned_waits_setup) (0 ∷ 0 ∷ 0 ∷ 0 ∷ 0 ∷ 0 ∷ 0 ∷ 0 ∷ 0 ∷ 1 ∷ 2 ∷ 2 ∷ 2 ∷ 2 ∷ []) ≡ true
 unfolding lineage is_under unit_name root_name parent_name walk firsts interfaces_of interfaces offers is_pinned absent_spots
-    late_spots opening submatch match_value is_candidate is_winner winner free_after unit_of is_open child_spots scan_places is_indirect
-    turns_at turns is_before is_due due after_turn arrival next_scan late_spot finalise next_boot next_free next_sleep next_wake
+    late_spots opening submatch match_value is_candidate is_winner winner free_after unit_of is_open child_spots places_of style_of
+    bus_turns turns_of is_before is_due due after_turn arrival next_scan late_spot finalise next_boot next_free next_sleep next_wake
     freeing suspending waking hindered wanted_of rescan_of command_deed next_command next listed finaliser_placing scan_placing
     finaliser_placed scan_placed attached released after answer_of tree_below tree_names list_names printed event_of played
     digits
@@ -488,8 +488,8 @@ power_of_freed : outcome power_of_freed_setup (0 ∷ 0 ∷ 0 ∷ 0 ∷ 0 ∷ 0 �
       choices = Over ∷ Over ∷ Then (event 2 3 act.End) ∷ [];
     }
 unfolding lineage is_under unit_name root_name parent_name walk firsts interfaces_of interfaces offers is_pinned absent_spots
-    late_spots opening submatch match_value is_candidate is_winner winner free_after unit_of is_open child_spots scan_places is_indirect
-    turns_at turns is_before is_due due after_turn arrival next_scan late_spot finalise next_boot next_free next_sleep next_wake
+    late_spots opening submatch match_value is_candidate is_winner winner free_after unit_of is_open child_spots places_of style_of
+    bus_turns turns_of is_before is_due due after_turn arrival next_scan late_spot finalise next_boot next_free next_sleep next_wake
     freeing suspending waking hindered wanted_of rescan_of command_deed next_command next listed finaliser_placing scan_placing
     finaliser_placed scan_placed attached released after answer_of tree_below tree_names list_names printed event_of played
     digits
@@ -497,8 +497,8 @@ power_of_freed = refl
 
 power_of_freed_sound : sound_along (opening power_of_freed_setup) (0 ∷ 0 ∷ 0 ∷ 0 ∷ 0 ∷ 0 ∷ 1 ∷ 2 ∷ 2 ∷ 2 ∷ 2 ∷ 2 ∷ 1 ∷ 1 ∷ []) ≡ true
 unfolding lineage is_under unit_name root_name parent_name walk firsts interfaces_of interfaces offers is_pinned absent_spots
-    late_spots opening submatch match_value is_candidate is_winner winner free_after unit_of is_open child_spots scan_places is_indirect
-    turns_at turns is_before is_due due after_turn arrival next_scan late_spot finalise next_boot next_free next_sleep next_wake
+    late_spots opening submatch match_value is_candidate is_winner winner free_after unit_of is_open child_spots places_of style_of
+    bus_turns turns_of is_before is_due due after_turn arrival next_scan late_spot finalise next_boot next_free next_sleep next_wake
     freeing suspending waking hindered wanted_of rescan_of command_deed next_command next listed finaliser_placing scan_placing
     finaliser_placed scan_placed attached released after answer_of tree_below tree_names list_names printed event_of played
     digits
@@ -568,8 +568,8 @@ turn_before_reply : outcome turn_before_reply_setup (0 ∷ 0 ∷ 0 ∷ 0 ∷ 0 �
       choices = Over ∷ Then (event 1 2 act.End) ∷ Over ∷ [];
     }
 unfolding lineage is_under unit_name root_name parent_name walk firsts interfaces_of interfaces offers is_pinned absent_spots
-    late_spots opening submatch match_value is_candidate is_winner winner free_after unit_of is_open child_spots scan_places is_indirect
-    turns_at turns is_before is_due due after_turn arrival next_scan late_spot finalise next_boot next_free next_sleep next_wake
+    late_spots opening submatch match_value is_candidate is_winner winner free_after unit_of is_open child_spots places_of style_of
+    bus_turns turns_of is_before is_due due after_turn arrival next_scan late_spot finalise next_boot next_free next_sleep next_wake
     freeing suspending waking hindered wanted_of rescan_of command_deed next_command next listed finaliser_placing scan_placing
     finaliser_placed scan_placed attached released after answer_of tree_below tree_names list_names printed event_of played
     digits
@@ -577,8 +577,8 @@ turn_before_reply = refl
 
 turn_before_reply_sound : sound_along (opening turn_before_reply_setup) (0 ∷ 0 ∷ 0 ∷ 0 ∷ 0 ∷ 0 ∷ 0 ∷ 0 ∷ 0 ∷ 1 ∷ 2 ∷ 2 ∷ 1 ∷ 1 ∷ 2 ∷ 2 ∷ []) ≡ true
 unfolding lineage is_under unit_name root_name parent_name walk firsts interfaces_of interfaces offers is_pinned absent_spots
-    late_spots opening submatch match_value is_candidate is_winner winner free_after unit_of is_open child_spots scan_places is_indirect
-    turns_at turns is_before is_due due after_turn arrival next_scan late_spot finalise next_boot next_free next_sleep next_wake
+    late_spots opening submatch match_value is_candidate is_winner winner free_after unit_of is_open child_spots places_of style_of
+    bus_turns turns_of is_before is_due due after_turn arrival next_scan late_spot finalise next_boot next_free next_sleep next_wake
     freeing suspending waking hindered wanted_of rescan_of command_deed next_command next listed finaliser_placing scan_placing
     finaliser_placed scan_placed attached released after answer_of tree_below tree_names list_names printed event_of played
     digits
@@ -655,8 +655,8 @@ condemned_suspended : outcome condemned_suspended_setup (0 ∷ 0 ∷ 0 ∷ 0 ∷
       choices = Over ∷ Over ∷ Over ∷ [];
     }
 unfolding lineage is_under unit_name root_name parent_name walk firsts interfaces_of interfaces offers is_pinned absent_spots
-    late_spots opening submatch match_value is_candidate is_winner winner free_after unit_of is_open child_spots scan_places is_indirect
-    turns_at turns is_before is_due due after_turn arrival next_scan late_spot finalise next_boot next_free next_sleep next_wake
+    late_spots opening submatch match_value is_candidate is_winner winner free_after unit_of is_open child_spots places_of style_of
+    bus_turns turns_of is_before is_due due after_turn arrival next_scan late_spot finalise next_boot next_free next_sleep next_wake
     freeing suspending waking hindered wanted_of rescan_of command_deed next_command next listed finaliser_placing scan_placing
     finaliser_placed scan_placed attached released after answer_of tree_below tree_names list_names printed event_of played
     digits
@@ -664,8 +664,8 @@ condemned_suspended = refl
 
 condemned_suspended_sound : sound_along (opening condemned_suspended_setup) (0 ∷ 0 ∷ 0 ∷ 0 ∷ 0 ∷ 0 ∷ 0 ∷ 0 ∷ 0 ∷ 1 ∷ 2 ∷ 1 ∷ 1 ∷ 1 ∷ 1 ∷ 1 ∷ 2 ∷ 1 ∷ 2 ∷ 2 ∷ 2 ∷ 1 ∷ []) ≡ true
 unfolding lineage is_under unit_name root_name parent_name walk firsts interfaces_of interfaces offers is_pinned absent_spots
-    late_spots opening submatch match_value is_candidate is_winner winner free_after unit_of is_open child_spots scan_places is_indirect
-    turns_at turns is_before is_due due after_turn arrival next_scan late_spot finalise next_boot next_free next_sleep next_wake
+    late_spots opening submatch match_value is_candidate is_winner winner free_after unit_of is_open child_spots places_of style_of
+    bus_turns turns_of is_before is_due due after_turn arrival next_scan late_spot finalise next_boot next_free next_sleep next_wake
     freeing suspending waking hindered wanted_of rescan_of command_deed next_command next listed finaliser_placing scan_placing
     finaliser_placed scan_placed attached released after answer_of tree_below tree_names list_names printed event_of played
     digits

@@ -15,7 +15,7 @@ use Rattle.run_rules.specs.declared.world.Frame.TheVariants as frame
 use Rattle.run_rules.specs.declared.world.Key.TheVariants as key
 use Rattle.run_rules.specs.declared.world.Activity.TheVariants as activity
 use Rattle.run_rules.specs.World.{start, lineage, is_under, unit_name, root_name, parent_name, is_pinned, absent_spots, late_spots, opening}
-use Rattle.run_rules.specs.Search.{match_value, is_candidate, is_winner, winner, free_after, unit_of, is_open, child_spots, scan_places, is_indirect, turns_at, turns, is_before, is_due, due, after_turn}
+use Rattle.run_rules.specs.Search.{match_value, is_candidate, is_winner, winner, free_after, unit_of, is_open, child_spots, places_of, style_of, bus_turns, turns_of, is_before, is_due, due, after_turn}
 use Rattle.run_rules.specs.Next.{arrival, next_scan, late_spot, finalise, next_boot, next_free, next_sleep, next_wake, freeing, suspending, waking, hindered, wanted_of, rescan_of, command_deed, next_command, next}
 use Rattle.run_rules.specs.After.{listed, finaliser_placing, scan_placing, finaliser_placed, scan_placed, attached, released, after}
 use Rattle.run_rules.specs.Run.{answer_of, tree_names, list_names, printed, event_of, played}
@@ -92,8 +92,8 @@ plugged_in : outcome plugged_in_setup (0 ∷ 0 ∷ 0 ∷ 0 ∷ 0 ∷ 0 ∷ 0 ∷
       choices = Over ∷ Over ∷ [];
     }
 unfolding lineage is_under unit_name root_name parent_name walk firsts interfaces_of interfaces offers is_pinned absent_spots
-    late_spots opening submatch match_value is_candidate is_winner winner free_after unit_of is_open child_spots scan_places is_indirect
-    turns_at turns is_before is_due due after_turn arrival next_scan late_spot finalise next_boot next_free next_sleep next_wake
+    late_spots opening submatch match_value is_candidate is_winner winner free_after unit_of is_open child_spots places_of style_of
+    bus_turns turns_of is_before is_due due after_turn arrival next_scan late_spot finalise next_boot next_free next_sleep next_wake
     freeing suspending waking hindered wanted_of rescan_of command_deed next_command next listed finaliser_placing scan_placing
     finaliser_placed scan_placed attached released after answer_of tree_below tree_names list_names printed event_of played
     digits
@@ -101,8 +101,8 @@ plugged_in = refl
 
 plugged_in_sound : sound_along (opening plugged_in_setup) (0 ∷ 0 ∷ 0 ∷ 0 ∷ 0 ∷ 0 ∷ 0 ∷ 0 ∷ 1 ∷ 1 ∷ 1 ∷ 1 ∷ 1 ∷ 1 ∷ 1 ∷ 1 ∷ []) ≡ true
 unfolding lineage is_under unit_name root_name parent_name walk firsts interfaces_of interfaces offers is_pinned absent_spots
-    late_spots opening submatch match_value is_candidate is_winner winner free_after unit_of is_open child_spots scan_places is_indirect
-    turns_at turns is_before is_due due after_turn arrival next_scan late_spot finalise next_boot next_free next_sleep next_wake
+    late_spots opening submatch match_value is_candidate is_winner winner free_after unit_of is_open child_spots places_of style_of
+    bus_turns turns_of is_before is_due due after_turn arrival next_scan late_spot finalise next_boot next_free next_sleep next_wake
     freeing suspending waking hindered wanted_of rescan_of command_deed next_command next listed finaliser_placing scan_placing
     finaliser_placed scan_placed attached released after answer_of tree_below tree_names list_names printed event_of played
     digits
@@ -174,8 +174,8 @@ rescan_replies : outcome rescan_replies_setup (0 ∷ 0 ∷ 0 ∷ 0 ∷ 0 ∷ 0 �
       choices = Over ∷ Then (event 1 5 act.End) ∷ [];
     }
 unfolding lineage is_under unit_name root_name parent_name walk firsts interfaces_of interfaces offers is_pinned absent_spots
-    late_spots opening submatch match_value is_candidate is_winner winner free_after unit_of is_open child_spots scan_places is_indirect
-    turns_at turns is_before is_due due after_turn arrival next_scan late_spot finalise next_boot next_free next_sleep next_wake
+    late_spots opening submatch match_value is_candidate is_winner winner free_after unit_of is_open child_spots places_of style_of
+    bus_turns turns_of is_before is_due due after_turn arrival next_scan late_spot finalise next_boot next_free next_sleep next_wake
     freeing suspending waking hindered wanted_of rescan_of command_deed next_command next listed finaliser_placing scan_placing
     finaliser_placed scan_placed attached released after answer_of tree_below tree_names list_names printed event_of played
     digits
@@ -183,8 +183,8 @@ rescan_replies = refl
 
 rescan_replies_sound : sound_along (opening rescan_replies_setup) (0 ∷ 0 ∷ 0 ∷ 0 ∷ 0 ∷ 0 ∷ 0 ∷ 0 ∷ 0 ∷ 1 ∷ 1 ∷ 1 ∷ 1 ∷ []) ≡ true
 unfolding lineage is_under unit_name root_name parent_name walk firsts interfaces_of interfaces offers is_pinned absent_spots
-    late_spots opening submatch match_value is_candidate is_winner winner free_after unit_of is_open child_spots scan_places is_indirect
-    turns_at turns is_before is_due due after_turn arrival next_scan late_spot finalise next_boot next_free next_sleep next_wake
+    late_spots opening submatch match_value is_candidate is_winner winner free_after unit_of is_open child_spots places_of style_of
+    bus_turns turns_of is_before is_due due after_turn arrival next_scan late_spot finalise next_boot next_free next_sleep next_wake
     freeing suspending waking hindered wanted_of rescan_of command_deed next_command next listed finaliser_placing scan_placing
     finaliser_placed scan_placed attached released after answer_of tree_below tree_names list_names printed event_of played
     digits
@@ -253,8 +253,8 @@ filter_default : outcome filter_default_setup (0 ∷ 0 ∷ 0 ∷ 0 ∷ 0 ∷ 1 �
       choices = Over ∷ Then (event 1 4 act.End) ∷ [];
     }
 unfolding lineage is_under unit_name root_name parent_name walk firsts interfaces_of interfaces offers is_pinned absent_spots
-    late_spots opening submatch match_value is_candidate is_winner winner free_after unit_of is_open child_spots scan_places is_indirect
-    turns_at turns is_before is_due due after_turn arrival next_scan late_spot finalise next_boot next_free next_sleep next_wake
+    late_spots opening submatch match_value is_candidate is_winner winner free_after unit_of is_open child_spots places_of style_of
+    bus_turns turns_of is_before is_due due after_turn arrival next_scan late_spot finalise next_boot next_free next_sleep next_wake
     freeing suspending waking hindered wanted_of rescan_of command_deed next_command next listed finaliser_placing scan_placing
     finaliser_placed scan_placed attached released after answer_of tree_below tree_names list_names printed event_of played
     digits
@@ -262,8 +262,8 @@ filter_default = refl
 
 filter_default_sound : sound_along (opening filter_default_setup) (0 ∷ 0 ∷ 0 ∷ 0 ∷ 0 ∷ 1 ∷ 1 ∷ 1 ∷ 1 ∷ 1 ∷ []) ≡ true
 unfolding lineage is_under unit_name root_name parent_name walk firsts interfaces_of interfaces offers is_pinned absent_spots
-    late_spots opening submatch match_value is_candidate is_winner winner free_after unit_of is_open child_spots scan_places is_indirect
-    turns_at turns is_before is_due due after_turn arrival next_scan late_spot finalise next_boot next_free next_sleep next_wake
+    late_spots opening submatch match_value is_candidate is_winner winner free_after unit_of is_open child_spots places_of style_of
+    bus_turns turns_of is_before is_due due after_turn arrival next_scan late_spot finalise next_boot next_free next_sleep next_wake
     freeing suspending waking hindered wanted_of rescan_of command_deed next_command next listed finaliser_placing scan_placing
     finaliser_placed scan_placed attached released after answer_of tree_below tree_names list_names printed event_of played
     digits
@@ -332,8 +332,8 @@ filter_value : outcome filter_value_setup (0 ∷ 0 ∷ 0 ∷ 0 ∷ 0 ∷ 1 ∷ 1
       choices = Over ∷ Then (event 1 3 (act.ScanEnd (codes "bus0"))) ∷ [];
     }
 unfolding lineage is_under unit_name root_name parent_name walk firsts interfaces_of interfaces offers is_pinned absent_spots
-    late_spots opening submatch match_value is_candidate is_winner winner free_after unit_of is_open child_spots scan_places is_indirect
-    turns_at turns is_before is_due due after_turn arrival next_scan late_spot finalise next_boot next_free next_sleep next_wake
+    late_spots opening submatch match_value is_candidate is_winner winner free_after unit_of is_open child_spots places_of style_of
+    bus_turns turns_of is_before is_due due after_turn arrival next_scan late_spot finalise next_boot next_free next_sleep next_wake
     freeing suspending waking hindered wanted_of rescan_of command_deed next_command next listed finaliser_placing scan_placing
     finaliser_placed scan_placed attached released after answer_of tree_below tree_names list_names printed event_of played
     digits
@@ -341,8 +341,8 @@ filter_value = refl
 
 filter_value_sound : sound_along (opening filter_value_setup) (0 ∷ 0 ∷ 0 ∷ 0 ∷ 0 ∷ 1 ∷ 1 ∷ 1 ∷ 1 ∷ []) ≡ true
 unfolding lineage is_under unit_name root_name parent_name walk firsts interfaces_of interfaces offers is_pinned absent_spots
-    late_spots opening submatch match_value is_candidate is_winner winner free_after unit_of is_open child_spots scan_places is_indirect
-    turns_at turns is_before is_due due after_turn arrival next_scan late_spot finalise next_boot next_free next_sleep next_wake
+    late_spots opening submatch match_value is_candidate is_winner winner free_after unit_of is_open child_spots places_of style_of
+    bus_turns turns_of is_before is_due due after_turn arrival next_scan late_spot finalise next_boot next_free next_sleep next_wake
     freeing suspending waking hindered wanted_of rescan_of command_deed next_command next listed finaliser_placing scan_placing
     finaliser_placed scan_placed attached released after answer_of tree_below tree_names list_names printed event_of played
     digits
@@ -410,8 +410,8 @@ filter_none : outcome filter_none_setup (0 ∷ 0 ∷ 0 ∷ 0 ∷ 0 ∷ 1 ∷ 1 �
       choices = Over ∷ Then (event 1 4 act.End) ∷ [];
     }
 unfolding lineage is_under unit_name root_name parent_name walk firsts interfaces_of interfaces offers is_pinned absent_spots
-    late_spots opening submatch match_value is_candidate is_winner winner free_after unit_of is_open child_spots scan_places is_indirect
-    turns_at turns is_before is_due due after_turn arrival next_scan late_spot finalise next_boot next_free next_sleep next_wake
+    late_spots opening submatch match_value is_candidate is_winner winner free_after unit_of is_open child_spots places_of style_of
+    bus_turns turns_of is_before is_due due after_turn arrival next_scan late_spot finalise next_boot next_free next_sleep next_wake
     freeing suspending waking hindered wanted_of rescan_of command_deed next_command next listed finaliser_placing scan_placing
     finaliser_placed scan_placed attached released after answer_of tree_below tree_names list_names printed event_of played
     digits
@@ -419,8 +419,8 @@ filter_none = refl
 
 filter_none_sound : sound_along (opening filter_none_setup) (0 ∷ 0 ∷ 0 ∷ 0 ∷ 0 ∷ 1 ∷ 1 ∷ 1 ∷ 1 ∷ 1 ∷ 1 ∷ []) ≡ true
 unfolding lineage is_under unit_name root_name parent_name walk firsts interfaces_of interfaces offers is_pinned absent_spots
-    late_spots opening submatch match_value is_candidate is_winner winner free_after unit_of is_open child_spots scan_places is_indirect
-    turns_at turns is_before is_due due after_turn arrival next_scan late_spot finalise next_boot next_free next_sleep next_wake
+    late_spots opening submatch match_value is_candidate is_winner winner free_after unit_of is_open child_spots places_of style_of
+    bus_turns turns_of is_before is_due due after_turn arrival next_scan late_spot finalise next_boot next_free next_sleep next_wake
     freeing suspending waking hindered wanted_of rescan_of command_deed next_command next listed finaliser_placing scan_placing
     finaliser_placed scan_placed attached released after answer_of tree_below tree_names list_names printed event_of played
     digits
@@ -490,8 +490,8 @@ filter_twice : outcome filter_twice_setup (0 ∷ 0 ∷ 0 ∷ 0 ∷ 0 ∷ 1 ∷ 1
       choices = Over ∷ Over ∷ [];
     }
 unfolding lineage is_under unit_name root_name parent_name walk firsts interfaces_of interfaces offers is_pinned absent_spots
-    late_spots opening submatch match_value is_candidate is_winner winner free_after unit_of is_open child_spots scan_places is_indirect
-    turns_at turns is_before is_due due after_turn arrival next_scan late_spot finalise next_boot next_free next_sleep next_wake
+    late_spots opening submatch match_value is_candidate is_winner winner free_after unit_of is_open child_spots places_of style_of
+    bus_turns turns_of is_before is_due due after_turn arrival next_scan late_spot finalise next_boot next_free next_sleep next_wake
     freeing suspending waking hindered wanted_of rescan_of command_deed next_command next listed finaliser_placing scan_placing
     finaliser_placed scan_placed attached released after answer_of tree_below tree_names list_names printed event_of played
     digits
@@ -499,8 +499,8 @@ filter_twice = refl
 
 filter_twice_sound : sound_along (opening filter_twice_setup) (0 ∷ 0 ∷ 0 ∷ 0 ∷ 0 ∷ 1 ∷ 1 ∷ 1 ∷ 1 ∷ 1 ∷ []) ≡ true
 unfolding lineage is_under unit_name root_name parent_name walk firsts interfaces_of interfaces offers is_pinned absent_spots
-    late_spots opening submatch match_value is_candidate is_winner winner free_after unit_of is_open child_spots scan_places is_indirect
-    turns_at turns is_before is_due due after_turn arrival next_scan late_spot finalise next_boot next_free next_sleep next_wake
+    late_spots opening submatch match_value is_candidate is_winner winner free_after unit_of is_open child_spots places_of style_of
+    bus_turns turns_of is_before is_due due after_turn arrival next_scan late_spot finalise next_boot next_free next_sleep next_wake
     freeing suspending waking hindered wanted_of rescan_of command_deed next_command next listed finaliser_placing scan_placing
     finaliser_placed scan_placed attached released after answer_of tree_below tree_names list_names printed event_of played
     digits
@@ -588,8 +588,8 @@ finaliser_in_rescan : outcome finaliser_in_rescan_setup (0 ∷ 0 ∷ 0 ∷ 0 ∷
       choices = Over ∷ Then (event 1 5 (act.ScanEnd (codes "hub0"))) ∷ [];
     }
 unfolding lineage is_under unit_name root_name parent_name walk firsts interfaces_of interfaces offers is_pinned absent_spots
-    late_spots opening submatch match_value is_candidate is_winner winner free_after unit_of is_open child_spots scan_places is_indirect
-    turns_at turns is_before is_due due after_turn arrival next_scan late_spot finalise next_boot next_free next_sleep next_wake
+    late_spots opening submatch match_value is_candidate is_winner winner free_after unit_of is_open child_spots places_of style_of
+    bus_turns turns_of is_before is_due due after_turn arrival next_scan late_spot finalise next_boot next_free next_sleep next_wake
     freeing suspending waking hindered wanted_of rescan_of command_deed next_command next listed finaliser_placing scan_placing
     finaliser_placed scan_placed attached released after answer_of tree_below tree_names list_names printed event_of played
     digits
@@ -597,8 +597,8 @@ finaliser_in_rescan = refl
 
 finaliser_in_rescan_sound : sound_along (opening finaliser_in_rescan_setup) (0 ∷ 0 ∷ 0 ∷ 0 ∷ 0 ∷ 1 ∷ 1 ∷ 1 ∷ 1 ∷ 1 ∷ 1 ∷ 1 ∷ 1 ∷ 1 ∷ 1 ∷ 1 ∷ 1 ∷ 1 ∷ 1 ∷ 1 ∷ 1 ∷ 1 ∷ 1 ∷ 1 ∷ 1 ∷ []) ≡ true
 unfolding lineage is_under unit_name root_name parent_name walk firsts interfaces_of interfaces offers is_pinned absent_spots
-    late_spots opening submatch match_value is_candidate is_winner winner free_after unit_of is_open child_spots scan_places is_indirect
-    turns_at turns is_before is_due due after_turn arrival next_scan late_spot finalise next_boot next_free next_sleep next_wake
+    late_spots opening submatch match_value is_candidate is_winner winner free_after unit_of is_open child_spots places_of style_of
+    bus_turns turns_of is_before is_due due after_turn arrival next_scan late_spot finalise next_boot next_free next_sleep next_wake
     freeing suspending waking hindered wanted_of rescan_of command_deed next_command next listed finaliser_placing scan_placing
     finaliser_placed scan_placed attached released after answer_of tree_below tree_names list_names printed event_of played
     digits
@@ -666,8 +666,8 @@ finaliser_frame_waits : outcome finaliser_frame_waits_setup (0 ∷ 0 ∷ 0 ∷ 0
       choices = Over ∷ Then (event 1 3 (act.Final (codes "hub0") true (Some (codes "leaf0")))) ∷ [];
     }
 unfolding lineage is_under unit_name root_name parent_name walk firsts interfaces_of interfaces offers is_pinned absent_spots
-    late_spots opening submatch match_value is_candidate is_winner winner free_after unit_of is_open child_spots scan_places is_indirect
-    turns_at turns is_before is_due due after_turn arrival next_scan late_spot finalise next_boot next_free next_sleep next_wake
+    late_spots opening submatch match_value is_candidate is_winner winner free_after unit_of is_open child_spots places_of style_of
+    bus_turns turns_of is_before is_due due after_turn arrival next_scan late_spot finalise next_boot next_free next_sleep next_wake
     freeing suspending waking hindered wanted_of rescan_of command_deed next_command next listed finaliser_placing scan_placing
     finaliser_placed scan_placed attached released after answer_of tree_below tree_names list_names printed event_of played
     digits
@@ -675,8 +675,8 @@ finaliser_frame_waits = refl
 
 finaliser_frame_waits_sound : sound_along (opening finaliser_frame_waits_setup) (0 ∷ 0 ∷ 0 ∷ 0 ∷ 0 ∷ 1 ∷ 1 ∷ 1 ∷ 1 ∷ []) ≡ true
 unfolding lineage is_under unit_name root_name parent_name walk firsts interfaces_of interfaces offers is_pinned absent_spots
-    late_spots opening submatch match_value is_candidate is_winner winner free_after unit_of is_open child_spots scan_places is_indirect
-    turns_at turns is_before is_due due after_turn arrival next_scan late_spot finalise next_boot next_free next_sleep next_wake
+    late_spots opening submatch match_value is_candidate is_winner winner free_after unit_of is_open child_spots places_of style_of
+    bus_turns turns_of is_before is_due due after_turn arrival next_scan late_spot finalise next_boot next_free next_sleep next_wake
     freeing suspending waking hindered wanted_of rescan_of command_deed next_command next listed finaliser_placing scan_placing
     finaliser_placed scan_placed attached released after answer_of tree_below tree_names list_names printed event_of played
     digits

@@ -13,7 +13,7 @@ use Rattle.run_rules.specs.declared.event.Reply.TheVariants as reply
 use Rattle.run_rules.specs.declared.world.Setup.{Setup}
 use Rattle.run_rules.specs.declared.world.Activity.TheVariants as activity
 use Rattle.run_rules.specs.World.{lineage, is_under, unit_name, root_name, parent_name, is_pinned, absent_spots, late_spots, opening}
-use Rattle.run_rules.specs.Search.{match_value, is_candidate, is_winner, winner, free_after, unit_of, is_open, child_spots, scan_places, is_indirect, turns_at, turns, is_before, is_due, due, after_turn}
+use Rattle.run_rules.specs.Search.{match_value, is_candidate, is_winner, winner, free_after, unit_of, is_open, child_spots, places_of, style_of, bus_turns, turns_of, is_before, is_due, due, after_turn}
 use Rattle.run_rules.specs.Next.{arrival, next_scan, late_spot, finalise, next_boot, next_free, next_sleep, next_wake, freeing, suspending, waking, hindered, wanted_of, rescan_of, command_deed, next_command, next}
 use Rattle.run_rules.specs.After.{listed, finaliser_placing, scan_placing, finaliser_placed, scan_placed, attached, released, after}
 use Rattle.run_rules.specs.Run.{answer_of, tree_names, list_names, printed, event_of, played}
@@ -88,8 +88,8 @@ plugged_before_position : outcome plugged_before_position_setup (0 ∷ 0 ∷ 0 �
       choices = Over ∷ Over ∷ Then (event 2 2 act.End) ∷ [];
     }
 unfolding lineage is_under unit_name root_name parent_name walk firsts interfaces_of interfaces offers is_pinned absent_spots
-    late_spots opening submatch match_value is_candidate is_winner winner free_after unit_of is_open child_spots scan_places is_indirect
-    turns_at turns is_before is_due due after_turn arrival next_scan late_spot finalise next_boot next_free next_sleep next_wake
+    late_spots opening submatch match_value is_candidate is_winner winner free_after unit_of is_open child_spots places_of style_of
+    bus_turns turns_of is_before is_due due after_turn arrival next_scan late_spot finalise next_boot next_free next_sleep next_wake
     freeing suspending waking hindered wanted_of rescan_of command_deed next_command next listed finaliser_placing scan_placing
     finaliser_placed scan_placed attached released after answer_of tree_below tree_names list_names printed event_of played
     digits
@@ -97,8 +97,8 @@ plugged_before_position = refl
 
 plugged_before_position_sound : sound_along (opening plugged_before_position_setup) (0 ∷ 0 ∷ 0 ∷ 0 ∷ 0 ∷ 1 ∷ 1 ∷ 1 ∷ 1 ∷ 2 ∷ 1 ∷ 1 ∷ 1 ∷ 1 ∷ 1 ∷ []) ≡ true
 unfolding lineage is_under unit_name root_name parent_name walk firsts interfaces_of interfaces offers is_pinned absent_spots
-    late_spots opening submatch match_value is_candidate is_winner winner free_after unit_of is_open child_spots scan_places is_indirect
-    turns_at turns is_before is_due due after_turn arrival next_scan late_spot finalise next_boot next_free next_sleep next_wake
+    late_spots opening submatch match_value is_candidate is_winner winner free_after unit_of is_open child_spots places_of style_of
+    bus_turns turns_of is_before is_due due after_turn arrival next_scan late_spot finalise next_boot next_free next_sleep next_wake
     freeing suspending waking hindered wanted_of rescan_of command_deed next_command next listed finaliser_placing scan_placing
     finaliser_placed scan_placed attached released after answer_of tree_below tree_names list_names printed event_of played
     digits
@@ -170,8 +170,8 @@ plugged_behind_position : outcome plugged_behind_position_setup (0 ∷ 0 ∷ 0 �
       choices = Over ∷ Over ∷ Then (event 2 2 act.End) ∷ [];
     }
 unfolding lineage is_under unit_name root_name parent_name walk firsts interfaces_of interfaces offers is_pinned absent_spots
-    late_spots opening submatch match_value is_candidate is_winner winner free_after unit_of is_open child_spots scan_places is_indirect
-    turns_at turns is_before is_due due after_turn arrival next_scan late_spot finalise next_boot next_free next_sleep next_wake
+    late_spots opening submatch match_value is_candidate is_winner winner free_after unit_of is_open child_spots places_of style_of
+    bus_turns turns_of is_before is_due due after_turn arrival next_scan late_spot finalise next_boot next_free next_sleep next_wake
     freeing suspending waking hindered wanted_of rescan_of command_deed next_command next listed finaliser_placing scan_placing
     finaliser_placed scan_placed attached released after answer_of tree_below tree_names list_names printed event_of played
     digits
@@ -179,8 +179,8 @@ plugged_behind_position = refl
 
 plugged_behind_position_sound : sound_along (opening plugged_behind_position_setup) (0 ∷ 0 ∷ 0 ∷ 0 ∷ 0 ∷ 1 ∷ 1 ∷ 1 ∷ 1 ∷ 1 ∷ 2 ∷ 1 ∷ 1 ∷ 1 ∷ []) ≡ true
 unfolding lineage is_under unit_name root_name parent_name walk firsts interfaces_of interfaces offers is_pinned absent_spots
-    late_spots opening submatch match_value is_candidate is_winner winner free_after unit_of is_open child_spots scan_places is_indirect
-    turns_at turns is_before is_due due after_turn arrival next_scan late_spot finalise next_boot next_free next_sleep next_wake
+    late_spots opening submatch match_value is_candidate is_winner winner free_after unit_of is_open child_spots places_of style_of
+    bus_turns turns_of is_before is_due due after_turn arrival next_scan late_spot finalise next_boot next_free next_sleep next_wake
     freeing suspending waking hindered wanted_of rescan_of command_deed next_command next listed finaliser_placing scan_placing
     finaliser_placed scan_placed attached released after answer_of tree_below tree_names list_names printed event_of played
     digits
@@ -248,8 +248,8 @@ indirect_again : outcome indirect_again_setup (0 ∷ 0 ∷ 0 ∷ 0 ∷ 0 ∷ 0 �
       choices = Over ∷ Then (event 1 3 act.End) ∷ Then (event 2 2 act.End) ∷ [];
     }
 unfolding lineage is_under unit_name root_name parent_name walk firsts interfaces_of interfaces offers is_pinned absent_spots
-    late_spots opening submatch match_value is_candidate is_winner winner free_after unit_of is_open child_spots scan_places is_indirect
-    turns_at turns is_before is_due due after_turn arrival next_scan late_spot finalise next_boot next_free next_sleep next_wake
+    late_spots opening submatch match_value is_candidate is_winner winner free_after unit_of is_open child_spots places_of style_of
+    bus_turns turns_of is_before is_due due after_turn arrival next_scan late_spot finalise next_boot next_free next_sleep next_wake
     freeing suspending waking hindered wanted_of rescan_of command_deed next_command next listed finaliser_placing scan_placing
     finaliser_placed scan_placed attached released after answer_of tree_below tree_names list_names printed event_of played
     digits
@@ -257,8 +257,8 @@ indirect_again = refl
 
 indirect_again_sound : sound_along (opening indirect_again_setup) (0 ∷ 0 ∷ 0 ∷ 0 ∷ 0 ∷ 0 ∷ 1 ∷ 1 ∷ 1 ∷ 1 ∷ 2 ∷ 2 ∷ 1 ∷ 1 ∷ []) ≡ true
 unfolding lineage is_under unit_name root_name parent_name walk firsts interfaces_of interfaces offers is_pinned absent_spots
-    late_spots opening submatch match_value is_candidate is_winner winner free_after unit_of is_open child_spots scan_places is_indirect
-    turns_at turns is_before is_due due after_turn arrival next_scan late_spot finalise next_boot next_free next_sleep next_wake
+    late_spots opening submatch match_value is_candidate is_winner winner free_after unit_of is_open child_spots places_of style_of
+    bus_turns turns_of is_before is_due due after_turn arrival next_scan late_spot finalise next_boot next_free next_sleep next_wake
     freeing suspending waking hindered wanted_of rescan_of command_deed next_command next listed finaliser_placing scan_placing
     finaliser_placed scan_placed attached released after answer_of tree_below tree_names list_names printed event_of played
     digits
@@ -327,8 +327,8 @@ indirect_behind : outcome indirect_behind_setup (0 ∷ 0 ∷ 0 ∷ 0 ∷ 0 ∷ 0
       choices = Over ∷ Then (event 1 4 act.End) ∷ Then (event 2 2 act.End) ∷ [];
     }
 unfolding lineage is_under unit_name root_name parent_name walk firsts interfaces_of interfaces offers is_pinned absent_spots
-    late_spots opening submatch match_value is_candidate is_winner winner free_after unit_of is_open child_spots scan_places is_indirect
-    turns_at turns is_before is_due due after_turn arrival next_scan late_spot finalise next_boot next_free next_sleep next_wake
+    late_spots opening submatch match_value is_candidate is_winner winner free_after unit_of is_open child_spots places_of style_of
+    bus_turns turns_of is_before is_due due after_turn arrival next_scan late_spot finalise next_boot next_free next_sleep next_wake
     freeing suspending waking hindered wanted_of rescan_of command_deed next_command next listed finaliser_placing scan_placing
     finaliser_placed scan_placed attached released after answer_of tree_below tree_names list_names printed event_of played
     digits
@@ -336,8 +336,8 @@ indirect_behind = refl
 
 indirect_behind_sound : sound_along (opening indirect_behind_setup) (0 ∷ 0 ∷ 0 ∷ 0 ∷ 0 ∷ 0 ∷ 0 ∷ 1 ∷ 1 ∷ 1 ∷ 1 ∷ 1 ∷ 1 ∷ 1 ∷ 2 ∷ 2 ∷ 1 ∷ []) ≡ true
 unfolding lineage is_under unit_name root_name parent_name walk firsts interfaces_of interfaces offers is_pinned absent_spots
-    late_spots opening submatch match_value is_candidate is_winner winner free_after unit_of is_open child_spots scan_places is_indirect
-    turns_at turns is_before is_due due after_turn arrival next_scan late_spot finalise next_boot next_free next_sleep next_wake
+    late_spots opening submatch match_value is_candidate is_winner winner free_after unit_of is_open child_spots places_of style_of
+    bus_turns turns_of is_before is_due due after_turn arrival next_scan late_spot finalise next_boot next_free next_sleep next_wake
     freeing suspending waking hindered wanted_of rescan_of command_deed next_command next listed finaliser_placing scan_placing
     finaliser_placed scan_placed attached released after answer_of tree_below tree_names list_names printed event_of played
     digits
@@ -400,8 +400,8 @@ last_lines : outcome last_lines_setup (0 ∷ 0 ∷ 0 ∷ 0 ∷ 0 ∷ 0 ∷ 0 ∷
       choices = Over ∷ [];
     }
 unfolding lineage is_under unit_name root_name parent_name walk firsts interfaces_of interfaces offers is_pinned absent_spots
-    late_spots opening submatch match_value is_candidate is_winner winner free_after unit_of is_open child_spots scan_places is_indirect
-    turns_at turns is_before is_due due after_turn arrival next_scan late_spot finalise next_boot next_free next_sleep next_wake
+    late_spots opening submatch match_value is_candidate is_winner winner free_after unit_of is_open child_spots places_of style_of
+    bus_turns turns_of is_before is_due due after_turn arrival next_scan late_spot finalise next_boot next_free next_sleep next_wake
     freeing suspending waking hindered wanted_of rescan_of command_deed next_command next listed finaliser_placing scan_placing
     finaliser_placed scan_placed attached released after answer_of tree_below tree_names list_names printed event_of played
     digits
@@ -409,8 +409,8 @@ last_lines = refl
 
 last_lines_sound : sound_along (opening last_lines_setup) (0 ∷ 0 ∷ 0 ∷ 0 ∷ 0 ∷ 0 ∷ 0 ∷ []) ≡ true
 unfolding lineage is_under unit_name root_name parent_name walk firsts interfaces_of interfaces offers is_pinned absent_spots
-    late_spots opening submatch match_value is_candidate is_winner winner free_after unit_of is_open child_spots scan_places is_indirect
-    turns_at turns is_before is_due due after_turn arrival next_scan late_spot finalise next_boot next_free next_sleep next_wake
+    late_spots opening submatch match_value is_candidate is_winner winner free_after unit_of is_open child_spots places_of style_of
+    bus_turns turns_of is_before is_due due after_turn arrival next_scan late_spot finalise next_boot next_free next_sleep next_wake
     freeing suspending waking hindered wanted_of rescan_of command_deed next_command next listed finaliser_placing scan_placing
     finaliser_placed scan_placed attached released after answer_of tree_below tree_names list_names printed event_of played
     digits
@@ -472,8 +472,8 @@ last_style : outcome last_style_setup (0 ∷ 0 ∷ 0 ∷ 0 ∷ 0 ∷ 0 ∷ 0 ∷
       choices = Over ∷ [];
     }
 unfolding lineage is_under unit_name root_name parent_name walk firsts interfaces_of interfaces offers is_pinned absent_spots
-    late_spots opening submatch match_value is_candidate is_winner winner free_after unit_of is_open child_spots scan_places is_indirect
-    turns_at turns is_before is_due due after_turn arrival next_scan late_spot finalise next_boot next_free next_sleep next_wake
+    late_spots opening submatch match_value is_candidate is_winner winner free_after unit_of is_open child_spots places_of style_of
+    bus_turns turns_of is_before is_due due after_turn arrival next_scan late_spot finalise next_boot next_free next_sleep next_wake
     freeing suspending waking hindered wanted_of rescan_of command_deed next_command next listed finaliser_placing scan_placing
     finaliser_placed scan_placed attached released after answer_of tree_below tree_names list_names printed event_of played
     digits
@@ -481,8 +481,8 @@ last_style = refl
 
 last_style_sound : sound_along (opening last_style_setup) (0 ∷ 0 ∷ 0 ∷ 0 ∷ 0 ∷ 0 ∷ 0 ∷ 0 ∷ []) ≡ true
 unfolding lineage is_under unit_name root_name parent_name walk firsts interfaces_of interfaces offers is_pinned absent_spots
-    late_spots opening submatch match_value is_candidate is_winner winner free_after unit_of is_open child_spots scan_places is_indirect
-    turns_at turns is_before is_due due after_turn arrival next_scan late_spot finalise next_boot next_free next_sleep next_wake
+    late_spots opening submatch match_value is_candidate is_winner winner free_after unit_of is_open child_spots places_of style_of
+    bus_turns turns_of is_before is_due due after_turn arrival next_scan late_spot finalise next_boot next_free next_sleep next_wake
     freeing suspending waking hindered wanted_of rescan_of command_deed next_command next listed finaliser_placing scan_placing
     finaliser_placed scan_placed attached released after answer_of tree_below tree_names list_names printed event_of played
     digits
@@ -542,8 +542,8 @@ offered_in_order : outcome offered_in_order_setup (0 ∷ 0 ∷ 0 ∷ 0 ∷ 0 ∷
       choices = Over ∷ [];
     }
 unfolding lineage is_under unit_name root_name parent_name walk firsts interfaces_of interfaces offers is_pinned absent_spots
-    late_spots opening submatch match_value is_candidate is_winner winner free_after unit_of is_open child_spots scan_places is_indirect
-    turns_at turns is_before is_due due after_turn arrival next_scan late_spot finalise next_boot next_free next_sleep next_wake
+    late_spots opening submatch match_value is_candidate is_winner winner free_after unit_of is_open child_spots places_of style_of
+    bus_turns turns_of is_before is_due due after_turn arrival next_scan late_spot finalise next_boot next_free next_sleep next_wake
     freeing suspending waking hindered wanted_of rescan_of command_deed next_command next listed finaliser_placing scan_placing
     finaliser_placed scan_placed attached released after answer_of tree_below tree_names list_names printed event_of played
     digits
@@ -551,8 +551,8 @@ offered_in_order = refl
 
 offered_in_order_sound : sound_along (opening offered_in_order_setup) (0 ∷ 0 ∷ 0 ∷ 0 ∷ 0 ∷ 0 ∷ 0 ∷ 0 ∷ []) ≡ true
 unfolding lineage is_under unit_name root_name parent_name walk firsts interfaces_of interfaces offers is_pinned absent_spots
-    late_spots opening submatch match_value is_candidate is_winner winner free_after unit_of is_open child_spots scan_places is_indirect
-    turns_at turns is_before is_due due after_turn arrival next_scan late_spot finalise next_boot next_free next_sleep next_wake
+    late_spots opening submatch match_value is_candidate is_winner winner free_after unit_of is_open child_spots places_of style_of
+    bus_turns turns_of is_before is_due due after_turn arrival next_scan late_spot finalise next_boot next_free next_sleep next_wake
     freeing suspending waking hindered wanted_of rescan_of command_deed next_command next listed finaliser_placing scan_placing
     finaliser_placed scan_placed attached released after answer_of tree_below tree_names list_names printed event_of played
     digits

@@ -13,7 +13,8 @@ use Rattle.run_rules.specs.declared.world.Key.TheVariants as key
 use Rattle.run_rules.specs.declared.world.Activity.{Activity}
 use Rattle.run_rules.specs.declared.world.Activity.TheVariants as activity
 use Rattle.run_rules.specs.declared.world.Setup.{Setup}
-use Rattle.run_rules.specs.World.{World, Ref, Caller, nobody, is_live, is_under, driver_of, is_number, is_pinned, is_held, caller_at, frame_serial, is_ended}
+use Rattle.run_rules.specs.World.{World, Caller, nobody, is_live, is_under, driver_of, is_number, is_pinned, is_held, caller_at, frame_serial, is_ended}
+use Rattle.run_rules.specs.declared.world.Ref.{Ref}
 use Rattle.cf_types.specs.Numbers.{below}
 use Rattle.run_rules.specs.Sound.{EachLater, IsApart, IsPlaced, IsSoundlyCondemned, IsSoundlyAsleep, is_scan_of, is_known, IsSoundlyDeferred, is_power, is_empty, IsSoundCaller, IsSoundBoot, IsUnbegun, others, Sound}
 use Rattle.run_rules.specs.Next.{next}

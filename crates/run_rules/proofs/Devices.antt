@@ -28,7 +28,7 @@ pub all_both : {A : Type 0} (P Q R : A → Type 0) → ((x : A) → P x → Q x 
 all_both P Q R f [] h k = tt
 all_both P Q R f (x ∷ xs) h k = (f x h.0 k.0, all_both P Q R f xs h.1 k.1)
 
-later_snoc : {A : Type 0} (R : A → A → Type 0) (xs : List A) (y : A) → EachLater R xs → AllByRecursion (λ x. R x y) xs → EachLater R (xs ++ y ∷ [])
+pub later_snoc : {A : Type 0} (R : A → A → Type 0) (xs : List A) (y : A) → EachLater R xs → AllByRecursion (λ x. R x y) xs → EachLater R (xs ++ y ∷ [])
 later_snoc R [] y h here = (tt, tt)
 later_snoc R (x ∷ xs) y h here = (all_snoc (R x) xs y h.0 here.0, later_snoc R xs y h.1 here.1)
 
@@ -63,7 +63,7 @@ pub known_more : (live : List Dev) (e : Dev) (s : ℕ) → IsTrue (s == 0 || is_
 known_more live e s h = rw (list_any-append (λ d. d.serial == s) live (e ∷ [])) (or_more (s == 0) (is_live live s) (is_live (e ∷ []) s) h)
 
 -- a known device has a serial below the next
-below_next : (live all : List Dev) (next s : ℕ) → AllByRecursion (IsPlaced all next) live → is_live live s ≡ true → s < next
+pub below_next : (live all : List Dev) (next s : ℕ) → AllByRecursion (IsPlaced all next) live → is_live live s ≡ true → s < next
 below_next [] all next s h is = absurd cc
 below_next (d ∷ ds) all next s h is = cases (λ k. below_next ds all next s h.1 k) (d.serial == s) refl is
   where

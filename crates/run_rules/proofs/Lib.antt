@@ -11,3 +11,4 @@ pub mod NameParts
 pub mod FormedNames
 pub mod CountsOn
 pub mod OwnNames
+pub mod Holders

@@ -29,7 +29,7 @@ scan_live : (p : Policy) (offered : List ℕ) (w : World) (k parent s : ℕ) (b 
 unfolding scan_placed
 scan_live p offered w k parent s b = place_scan_live (scan_placing p offered w.phase b) w k parent s
 
-attached_live : (w : World) (k : ℕ) (a : Arrival) (b : Bool) → (attached w k a b).live ≡ w.live ++ new_device w a ∷ []
+pub attached_live : (w : World) (k : ℕ) (a : Arrival) (b : Bool) → (attached w k a b).live ≡ w.live ++ new_device w a ∷ []
 unfolding attached listed
 attached_live w k a b =
     let p : Policy = policy_of w.setup a.row in

@@ -19,7 +19,7 @@ use Rattle.std.specs.Prelude.{flat_map}
 use Rattle.std.proofs.lemmas.List.Folds.{find-append}
 use Rattle.std.proofs.lemmas.Grind.{flat_map-append}
 use Rattle.cf_types.specs.Numbers.{below}
-use Rattle.run_rules.specs.Search.{is_child, is_occupied, child_spots, scan_places, turns_at, turns, is_before, is_due, is_open, due}
+use Rattle.run_rules.specs.Search.{is_child, is_occupied, child_spots, places_of, scan_places, turns_at, turns_of, is_before, is_due, is_open, due}
 
 pub find_map : {A B : Type 0} (q : B → Bool) (f : A → B) (xs : List A) → find q (map f xs) ≡ option_map f (find (λ x. q (f x)) xs)
 find_map q f [] = refl
@@ -74,19 +74,32 @@ find_children q f m parent place =
 
 -- ---- the turns of a scan
 
+places_below : (s : Setup) (live : List Dev) (p : ℕ) (d : Dev) → device_at live p ≡ Some d → scan_places s live p None ≡ map At (offered_by s d.row)
+unfolding places_of
+places_below s live p d there = rw there refl
+
+places_at_root : (s : Setup) (live : List Dev) (p : ℕ) → device_at live p ≡ None → scan_places s live p None ≡ Root ∷ []
+unfolding places_of
+places_at_root s live p none = rw none refl
+
 pub due_below : (s : Setup) (live : List Dev) (absent hidden : List ℕ) (p : ℕ) (wanted : List Wanted) (from : Position) (d : Dev) (o : Option Turn)
     → device_at live p ≡ Some d
     → find (λ t. not (is_before t.at from) && is_due s live absent hidden p wanted t) (flat_map (turns_at s live p) (enumerate_from 0 (map At (offered_by s d.row)))) ≡ o
     → due s live absent hidden p None wanted from ≡ o
-unfolding due turns scan_places
-due_below s live absent hidden p wanted from d o there e = rw there e
+unfolding due turns_of
+due_below s live absent hidden p wanted from d o there e =
+    ap (λ places. find (λ t. not (is_before t.at from) && is_due s live absent hidden p wanted t) (flat_map (turns_at s live p) (enumerate_from 0 places)))
+    (places_below s live p d there) ∙ e
 
 pub due_at_root : (s : Setup) (live : List Dev) (absent hidden : List ℕ) (p : ℕ) (wanted : List Wanted) (from : Position) (o : Option Turn)
     → device_at live p ≡ None
     → find (λ t. not (is_before t.at from) && is_due s live absent hidden p wanted t) (turns_at s live p (0, Root)) ≡ o
     → due s live absent hidden p None wanted from ≡ o
-unfolding due turns scan_places
-due_at_root s live absent hidden p wanted from o none e = rw (none, append-nil (turns_at s live p (0, Root))) e
+unfolding due turns_of
+due_at_root s live absent hidden p wanted from o none e =
+    ap (λ places. find (λ t. not (is_before t.at from) && is_due s live absent hidden p wanted t) (flat_map (turns_at s live p) (enumerate_from 0 places)))
+    (places_at_root s live p none)
+    ∙ ap (find (λ t. not (is_before t.at from) && is_due s live absent hidden p wanted t)) (append-nil (turns_at s live p (0, Root))) ∙ e
 
 -- ---- tests of listed numbers
 

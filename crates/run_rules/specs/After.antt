@@ -2,6 +2,7 @@
 use Rattle.std.specs.Prelude.{ℕ, ◌+◌, Bool, true, false, not, ◌&&◌, ◌||◌, ◌==◌, if◌then◌else◌, List, [], ◌∷◌, ◌++◌, map, filter, slice_set, Option, Some, None, is_some}
 use Rattle.cf_types.specs.declared.machine.Policy.{Policy}
 use Rattle.run_rules.specs.declared.world.Dev.{Dev}
+use Rattle.run_rules.specs.declared.world.Ref.{Ref}
 use Rattle.run_rules.specs.declared.world.Frame.{Frame}
 use Rattle.run_rules.specs.declared.world.Frame.TheVariants.{Scan, Finaliser}
 use Rattle.run_rules.specs.declared.world.Position.{Position}
@@ -144,8 +145,12 @@ condemned w k s = record w { live = map (with_condemner w.live k s) w.live }
 abbrev pub freed : World → ℕ → World
 freed w s = record w { live = filter (λ d. not (d.serial == s)) w.live }
 
+-- the references without that of a caller to a device
+abbrev pub given_back : List Ref → ℕ → ℕ → List Ref
+given_back refs k s = filter (λ r. not (r.serial == s && r.caller == k)) refs
+
 abbrev pub unreferred : World → ℕ → ℕ → World
-unreferred w k s = record w { refs = filter (λ r. not (r.serial == s && r.caller == k)) w.refs }
+unreferred w k s = record w { refs = given_back w.refs k s }
 
 abbrev pub freeing_target : Activity → ℕ → Bool
 freeing_target (activity.Frees target) s = target == s

@@ -4,7 +4,7 @@ use Rattle.std.specs.List.{list_any, list_all, enumerate_from}
 use Rattle.std.specs.Option.{option_map_or}
 use Rattle.std.specs.Ordering.{int_eq}
 use Rattle.cf_types.specs.declared.tables.Tables.{Tables}
-use Rattle.cf_types.specs.Offers.{offers}
+use Rattle.cf_types.specs.Offers.{offers, interfaces}
 use Rattle.cf_types.specs.Locators.{locators_at, submatch}
 use Rattle.cf_types.specs.declared.tables.Row.{Row}
 use Rattle.cf_types.specs.declared.tables.ParentSpec.{ParentSpec}
@@ -18,7 +18,7 @@ use Rattle.run_rules.specs.declared.world.Turn.{Turn}
 use Rattle.run_rules.specs.declared.world.ParentRef.{ParentRef}
 use Rattle.run_rules.specs.declared.world.ParentRef.TheVariants as under
 use Rattle.run_rules.specs.declared.world.Setup.{Setup}
-use Rattle.run_rules.specs.World.{has, same_place, is_number, device_at, row_at, driver_of, attach_of, offered_by}
+use Rattle.run_rules.specs.World.{has, same_place, is_number, device_at, row_at, driver_of, attach_of}
 use Rattle.cf_types.specs.Numbers.{below}
 
 -- ---- the winner: after autoconf(9), the best match
@@ -120,30 +120,49 @@ child_spots m parent place = filter (is_child m parent place) (below (length m.s
 abbrev pub spot_of : List Dev → ℕ → Option ℕ
 spot_of live s = option_map (λ d. d.spot) (device_at live s)
 
--- the places that a scan goes through
-unfoldable pub scan_places : Setup → List Dev → ℕ → Option ℕ → List Place
-scan_places s live p (Some a) = At a ∷ []
-scan_places s live p None = option_map_or (λ d. map At (offered_by s d.row)) (device_at live p) (Root ∷ [])
+-- the driver of a device, and its attachment; none for the root
+abbrev pub driver_at : Setup → List Dev → ℕ → Option ℕ
+driver_at s live p = option_map (λ d. driver_of s d.row) (device_at live p)
 
--- the last style line for the attachment and the attribute; direct without one, and at the root
-unfoldable pub is_indirect : Setup → List Dev → ℕ → Place → Bool
-is_indirect s live p Root = false
-is_indirect s live p (At a) =
-    option_map_or (λ d.
-    option_map_or (λ line. line.indirect) (find (λ line. line.attach == attach_of s d.row && line.attr == a) (reverse s.machine.styles)) false)
-    (device_at live p) false
+abbrev pub attach_at : Setup → List Dev → ℕ → Option ℕ
+attach_at s live p = option_map (λ d. attach_of s d.row) (device_at live p)
 
--- the turns of one place: the child spots, or the pairs of row and child spot, rows first
-unfoldable pub turns_at : Setup → List Dev → ℕ → ℕ × Place → List Turn
-turns_at s live p e =
-    if is_indirect s live p e.1
-    then flat_map (λ r. map (λ x. record { at = record { attr = e.0; row = r; spot = x }; place = e.1; indirect = true })
-    (child_spots s.machine (spot_of live p) e.1)) (below (length s.tables.rows))
-    else map (λ x. record { at = record { attr = e.0; row = 0; spot = x }; place = e.1; indirect = false })
-    (child_spots s.machine (spot_of live p) e.1)
+-- the places that a scan goes through: one alone in a rescan that names it, else all that the driver offers; without a driver the root
+unfoldable pub places_of : Tables → Option ℕ → Option ℕ → List Place
+places_of t driver (Some a) = At a ∷ []
+places_of t driver None = option_map_or (λ d. map At (interfaces t.attrs t.devices d)) driver (Root ∷ [])
 
-unfoldable pub turns : Setup → List Dev → ℕ → Option ℕ → List Turn
-turns s live p only = flat_map (turns_at s live p) (enumerate_from 0 (scan_places s live p only))
+-- whether a place is an indirect bus below this attachment: the last style line for both; direct without one, and at the root
+unfoldable pub style_of : Machine → Option ℕ → Place → Bool
+style_of m attach Root = false
+style_of m None (At a) = false
+style_of m (Some attach) (At a) =
+    option_map_or (λ line. line.indirect) (find (λ line. line.attach == attach && line.attr == a) (reverse m.styles)) false
+
+-- the turns of one place below a spot: its child spots, or, where it is indirect, the pairs of one of so many rows and a child spot, rows first
+unfoldable pub bus_turns : Machine → ℕ → Bool → Option ℕ → ℕ × Place → List Turn
+bus_turns m rows false spot e =
+    map (λ x. record { at = record { attr = e.0; row = 0; spot = x }; place = e.1; indirect = false }) (child_spots m spot e.1)
+bus_turns m rows true spot e =
+    flat_map (λ r. map (λ x. record { at = record { attr = e.0; row = r; spot = x }; place = e.1; indirect = true }) (child_spots m spot e.1)) (below rows)
+
+-- the turns of a scan below a device of this driver and attachment on this spot, place by place; without all three below the root
+unfoldable pub turns_of : Tables → Machine → Option ℕ → Option ℕ → Option ℕ → Option ℕ → List Turn
+turns_of t m driver attach spot only =
+    flat_map (λ e. bus_turns m (length t.rows) (style_of m attach e.1) spot e) (enumerate_from 0 (places_of t driver only))
+
+-- the same of the device of a serial
+abbrev pub scan_places : Setup → List Dev → ℕ → Option ℕ → List Place
+scan_places s live p only = places_of s.tables (driver_at s live p) only
+
+abbrev pub is_indirect : Setup → List Dev → ℕ → Place → Bool
+is_indirect s live p place = style_of s.machine (attach_at s live p) place
+
+abbrev pub turns_at : Setup → List Dev → ℕ → ℕ × Place → List Turn
+turns_at s live p e = bus_turns s.machine (length s.tables.rows) (is_indirect s live p e.1) (spot_of live p) e
+
+abbrev pub turns : Setup → List Dev → ℕ → Option ℕ → List Turn
+turns s live p only = turns_of s.tables s.machine (driver_at s live p) (attach_at s live p) (spot_of live p) only
 
 -- by attribute, then row, then spot
 unfoldable pub is_before : Position → Position → Bool

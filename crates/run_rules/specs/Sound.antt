@@ -11,7 +11,8 @@ use Rattle.run_rules.specs.declared.world.Key.TheVariants as key
 use Rattle.run_rules.specs.declared.world.Activity.{Activity}
 use Rattle.run_rules.specs.declared.world.Activity.TheVariants as activity
 use Rattle.run_rules.specs.declared.world.Setup.{Setup}
-use Rattle.run_rules.specs.World.{World, Caller, Ref, is_live, is_under, driver_of, name_of, is_number, is_pinned, is_held, caller_at, frame_serial}
+use Rattle.run_rules.specs.World.{World, Caller, is_live, is_under, driver_of, name_of, is_number, is_pinned, is_held, caller_at, frame_serial}
+use Rattle.run_rules.specs.declared.world.Ref.{Ref}
 use Rattle.run_rules.specs.declared.world.Deferred.{Deferred}
 
 -- each element differs from all later ones

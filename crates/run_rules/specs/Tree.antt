@@ -3,7 +3,8 @@ use Rattle.std.specs.Prelude.{ℕ, zero, suc, ◌+◌, ◌^◌, Bool, ◌==◌, 
 use Rattle.std.specs.Int.{bit_at}
 use Rattle.cf_types.specs.declared.tree.DevLine.{DevLine}
 use Rattle.run_rules.specs.declared.world.Dev.{Dev}
-use Rattle.run_rules.specs.World.{World, children, name_of, parent_name, is_held, is_condemned}
+use Rattle.run_rules.specs.declared.world.Ref.{Ref}
+use Rattle.run_rules.specs.World.{World, children, name_of, parent_name, holds_in, is_condemned}
 use Rattle.cf_types.specs.Lines.{text_of}
 use Rattle.cf_types.specs.Numbers.{below}
 
@@ -13,8 +14,11 @@ tree_below zero live depth p = []
 tree_below (suc n) live depth p = flat_map (λ d. (depth, d) ∷ tree_below n live (depth + 1) d.serial) (children live p)
 
 -- who holds a device: bit k-1 stands for caller k
-unfoldable pub holders_of : World → ℕ → ℕ
-holders_of w s = sum_by (λ i. if is_held w (i + 1) s then 2 ^ i else 0) (below 16)
+unfoldable pub holders_in : List Ref → ℕ → ℕ
+holders_in refs s = sum_by (λ i. if holds_in refs (i + 1) s then 2 ^ i else 0) (below 16)
+
+abbrev pub holders_of : World → ℕ → ℕ
+holders_of w s = holders_in w.refs s
 
 abbrev pub dev_line : World → ℕ × Dev → DevLine
 dev_line w e = record {

@@ -18,13 +18,9 @@ use Rattle.run_rules.specs.declared.world.Frame.{Frame}
 use Rattle.run_rules.specs.declared.world.Frame.TheVariants.{Scan, Finaliser}
 use Rattle.run_rules.specs.declared.world.Position.{Position}
 use Rattle.run_rules.specs.declared.world.Deferred.{Deferred}
+use Rattle.run_rules.specs.declared.world.Ref.{Ref}
 use Rattle.run_rules.specs.declared.world.Activity.{Activity}
 use Rattle.run_rules.specs.declared.world.Activity.TheVariants as activity
-
--- a reference: which device, and who holds it; this project's profile
-pub record Ref : Type 0 where
-  pub serial : ℕ
-  pub caller : ℕ
 
 -- a caller: how many of its commands are over, what it is in the middle of, and its frames, the top first
 pub record Caller : Type 0 where
@@ -159,11 +155,18 @@ frame_serial (Finaliser s) = s
 unfoldable pub is_pinned : World → ℕ → Bool
 is_pinned w s = list_any (λ c. list_any (λ f. frame_serial f == s) c.stack) w.callers || list_any (λ e. e.child == s) w.deferred
 
+-- whether a caller holds the device, and whether any does: this project's profile
+abbrev pub holds_in : List Ref → ℕ → ℕ → Bool
+holds_in refs k s = list_any (λ r. r.serial == s && r.caller == k) refs
+
+abbrev pub refers_to : List Ref → ℕ → Bool
+refers_to refs s = list_any (λ r. r.serial == s) refs
+
 abbrev pub is_held : World → ℕ → ℕ → Bool
-is_held w k s = list_any (λ r. r.serial == s && r.caller == k) w.refs
+is_held w k s = holds_in w.refs k s
 
 abbrev pub is_referred : World → ℕ → Bool
-is_referred w s = list_any (λ r. r.serial == s) w.refs
+is_referred w s = refers_to w.refs s
 
 abbrev pub is_condemned : Dev → Bool
 is_condemned d = is_some d.condemned

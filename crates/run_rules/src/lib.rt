@@ -6,6 +6,6 @@ mod world;
 
 pub use event::{Act, DepthName, Event, IoAnswer, PowerKind, Reply};
 pub use world::{
-    Activity, Arrival, Deferred, Dev, Frame, Key, ParentRef, Placing, Position, Setup, Turn, Wait,
-    Wanted,
+    Activity, Arrival, Deferred, Dev, Frame, Key, ParentRef, Placing, Position, Ref, Setup, Turn,
+    Wait, Wanted,
 };

@@ -76,6 +76,13 @@ pub enum Frame {
     },
 }
 
+/// A reference: of which device, by its serial, and who holds it, a caller from 1 to 16.
+#[derive(Clone, Copy)]
+pub struct Ref {
+    pub serial: u64,
+    pub caller: u8,
+}
+
 /// What a scan is put off to: the end of its parent's scan, or the time when interrupts work. See autoconf(9).
 #[derive(Clone, Copy)]
 pub enum Key {

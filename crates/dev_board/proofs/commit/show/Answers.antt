@@ -2,5 +2,5 @@ use Rattle.std.proofs.Common.{rules}
 use Rattle.std.proofs.lemmas.Fn.{filter_same}
 use Rattle.dev_board.proofs.commit.show.Goals as goal
 
-pub returns : goal.returns
-returns c = filter_same _ _ _ (λ x b f' k. search rules) _ _ c.retain.ensures.filtered
+pub returns-in-Some : goal.returns-in-Some
+returns-in-Some c = rw c.in-Some.is (filter_same _ _ _ (λ x b f' k. search rules) _ _ c.retain.ensures.filtered)

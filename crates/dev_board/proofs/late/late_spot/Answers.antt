@@ -2,9 +2,9 @@ use Rattle.std.proofs.Common.{length, ◌∙◌, arith}
 use Rattle.run_rules.proofs.Below.{find-is, find-none}
 use Rattle.dev_board.proofs.late.late_spot.Goals as goal
 
-pub returns-then-is_late_below-clause-late : goal.returns-then-is_late_below-clause-late
-returns-then-is_late_below-clause-late c =
+pub returns-then-is_late_below : goal.returns-then-is_late_below
+returns-then-is_late_below c =
     find-is _ (length c.args.setup.now.machine.spots) c.loop-spot.spot (omega arith) (c.is_late_below.ensures ∙ c.if-is_late_below.true) c.loop-spot.invariant
 
-pub returns-clause-late : goal.returns-clause-late
-returns-clause-late c = find-none _ (length c.args.setup.now.machine.spots) (λ q lt. c.loop-spot.invariant q (omega arith))
+pub returns : goal.returns
+returns c = find-none _ (length c.args.setup.now.machine.spots) (λ q lt. c.loop-spot.invariant q (omega arith))

@@ -3,4 +3,4 @@ use Rattle.dev_board.specs.Late.{late_test}
 use Rattle.dev_board.proofs.late.late_spot.Given as goal
 
 abbrev pub invariant-loop-spot : goal.invariant-loop-spot
-invariant-loop-spot l = (q : ℕ) → q < l.spot → late_test l.setup l.hidden l.device q ≡ false
+invariant-loop-spot l = (q : ℕ) → q < l.spot → late_test l.setup l.core.absent.items l.core.hidden.items l.device q ≡ false

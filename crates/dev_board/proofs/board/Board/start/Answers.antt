@@ -1,8 +1,7 @@
 use Rattle.attr_graph.proofs.GraphLaws.{formed_fit}
 use Rattle.run_rules.specs.declared.world.Setup.{Setup}
-use Rattle.dev_board.specs.Input.{Bounded}
-use Rattle.dev_board.proofs.InputLaws.{bounded}
-use Rattle.dev_board.proofs.Opening.{begins, begun}
+use Rattle.dev_board.proofs.InputLaws.{may_run}
+use Rattle.dev_board.proofs.Opening.{begins}
 use Rattle.dev_board.proofs.board.Board.start.Goals as goal
 
 pub graph_of-requires : goal.graph_of-requires
@@ -14,11 +13,7 @@ begin-requires c = record { few = c.requires.machine.few_spots; few_devices = c.
 pub invariant_of-result : goal.invariant_of-result
 invariant_of-result c =
     let s : Setup = record { tables = c.args.tables; machine = c.args.machine; scripts = c.args.scripts } in
-    let b : Bounded s = bounded s (record { tables = c.requires.tables; machine = c.requires.machine; no_scripts = c.requires.scripts }) in
-    (begins s c.in_ok-core.core b c.in_ok-core.ensures, c.in_ok-graph.ensures)
+    (begins s c.in_ok-core.core (may_run s c.requires.tables c.requires.machine c.requires.scripts) c.requires.scripts c.in_ok-core.ensures, c.in_ok-graph.ensures)
 
 pub returns-clause-world : goal.returns-clause-world
-returns-clause-world c =
-    let s : Setup = record { tables = c.args.tables; machine = c.args.machine; scripts = c.args.scripts } in
-    let b : Bounded s = bounded s (record { tables = c.requires.tables; machine = c.requires.machine; no_scripts = c.requires.scripts }) in
-    begun s c.in_ok-core.core b c.in_ok-core.ensures
+returns-clause-world c = c.in_ok-core.ensures.world

@@ -1,0 +1,2 @@
+pub mod Queue
+pub use Rattle.run_rules.specs.After

@@ -1,0 +1,94 @@
+ghost use Rattle.std.specs.Prelude.{◌≡◌, false, ◌==◌, ◌++◌, ◌∷◌, [], length, MatchOption, OnOk, OnErr};
+ghost use Rattle.std.specs.List.{All, list_any};
+ghost use Rattle.run_rules.specs.After as after;
+ghost use Rattle.defer_queue.specs.Queue.{IsLastPlace, TakesLast, entry_of, entries_of};
+
+use cf_types::Memory;
+use run_rules::{Deferred as Entry, Key};
+use std::alloc::Global;
+use std::marker::Model;
+
+/// The scans that were put off. Contracts see the list of them in the order in which they were put off. See
+/// config_defer(9) and config_interrupts(9).
+#[derive(Drop)]
+pub struct Deferred {
+    entries: Vec<Entry>,
+}
+
+impl Model for Deferred {
+    ghost use Rattle.std.specs.Prelude.{List};
+    ghost use Rattle.run_rules.specs.declared.world.Deferred.{Deferred as Entry};
+
+    ghost Value = { List Entry };
+
+    ghost view = { λ queue. queue.entries.items };
+}
+
+/// Whether a scan that was put off to the first key was put off to the second one.
+fn same_key(key: Key, which: Key) -> bool
+    ensures { result ≡ after.same_key key which }
+{
+    match key {
+        Key::Interrupts => match which {
+            Key::Interrupts => true,
+            Key::Parent(_) => false,
+        },
+        Key::Parent(parent) => match which {
+            Key::Interrupts => false,
+            Key::Parent(wanted) => parent == wanted,
+        },
+    }
+}
+
+/// The place of the last scan that was put off to a key.
+fn last_place(entries: &[Entry], which: Key) -> Option<usize>
+    ensures { MatchOption result (All (λ e. after.same_key e.key which ≡ false) entries.now) (λ place. IsLastPlace entries.now which place) }
+{
+    entries.iter().rposition(|entry| same_key(entry.key, which))
+}
+
+impl Deferred {
+    /// Nothing is put off. It takes no memory.
+    pub fn make(alloc: Global) -> Deferred
+        ensures { result ≡ [] }
+    {
+        Deferred {
+            entries: Vec::new(alloc),
+        }
+    }
+
+    /// Puts the scan of a device off to a key. At `Memory` all is as before.
+    pub fn put(&mut self, key: Key, child: u64) -> Result<(), Memory>
+        ensures ok { OnOk result (self.new ≡ self.old ++ entry_of key child ∷ []) }
+        ensures err { OnErr result (self.new ≡ self.old) }
+    {
+        self.entries.push(Entry { key, child })?;
+        Ok(())
+    }
+
+    /// Takes off the scan that was put off last to a key, and gives its device; none where nothing was. It takes no memory.
+    pub fn take_last(&mut self, key: Key) -> Option<u64>
+        ensures { MatchOption result ((entries_of self.old key ≡ []) × (self.new ≡ self.old)) (λ child. TakesLast self.old key child self.new) }
+    {
+        let place = last_place(&self.entries, key)?;
+        let entry = self.entries.remove(place);
+        Some(entry.child)
+    }
+
+    /// How many scans were put off to a key.
+    pub fn count(&self, key: Key) -> usize
+        ensures { result ≡ length (entries_of self.now key) }
+    {
+        self.entries
+            .iter()
+            .filter(|entry| same_key(entry.key, key))
+            .count()
+    }
+
+    /// Whether a scan of the device was put off.
+    pub fn pinned(&self, child: u64) -> bool
+        ensures { result ≡ list_any (λ e. e.child == child) self.now }
+    {
+        self.entries.iter().any(|entry| entry.child == child)
+    }
+}

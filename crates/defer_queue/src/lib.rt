@@ -1,0 +1,6 @@
+//! The scans that were put off: to the end of their parent's scan, or to the time when interrupts work.
+#![tactic(auto)]
+
+mod deferred;
+
+pub use deferred::Deferred;

@@ -1,0 +1,4 @@
+pub mod Hindrance
+pub use Rattle.dev_tree.specs.Tree
+pub use Rattle.run_rules.specs.World
+pub use Rattle.run_rules.specs.Next

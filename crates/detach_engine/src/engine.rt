@@ -1,0 +1,73 @@
+ghost use Rattle.std.specs.Prelude.{◌≡◌, IsTrue};
+ghost use Rattle.run_rules.specs.Next as next;
+ghost use Rattle.run_rules.specs.World.{is_live, is_number, serial_of};
+ghost use Rattle.detach_engine.specs.Hindrance.{hindrance, stands_in_way};
+
+use crate::marks::Marks;
+use dev_tree::DevTree;
+use ref_ledger::Refs;
+use run_rules::Dev;
+
+/// Whether the device keeps the target's subtree from going.
+fn stands_in_way(
+    tree: &DevTree,
+    refs: &Refs,
+    marks: &Marks,
+    target: u64,
+    caller: u8,
+    forced: bool,
+    device: &Dev,
+) -> bool
+    ensures { result ≡ stands_in_way tree.now.live refs.now marks.now target caller forced device.now }
+{
+    tree.is_under(device.serial, target)
+        && ((!forced && marks.is_undetachable(device.serial))
+            || marks.is_pinned(device.serial)
+            || device.condemned.is_some()
+            || refs.holds(device.serial, caller))
+}
+
+/// The device of least serial that keeps the target's subtree from going: its driver does not support detaching, unless
+/// that is forced; a scan or a finaliser is busy with it; it is condemned already; or the caller itself holds it. None where
+/// all may go. See config_detach(9).
+#[tactic(auto, unfolding(crate::specs::Hindrance::hindrance))]
+pub fn hindered(
+    tree: &DevTree,
+    refs: &Refs,
+    marks: &Marks,
+    target: u64,
+    caller: u8,
+    forced: bool,
+) -> Option<u64>
+    requires { IsTrue (is_live tree.now.live target) }
+    ensures { result ≡ serial_of (hindrance tree.now.live refs.now marks.now target caller forced) }
+{
+    let device = tree.devices().iter().find(|device| stands_in_way(
+        tree, refs, marks, target, caller, forced, device,
+    ))?;
+    Some(device.serial)
+}
+
+/// Whether the caller condemned the device.
+fn is_condemned_by(device: &Dev, caller: u8) -> bool
+    ensures { result ≡ is_number device.now.condemned caller }
+{
+    match device.condemned {
+        Some(condemner) => condemner == caller,
+        None => false,
+    }
+}
+
+/// The device that the caller frees next: of those that it condemned the one that came last, so that children go before
+/// their parent. None where it condemned none that lives. See config_detach(9).
+#[tactic(auto, unfolding(run_rules::specs::Next::next_free))]
+pub fn next_free(tree: &DevTree, caller: u8) -> Option<u64>
+    ensures { result ≡ next.next_free tree.now.live caller }
+{
+    let device = tree
+        .devices()
+        .iter()
+        .rev()
+        .find(|device| is_condemned_by(device, caller))?;
+    Some(device.serial)
+}

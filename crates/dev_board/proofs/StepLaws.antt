@@ -1,0 +1,88 @@
+-- What is known of a plan of caller 0, and what a step keeps.
+use Rattle.std.proofs.Common.{◌≡◌, ◌<◌, ◌||◌, ◌==◌, ℕ, zero, suc, Bool, true, false, List, [], ◌∷◌, length, Option, Some, None, refl, subst, arith}
+use Rattle.std.specs.Prelude.{IsTrue, IfSome}
+use Rattle.run_rules.specs.declared.world.Setup.{Setup}
+use Rattle.run_rules.specs.declared.world.Dev.{Dev}
+use Rattle.run_rules.specs.declared.world.Arrival.{Arrival}
+use Rattle.std.specs.List.{AllByRecursion, slice_index_or}
+use Rattle.std.proofs.lemmas.Bool.Decides.{nat_tests}
+use Rattle.run_rules.specs.declared.world.Frame.{Frame}
+use Rattle.run_rules.specs.declared.world.Frame.TheVariants.{Finaliser}
+use Rattle.run_rules.specs.Sound.{Sound}
+use Rattle.run_rules.specs.World.{World, Caller, caller_at, has_ended, is_live, nobody}
+use Rattle.run_rules.specs.Deeds.{Finalise, Does}
+use Rattle.run_rules.specs.Next.{next}
+use Rattle.run_rules.specs.After.{show_spot}
+use Rattle.run_sound.specs.Calls.{CallsDevices, IsOfDevice}
+use Rattle.run_sound.specs.Coming.{MayCome, IsCalled}
+use Rattle.run_sound.specs.Kept.{MayRun, Kept}
+use Rattle.run_sound.proofs.Arrivals.{search_comes, finalise_comes, none_shown, top_known}
+use Rattle.run_sound.proofs.Callers.{all_or, doing_so, not_ended}
+use Rattle.run_sound.proofs.Reasons.{has_reason}
+use Rattle.dev_board.specs.declared.plan.Plan.{Plan}
+use Rattle.dev_board.specs.declared.plan.Plan.TheVariants as plan
+use Rattle.dev_board.specs.Arrivals.{MayArrive}
+use Rattle.dev_board.specs.Events.{AreLive, Follows}
+use Rattle.dev_board.specs.Plans.{deed_of, got_of}
+
+arrives : (s : Setup) (live : List Dev) (hidden : List ℕ) (p : ℕ) (a : Arrival) → MayCome s live hidden p a → MayArrive s live a
+arrives s live hidden p a may = record { known = rw may.parent may.known; unit = may.unit; bare = may.bare; spot = may.spot; row = may.row }
+
+-- what comes by a plan may be listed
+pub plan_arrives : (w : World) (k : ℕ) (x : Plan) → MayRun w.setup → Kept w → next w k ≡ Does (deed_of x) → IfSome (got_of x) (MayArrive w.setup w.live)
+plan_arrives w k (plan.Search parent moved None) may kept chosen = tt
+plan_arrives w k (plan.Search parent moved (Some a)) may kept chosen = arrives w.setup w.live w.hidden parent a (search_comes w k parent moved a may kept chosen)
+plan_arrives w k (plan.EndScan of) may kept chosen = tt
+plan_arrives w k plan.BeginInterrupts may kept chosen = tt
+plan_arrives w k (plan.Finalise of shown None listed anew) may kept chosen = tt
+plan_arrives w k (plan.Finalise of None (Some a) listed anew) may kept chosen = absurd (none_shown w k of a listed anew chosen)
+plan_arrives w k (plan.Finalise of (Some x) (Some a) listed anew) may kept chosen =
+    arrives w.setup w.live (show_spot w (Some x)).hidden of a (finalise_comes w k of x a listed anew may kept chosen)
+plan_arrives w k plan.EndCaller may kept chosen = tt
+
+-- ---- the finaliser that is called
+
+at_live : (live : List Dev) (xs : List ℕ) (i : ℕ) → i < length xs → AllByRecursion (λ s. IsTrue (is_live live s)) xs → IsTrue (is_live live (slice_index_or xs i 0))
+at_live live [] i lt h = absurd (omega arith)
+at_live live (x ∷ xs) zero lt h = h.0
+at_live live (x ∷ xs) (suc i) lt h = at_live live xs i (omega arith) h.1
+
+known_live : (b live : Bool) → b ≡ false → (b || live) ≡ true → live ≡ true
+known_live true live e h = absurd cc
+known_live false live e h = h
+
+not_root : (s : ℕ) → 0 < s → (s == 0) ≡ false
+not_root s low = grind (arith, nat_tests)
+
+framed_live : (w : World) (k s : ℕ) (rest : List Frame) → Sound w → CallsDevices w → (caller_at w k).stack ≡ Finaliser s ∷ rest → IsTrue (is_live w.live s)
+framed_live w k s rest sound calls e =
+    let each = all_or (λ (c : Caller). AllByRecursion IsOfDevice c.stack) w.callers k nobody calls tt in
+    let low : 0 < s = (subst (λ (fs : List Frame). AllByRecursion IsOfDevice fs) e each).0 in
+    known_live (s == 0) (is_live w.live s) (not_root s low) (top_known w k (Finaliser s) rest sound e)
+
+called_live : (w : World) (s : ℕ) (listed : Option ℕ) (anew : Bool) → Kept w → CallsDevices w → has_ended w 0 ≡ false → IsCalled w 0 s listed anew → IsTrue (is_live w.live s)
+called_live w s None anew kept calls goes called = framed_live w 0 s called.0 kept.sound calls called.1
+called_live w s (Some place) false kept calls goes called =
+    rw called.5 (at_live w.live w.finalisers place (omega (arith, called.3, called.4)) (kept.sound.boot (not_ended w 0 goes)).finalisers)
+called_live w s (Some place) true kept calls goes called =
+    rw called.5 (at_live w.live w.finalisers 0 (kept.ranges.some_called goes called.6) (kept.sound.boot (not_ended w 0 goes)).finalisers)
+
+pub plan_live : (w : World) (x : Plan) → Kept w → CallsDevices w → next w 0 ≡ Does (deed_of x) → AreLive w.live x
+plan_live w (plan.Search parent moved got) kept calls chosen = tt
+plan_live w (plan.EndScan of) kept calls chosen = tt
+plan_live w plan.BeginInterrupts kept calls chosen = tt
+plan_live w (plan.Finalise of shown got listed anew) kept calls chosen =
+    called_live w of listed anew kept calls (doing_so w 0 (Finalise of shown got listed anew) chosen).unended (has_reason w 0 (Finalise of shown got listed anew) chosen).called
+plan_live w plan.EndCaller kept calls chosen = tt
+
+pub plan_follows : (w : World) (x : Plan) → next w 0 ≡ Does (deed_of x) → Follows x
+plan_follows w (plan.Search parent moved got) chosen = tt
+plan_follows w (plan.EndScan of) chosen = tt
+plan_follows w plan.BeginInterrupts chosen = tt
+plan_follows w (plan.Finalise of None None listed anew) chosen = λ h. refl
+plan_follows w (plan.Finalise of None (Some a) listed anew) chosen = absurd (none_shown w 0 of a listed anew chosen)
+plan_follows w (plan.Finalise of (Some x) got listed anew) chosen = λ h. absurd (clash h)
+  where
+    clash : Some x ≡ None → ⊥
+    clash h = cc
+plan_follows w plan.EndCaller chosen = tt

@@ -1,0 +1,106 @@
+//! What is looked up in the setup: rows, drivers, spots and policies.
+ghost use Rattle.std.specs.Prelude.{◌≡◌, false, slice_get};
+ghost use Rattle.std.specs.Option.{option_map_or};
+ghost use Rattle.run_rules.specs.World as world;
+ghost use Rattle.run_rules.specs.Search as rule;
+ghost use Rattle.dev_board.specs.Late.{place_on};
+
+use cf_types::{Place, Policy};
+use run_rules::Setup;
+
+/// The driver of a row.
+pub fn driver_of(setup: &Setup, row: u32) -> u32
+    ensures { result ≡ world.driver_of setup.now row }
+{
+    match setup.tables.rows.items().get(row as usize) {
+        Some(r) => r.device,
+        None => 0,
+    }
+}
+
+/// The attachment of a row.
+pub fn attach_of(setup: &Setup, row: u32) -> u32
+    ensures { result ≡ world.attach_of setup.now row }
+{
+    match setup.tables.rows.items().get(row as usize) {
+        Some(r) => r.attach,
+        None => 0,
+    }
+}
+
+/// What the driver of a row does, by the row's attachment.
+pub fn policy_of(setup: &Setup, row: u32) -> Policy
+    ensures { result ≡ world.policy_of setup.now row }
+{
+    match setup
+        .machine
+        .policies
+        .items()
+        .get(attach_of(setup, row) as usize)
+    {
+        Some(policy) => *policy,
+        None => Policy {
+            nodetach: false,
+            norescan: false,
+            nopower: false,
+            failsuspend: false,
+            defer: false,
+            interrupts: false,
+            finaliser: false,
+        },
+    }
+}
+
+/// Whether the machine marks a spot absent.
+pub fn is_absent(setup: &Setup, spot: u16) -> bool
+    ensures { result ≡ option_map_or (λ spot. spot.absent) (slice_get setup.now.machine.spots spot) false }
+{
+    match setup.machine.spots.items().get(spot as usize) {
+        Some(s) => s.absent,
+        None => false,
+    }
+}
+
+/// Whether the machine marks a spot late.
+pub fn is_late(setup: &Setup, spot: u16) -> bool
+    ensures { result ≡ option_map_or (λ spot. spot.late) (slice_get setup.now.machine.spots spot) false }
+{
+    match setup.machine.spots.items().get(spot as usize) {
+        Some(s) => s.late,
+        None => false,
+    }
+}
+
+/// The place of a spot.
+pub fn place_of(setup: &Setup, spot: u16) -> Place
+    ensures { result ≡ place_on setup.now spot }
+{
+    match setup.machine.spots.items().get(spot as usize) {
+        Some(s) => s.place,
+        None => Place::Root,
+    }
+}
+
+/// The locator values that the bus finds at a spot.
+pub fn found_at(setup: &Setup, spot: u16) -> &[i64]
+    ensures { result.now ≡ rule.found_at setup.now.machine spot }
+{
+    match setup.machine.spots.items().get(spot as usize) {
+        Some(s) => s.found.items(),
+        None => &[],
+    }
+}
+
+/// Whether a list has a number.
+pub fn has(list: &[u32], n: u32) -> bool
+    ensures { result ≡ world.has list.now n }
+{
+    list.iter().any(|x| *x == n)
+}
+
+/// Whether a list has a spot.
+pub fn has_spot(list: &[u16], spot: u16) -> bool
+    ensures { result ≡ world.has list.now spot }
+{
+    list.iter().any(|x| *x == spot)
+}

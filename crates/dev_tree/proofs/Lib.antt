@@ -1,0 +1,9 @@
+pub mod Chains
+pub mod Places
+pub mod Pairs
+pub mod Named
+pub mod Halves
+pub mod Alike
+pub mod Kept
+pub mod Gone
+pub mod DriverLaws

@@ -1,0 +1,15 @@
+use Rattle.std.proofs.Common.{◌≡◌, ◌++◌, length, take, drop, map, ap, ◌∙◌}
+use Rattle.run_rules.specs.After.{with_condemner}
+use Rattle.dev_tree.proofs.Alike.{map_alike, condemner_plain}
+use Rattle.dev_tree.proofs.Halves.{given_back}
+use Rattle.dev_tree.proofs.Kept.{sound_marked}
+use Rattle.dev_tree.proofs.tree.DevTree.condemn.Goals as goal
+
+pub invariant_of-self : goal.invariant_of-self
+invariant_of-self c =
+    let old = c.self.inside.live.items in
+    let new = c.mark_condemned.new.live in
+    let marked = with_condemner old c.args.caller c.args.serial in
+    let back : take c.self.inside.live.len (new ++ drop (length new) old) ≡ map marked old =
+    given_back c.self.inside.live.len old new (c.mark_condemned.auto.live ∙ c.deref_mut.ensures.len) ∙ c.mark_condemned.ensures ∙ ap (λ ds. map (with_condemner ds c.args.caller c.args.serial) ds) c.deref_mut.ensures.value in
+    rw back (sound_marked old (map marked old) c.self.inside.drivers.items c.self.inside.next (map_alike marked (condemner_plain old c.args.caller c.args.serial) old) c.self.invariant)

@@ -1,0 +1,5 @@
+pub mod Tree
+pub use Rattle.run_rules.specs.World
+pub use Rattle.run_rules.specs.Search
+pub use Rattle.run_rules.specs.After
+pub use Rattle.run_rules.specs.Sound

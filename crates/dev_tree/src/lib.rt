@@ -1,0 +1,8 @@
+//! The live devices: which there are, where each stands, and what is below what.
+#![tactic(auto)]
+
+mod lookup;
+mod mark;
+mod tree;
+
+pub use tree::DevTree;

@@ -1,0 +1,3 @@
+pub use Rattle.dev_tree.specs.Tree
+pub use Rattle.run_rules.specs.World
+pub use Rattle.run_rules.specs.Next

@@ -1,0 +1,6 @@
+//! In which order devices sleep and wake. See pmf(9).
+#![tactic(auto)]
+
+mod order;
+
+pub use order::{next_sleep, next_wake};

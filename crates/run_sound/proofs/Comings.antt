@@ -1,0 +1,140 @@
+-- What a device that comes changes, whatever its policies: the parts of the world beside the frames and what was put off.
+use Rattle.std.proofs.Common.{◌≡◌, ◌≤◌, ℕ, ◌+◌, Bool, [], ◌∷◌, ◌++◌, length, refl, ◌∙◌, arith, length-append}
+use Rattle.cf_types.specs.declared.machine.Policy.{Policy}
+use Rattle.run_rules.specs.declared.world.Arrival.{Arrival}
+use Rattle.run_rules.specs.declared.world.Placing.{Placing}
+use Rattle.run_rules.specs.declared.world.Placing.TheVariants.{Nowhere, Queued, PutOff, Pushed}
+use Rattle.run_rules.specs.declared.world.Deferred.{Deferred}
+use Rattle.run_rules.specs.World.{World, Caller, has_ended, policy_of, offered_by}
+use Rattle.run_rules.specs.After.{attached, finaliser_placed, finaliser_placing, listed, new_device, place_finaliser, place_scan, scan_placed, scan_placing, with_caller}
+use Rattle.run_sound.proofs.Callers.{callers_kept}
+
+-- the work of a device is put somewhere: all else stays, and the boot's list grows by one at most
+pub record Places (w v : World) : Type 0 where
+  pub setup : v.setup ≡ w.setup
+  pub live : v.live ≡ w.live
+  pub next : v.next ≡ w.next
+  pub absent : v.absent ≡ w.absent
+  pub hidden : v.hidden ≡ w.hidden
+  pub phase : v.phase ≡ w.phase
+  pub place : v.place ≡ w.place
+  pub again : v.again ≡ w.again
+  pub no_less : length w.finalisers ≤ length v.finalisers
+  pub one_more : length v.finalisers ≤ length w.finalisers + 1
+  pub callers : length v.callers ≡ length w.callers
+
+same_places : (w : World) → Places w w
+same_places w = record {
+  setup = refl;
+  live = refl;
+  next = refl;
+  absent = refl;
+  hidden = refl;
+  phase = refl;
+  place = refl;
+  again = refl;
+  no_less = omega arith;
+  one_more = omega arith;
+  callers = refl;
+}
+
+called_places : (w : World) (s : ℕ) → Places w (record w { finalisers = w.finalisers ++ s ∷ [] })
+called_places w s = record {
+  setup = refl;
+  live = refl;
+  next = refl;
+  absent = refl;
+  hidden = refl;
+  phase = refl;
+  place = refl;
+  again = refl;
+  no_less = omega (arith, length-append w.finalisers (s ∷ []));
+  one_more = omega (arith, length-append w.finalisers (s ∷ []));
+  callers = refl;
+}
+
+frame_places : (w : World) (k : ℕ) (c : Caller) → Places w (with_caller w k c)
+frame_places w k c = record {
+  setup = refl;
+  live = refl;
+  next = refl;
+  absent = refl;
+  hidden = refl;
+  phase = refl;
+  place = refl;
+  again = refl;
+  no_less = omega arith;
+  one_more = omega arith;
+  callers = callers_kept w k c;
+}
+
+pub finaliser_places : (c : Placing) (w : World) (k s : ℕ) → Places w (place_finaliser c w k s)
+finaliser_places Nowhere w k s = same_places w
+finaliser_places Queued w k s = called_places w s
+finaliser_places PutOff w k s = same_places w
+finaliser_places Pushed w k s = frame_places w k _
+
+-- its scan leaves the boot's list as it is
+pub record PlacesScan (w v : World) : Type 0 where
+  pub places : Places w v
+  pub finalisers : v.finalisers ≡ w.finalisers
+
+put_off_places : (w : World) (e : Deferred) → Places w (record w { deferred = w.deferred ++ e ∷ [] })
+put_off_places w e = record {
+  setup = refl;
+  live = refl;
+  next = refl;
+  absent = refl;
+  hidden = refl;
+  phase = refl;
+  place = refl;
+  again = refl;
+  no_less = omega arith;
+  one_more = omega arith;
+  callers = refl;
+}
+
+pub scan_places : (c : Placing) (w : World) (k parent s : ℕ) → PlacesScan w (place_scan c w k parent s)
+scan_places Nowhere w k parent s = record { places = same_places w; finalisers = refl }
+scan_places Queued w k parent s = record { places = put_off_places w _; finalisers = refl }
+scan_places PutOff w k parent s = record { places = put_off_places w _; finalisers = refl }
+scan_places Pushed w k parent s = record { places = frame_places w k _; finalisers = refl }
+
+-- ---- the device itself
+
+pub record Comes (w v : World) (a : Arrival) : Type 0 where
+  pub setup : v.setup ≡ w.setup
+  pub live : v.live ≡ w.live ++ new_device w a ∷ []
+  pub next : v.next ≡ w.next + 1
+  pub absent : v.absent ≡ w.absent
+  pub hidden : v.hidden ≡ w.hidden
+  pub phase : v.phase ≡ w.phase
+  pub place : v.place ≡ w.place
+  pub again : v.again ≡ w.again
+  pub no_less : length w.finalisers ≤ length v.finalisers
+  pub one_more : length v.finalisers ≤ length w.finalisers + 1
+  pub callers : length v.callers ≡ length w.callers
+
+come_placed : (w u v : World) (a : Arrival) → Places (listed w a) u → PlacesScan u v → Comes w v a
+unfolding listed
+come_placed w u v a f s = record {
+  setup = s.places.setup ∙ f.setup;
+  live = s.places.live ∙ f.live;
+  next = s.places.next ∙ f.next;
+  absent = s.places.absent ∙ f.absent;
+  hidden = s.places.hidden ∙ f.hidden;
+  phase = s.places.phase ∙ f.phase;
+  place = s.places.place ∙ f.place;
+  again = s.places.again ∙ f.again;
+  no_less = rw s.finalisers f.no_less;
+  one_more = rw s.finalisers f.one_more;
+  callers = s.places.callers ∙ f.callers;
+}
+
+pub attached_comes : (w : World) (k : ℕ) (a : Arrival) (may_defer : Bool) → Comes w (attached w k a may_defer) a
+unfolding attached scan_placed finaliser_placed
+attached_comes w k a may_defer =
+    let p : Policy = policy_of w.setup a.row in
+    let u : World = place_finaliser (finaliser_placing p (has_ended (listed w a) 0)) (listed w a) k w.next in
+    come_placed w u _ a (finaliser_places (finaliser_placing p (has_ended (listed w a) 0)) (listed w a) k w.next)
+    (scan_places (scan_placing p (offered_by w.setup a.row) u.phase may_defer) u k a.parent w.next)

@@ -1,0 +1,213 @@
+-- What a deed changes of its caller's references.
+use Rattle.std.proofs.Common.{◌≡◌, ◌≢◌, ℕ, ◌==◌, not, ◌&&◌, ◌||◌, Bool, true, false, List, [], ◌∷◌, ◌++◌, Option, Some, None, refl, sym, ap, ◌∙◌, eqb-true, eq-eqb}
+use Rattle.std.proofs.lemmas.Option.{same_Some}
+use Rattle.std.specs.Prelude.{filter, is_some, if◌then◌else◌}
+use Rattle.std.specs.List.{list_any}
+use Rattle.std.proofs.lemmas.Bool.{and_parts, ne_eqb, eqb-false}
+use Rattle.std.proofs.lemmas.List.Folds.{list_any-append}
+use Rattle.std.proofs.lemmas.Map.Views.{any-filter_same}
+use Rattle.run_rules.proofs.Devices.{or_false}
+use Rattle.cf_types.specs.declared.machine.Command.{Command}
+use Rattle.run_rules.specs.declared.world.Ref.{Ref}
+use Rattle.run_rules.specs.declared.world.Arrival.{Arrival}
+use Rattle.run_rules.specs.declared.world.Placing.{Placing}
+use Rattle.run_rules.specs.declared.world.Placing.TheVariants.{Nowhere, Queued, PutOff, Pushed}
+use Rattle.run_rules.specs.World.{World, caller_at, has_ended, holds_in, is_held, offered_by, policy_of, refers_to}
+use Rattle.run_rules.specs.Deeds.{Deed, Search, EndScan, BeginInterrupts, Finalise, EndCaller, Drop, Answer, Open, Close, Start, Done, Detach, Free, Rescan, BeginPower, Sleep, Wake, EndPower, Plug, Unplug, Tell, Does}
+use Rattle.run_rules.specs.Next.{next}
+use Rattle.run_rules.specs.After.{after, arrived, attached, finaliser_done, finaliser_placed, finaliser_placing, freed, freeing_target, given_back, list_moved, listed, moved_top, over, place_finaliser, place_scan, released, scan_placed, scan_placing, show_spot, with_stack}
+use Rattle.run_sound.specs.Commands.{ClosesHeld, FreesLast, OpensFree, ReturnsFirst}
+use Rattle.run_sound.specs.Holding.{GoesUnheld, HoldsLess, HoldsMore, opened_by, returned_by}
+use Rattle.run_sound.proofs.Reasons.{has_command_reason}
+use Rattle.run_sound.proofs.References.{not_mine}
+
+-- ---- most deeds leave the references
+
+finaliser_refs : (x : Placing) (w : World) (k s : ℕ) → (place_finaliser x w k s).refs ≡ w.refs
+finaliser_refs Nowhere w k s = refl
+finaliser_refs Queued w k s = refl
+finaliser_refs PutOff w k s = refl
+finaliser_refs Pushed w k s = refl
+
+scan_refs : (x : Placing) (w : World) (k parent s : ℕ) → (place_scan x w k parent s).refs ≡ w.refs
+scan_refs Nowhere w k parent s = refl
+scan_refs Queued w k parent s = refl
+scan_refs PutOff w k parent s = refl
+scan_refs Pushed w k parent s = refl
+
+arrived_refs : (w : World) (k : ℕ) (got : Option Arrival) (may_defer : Bool) → (arrived w k got may_defer).refs ≡ w.refs
+unfolding attached scan_placed finaliser_placed listed
+arrived_refs w k None may_defer = refl
+arrived_refs w k (Some a) may_defer =
+    let come : World = listed w a in
+    let called : World = place_finaliser (finaliser_placing (policy_of w.setup a.row) (has_ended come 0)) come k w.next in
+    scan_refs (scan_placing (policy_of w.setup a.row) (offered_by w.setup a.row) called.phase may_defer) called k a.parent w.next
+    ∙ finaliser_refs (finaliser_placing (policy_of w.setup a.row) (has_ended come 0)) come k w.next
+
+shown_refs : (w : World) (shown : Option ℕ) → (show_spot w shown).refs ≡ w.refs
+shown_refs w None = refl
+shown_refs w (Some x) = refl
+
+called_refs : (u : World) (k : ℕ) (place : Option ℕ) (anew answer : Bool) → (finaliser_done (list_moved u place anew answer) k place answer).refs ≡ u.refs
+called_refs u k (Some place) anew answer = refl
+called_refs u k None anew true = refl
+called_refs u k None anew false = refl
+
+freed_refs : (w : World) (k s : ℕ) (last : Bool) → (if last then over (freed w s) k else freed w s).refs ≡ w.refs
+freed_refs w k s true = refl
+freed_refs w k s false = refl
+
+pub refs_same : (w : World) (k : ℕ) (d : Deed) → opened_by d ≡ None → returned_by d ≡ None → (after w k d).refs ≡ w.refs
+unfolding after released
+refs_same w k (Search p to got) a b = arrived_refs (with_stack w k (moved_top to (caller_at w k).stack)) k got true
+refs_same w k (EndScan p) a b = refl
+refs_same w k BeginInterrupts a b = refl
+refs_same w k (Finalise s shown got place anew) a b =
+    called_refs (arrived (show_spot w shown) k got false) k place anew (is_some shown) ∙ arrived_refs (show_spot w shown) k got false ∙ shown_refs w shown
+refs_same w k EndCaller a b = refl
+refs_same w k (Drop s) a b = absurd cc
+refs_same w k (Answer said reply) a b = refl
+refs_same w k (Open said s) a b = absurd cc
+refs_same w k (Close said s) a b = absurd cc
+refs_same w k (Start said ticket) a b = refl
+refs_same w k (Done ticket) a b = refl
+refs_same w k (Detach said s) a b = refl
+refs_same w k (Free s) a b = freed_refs w k s (freeing_target (caller_at w k).doing s)
+refs_same w k (Rescan said frame) a b = refl
+refs_same w k (BeginPower said kind s) a b = refl
+refs_same w k (Sleep s) a b = refl
+refs_same w k (Wake s) a b = refl
+refs_same w k (EndPower s reply) a b = refl
+refs_same w k (Plug said x) a b = refl
+refs_same w k (Unplug said x None) a b = refl
+refs_same w k (Unplug said x (Some s)) a b = refl
+refs_same w k (Tell said) a b = refl
+
+-- so each caller holds what it held
+pub holds_same : (w : World) (k : ℕ) (d : Deed) → opened_by d ≡ None → returned_by d ≡ None → (j s : ℕ) → is_held (after w k d) j s ≡ is_held w j s
+holds_same w k d a b j s = ap (λ (refs : List Ref). holds_in refs j s) (refs_same w k d a b)
+
+-- ---- one is given
+
+-- one reference at the end is one more
+last_ref : (held same own : Bool) → own ≡ true → (held || (same && own || false)) ≡ (same || held)
+last_ref true true own e = refl
+last_ref true false own e = refl
+last_ref false true own e = rw e refl
+last_ref false false own e = refl
+
+one_more : (refs : List Ref) (k s x : ℕ) → holds_in (refs ++ record { serial = s; caller = k } ∷ []) k x ≡ (s == x || holds_in refs k x)
+one_more refs k s x = list_any-append (λ r. r.serial == x && r.caller == k) refs (record { serial = s; caller = k } ∷ []) ∙ last_ref (holds_in refs k x) (s == x) (k == k) (eq-eqb k k refl)
+
+pub holds_opened : (w : World) (k : ℕ) (said : Command) (s : ℕ) → next w k ≡ Does (Open said s) → HoldsMore w k (Open said s) s
+unfolding after
+holds_opened w k said s e =
+    let why : OpensFree w k said s = has_command_reason w k (Open said s) e in
+    record { live = why.named.live; free = why.free; holds = one_more w.refs k s }
+
+-- ---- one is given back
+
+one_less : (refs : List Ref) (k s x : ℕ) → holds_in (given_back refs k s) k x ≡ (not (s == x) && holds_in refs k x)
+one_less refs k s x = cases (s == x) refl
+  where
+    has_it : Ref → Bool
+    has_it r = r.serial == x && r.caller == k
+
+    stays : Ref → Bool
+    stays r = not (r.serial == s && r.caller == k)
+
+    goes : s ≡ x → (r : Ref) → has_it r ≡ true → stays r ≡ false
+    goes same r h = rw same (ap not h)
+
+    left : s ≢ x → (r : Ref) → has_it r ≡ true → stays r ≡ true
+    left other r h = let is : r.serial ≡ x = eqb-true r.serial x (and_parts (r.serial == x) (r.caller == k) h).0 in rw (ne_eqb r.serial s (λ same. other (sym same ∙ is))) refl
+
+    cases : (b : Bool) → (s == x) ≡ b → list_any has_it (filter stays refs) ≡ (not b && list_any has_it refs)
+    cases true h = any-filter_same has_it stays false (goes (eqb-true s x h)) refs
+    cases false h = any-filter_same has_it stays true (left (eqb-false s x h)) refs
+
+pub holds_returned : (w : World) (k s : ℕ) (d : Deed) → next w k ≡ Does d → returned_by d ≡ Some s → HoldsLess w k d s
+unfolding after
+holds_returned w k s (Close said t) e is =
+    let why : ClosesHeld w k said t = has_command_reason w k (Close said t) e in
+    let same : t ≡ s = same_Some t s is in
+    rw (← same) (record { live = why.named.live; held = why.held; holds = one_less w.refs k t })
+holds_returned w k s (Drop t) e is =
+    let why : ReturnsFirst w k t = has_command_reason w k (Drop t) e in
+    let same : t ≡ s = same_Some t s is in
+    rw (← same) (record { live = why.live; held = why.held; holds = one_less w.refs k t })
+holds_returned w k s (Search p to got) e is = absurd cc
+holds_returned w k s (EndScan p) e is = absurd cc
+holds_returned w k s BeginInterrupts e is = absurd cc
+holds_returned w k s (Finalise t shown got place anew) e is = absurd cc
+holds_returned w k s EndCaller e is = absurd cc
+holds_returned w k s (Answer said reply) e is = absurd cc
+holds_returned w k s (Open said t) e is = absurd cc
+holds_returned w k s (Start said ticket) e is = absurd cc
+holds_returned w k s (Done ticket) e is = absurd cc
+holds_returned w k s (Detach said t) e is = absurd cc
+holds_returned w k s (Free t) e is = absurd cc
+holds_returned w k s (Rescan said frame) e is = absurd cc
+holds_returned w k s (BeginPower said kind t) e is = absurd cc
+holds_returned w k s (Sleep t) e is = absurd cc
+holds_returned w k s (Wake t) e is = absurd cc
+holds_returned w k s (EndPower t reply) e is = absurd cc
+holds_returned w k s (Plug said x) e is = absurd cc
+holds_returned w k s (Unplug said x of) e is = absurd cc
+holds_returned w k s (Tell said) e is = absurd cc
+
+-- ---- other callers
+
+others_more : (refs : List Ref) (k j s x : ℕ) → j ≢ k → holds_in (refs ++ record { serial = s; caller = k } ∷ []) j x ≡ holds_in refs j x
+others_more refs k j s x other =
+    list_any-append (λ r. r.serial == x && r.caller == j) refs (record { serial = s; caller = k } ∷ []) ∙ last_ref_other (holds_in refs j x) (s == x) (k == j) (ne_eqb k j (λ e. other (sym e)))
+  where
+    last_ref_other : (held same own : Bool) → own ≡ false → (held || (same && own || false)) ≡ held
+    last_ref_other true same own e = refl
+    last_ref_other false true own e = rw e refl
+    last_ref_other false false own e = refl
+
+others_less : (refs : List Ref) (k j s x : ℕ) → j ≢ k → holds_in (given_back refs k s) j x ≡ holds_in refs j x
+others_less refs k j s x other =
+    any-filter_same (λ r. r.serial == x && r.caller == j) (λ r. not (r.serial == s && r.caller == k)) true (λ r h. not_mine r s x k j other h) refs
+
+-- a deed changes its own caller's references alone
+pub holds_others : (w : World) (k j : ℕ) (d : Deed) → j ≢ k → (s : ℕ) → is_held (after w k d) j s ≡ is_held w j s
+unfolding after
+holds_others w k j (Open said t) other s = others_more w.refs k j t s other
+holds_others w k j (Close said t) other s = others_less w.refs k j t s other
+holds_others w k j (Drop t) other s = others_less w.refs k j t s other
+holds_others w k j (Search p to got) other s = holds_same w k (Search p to got) refl refl j s
+holds_others w k j (EndScan p) other s = holds_same w k (EndScan p) refl refl j s
+holds_others w k j BeginInterrupts other s = holds_same w k BeginInterrupts refl refl j s
+holds_others w k j (Finalise t shown got place anew) other s = holds_same w k (Finalise t shown got place anew) refl refl j s
+holds_others w k j EndCaller other s = holds_same w k EndCaller refl refl j s
+holds_others w k j (Answer said reply) other s = holds_same w k (Answer said reply) refl refl j s
+holds_others w k j (Start said ticket) other s = holds_same w k (Start said ticket) refl refl j s
+holds_others w k j (Done ticket) other s = holds_same w k (Done ticket) refl refl j s
+holds_others w k j (Detach said t) other s = holds_same w k (Detach said t) refl refl j s
+holds_others w k j (Free t) other s = holds_same w k (Free t) refl refl j s
+holds_others w k j (Rescan said frame) other s = holds_same w k (Rescan said frame) refl refl j s
+holds_others w k j (BeginPower said kind t) other s = holds_same w k (BeginPower said kind t) refl refl j s
+holds_others w k j (Sleep t) other s = holds_same w k (Sleep t) refl refl j s
+holds_others w k j (Wake t) other s = holds_same w k (Wake t) refl refl j s
+holds_others w k j (EndPower t reply) other s = holds_same w k (EndPower t reply) refl refl j s
+holds_others w k j (Plug said x) other s = holds_same w k (Plug said x) refl refl j s
+holds_others w k j (Unplug said x of) other s = holds_same w k (Unplug said x of) refl refl j s
+holds_others w k j (Tell said) other s = holds_same w k (Tell said) refl refl j s
+
+-- ---- a device goes
+
+unreferred : (refs : List Ref) (j s : ℕ) → refers_to refs s ≡ false → holds_in refs j s ≡ false
+unreferred [] j s h = refl
+unreferred (r ∷ rs) j s h = let parts = or_false (r.serial == s) (refers_to rs s) h in rw (parts.0, unreferred rs j s parts.1) refl
+
+freed_gone : (w : World) (k s : ℕ) (last : Bool) → (if last then over (freed w s) k else freed w s).live ≡ (freed w s).live
+freed_gone w k s true = refl
+freed_gone w k s false = refl
+
+pub goes_unheld : (w : World) (k s : ℕ) → next w k ≡ Does (Free s) → GoesUnheld w k (Free s) s
+unfolding after
+goes_unheld w k s e =
+    let why : FreesLast w k s = has_command_reason w k (Free s) e in
+    record { live = why.live; free = λ j. unreferred w.refs j s why.free; gone = freed_gone w k s (freeing_target (caller_at w k).doing s) }

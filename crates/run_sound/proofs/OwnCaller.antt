@@ -1,0 +1,94 @@
+-- What a caller that boots, scans or ends keeps of itself in a deed of a frame and at its end.
+use Rattle.std.proofs.Common.{ℕ, zero, suc, Bool, true, false, List, [], ◌∷◌, Option, Some, None, slice_index_or, slice_set}
+use Rattle.std.specs.Prelude.{⊤, is_some}
+use Rattle.run_rules.specs.declared.world.Frame.{Frame}
+use Rattle.run_rules.specs.declared.world.Arrival.{Arrival}
+use Rattle.run_rules.specs.declared.world.Activity.TheVariants as activity
+use Rattle.run_rules.specs.declared.world.Placing.{Placing}
+use Rattle.run_rules.specs.declared.world.Placing.TheVariants.{Nowhere, Queued, PutOff, Pushed}
+use Rattle.run_rules.specs.World.{World, Caller, caller_at, has_ended, nobody, offered_by, policy_of}
+use Rattle.run_rules.specs.Deeds.{Deed, Search, EndScan, BeginInterrupts, Finalise, EndCaller, Drop, Answer, Open, Close, Start, Done, Detach, Free, Rescan, BeginPower, Sleep, Wake, EndPower, Plug, Unplug, Tell}
+use Rattle.run_rules.specs.After.{after, arrived, attached, finaliser_done, finaliser_placed, finaliser_placing, list_moved, listed, moved_top, place_finaliser, place_scan, released, settled, scan_placed, scan_placing, show_spot, with_stack}
+
+-- a deed of the boot: of a frame, of the boot's list, or the end
+abbrev pub IsBootDeed : Deed → Type 0
+IsBootDeed (Search p to got) = ⊤
+IsBootDeed (EndScan p) = ⊤
+IsBootDeed BeginInterrupts = ⊤
+IsBootDeed (Finalise s shown got place anew) = ⊤
+IsBootDeed EndCaller = ⊤
+IsBootDeed _ = ⊥
+
+-- a property of a caller that stays when its frames change, and when it ends
+pub record Stays (P : Caller → Type 0) : Type 0 where
+  pub stacked : (c : Caller) (stack : List Frame) → P c → P (settled (record { over = c.over; doing = c.doing; stack = stack }))
+  pub ended : (c : Caller) → P c → P (record { over = c.over; doing = activity.Ended; stack = c.stack })
+
+-- the caller that is set, or what was there where there is none
+pub own_set : (P : Caller → Type 0) (cs : List Caller) (k : ℕ) (c : Caller) → P c → P (slice_index_or cs k nobody) → P (slice_index_or (slice_set cs k c) k nobody)
+own_set P [] k c new old = old
+own_set P (x ∷ xs) zero c new old = new
+own_set P (x ∷ xs) (suc k) c new old = own_set P xs k c new old
+
+module _ (P : Caller → Type 0) (stays : Stays P) where
+  abbrev Has : World → ℕ → Type 0
+  Has w k = P (caller_at w k)
+
+  pub own_stack : (w : World) (k : ℕ) (stack : List Frame) → Has w k → Has (with_stack w k stack) k
+  own_stack w k stack h = own_set P w.callers k _ (stays.stacked (caller_at w k) stack h) h
+
+  own_finaliser : (x : Placing) (w : World) (k s : ℕ) → Has w k → Has (place_finaliser x w k s) k
+  own_finaliser Nowhere w k s h = h
+  own_finaliser Queued w k s h = h
+  own_finaliser PutOff w k s h = h
+  own_finaliser Pushed w k s h = own_stack w k _ h
+
+  own_scan : (x : Placing) (w : World) (k parent s : ℕ) → Has w k → Has (place_scan x w k parent s) k
+  own_scan Nowhere w k parent s h = h
+  own_scan Queued w k parent s h = h
+  own_scan PutOff w k parent s h = h
+  own_scan Pushed w k parent s h = own_stack w k _ h
+
+  own_arrived : (w : World) (k : ℕ) (got : Option Arrival) (may_defer : Bool) → Has w k → Has (arrived w k got may_defer) k
+  unfolding attached scan_placed finaliser_placed listed
+  own_arrived w k None may_defer h = h
+  own_arrived w k (Some a) may_defer h =
+      let come : World = listed w a in
+      let called : World = place_finaliser (finaliser_placing (policy_of w.setup a.row) (has_ended come 0)) come k w.next in
+      own_scan (scan_placing (policy_of w.setup a.row) (offered_by w.setup a.row) called.phase may_defer) called k a.parent w.next
+      (own_finaliser (finaliser_placing (policy_of w.setup a.row) (has_ended come 0)) come k w.next h)
+
+  own_shown : (w : World) (k : ℕ) (shown : Option ℕ) → Has w k → Has (show_spot w shown) k
+  own_shown w k None h = h
+  own_shown w k (Some x) h = h
+
+  own_called : (u : World) (k : ℕ) (place : Option ℕ) (anew answer : Bool) → Has u k → Has (finaliser_done (list_moved u place anew answer) k place answer) k
+  own_called u k (Some place) anew answer h = h
+  own_called u k None anew true h = h
+  own_called u k None anew false h = own_stack u k _ h
+
+  -- so it stays in each such deed
+  pub own_after : (w : World) (k : ℕ) (d : Deed) → IsBootDeed d → Has w k → Has (after w k d) k
+  unfolding after released
+  own_after w k (Search p to got) is h = own_arrived (with_stack w k (moved_top to (caller_at w k).stack)) k got true (own_stack w k _ h)
+  own_after w k (EndScan p) is h = own_stack w k _ h
+  own_after w k BeginInterrupts is h = own_stack w k _ h
+  own_after w k (Finalise s shown got place anew) is h =
+      own_called (arrived (show_spot w shown) k got false) k place anew (is_some shown) (own_arrived (show_spot w shown) k got false (own_shown w k shown h))
+  own_after w k EndCaller is h = own_set P w.callers k _ (stays.ended (caller_at w k) h) h
+  own_after w k (Drop s) is h = absurd is
+  own_after w k (Answer said reply) is h = absurd is
+  own_after w k (Open said s) is h = absurd is
+  own_after w k (Close said s) is h = absurd is
+  own_after w k (Start said ticket) is h = absurd is
+  own_after w k (Done ticket) is h = absurd is
+  own_after w k (Detach said s) is h = absurd is
+  own_after w k (Free s) is h = absurd is
+  own_after w k (Rescan said frame) is h = absurd is
+  own_after w k (BeginPower said kind s) is h = absurd is
+  own_after w k (Sleep s) is h = absurd is
+  own_after w k (Wake s) is h = absurd is
+  own_after w k (EndPower s reply) is h = absurd is
+  own_after w k (Plug said x) is h = absurd is
+  own_after w k (Unplug said x of) is h = absurd is
+  own_after w k (Tell said) is h = absurd is

@@ -1,0 +1,176 @@
+-- A deed keeps a world in its ranges.
+use Rattle.std.proofs.Common.{◌≡◌, ◌<◌, ◌≤◌, ℕ, ◌+◌, Bool, true, false, List, [], ◌∷◌, ◌++◌, length, Option, Some, None, refl, ◌∙◌, ap, arith}
+use Rattle.std.specs.Prelude.{⊤, is_some}
+use Rattle.run_rules.specs.declared.world.Setup.{Setup}
+use Rattle.run_rules.specs.declared.world.Dev.{Dev}
+use Rattle.run_rules.specs.declared.world.Arrival.{Arrival}
+use Rattle.run_rules.specs.declared.world.Position.{Position}
+use Rattle.run_rules.specs.World.{World, caller_at, has_ended}
+use Rattle.run_rules.specs.Deeds.{Does, Deed, Search, EndScan, BeginInterrupts, Finalise, EndCaller, Drop, Answer, Open, Close, Start, Done, Detach, Free, Rescan, BeginPower, Sleep, Wake, EndPower, Plug, Unplug, Tell}
+use Rattle.run_rules.specs.Next.{next}
+use Rattle.run_rules.specs.After.{after, arrived, attached, finaliser_done, list_moved, moved_top, new_device, released, show_spot, with_stack}
+use Rattle.run_rules.proofs.Setups.{after_setup}
+use Rattle.run_sound.specs.Coming.{IsCall, IsCalled, MayCome}
+use Rattle.run_sound.specs.Kept.{InRange, Kept, MayRun}
+use Rattle.run_sound.specs.Left.{free_spots}
+use Rattle.run_sound.proofs.Arrivals.{finalise_comes, none_shown, search_comes}
+use Rattle.run_sound.proofs.Comings.{Comes, attached_comes}
+use Rattle.run_sound.proofs.Reasons.{has_reason}
+use Rattle.run_sound.proofs.OwnCaller.{IsBootDeed}
+use Rattle.run_sound.proofs.RangesCallers.{boot_deed, boot_did, boots_after, callers_many}
+use Rattle.run_sound.proofs.RangesDeeds.{ComesFit, after_serials, ranged_after, shown_fits}
+use Rattle.run_sound.proofs.RangesOf.{AreRanged, FitsIn, ranged_of}
+use Rattle.run_sound.proofs.Scripts.{scripts_after}
+use Rattle.run_sound.proofs.Holders.{holders_after}
+use Rattle.run_sound.proofs.Spots.{free_falls}
+
+-- ---- what comes fits in
+
+may_fit : (s : Setup) (live : List Dev) (hidden : List ℕ) (p : ℕ) (a : Arrival) (d : Dev) → MayCome s live hidden p a → d.row ≡ a.row → d.unit ≡ a.unit → d.spot ≡ a.spot → FitsIn s live hidden d
+may_fit s live hidden p a d may r u x = record { row = rw r may.row; unit = rw u may.small; spot = rw x may.spot; free = rw x may.bare; seen = rw x may.seen }
+
+pub comes_fit : (w : World) (k : ℕ) (d : Deed) → MayRun w.setup → Kept w → next w k ≡ Does d → ComesFit w d
+comes_fit w k (Search p to None) may kept e = tt
+comes_fit w k (Search p to (Some a)) may kept e = may_fit w.setup w.live w.hidden p a (new_device w a) (search_comes w k p to a may kept e) refl refl refl
+comes_fit w k (EndScan p) may kept e = tt
+comes_fit w k BeginInterrupts may kept e = tt
+comes_fit w k (Finalise s shown None listed anew) may kept e = tt
+comes_fit w k (Finalise s None (Some a) listed anew) may kept e = absurd (none_shown w k s a listed anew e)
+comes_fit w k (Finalise s (Some x) (Some a) listed anew) may kept e =
+    may_fit w.setup w.live (show_spot w (Some x)).hidden s a (new_device w a) (finalise_comes w k s x a listed anew may kept e) refl refl refl
+comes_fit w k EndCaller may kept e = tt
+comes_fit w k (Drop s) may kept e = tt
+comes_fit w k (Answer said reply) may kept e = tt
+comes_fit w k (Open said s) may kept e = tt
+comes_fit w k (Close said s) may kept e = tt
+comes_fit w k (Start said ticket) may kept e = tt
+comes_fit w k (Done ticket) may kept e = tt
+comes_fit w k (Detach said s) may kept e = tt
+comes_fit w k (Free s) may kept e = tt
+comes_fit w k (Rescan said frame) may kept e = tt
+comes_fit w k (BeginPower said kind s) may kept e = tt
+comes_fit w k (Sleep s) may kept e = tt
+comes_fit w k (Wake s) may kept e = tt
+comes_fit w k (EndPower s reply) may kept e = tt
+comes_fit w k (Plug said x) may kept e = tt
+comes_fit w k (Unplug said x of) may kept e = tt
+comes_fit w k (Tell said) may kept e = tt
+
+-- what comes to a world, if something does, fits in
+abbrev FitsIf : World → Option Arrival → Type 0
+FitsIf w None = ⊤
+FitsIf w (Some a) = FitsIn w.setup w.live w.hidden (new_device w a)
+
+-- ---- the boot's list
+
+-- what is said of it while the boot goes on
+record IsListed (w : World) : Type 0 where
+  few : length w.finalisers + free_spots w.live (length w.setup.machine.spots) ≤ length w.setup.machine.spots
+  some : w.again ≡ true → 0 < length w.finalisers
+
+come_listed : (w v : World) (a : Arrival) → Comes w v a → FitsIn w.setup w.live w.hidden (new_device w a) → IsListed w → IsListed v
+come_listed w v a is fits l =
+    let n : ℕ = length w.setup.machine.spots in
+    let fewer : free_spots (w.live ++ new_device w a ∷ []) n < free_spots w.live n = free_falls w.live (new_device w a) n fits.spot fits.free in
+    record {
+      few = rw (is.setup, is.live) (omega (arith, l.few, fewer, is.one_more));
+      some = λ h. omega (arith, l.some (rw is.again at h), is.no_less);
+    }
+
+shown_listed : (w : World) (shown : Option ℕ) → IsListed w → IsListed (show_spot w shown)
+shown_listed w None l = record { few = l.few; some = l.some }
+shown_listed w (Some x) l = record { few = l.few; some = l.some }
+
+called_listed : (u : World) (k : ℕ) (listed : Option ℕ) (anew answer : Bool) → (is_some listed ≡ true → 0 < length u.finalisers) → IsListed u
+    → IsListed (finaliser_done (list_moved u listed anew answer) k listed answer)
+called_listed u k (Some place) anew answer one l = record { few = l.few; some = λ h. one refl }
+called_listed u k None anew true one l = record { few = l.few; some = l.some }
+called_listed u k None anew false one l = record { few = l.few; some = l.some }
+
+-- a finaliser of the list is called: there is one
+one_there : (w : World) (k s : ℕ) (listed : Option ℕ) (anew : Bool) → IsListed w → IsCalled w k s listed anew → is_some listed ≡ true → 0 < length w.finalisers
+one_there w k s None anew l called h = absurd cc
+one_there w k s (Some place) false l called h = omega (arith, called.4)
+one_there w k s (Some place) true l called h = l.some called.6
+
+shown_called : (w : World) (shown : Option ℕ) → (show_spot w shown).finalisers ≡ w.finalisers
+shown_called w None = refl
+shown_called w (Some x) = refl
+
+arrived_listed : (w : World) (k : ℕ) (got : Option Arrival) (may_defer : Bool) → FitsIf w got → IsListed w → IsListed (arrived w k got may_defer)
+arrived_listed w k None may_defer fits l = l
+arrived_listed w k (Some a) may_defer fits l = come_listed w (attached w k a may_defer) a (attached_comes w k a may_defer) fits l
+
+-- no device that comes shortens the list
+arrived_more : (w : World) (k : ℕ) (got : Option Arrival) (may_defer : Bool) → length w.finalisers ≤ length (arrived w k got may_defer).finalisers
+arrived_more w k None may_defer = omega arith
+arrived_more w k (Some a) may_defer = (attached_comes w k a may_defer).no_less
+
+call_fits : (w : World) (s : ℕ) (shown : Option ℕ) (got : Option Arrival) (listed : Option ℕ) (anew : Bool) → ComesFit w (Finalise s shown got listed anew) → FitsIf (show_spot w shown) got
+call_fits w s shown None listed anew fits = tt
+call_fits w s shown (Some a) listed anew fits = shown_fits w shown a fits
+
+turn_fits : (w : World) (p : ℕ) (to : Position) (got : Option Arrival) → ComesFit w (Search p to got) → FitsIf w got
+turn_fits w p to None fits = tt
+turn_fits w p to (Some a) fits = fits
+
+listed_after : (w : World) (d : Deed) → next w 0 ≡ Does d → IsBootDeed d → ComesFit w d → IsListed w → IsListed (after w 0 d)
+unfolding after released
+listed_after w (Search p to got) e is fits l =
+    arrived_listed (with_stack w 0 (moved_top to (caller_at w 0).stack)) 0 got true (turn_fits w p to got fits) (record { few = l.few; some = l.some })
+listed_after w (EndScan p) e is fits l = record { few = l.few; some = l.some }
+listed_after w BeginInterrupts e is fits l = record { few = l.few; some = l.some }
+listed_after w (Finalise s shown got listed anew) e is fits l =
+    let u : World = show_spot w shown in
+    let v : World = arrived u 0 got false in
+    let call : IsCall w 0 s shown got listed anew = has_reason w 0 (Finalise s shown got listed anew) e in
+    called_listed v 0 listed anew (is_some shown)
+    (λ h. omega (arith, one_there w 0 s listed anew l call.called h, arrived_more u 0 got false, ap length (shown_called w shown)))
+    (arrived_listed u 0 got false (call_fits w s shown got listed anew fits) (shown_listed w shown l))
+listed_after w EndCaller e is fits l = record { few = l.few; some = l.some }
+listed_after w (Drop s) e is fits l = absurd is
+listed_after w (Answer said reply) e is fits l = absurd is
+listed_after w (Open said s) e is fits l = absurd is
+listed_after w (Close said s) e is fits l = absurd is
+listed_after w (Start said ticket) e is fits l = absurd is
+listed_after w (Done ticket) e is fits l = absurd is
+listed_after w (Detach said s) e is fits l = absurd is
+listed_after w (Free s) e is fits l = absurd is
+listed_after w (Rescan said frame) e is fits l = absurd is
+listed_after w (BeginPower said kind s) e is fits l = absurd is
+listed_after w (Sleep s) e is fits l = absurd is
+listed_after w (Wake s) e is fits l = absurd is
+listed_after w (EndPower s reply) e is fits l = absurd is
+listed_after w (Plug said x) e is fits l = absurd is
+listed_after w (Unplug said x of) e is fits l = absurd is
+listed_after w (Tell said) e is fits l = absurd is
+
+-- while the boot goes on after the deed
+listed_then : (w : World) (k : ℕ) (d : Deed) → MayRun w.setup → Kept w → next w k ≡ Does d → has_ended (after w k d) 0 ≡ false → IsListed (after w k d)
+listed_then w k d may kept e goes =
+    let did = boot_did w k d e goes in
+    let same : k ≡ 0 = did.0 in
+    let chosen : next w 0 ≡ Does d = rw same at e in
+    let was : IsListed w = record { few = kept.ranges.few_called did.1; some = kept.ranges.some_called did.1 } in
+    rw same (listed_after w d chosen (boot_deed w d kept.ranges.booting chosen) (comes_fit w 0 d may kept chosen) was)
+
+-- ---- all of it
+
+pub ranges_after : (w : World) (k : ℕ) (d : Deed) → MayRun w.setup → Kept w → next w k ≡ Does d → InRange (after w k d)
+ranges_after w k d may kept e =
+    let r : InRange w = kept.ranges in
+    let ranged : AreRanged (after w k d).setup (after w k d).live (after w k d).hidden = ranged_after w k d (comes_fit w k d may kept e) (ranged_of w r) in
+    record {
+      rows = ranged.rows;
+      units = ranged.units;
+      spots = ranged.spots;
+      bare = ranged.bare;
+      counted = omega (arith, r.counted, (after_serials w k d).0);
+      callers = rw (after_setup w k d) (callers_many w k d ∙ r.callers);
+      booting = boots_after w k d e r.booting;
+      placed = scripts_after w k d e r.placed;
+      holders = holders_after w k d r e;
+      few = ranged.few;
+      few_called = λ goes. (listed_then w k d may kept e goes).few;
+      some_called = λ goes. (listed_then w k d may kept e goes).some;
+    }

@@ -1,0 +1,371 @@
+-- Why a caller does a deed: each row of what comes next gives a deed with its reason.
+use Rattle.std.proofs.Common.{◌≡◌, ◌⊎◌, ◌<◌, ◌≤◌, ℕ, ◌+◌, Bool, true, false, not, ◌&&◌, ◌||◌, ◌==◌, nat_lt, length, cond, ap, option_and_then, List, [], ◌∷◌, find, Option, Some, None, refl, sym, ◌∙◌, subst, inl, inr, arith, eqb-true}
+use Rattle.std.proofs.lemmas.Option.{same_Some}
+use Rattle.std.specs.Option.{option_map_or}
+use Rattle.std.specs.Prelude.{reverse, option_map}
+use Rattle.std.proofs.lemmas.Bool.{eqb-false, not-false, not-true}
+use Rattle.std.proofs.lemmas.Bool.Decides.{nat_tests}
+use Rattle.cf_types.specs.declared.machine.Command.{Command}
+use Rattle.cf_types.specs.declared.machine.Command.TheVariants as command
+use Rattle.cf_types.specs.declared.machine.Given.{Given}
+use Rattle.run_rules.specs.declared.event.PowerKind.{PowerKind}
+use Rattle.run_rules.specs.declared.event.PowerKind.TheVariants as kind
+use Rattle.run_rules.specs.declared.world.Dev.{Dev}
+use Rattle.run_rules.specs.declared.world.Frame.{Frame}
+use Rattle.run_rules.specs.declared.world.Frame.TheVariants.{Scan, Finaliser}
+use Rattle.run_rules.specs.declared.world.Activity.{Activity}
+use Rattle.run_rules.specs.declared.world.Activity.TheVariants as activity
+use Rattle.run_rules.specs.World.{World, has, has_ended, is_number, is_referred, is_live, policy_of, offered_by, device_at, device_on, is_held, is_pinned, is_condemned, device_named, caller_at, frame_serial}
+use Rattle.run_rules.specs.Deeds.{Deed, Choice, Search, EndScan, BeginInterrupts, Finalise, EndCaller, Drop, Answer, Open, Close, Start, Done, Detach, Free, Rescan, BeginPower, Sleep, Wake, EndPower, Plug, Unplug, Tell, Ended, Does}
+use Rattle.run_rules.specs.Next.{next, next_scan, next_boot, finalise, next_free, next_sleep, next_wake, freeing, suspending, waking, powering, hindered, other_turn, is_power, rescan_of, has_nothing, attr_named, wanted_of, telling, spot_named, on_device, on_held, late_spot, command_of, first_held, command_deed, next_command, on_top, by_activity}
+use Rattle.run_rules.specs.Search.{due}
+use Rattle.run_rules.proofs.Devices.{or_false}
+use Rattle.run_rules.proofs.Free.{find_true}
+use Rattle.run_sound.specs.Coming.{HasReason, IsCall, IsCalled, IsEnd, IsPhase, IsScanEnd, IsTurn}
+use Rattle.run_sound.specs.Commands.{Begins, HasCommandReason, IsBetween, IsNamed, IsRescanFrame, wakes_below, power_command}
+use Rattle.run_sound.proofs.Members.{found_contained, found_from_end, contained_live}
+
+-- ---- the reasons of all deeds
+
+-- idle, or in a rescan
+abbrev Rests : World → ℕ → Type 0
+Rests w k = ((caller_at w k).doing ≡ activity.Idle) ⊎ ((caller_at w k).doing ≡ activity.Scans)
+
+-- who does a deed of a frame rests
+abbrev Why : World → ℕ → Deed → Type 0
+Why w k (Search p to got) = IsTurn w k p to got × Rests w k
+Why w k (EndScan p) = IsScanEnd w k p × Rests w k
+Why w k BeginInterrupts = IsPhase w k × Rests w k
+Why w k (Finalise s shown got listed anew) = IsCall w k s shown got listed anew × Rests w k
+Why w k EndCaller = IsEnd w k × Rests w k
+Why w k d = HasCommandReason w k d
+
+-- ---- choices of choices
+
+-- each deed that the choice may come to has the property
+record Each (P : Deed → Type 0) (c : Choice) : Type 0 where
+  each : (d : Deed) → c ≡ Does d → P d
+
+one_deed : (d e : Deed) → Does d ≡ Does e → d ≡ e
+one_deed d e h = cc
+
+because : {P : Deed → Type 0} (d : Deed) → P d → Each P (Does d)
+because {P} d h = record { each = λ e same. subst P (one_deed d e same) h }
+
+over_if : {P : Deed → Type 0} (b : Bool) (x y : Choice) → (b ≡ true → Each P x) → (b ≡ false → Each P y) → Each P (cond b x y)
+over_if true x y p q = p refl
+over_if false x y p q = q refl
+
+over_option : {P : Deed → Type 0} {A : Type 0} (f : A → Choice) (o : Option A) (c : Choice) → ((a : A) → o ≡ Some a → Each P (f a)) → (o ≡ None → Each P c) → Each P (option_map_or f o c)
+over_option f None c p q = q refl
+over_option f (Some a) c p q = p a refl
+
+by_if : {P : Deed → Type 0} (b : Bool) (x y : Deed) → (b ≡ true → Each P (Does x)) → (b ≡ false → Each P (Does y)) → Each P (Does (cond b x y))
+by_if true x y p q = p refl
+by_if false x y p q = q refl
+
+by_option : {P : Deed → Type 0} {A : Type 0} (f : A → Deed) (o : Option A) (d : Deed) → ((a : A) → o ≡ Some a → Each P (Does (f a))) → (o ≡ None → Each P (Does d)) → Each P (Does (option_map_or f o d))
+by_option f None d p q = q refl
+by_option f (Some a) d p q = p a refl
+
+nothing : {P : Deed → Type 0} (c : Choice) → ((d : Deed) → c ≡ Does d → ⊥) → Each P c
+nothing c never = record { each = λ d same. absurd (never d same) }
+
+ended : {P : Deed → Type 0} → Each P Ended
+ended = nothing Ended (λ d same. cc)
+
+-- ---- commands
+
+-- a deed has its reason where the command comes to it
+abbrev Told : World → ℕ → Command → Deed → Type 0
+Told w k said d = command_deed w k ((caller_at w k).over + 1) said ≡ d → Why w k d
+
+-- the caller begins the command
+abbrev Asks : World → ℕ → Command → Type 0
+Asks w k said = (d : Deed) → command_deed w k ((caller_at w k).over + 1) said ≡ d → Begins w k said d
+
+-- whose serial is found is live
+found_live : (w : World) (p : Dev → Bool) (d : Dev) → find p w.live ≡ Some d → is_live w.live d.serial ≡ true
+found_live w p d e = contained_live w.live d (found_contained p w.live d e)
+
+abbrev it_named : (w : World) (name : List ℕ) (d : Dev) → device_named w.setup w.live name ≡ Some d → IsNamed w name d.serial
+it_named w name d e = record { dev = d; found = e; there = found_contained _ w.live d e; serial = refl; live = found_live w _ d e }
+
+device_reason : (w : World) (k : ℕ) (said : Command) (name : List ℕ) (body : Dev → Deed) → Asks w k said
+    → ((d : Dev) → device_named w.setup w.live name ≡ Some d → is_condemned d ≡ false → Each (Told w k said) (Does (body d)))
+    → Each (Told w k said) (Does (on_device w said name body))
+device_reason w k said name body at some =
+    by_option _ (device_named w.setup w.live name) _ (λ d e. by_if (is_condemned d) _ _ (λ c. because _ (at _)) (λ c. some d e c)) (λ e. because _ (at _))
+
+held_reason : (w : World) (k : ℕ) (said : Command) (name : List ℕ) (body : Dev → Deed) → Asks w k said
+    → ((d : Dev) → device_named w.setup w.live name ≡ Some d → is_held w k d.serial ≡ true → Each (Told w k said) (Does (body d)))
+    → Each (Told w k said) (Does (on_held w k said name body))
+held_reason w k said name body at some =
+    by_option _ (device_named w.setup w.live name) _ (λ d e. by_if (is_held w k d.serial) _ _ (λ h. some d e h) (λ h. because _ (at _))) (λ e. because _ (at _))
+
+scan_reason : (w : World) (k : ℕ) (said : Command) (d : Dev) (attr : Option (List ℕ)) (given : List Given)
+    → ((f : Frame) → frame_serial f ≡ d.serial → IsRescanFrame w d attr given f → Told w k said (Rescan said f)) → Asks w k said
+    → Each (Told w k said) (Does (rescan_of w said d attr given))
+unfolding rescan_of
+scan_reason w k said d None given may at = because _ (may _ refl refl)
+scan_reason w k said d (Some name) given may at =
+    by_option _ (attr_named w name) _
+    (λ a e. by_if (has (offered_by w.setup d.row) a) _ _
+    (λ h. by_option _ (wanted_of _ given) _ (λ wanted g. because _ (may _ refl (a, wanted, e, h, g, refl))) (λ g. because _ (at _))) (λ h. because _ (at _)))
+    (λ e. because _ (at _))
+
+power_reason : (w : World) (k : ℕ) (name : List ℕ) (kind : PowerKind) → Asks w k (power_command kind name) → other_turn w.turn k ≡ None
+    → Each (Told w k (power_command kind name)) (Does (on_device w (power_command kind name) name (λ d. BeginPower (power_command kind name) kind d.serial)))
+power_reason w k name kind at turn =
+    device_reason w k _ name _ at (λ d e c. because _ (λ h. record { begins = at _ h; name = name; words = refl; named = it_named w name d e; spared = c; nobody = turn }))
+
+-- a list or a tree of the root, or of a device
+told_reason : (w : World) (k : ℕ) (said : Command) (name : Option (List ℕ)) → Asks w k said → ((said ≡ command.ListDev name) ⊎ (said ≡ command.TreeDev name))
+    → Each (Told w k said) (Does (telling w said name))
+told_reason w k said None at words = because _ (λ h. record { begins = at _ h; name = None; words = words; known = λ of e. absurd cc })
+told_reason w k said (Some name) at words =
+    by_option _ (device_named w.setup w.live name) _
+    (λ d e. because _ (λ h. record { begins = at _ h; name = Some name; words = words; known = λ of same. (d, ap (device_named w.setup w.live) (sym (same_Some name of same)) ∙ e) }))
+    (λ e. because _ (at _))
+
+command_reason : (w : World) (k : ℕ) (c : Command) → Asks w k c → (is_power c ≡ true → other_turn w.turn k ≡ None) → Each (Told w k c) (Does (command_deed w k ((caller_at w k).over + 1) c))
+unfolding command_deed
+command_reason w k (command.OpenDev name) at turn =
+    device_reason w k _ name _ at (λ d e c.
+    by_if (is_held w k d.serial) _ _ (λ h. because _ (at _)) (λ h. because _ (λ t. record { begins = at _ t; name = name; words = refl; named = it_named w name d e; spared = c; free = h })))
+command_reason w k (command.CloseDev name) at turn =
+    held_reason w k _ name _ at (λ d e h. because _ (λ t. record { begins = at _ t; name = name; words = refl; named = it_named w name d e; held = h }))
+command_reason w k (command.Io name value) at turn =
+    held_reason w k _ name _ at (λ d e h. by_if d.asleep _ _ (λ s. because _ (at _)) (λ s.
+    because _ (λ t. record { begins = at _ t; name = name; value = value; words = refl; named = it_named w name d e; held = h; awake = s; ticket = refl })))
+command_reason w k (command.Detach name) at turn =
+    device_reason w k _ name _ at (λ d e c.
+    by_option _ (hindered w d.serial k false) _ (λ x h. because _ (at _)) (λ h.
+    because _ (λ t. record { begins = at _ t; name = name; words = refl; named = it_named w name d e; spared = c; free = h })))
+command_reason w k (command.Rescan name attr given) at turn =
+    device_reason w k _ name _ at (λ d e c.
+    by_if (is_pinned w d.serial) _ _ (λ p. because _ (at _)) (λ p. by_if d.asleep _ _ (λ s. because _ (at _)) (λ s.
+    by_if ((policy_of w.setup d.row).norescan || has_nothing (offered_by w.setup d.row)) _ _ (λ n. because _ (at _)) (λ n.
+    let refuses = or_false (policy_of w.setup d.row).norescan (has_nothing (offered_by w.setup d.row)) n in
+    scan_reason w k _ d attr given (λ f same frame t. record {
+      begins = at _ t;
+      name = name;
+      attr = attr;
+      given = given;
+      words = refl;
+      named = record { dev = d; found = e; there = found_contained _ w.live d e; serial = sym same; live = rw same (found_live w _ d e) };
+      spared = c;
+      unpinned = rw same p;
+      awake = s;
+      may = refuses.0;
+      offers = refuses.1;
+      frame = frame;
+    }) at))))
+command_reason w k (command.ListDev name) at turn = told_reason w k _ name at (inl refl)
+command_reason w k (command.TreeDev name) at turn = told_reason w k _ name at (inr refl)
+command_reason w k (command.Suspend name) at turn = power_reason w k name kind.Suspend at (turn refl)
+command_reason w k (command.Resume name) at turn = power_reason w k name kind.Resume at (turn refl)
+command_reason w k (command.ResumeTree name) at turn = power_reason w k name kind.ResumeTree at (turn refl)
+command_reason w k (command.Plug name) at turn =
+    by_option _ (spot_named w name) _ (λ x e. because _ (λ t. record { begins = at _ t; name = name; words = refl; spot = e })) (λ e. because _ (at _))
+command_reason w k (command.Unplug name) at turn =
+    by_option _ (spot_named w name) _ (λ x e.
+    by_option _ (device_on w.live x) _
+    (λ d f. by_option _ (hindered w d.serial k true) _ (λ y h. because _ (at _)) (λ h.
+    because _ (λ t. record { begins = at _ t; name = name; words = refl; spot = e; dev = d; stands = f; serial = refl; live = found_live w _ d f; free = h })))
+    (λ f. because _ (λ t. record { begins = at _ t; name = name; words = refl; spot = e; bare = f }))) (λ e. because _ (at _))
+
+-- ---- without a command
+
+abbrev HasReasons : World → ℕ → Choice → Type 0
+HasReasons w k c = Each (Why w k) c
+
+starting_reason : (w : World) (k : ℕ) (said : Command) → IsBetween w k → command_of w k ≡ Some said → (is_power said ≡ true → other_turn w.turn k ≡ None)
+    → HasReasons w k (Does (command_deed w k ((caller_at w k).over + 1) said))
+starting_reason w k said at e turn = record {
+  each = λ d same. (command_reason w k said (λ x h. record { between = at; command = e; turn = turn; deed = h }) turn).each d same (one_deed _ d same);
+}
+
+script_reason : (w : World) (k : ℕ) → IsBetween w k → HasReasons w k (next_command w k)
+unfolding next_command
+script_reason w k at =
+    over_option _ (command_of w k) _
+    (λ c e. over_option _ (cond (is_power c) (other_turn w.turn k) None) _
+    (λ j t. nothing _ (λ d same. cc)) (λ t. starting_reason w k c at e (λ p. sym (ap (λ (b : Bool). cond b (other_turn w.turn k) None) p) ∙ t)))
+    (λ e. over_option _ (first_held w k) _
+    (λ d h. because _ (record { between = at; over = e; dev = d; first = h; serial = refl; live = found_live w _ d h; held = find_true (λ x. is_held w k x.serial) w.live d h }))
+    (λ h. because _ (record { stack = at.no_frames; over = inr (at.later, e, h) }, at.idle)))
+
+-- ---- frames
+
+finalise_reason : (w : World) (k s : ℕ) (listed : Option ℕ) (anew : Bool) → IsCalled w k s listed anew → Rests w k → HasReasons w k (Does (finalise w s listed anew))
+unfolding finalise
+finalise_reason w k s listed anew called rests =
+    by_option _ (option_and_then (late_spot w) (device_at w.live s)) _ (λ x e. because _ (record { called = called; spot = e; came = refl }, rests))
+    (λ e. because _ (record { called = called; spot = e; came = refl }, rests))
+
+boot_reason : (w : World) (k : ℕ) → k ≡ 0 → (caller_at w k).stack ≡ [] → Rests w k → HasReasons w k (next_boot w)
+unfolding next_boot
+boot_reason w k boots stack rests =
+    over_if (not w.phase) _ _ (λ p. because _ (record { boots = boots; stack = stack; before = not-true w.phase p }, rests)) (λ p.
+    let on : w.phase ≡ true = not-false w.phase p in
+    over_if (nat_lt w.place (length w.finalisers)) _ _
+    (λ l. let inside : w.place < length w.finalisers = grind (arith, nat_tests, l) in finalise_reason w k _ _ _ (boots, stack, on, refl, inside, refl) rests) (λ l.
+    let past : length w.finalisers ≤ w.place = grind (arith, nat_tests, l) in
+    over_if w.again _ _ (λ a. finalise_reason w k _ _ _ (boots, stack, on, refl, past, refl, a) rests)
+    (λ a. because _ (record { stack = stack; over = inl (boots, on, past, a) }, rests))))
+
+top_reason : (w : World) (k : ℕ) (fs : List Frame) → (caller_at w k).stack ≡ fs → Rests w k → HasReasons w k (on_top w k fs)
+unfolding next_scan
+top_reason w k [] e rests =
+    over_if (k == 0) _ _ (λ z. boot_reason w k (eqb-true k 0 z) e rests) (λ z. script_reason w k (record { later = eqb-false k 0 z; idle = rests; no_frames = e }))
+top_reason w k (Scan s only wanted from ∷ rest) e rests =
+    by_option _ (due w.setup w.live w.absent w.hidden s only wanted from) _
+    (λ t h. because _ (record { only = only; wanted = wanted; from = from; rest = rest; turn = t; stack = e; is_due = h; moved = refl; came = refl }, rests))
+    (λ h. because _ (record { only = only; wanted = wanted; from = from; rest = rest; stack = e; none_due = h }, rests))
+top_reason w k (Finaliser s ∷ rest) e rests = finalise_reason w k s None false (rest, e, refl) rests
+
+-- ---- freeing
+
+-- what is freed next is live
+free_live : (live : List Dev) (k s : ℕ) → next_free live k ≡ Some s → is_live live s ≡ true
+unfolding next_free
+free_live live k s = cases (find (λ d. is_number d.condemned k) (reverse live)) refl
+  where
+    cases : (o : Option Dev) → find (λ d. is_number d.condemned k) (reverse live) ≡ o → option_map (λ d. d.serial) o ≡ Some s → is_live live s ≡ true
+    cases None e h = absurd cc
+    cases (Some d) e h = ap (is_live live) (sym (same_Some d.serial s h)) ∙ contained_live live d (found_from_end (λ x. is_number x.condemned k) live d e)
+
+freeing_reason : (w : World) (k target : ℕ) → (caller_at w k).doing ≡ activity.Frees target → HasReasons w k (freeing w k)
+unfolding freeing
+freeing_reason w k target amid =
+    over_option _ (next_free w.live k) _
+    (λ s e. over_if (is_referred w s) _ _ (λ r. nothing _ (λ d same. cc)) (λ r. because _ (record { target = target; amid = amid; last = e; live = free_live w.live k s e; free = r })))
+    (λ e. ended)
+
+-- ---- power
+
+-- a deed has its reason where the power command comes to it
+abbrev Powered : World → ℕ → PowerKind → ℕ → Deed → Type 0
+Powered w k what target d = powering w what target ≡ Does d → Why w k d
+
+suspend_reason : (w : World) (k target : ℕ) → (caller_at w k).doing ≡ activity.Power kind.Suspend target → is_live w.live target ≡ true
+    → Each (Powered w k kind.Suspend target) (suspending w target)
+unfolding suspending
+suspend_reason w k target amid live =
+    over_option _ (next_sleep w.live target) _ (λ d e.
+    over_if (is_pinned w d.serial) _ _ (λ p. nothing _ (λ x same. cc)) (λ p.
+    over_if (policy_of w.setup d.row).nopower _ _ (λ n. because _ (λ h. record { kind = kind.Suspend; amid = amid; why = inr (live, h) })) (λ n.
+    over_if (policy_of w.setup d.row).failsuspend _ _ (λ f. because _ (λ h. record { kind = kind.Suspend; amid = amid; why = inr (live, h) })) (λ f.
+    because _ (λ h. record { target = target; dev = d; amid = amid; live = live; last = e; serial = refl; unpinned = p; may = n; works = f })))))
+    (λ e. because _ (λ h. record { kind = kind.Suspend; amid = amid; why = inr (live, h) }))
+
+wake_reason : (w : World) (k target : ℕ) (what : PowerKind) (below : Bool) → (caller_at w k).doing ≡ activity.Power what target → is_live w.live target ≡ true → wakes_below what ≡ Some below
+    → Each (Powered w k what target) (waking w target below)
+unfolding waking
+wake_reason w k target what below amid live wakes =
+    over_option _ (next_wake w.live target below) _
+    (λ d e. because _ (λ h. record { target = target; kind = what; below = below; dev = d; amid = amid; live = live; wakes = wakes; first = e; serial = refl }))
+    (λ e. because _ (λ h. record { kind = what; amid = amid; why = inr (live, h) }))
+
+powering_reason : (w : World) (k target : ℕ) (what : PowerKind) → (caller_at w k).doing ≡ activity.Power what target → is_live w.live target ≡ true
+    → Each (Powered w k what target) (powering w what target)
+powering_reason w k target kind.Suspend amid live = suspend_reason w k target amid live
+powering_reason w k target kind.Resume amid live = wake_reason w k target kind.Resume false amid live refl
+powering_reason w k target kind.ResumeTree amid live = wake_reason w k target kind.ResumeTree true amid live refl
+
+powered_reason : (w : World) (k target : ℕ) (what : PowerKind) → (caller_at w k).doing ≡ activity.Power what target → is_live w.live target ≡ true → HasReasons w k (powering w what target)
+powered_reason w k target what amid live = record { each = λ d same. (powering_reason w k target what amid live).each d same same }
+
+-- ---- all of it
+
+activity_reason : (w : World) (k : ℕ) (a : Activity) → (caller_at w k).doing ≡ a → HasReasons w k (by_activity w k a)
+activity_reason w k activity.Ended e = ended
+activity_reason w k (activity.Transfer ticket) e = because _ e
+activity_reason w k (activity.Frees target) e = freeing_reason w k target e
+activity_reason w k (activity.Power what target) e =
+    over_if (is_live w.live target) _ _ (λ l. powered_reason w k target what e l) (λ l. because _ (record { kind = what; amid = e; why = inl (l, refl) }))
+activity_reason w k activity.Scans e = top_reason w k (caller_at w k).stack refl (inr e)
+activity_reason w k activity.Idle e = top_reason w k (caller_at w k).stack refl (inl e)
+
+next_reason : (w : World) (k : ℕ) → HasReasons w k (next w k)
+unfolding next
+next_reason w k =
+    over_if (has_ended w k) _ _ (λ e. ended) (λ e.
+    over_if (not (k == 0) && not (has_ended w 0)) _ _ (λ b. nothing _ (λ d same. cc)) (λ b.
+    activity_reason w k (caller_at w k).doing refl))
+
+why_next : (w : World) (k : ℕ) (d : Deed) → next w k ≡ Does d → Why w k d
+why_next w k d e = (next_reason w k).each d e
+
+-- the reason of a frame's deed that comes next
+pub has_reason : (w : World) (k : ℕ) (d : Deed) → next w k ≡ Does d → HasReason w k d
+has_reason w k d e = cases d (why_next w k d e)
+  where
+    cases : (d : Deed) → Why w k d → HasReason w k d
+    cases (Search p to got) h = h.0
+    cases (EndScan p) h = h.0
+    cases BeginInterrupts h = h.0
+    cases (Finalise s shown got listed anew) h = h.0
+    cases EndCaller h = h.0
+    cases (Drop s) h = tt
+    cases (Answer said r) h = tt
+    cases (Open said s) h = tt
+    cases (Close said s) h = tt
+    cases (Start said t) h = tt
+    cases (Done t) h = tt
+    cases (Detach said s) h = tt
+    cases (Free s) h = tt
+    cases (Rescan said f) h = tt
+    cases (BeginPower said kind s) h = tt
+    cases (Sleep s) h = tt
+    cases (Wake s) h = tt
+    cases (EndPower s r) h = tt
+    cases (Plug said x) h = tt
+    cases (Unplug said x None) h = tt
+    cases (Unplug said x (Some s)) h = tt
+    cases (Tell said) h = tt
+
+-- that of a command's deed
+pub has_command_reason : (w : World) (k : ℕ) (d : Deed) → next w k ≡ Does d → HasCommandReason w k d
+has_command_reason w k d e = cases d (why_next w k d e)
+  where
+    cases : (d : Deed) → Why w k d → HasCommandReason w k d
+    cases (Search p to got) h = tt
+    cases (EndScan p) h = tt
+    cases BeginInterrupts h = tt
+    cases (Finalise s shown got listed anew) h = tt
+    cases EndCaller h = tt
+    cases (Drop s) h = h
+    cases (Answer said r) h = h
+    cases (Open said s) h = h
+    cases (Close said s) h = h
+    cases (Start said t) h = h
+    cases (Done t) h = h
+    cases (Detach said s) h = h
+    cases (Free s) h = h
+    cases (Rescan said f) h = h
+    cases (BeginPower said kind s) h = h
+    cases (Sleep s) h = h
+    cases (Wake s) h = h
+    cases (EndPower s r) h = h
+    cases (Plug said x) h = h
+    cases (Unplug said x None) h = h
+    cases (Unplug said x (Some s)) h = h
+    cases (Tell said) h = h
+
+-- ---- who rests
+
+-- idle, in a rescan, or ended: with no command in between
+abbrev pub is_quiet : Activity → Bool
+is_quiet activity.Idle = true
+is_quiet activity.Scans = true
+is_quiet activity.Ended = true
+is_quiet _ = false
+
+pub quiet_rests : (a : Activity) → (a ≡ activity.Idle) ⊎ (a ≡ activity.Scans) → is_quiet a ≡ true
+quiet_rests a (inl idle) = rw idle refl
+quiet_rests a (inr scans) = rw scans refl
+
+pub quiet_end : (w : World) (k : ℕ) → next w k ≡ Does EndCaller → is_quiet (caller_at w k).doing ≡ true
+quiet_end w k e = quiet_rests (caller_at w k).doing (why_next w k EndCaller e).1

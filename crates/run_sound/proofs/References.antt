@@ -1,0 +1,126 @@
+-- References and transfers: the world stays sound.
+use Rattle.std.proofs.Common.{◌≡◌, ◌≢◌, ◌⊎◌, ℕ, ◌+◌, ◌==◌, true, false, not, ◌&&◌, List, [], ◌∷◌, ◌++◌, refl, sym, ◌∙◌, inl, inr, eqb-true}
+use Rattle.std.proofs.lemmas.Bool.{ne_eqb, and_parts, and_right, not_from_false, or_left}
+use Rattle.std.proofs.lemmas.List.Folds.{list_any-append}
+use Rattle.std.specs.Prelude.{IsTrue, filter}
+use Rattle.cf_types.specs.declared.machine.Command.{Command}
+use Rattle.cf_types.specs.declared.machine.Ticket.{Ticket}
+use Rattle.run_rules.specs.declared.world.Frame.{Frame}
+use Rattle.run_rules.specs.declared.world.Activity.{Activity}
+use Rattle.run_rules.specs.declared.world.Activity.TheVariants as activity
+use Rattle.run_rules.specs.declared.world.Ref.{Ref}
+use Rattle.run_rules.specs.World.{World, is_live, is_held, is_number, caller_at}
+use Rattle.run_rules.specs.Deeds.{Drop, Open, Close, Start, Done, Does}
+use Rattle.run_rules.specs.Next.{next}
+use Rattle.run_rules.specs.After.{after, unreferred}
+use Rattle.run_rules.specs.Sound.{Sound}
+use Rattle.run_sound.specs.Kept.{InRange, Kept}
+use Rattle.run_rules.proofs.Devices.{all_snoc, later_snoc, all_imp, none_of}
+use Rattle.run_sound.proofs.Callers.{all_filter, clash}
+use Rattle.run_sound.proofs.Members.{later_passed, any_passed}
+use Rattle.run_sound.specs.Commands.{IsBetween}
+use Rattle.run_sound.proofs.Reasons.{has_command_reason}
+use Rattle.run_sound.proofs.Plain.{AreHeld, IsLater, sound_held, later_held, sound_caller, sound_over, between_later, between_frees, between_power, later_one, no_turn, agrees_idle}
+
+-- ---- one is given back
+
+-- another caller's reference stays
+pub not_mine : (r : Ref) (s x k j : ℕ) → j ≢ k → (r.serial == x && r.caller == j) ≡ true → not (r.serial == s && r.caller == k) ≡ true
+not_mine r s x k j other h =
+    not_from_false (r.serial == s && r.caller == k)
+    (and_right (r.serial == s) (r.caller == k) (ne_eqb r.caller k (λ same. other (sym (eqb-true r.caller j (and_parts (r.serial == x) (r.caller == j) h).1) ∙ same))))
+
+returned : (w : World) (k s : ℕ) → Sound w → ((t : Ticket) → (caller_at w k).doing ≢ activity.Transfer t) → AreHeld w (filter (λ r. not (r.serial == s && r.caller == k)) w.refs)
+returned w k s sound idle = record {
+  sound = record { live_ones = all_filter (λ r. IsTrue (is_live w.live r.serial)) _ w.refs sound.refs.live_ones; once = later_passed _ _ w.refs sound.refs.once };
+  transfers = λ j t e. any_passed _ _ w.refs (λ r. not_mine r s t.serial k j (λ same. idle t (rw same at e))) ((sound.callers j).transfer t e);
+  ended = λ j e. all_filter (λ r. r.caller ≢ j) _ w.refs ((sound.callers j).ended e).1;
+}
+
+no_transfer : (a : Activity) (t : Ticket) → (a ≡ activity.Idle) ⊎ (a ≡ activity.Scans) → a ≢ activity.Transfer t
+no_transfer a t (inl e) h = cc
+no_transfer a t (inr e) h = cc
+
+sound_unreferred : (w : World) (k s : ℕ) → Sound w → IsLater w k → IsBetween w k → Sound (unreferred w k s)
+sound_unreferred w k s sound here at = sound_held w _ w.absent sound here.booted (returned w k s sound (λ t. no_transfer (caller_at w k).doing t at.idle))
+
+pub sound_drop : (w : World) (k s : ℕ) → Sound w → next w k ≡ Does (Drop s) → Sound (after w k (Drop s))
+unfolding after
+sound_drop w k s sound chosen = let at = (has_command_reason w k (Drop s) chosen).between in sound_unreferred w k s sound (between_later w k (Drop s) chosen at) at
+
+pub sound_close : (w : World) (k : ℕ) (said : Command) (s : ℕ) → Sound w → next w k ≡ Does (Close said s) → Sound (after w k (Close said s))
+unfolding after
+sound_close w k said s sound chosen =
+    let at = (has_command_reason w k (Close said s) chosen).begins.between in
+    let here = between_later w k (Close said s) chosen at in
+    sound_over (unreferred w k s) k (sound_unreferred w k s sound here at) (later_held w k _ w.absent here) at.idle
+
+-- ---- one is given
+
+granted : (w : World) (k s : ℕ) → Sound w → is_live w.live s ≡ true → is_held w k s ≡ false → (caller_at w k).doing ≢ activity.Ended → AreHeld w (w.refs ++ record { serial = s; caller = k } ∷ [])
+granted w k s sound live free runs =
+    let one : Ref = record { serial = s; caller = k } in
+    record {
+      sound = record {
+        live_ones = all_snoc (λ (r : Ref). IsTrue (is_live w.live r.serial)) w.refs one sound.refs.live_ones live;
+        once = later_snoc (λ (a b : Ref). IsTrue (not (a.serial == b.serial && a.caller == b.caller))) w.refs one sound.refs.once
+            (all_imp (λ (r : Ref). (r.serial == s && r.caller == k) ≡ false) (λ (r : Ref). IsTrue (not (r.serial == s && r.caller == k))) (λ r. not_from_false (r.serial == s && r.caller == k)) w.refs (none_of _ w.refs free));
+      };
+      transfers = λ j t e. list_any-append (λ r. r.serial == t.serial && r.caller == j) w.refs (one ∷ []) ∙ or_left _ _ ((sound.callers j).transfer t e);
+      ended = λ j e. all_snoc (λ (r : Ref). r.caller ≢ j) w.refs one ((sound.callers j).ended e).1 (λ same. runs (rw same e));
+    }
+
+unended_between : (a : Activity) → (a ≡ activity.Idle) ⊎ (a ≡ activity.Scans) → a ≢ activity.Ended
+unended_between a (inl e) h = cc
+unended_between a (inr e) h = cc
+
+pub sound_open : (w : World) (k : ℕ) (said : Command) (s : ℕ) → Sound w → next w k ≡ Does (Open said s) → Sound (after w k (Open said s))
+unfolding after
+sound_open w k said s sound chosen =
+    let why = has_command_reason w k (Open said s) chosen in
+    let at = why.begins.between in
+    let here = between_later w k (Open said s) chosen at in
+    let refs : List Ref = w.refs ++ record { serial = s; caller = k } ∷ [] in
+    sound_over (record w { refs = refs }) k
+    (sound_held w refs w.absent sound here.booted (granted w k s sound why.named.live why.free (unended_between (caller_at w k).doing at.idle)))
+    (later_held w k refs w.absent here) at.idle
+
+-- ---- transfers
+
+pub sound_start : (w : World) (k : ℕ) (said : Command) (t : Ticket) → Sound w → next w k ≡ Does (Start said t) → Sound (after w k (Start said t))
+unfolding after
+sound_start w k said t sound chosen =
+    let why = has_command_reason w k (Start said t) chosen in
+    let at = why.begins.between in
+    sound_caller w k w.turn (record { over = (caller_at w k).over; doing = activity.Transfer t; stack = (caller_at w k).stack }) sound (between_later w k (Start said t) chosen at)
+    (record {
+      no_frames = at.no_frames;
+      own = (λ h. clash (is_number w.turn k) h (no_turn w k sound (between_power (caller_at w k).doing at.idle)), λ h. absurd cc);
+      theirs = λ j other. refl;
+      frees = λ s e. absurd (between_frees (caller_at w k).doing s at.idle e);
+      transfer = λ u e. let same : t ≡ u = cc in rw (← same) why.held;
+      unended = λ e. cc;
+      target = λ s e. absurd cc;
+    })
+
+-- in the middle of anything but a scan there are no frames
+pub amid_no_frames : (w : World) (k : ℕ) → Sound w → k ≢ 0 → (caller_at w k).doing ≢ activity.Scans → (caller_at w k).stack ≡ []
+amid_no_frames w k sound later amid = empty (caller_at w k).stack (λ some. amid ((sound.callers k).frames (not_from_false (k == 0) (ne_eqb k 0 later)) some))
+  where
+    empty : (fs : List Frame) → ((fs ≢ []) → ⊥) → fs ≡ []
+    empty [] h = refl
+    empty (f ∷ fs) h = absurd (h (λ e. cc))
+
+-- caller 0 is in the middle of nothing
+pub amid_later : (w : World) (k : ℕ) → InRange w → (caller_at w k).doing ≢ activity.Idle → (caller_at w k).doing ≢ activity.Ended → k ≢ 0
+amid_later w k ranges busy runs same = elim ranges.booting [ inl e ↦ busy (rw same e) | inr e ↦ runs (rw same e) ]
+
+pub sound_done : (w : World) (k : ℕ) (t : Ticket) → Kept w → next w k ≡ Does (Done t) → Sound (after w k (Done t))
+unfolding after
+sound_done w k t kept chosen =
+    let sound = kept.sound in
+    let amid : (caller_at w k).doing ≡ activity.Transfer t = has_command_reason w k (Done t) chosen in
+    let later : k ≢ 0 = amid_later w k kept.ranges (λ e. cc) (λ e. cc) in
+    let none : (caller_at w k).stack ≡ [] = amid_no_frames w k sound later (λ e. cc) in
+    sound_caller w k w.turn (record { over = (caller_at w k).over + 1; doing = activity.Idle; stack = (caller_at w k).stack }) sound (later_one w k (Done t) chosen later none)
+    (agrees_idle w k ((caller_at w k).over + 1) w.turn (caller_at w k).stack none (no_turn w k sound (rw amid refl)) (λ j other. refl) (λ s e. cc))

@@ -1,0 +1,9 @@
+pub mod Left
+pub mod Kept
+pub mod Calls
+pub mod Coming
+pub mod Commands
+pub mod Scripts
+pub mod Holding
+pub use Rattle.run_rules.specs.World
+pub use Rattle.run_rules.specs.Sound

@@ -1,0 +1,6 @@
+pub mod StackLaws
+pub mod Positions
+pub mod Order
+pub mod TurnsOf
+pub mod TurnLaws
+pub mod BusLaws

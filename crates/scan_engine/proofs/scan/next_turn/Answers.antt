@@ -1,0 +1,11 @@
+use Rattle.run_rules.specs.Search.{turns_of}
+use Rattle.scan_engine.proofs.TurnLaws.{found_forward, found_is}
+use Rattle.scan_engine.proofs.scan.next_turn.Goals as goal
+
+pub returns-clause-turn : goal.returns-clause-turn
+returns-clause-turn c =
+    found_is c.args.tables.now c.args.machine.now c.args.device c.args.attach c.args.spot c.args.only c.args.from c.scan_turn.result c.requires.few_offered c.scan_turn.ensures
+
+pub returns-clause-forward : goal.returns-clause-forward
+returns-clause-forward c =
+    found_forward (turns_of c.args.tables.now c.args.machine.now c.args.device c.args.attach c.args.spot c.args.only) c.args.from c.scan_turn.result c.scan_turn.ensures

@@ -1,0 +1,10 @@
+//! What a search for devices goes through: the stack of what is begun, and the next turn of a scan.
+#![tactic(auto)]
+
+mod bus;
+mod scan;
+mod spots;
+mod stack;
+
+pub use scan::{next_turn, offered};
+pub use stack::Stack;

@@ -1,0 +1,184 @@
+//! The next turn of a scan.
+ghost use Rattle.std.specs.Prelude.{◌≡◌, ◌≤◌, ℕ, ◌==◌, ◌&&◌, false, find, flat_map, length, map, reverse, IfSome};
+ghost use Rattle.std.specs.List.{enumerate_from};
+ghost use Rattle.std.specs.Option.{option_map_or};
+ghost use Rattle.cf_types.specs.declared.tables.Place.TheVariants.{Root, At};
+ghost use Rattle.cf_types.specs.Offers as offer;
+ghost use Rattle.run_rules.specs.Search.{is_before, style_of, turns_of};
+ghost use Rattle.attr_graph.specs.Graphs.{IsGraphOf, declared_by};
+ghost use Rattle.scan_engine.specs.Buses.{place_turns};
+ghost use Rattle.scan_engine.specs.Turns.{IsTurn, first_from};
+
+use crate::bus::{Bus, bus_turn};
+use attr_graph::Graph;
+use cf_types::{Machine, Place, StyleLine, Tables};
+use run_rules::{Position, Turn};
+
+/// The interface attributes that a driver offers, in the order in which they are searched; none where there is no such
+/// driver. See config(5).
+pub fn offered<'a>(graph: &'a Graph, tables: &Tables, device: u32) -> &'a [u32]
+    requires graph { IsGraphOf (declared_by tables.now) graph.now }
+    ensures { result.now ≡ offer.interfaces tables.now.attrs tables.now.devices device }
+{
+    if (device as usize) < tables.devices.len() {
+        graph.interfaces(device)
+    } else {
+        &[]
+    }
+}
+
+fn last_style(lines: &[StyleLine], attach: u32, attr: u32) -> Option<StyleLine>
+    ensures { result ≡ find (λ line. line.attach == attach && line.attr == attr) (reverse lines.now) }
+{
+    lines
+        .iter()
+        .rev()
+        .copied()
+        .find(|line| line.attach == attach && line.attr == attr)
+}
+
+/// The last style line for an attachment and an attribute; direct without one.
+fn is_indirect_by(machine: &Machine, attach: u32, attr: u32) -> bool
+    ensures { result ≡ option_map_or (λ line. line.indirect) (find (λ line. line.attach == attach && line.attr == attr) (reverse machine.now.styles)) false }
+{
+    match last_style(machine.styles.items(), attach, attr) {
+        Some(line) => line.indirect,
+        None => false,
+    }
+}
+
+/// Whether a device of this attachment searches a place row by row.
+#[tactic(auto, unfolding(run_rules::specs::Search::style_of))]
+fn is_indirect(machine: &Machine, attach: Option<u32>, place: Place) -> bool
+    ensures { result ≡ style_of machine.now attach place }
+{
+    match (attach, place) {
+        (_, Place::Root) => false,
+        (None, Place::At(_)) => false,
+        (Some(attach), Place::At(attr)) => is_indirect_by(machine, attach, attr),
+    }
+}
+
+/// The first turn of a place that is not before a position on it or on an earlier place.
+fn place_turn(
+    tables: &Tables,
+    machine: &Machine,
+    attach: Option<u32>,
+    spot: Option<u16>,
+    attr: u16,
+    place: Place,
+    from: Position,
+) -> Option<Turn>
+    requires few_rows { length tables.now.rows ≤ 8192 }
+    requires few_spots { length machine.now.spots ≤ 1024 }
+    requires late { from.attr ≤ attr }
+    ensures { first_from (place_turns tables.now machine.now attach spot (attr, place)) from ≡ result }
+{
+    let bus = Bus {
+        attr,
+        place,
+        indirect: is_indirect(machine, attach, place),
+    };
+    bus_turn(
+        machine,
+        tables.rows.len() as u32,
+        spot,
+        bus,
+        bus.begin(from),
+    )
+}
+
+/// The first turn at these attributes that is not before a position.
+fn turn_among(
+    tables: &Tables,
+    machine: &Machine,
+    attach: Option<u32>,
+    spot: Option<u16>,
+    attrs: &[u32],
+    from: Position,
+) -> Option<Turn>
+    requires few_rows { length tables.now.rows ≤ 8192 }
+    requires few_spots { length machine.now.spots ≤ 1024 }
+    requires few { length attrs.now ≤ 64 }
+    ensures { first_from (flat_map (place_turns tables.now machine.now attach spot) (enumerate_from 0 (map At attrs.now))) from ≡ result }
+{
+    for attr in from.attr..attrs.len() as u16 {
+        let place = Place::At(attrs[attr as usize]);
+        match place_turn(tables, machine, attach, spot, attr, place, from) {
+            Some(turn) => return Some(turn),
+            None => {}
+        }
+    }
+    None
+}
+
+/// The first turn at the root that is not before a position.
+fn root_turn(
+    tables: &Tables,
+    machine: &Machine,
+    attach: Option<u32>,
+    spot: Option<u16>,
+    from: Position,
+) -> Option<Turn>
+    requires few_rows { length tables.now.rows ≤ 8192 }
+    requires few_spots { length machine.now.spots ≤ 1024 }
+    ensures { first_from (place_turns tables.now machine.now attach spot (0, Root)) from ≡ result }
+{
+    if from.attr > 0 {
+        return None;
+    }
+    place_turn(tables, machine, attach, spot, 0, Place::Root, from)
+}
+
+/// The first turn of a scan that is not before a position.
+fn scan_turn(
+    tables: &Tables,
+    graph: &Graph,
+    machine: &Machine,
+    only: Option<u32>,
+    from: Position,
+    device: Option<u32>,
+    attach: Option<u32>,
+    spot: Option<u16>,
+) -> Option<Turn>
+    requires graph { IsGraphOf (declared_by tables.now) graph.now }
+    requires few_rows { length tables.now.rows ≤ 8192 }
+    requires few_spots { length machine.now.spots ≤ 1024 }
+    requires few_offered { (d : ℕ) → length (offer.interfaces tables.now.attrs tables.now.devices d) ≤ 64 }
+    ensures { first_from (turns_of tables.now machine.now device attach spot only) from ≡ result }
+{
+    match only {
+        Some(attr) => turn_among(tables, machine, attach, spot, &[attr], from),
+        None => match device {
+            Some(device) => {
+                let attrs = offered(graph, tables, device);
+                turn_among(tables, machine, attach, spot, attrs, from)
+            }
+            None => root_turn(tables, machine, attach, spot, from),
+        },
+    }
+}
+
+/// The first turn of a scan, due or not, that is not before a position; none where there is none. The scan is that of a
+/// device by its driver, attachment and spot, or without all three that of the root, and of one attribute alone where one
+/// is given. It takes no memory, and looks at nothing before the position. See autoconf(9).
+pub fn next_turn(
+    tables: &Tables,
+    graph: &Graph,
+    machine: &Machine,
+    only: Option<u32>,
+    from: Position,
+    device: Option<u32>,
+    attach: Option<u32>,
+    spot: Option<u16>,
+) -> Option<Turn>
+    requires graph { IsGraphOf (declared_by tables.now) graph.now }
+    requires few_rows { length tables.now.rows ≤ 8192 }
+    requires few_spots { length machine.now.spots ≤ 1024 }
+    requires few_offered { (d : ℕ) → length (offer.interfaces tables.now.attrs tables.now.devices d) ≤ 64 }
+    ensures next { first_from (turns_of tables.now machine.now device attach spot only) from ≡ result }
+    ensures turn { IfSome result (IsTurn tables.now machine.now spot) }
+    ensures forward { IfSome result (λ t. is_before t.at from ≡ false) }
+{
+    scan_turn(tables, graph, machine, only, from, device, attach, spot)
+}

@@ -1,0 +1,29 @@
+//! The spots that hang below a spot.
+ghost use Rattle.std.specs.Prelude.{◌≡◌, ◌≤◌, ◌&&◌, not, nat_lt, find, length};
+ghost use Rattle.cf_types.specs.Numbers.{below};
+ghost use Rattle.run_rules.specs.Search as rule;
+
+use cf_types::{Machine, Place};
+
+/// Whether a spot hangs below another one, or below the root, at a place.
+fn is_child(machine: &Machine, parent: Option<u16>, place: Place, spot: u16) -> bool
+    ensures { result ≡ rule.is_child machine.now parent place spot }
+{
+    match machine.spots.items().get(spot as usize) {
+        Some(s) => s.parent == parent && s.place == place,
+        None => false,
+    }
+}
+
+/// The first such spot from a number on, in file order.
+pub fn next_child(machine: &Machine, parent: Option<u16>, place: Place, from: u16) -> Option<u16>
+    requires { length machine.now.spots ≤ 1024 }
+    ensures { find (λ x. rule.is_child machine.now parent place x && not (nat_lt x from)) (below (length machine.now.spots)) ≡ result }
+{
+    for spot in from..machine.spots.len() as u16 {
+        if is_child(machine, parent, place, spot) {
+            return Some(spot);
+        }
+    }
+    None
+}
