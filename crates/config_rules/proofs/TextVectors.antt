@@ -1,13 +1,14 @@
 -- Small machine files, scripts and order files, and what the definitions say of them.
 use Rattle.std.proofs.Common.{◌≡◌, ℕ, Some, None, Ok, Err, List, Result, [], ◌∷◌, ◌++◌, refl, codes, true, false}
 use Rattle.std.specs.Prelude.{pos, negsuc}
+use Rattle.cf_types.specs.declared.machine.Command.{Command}
 use Rattle.cf_types.specs.declared.machine.Command.TheVariants as command
 use Rattle.cf_types.specs.declared.machine.Machine.{Machine}
 use Rattle.cf_types.specs.declared.tables.Tables.{Tables}
 use Rattle.cf_types.specs.declared.tables.Place.TheVariants.{Root, At}
 use Rattle.config_rules.specs.MachineText.{machine_of}
 use Rattle.cf_types.specs.Policies.{no_policy}
-use Rattle.config_rules.specs.ScriptText.{commands, commands_of, order_of}
+use Rattle.config_rules.specs.ScriptText.{code_after, commands, commands_of, order_of}
 
 -- an attribute `isa` with two locators, and an attachment `com`
 abbrev small : Tables
@@ -126,37 +127,94 @@ machine_match_order : (second (codes "match nosuch x 65536") ≡ Err (2, 6))
 unfolding machine_of
 machine_match_order = (refl, refl, refl, refl, refl)
 
--- no command
-script_fly : commands_of (codes "fly com0") ≡ Err (1, 1)
+-- what a script means
+abbrev script : List ℕ → Result (List Command) (ℕ × ℕ)
+script text = commands_of text
+
+-- each command, with its operands
+script_kinds : script (codes "open com0" ++ 10 ∷ codes "close com0" ++ 10 ∷ codes "detach com0" ++ 10 ∷ codes "suspend a0" ++ 10 ∷ codes "resume a0" ++ 10 ∷ codes "resumetree a0" ++ 10 ∷ codes "plug u0" ++ 10 ∷ codes "unplug u0")
+    ≡ Ok (command.OpenDev (codes "com0") ∷ command.CloseDev (codes "com0") ∷ command.Detach (codes "com0") ∷ command.Suspend (codes "a0") ∷ command.Resume (codes "a0")
+    ∷ command.ResumeTree (codes "a0") ∷ command.Plug (codes "u0") ∷ command.Unplug (codes "u0") ∷ [])
 unfolding commands_of commands
-script_fly = refl
+script_kinds = refl
+
+-- the operands that may be left out
+script_short : script (codes "list" ++ 10 ∷ codes "list a0" ++ 10 ∷ codes "tree" ++ 10 ∷ codes "tree a0" ++ 10 ∷ codes "rescan a0" ++ 10 ∷ codes "rescan a0 isa")
+    ≡ Ok (command.ListDev None ∷ command.ListDev (Some (codes "a0")) ∷ command.TreeDev None ∷ command.TreeDev (Some (codes "a0"))
+    ∷ command.Rescan (codes "a0") None [] ∷ command.Rescan (codes "a0") (Some (codes "isa")) [] ∷ [])
+unfolding commands_of commands
+script_short = refl
+
+-- the values of a rescan, in any spelling
+script_rescan : script (codes "rescan isa0 isa port 0x3f8 irq -017 # the first")
+    ≡ Ok (command.Rescan (codes "isa0") (Some (codes "isa")) (record { name = codes "port"; value = pos 1016 } ∷ record { name = codes "irq"; value = negsuc 14 } ∷ []) ∷ [])
+unfolding commands_of commands
+script_rescan = refl
 
 -- blank lines and octal numbers
-script_whole : commands_of (codes "open com0" ++ 10 ∷ 10 ∷ codes "io com0 010") ≡ Ok (command.OpenDev (codes "com0") ∷ command.Io (codes "com0") 8 ∷ [])
+script_whole : script (codes "open com0" ++ 10 ∷ 10 ∷ codes "io com0 010" ++ 10 ∷ codes " # nothing") ≡ Ok (command.OpenDev (codes "com0") ∷ command.Io (codes "com0") 8 ∷ [])
 unfolding commands_of commands
 script_whole = refl
 
--- a value is not negative
-script_range : commands_of (codes "io com0 -1") ≡ Err (1, 3)
+-- a comment may begin within a word
+script_comment : script (codes "open com0#1") ≡ Ok (command.OpenDev (codes "com0") ∷ [])
 unfolding commands_of commands
-script_range = refl
+script_comment = refl
 
--- but in a script before the other faults of its line alone
-script_bytes : (commands_of (codes "fly " ++ 1 ∷ []) ≡ Err (1, 2)) × (commands_of (codes "fly" ++ 10 ∷ 1 ∷ []) ≡ Err (1, 1))
+-- an empty script has no commands
+script_empty : script [] ≡ Ok []
 unfolding commands_of commands
-script_bytes = (refl, refl)
+script_empty = refl
+
+-- a first word that is no command
+script_word : (script (codes "fly com0") ≡ Err (1, 1)) × (script (codes "Open com0") ≡ Err (1, 1)) × (script (codes "fly") ≡ Err (1, 1))
+unfolding commands_of commands
+script_word = (refl, refl, refl)
+
+-- other words than the command's form has
+script_form : (script (codes "open") ≡ Err (1, 2)) × (script (codes "open a b") ≡ Err (1, 2)) × (script (codes "open 9a") ≡ Err (1, 2)) × (script (codes "list a b") ≡ Err (1, 2))
+    × (script (codes "io com0") ≡ Err (1, 2)) × (script (codes "io com0 x") ≡ Err (1, 2)) × (script (codes "rescan") ≡ Err (1, 2))
+    × (script (codes "rescan isa0 isa port") ≡ Err (1, 2)) × (script (codes "rescan isa0 isa port x") ≡ Err (1, 2)) × (script (codes "rescan isa0 isa 9 1") ≡ Err (1, 2))
+unfolding commands_of commands
+script_form = (refl, refl, refl, refl, refl, refl, refl, refl, refl, refl)
+
+-- a value of `io` is not negative and has 32 bits; one of a rescan is in the range of all numbers
+script_range : (script (codes "io com0 -1") ≡ Err (1, 3)) × (script (codes "io com0 4294967296") ≡ Err (1, 3)) × (script (codes "io com0 4294967295") ≡ Ok (command.Io (codes "com0") 4294967295 ∷ []))
+    × (script (codes "rescan isa0 isa port 4294967296") ≡ Err (1, 3)) × (script (codes "rescan isa0 isa port -2147483649") ≡ Err (1, 3))
+unfolding commands_of commands
+script_range = (refl, refl, refl, refl, refl)
+
+-- in one line the words come before the ranges
+script_form_first : (script (codes "io 9 -1") ≡ Err (1, 2)) × (script (codes "rescan isa0 isa port 4294967296 irq x") ≡ Err (1, 2)) × (script (codes "fly 9 -1") ≡ Err (1, 1))
+unfolding commands_of commands
+script_form_first = (refl, refl, refl)
+
+-- a byte that is not allowed comes in a script before the other faults of its line alone
+script_bytes : (script (codes "fly " ++ 1 ∷ []) ≡ Err (1, 2)) × (script (codes "fly" ++ 10 ∷ 1 ∷ []) ≡ Err (1, 1)) × (script (codes "list" ++ 13 ∷ []) ≡ Err (1, 2)) × (script (codes "list #" ++ 1 ∷ []) ≡ Ok (command.ListDev None ∷ []))
+unfolding commands_of commands
+script_bytes = (refl, refl, refl, refl)
+
+-- the command that would be the 501st, and its other faults, which come before
+script_many : (script (codes "list") ≡ Ok (command.ListDev None ∷ [])) × (code_after 499 (Ok (command.ListDev None)) ≡ None) × (code_after 500 (Ok (command.ListDev None)) ≡ Some 4) × (code_after 500 (Err 3) ≡ Some 3)
+unfolding commands_of commands
+script_many = (refl, refl, refl, refl)
 
 -- there are two callers
-order_range : order_of 2 (codes "1 3") ≡ Err (1, 3)
+order_range : (order_of 2 (codes "1 3") ≡ Err (1, 3)) × (order_of 2 (codes "0") ≡ Err (1, 3)) × (order_of 2 (codes "-1") ≡ Err (1, 3)) × (order_of 2 (codes "99999999999") ≡ Err (1, 3))
 unfolding order_of
-order_range = refl
+order_range = (refl, refl, refl, refl)
 
 -- turns over several lines
 order_whole : order_of 2 (codes "1 2 2 1 # x" ++ 10 ∷ codes "0x2") ≡ Ok (1 ∷ 2 ∷ 2 ∷ 1 ∷ 2 ∷ [])
 unfolding order_of
 order_whole = refl
 
--- in one line the shape of each word is looked at before any value
-order_shape_first : (order_of 2 (codes "9 x") ≡ Err (1, 2)) × (order_of 2 (codes "9" ++ 10 ∷ codes "x") ≡ Err (1, 3))
+-- an empty order file
+order_empty : order_of 2 [] ≡ Ok []
 unfolding order_of
-order_shape_first = (refl, refl)
+order_empty = refl
+
+-- in one line the shape of each word is looked at before any value
+order_shape_first : (order_of 2 (codes "9 x") ≡ Err (1, 2)) × (order_of 2 (codes "9" ++ 10 ∷ codes "x") ≡ Err (1, 3)) × (order_of 2 (codes "9 " ++ 1 ∷ []) ≡ Err (1, 2))
+unfolding order_of
+order_shape_first = (refl, refl, refl)

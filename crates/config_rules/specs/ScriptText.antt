@@ -1,147 +1,231 @@
--- The commands of a script and the turns of an order file, or the first bad line and its code. The formats are this
--- project's own.
-use Rattle.std.specs.Prelude.{ℕ, ◌+◌, Bool, true, not, ◌&&◌, nat_le, if◌then◌else◌, List, [], ◌∷◌, ◌++◌, length, map, bytes_eq, codes, Option, Some, None, option_map, option_and_then, Result, Ok, Err, ℤ, pos, nat_abs, int_le}
-use Rattle.std.specs.List.{list_all}
+-- The commands of a script and the turns of an order file, or the first bad line and its code. The commands follow
+-- drvctl(8); the formats are this project's own.
+use Rattle.std.specs.Prelude.{◌≡◌, ℕ, ◌≤◌, Bool, true, false, not, ◌&&◌, ◌||◌, nat_le, if◌then◌else◌, List, [], ◌∷◌, length, map, filter_map, find, flat_map, bytes_eq, codes, Option, Some, None, is_some, option_map, option_to_list, Result, Ok, Err, ℤ, pos, nat_abs, int_le, All}
+use Rattle.std.specs.List.{list_all, enumerate_from}
+use Rattle.std.specs.Option.{option_map_or}
+use Rattle.std.specs.Result.{result_ok}
 use Rattle.cf_types.specs.declared.machine.Command.{Command}
 use Rattle.cf_types.specs.declared.machine.Command.TheVariants as command
 use Rattle.cf_types.specs.declared.machine.Given.{Given}
 use Rattle.cf_text.specs.Shapes.{is_name, number, in_range}
-use Rattle.config_rules.specs.Cut.{lines_of, at_line, ◌>>=◌}
-use Rattle.config_rules.specs.Form.{given, each}
+use Rattle.config_rules.specs.Cut.{lines_of, ◌>>=◌}
+use Rattle.config_rules.specs.Form.{given, ◌or◌}
 use Rattle.config_rules.specs.MachineText.{words_of, has_bad_byte}
 
--- an operand: a name of at most 80 bytes
-abbrev pub operand : List ℕ → Option (List ℕ)
-operand word = given (is_name word && nat_le (length word) 80) word
+-- ---- operands
 
--- a command, and whether its numbers are in their ranges
-pub record Read : Type 0 where
-  pub command : Command
-  pub fits : Bool
+-- a name of at most 80 bytes
+abbrev pub is_operand : List ℕ → Bool
+is_operand word = is_name word && nat_le (length word) 80
 
--- a command that was read
-abbrev pub read : Command → Bool → Read
-read c fits = record { command = c; fits = fits }
+-- an operand; code 2 where the word is none
+abbrev pub operand : List ℕ → Result (List ℕ) ℕ
+operand word = if is_operand word then Ok word else Err 2
+
+-- a number within a range: code 2 where there is no number, code 3 where it is out of the range
+abbrev pub within : (ℤ → Bool) → Option ℤ → Result ℤ ℕ
+within fits None = Err 2
+within fits (Some v) = if fits v then Ok v else Err 3
+
+-- the number that a word spells, within a range
+abbrev pub number_within : (ℤ → Bool) → List ℕ → Result ℤ ℕ
+number_within fits word = within fits (number word)
+
+-- the same of a range without negative numbers
+abbrev pub natural_within : (ℤ → Bool) → List ℕ → Result ℕ ℕ
+natural_within fits word = number_within fits word >>= λ v. Ok (nat_abs v)
 
 -- from 0 to 4294967295
 abbrev pub is_value : ℤ → Bool
 is_value v = int_le (pos 0) v && int_le v (pos 4294967295)
 
--- a pair of a locator and a number word
-abbrev pub given_of : List ℕ → List ℕ → Option Given
-given_of name value = option_and_then (λ n. option_map (λ v. record { name = n; value = v }) (number value)) (operand name)
-
--- pairs `loc V`
-abbrev pub pairs_of : List (List ℕ) → Option (List Given)
-pairs_of [] = Some []
-pairs_of (name ∷ []) = None
-pairs_of (name ∷ value ∷ ws) = option_and_then (λ g. option_map (λ gs. g ∷ gs) (pairs_of ws)) (given_of name value)
+-- ---- commands
 
 -- exactly one operand
-abbrev pub one_operand : (List ℕ → Command) → List (List ℕ) → Option Read
-one_operand make (w ∷ []) = option_map (λ name. read (make name) true) (operand w)
-one_operand make _ = None
+abbrev pub one_operand : List (List ℕ) → Result (List ℕ) ℕ
+one_operand (word ∷ []) = operand word
+one_operand _ = Err 2
 
 -- no operand or one
-abbrev pub operand_or_none : (Option (List ℕ) → Command) → List (List ℕ) → Option Read
-operand_or_none make [] = Some (read (make None) true)
-operand_or_none make ws = one_operand (λ name. make (Some name)) ws
+abbrev pub operand_or_none : List (List ℕ) → Result (Option (List ℕ)) ℕ
+operand_or_none [] = Ok None
+operand_or_none words = one_operand words >>= λ name. Ok (Some name)
+
+-- words in pairs: a locator's name and a number word
+abbrev pub are_pairs : List (List ℕ) → Bool
+are_pairs [] = true
+are_pairs (name ∷ []) = false
+are_pairs (name ∷ value ∷ words) = is_operand name && is_some (number value) && are_pairs words
+
+-- the locators of these pairs with their values
+abbrev pub given_in : List (List ℕ) → Result (List Given) ℕ
+given_in [] = Ok []
+given_in (name ∷ []) = Ok []
+given_in (name ∷ value ∷ words) =
+    number_within in_range value >>= λ v. given_in words >>= λ more. Ok (record { name = name; value = v } ∷ more)
+
+-- up to 16 pairs `loc V`; the words of all pairs come before the range of any value
+abbrev pub pairs_of : List (List ℕ) → Result (List Given) ℕ
+pairs_of words = if nat_le (length words) 32 && are_pairs words then given_in words else Err 2
 
 -- `io D V`
-abbrev pub io_form : List (List ℕ) → Option Read
-io_form (d ∷ v ∷ []) = option_and_then (λ name. option_map (λ value. read (command.Io name (nat_abs value)) (is_value value)) (number v)) (operand d)
-io_form _ = None
+abbrev pub io_form : List (List ℕ) → Result Command ℕ
+io_form (device ∷ value ∷ []) = operand device >>= λ name. natural_within is_value value >>= λ v. Ok (command.Io name v)
+io_form _ = Err 2
 
--- `rescan D`, `rescan D A`, or that with up to 16 pairs
-abbrev pub rescan_form : List (List ℕ) → Option Read
-rescan_form [] = None
-rescan_form (d ∷ []) = option_map (λ name. read (command.Rescan name None []) true) (operand d)
-rescan_form (d ∷ a ∷ ws) =
-    option_and_then (λ name. option_and_then (λ attr. option_and_then (λ pairs.
-    given (nat_le (length pairs) 16) (read (command.Rescan name (Some attr) pairs) (list_all (λ g. in_range g.value) pairs)))
-    (pairs_of ws)) (operand a)) (operand d)
+-- `rescan D A`, with the words behind it
+abbrev pub rescan_on : List ℕ → List ℕ → List (List ℕ) → Result Command ℕ
+rescan_on device attr words =
+    operand device >>= λ name. operand attr >>= λ bus. pairs_of words >>= λ pairs. Ok (command.Rescan name (Some bus) pairs)
+
+-- `rescan D`, `rescan D A`, or the latter with up to 16 pairs `loc V`
+abbrev pub rescan_form : List (List ℕ) → Result Command ℕ
+rescan_form [] = Err 2
+rescan_form (device ∷ []) = operand device >>= λ name. Ok (command.Rescan name None [])
+rescan_form (device ∷ attr ∷ words) = rescan_on device attr words
+
+-- a command on one operand
+abbrev pub on_one : (List ℕ → Command) → List (List ℕ) → Result Command ℕ
+on_one make words = one_operand words >>= λ name. Ok (make name)
+
+-- a command on no operand or one
+abbrev pub on_any : (Option (List ℕ) → Command) → List (List ℕ) → Result Command ℕ
+on_any make words = operand_or_none words >>= λ name. Ok (make name)
 
 -- a command's word, and what the other words make of it
 pub record CommandRow : Type 0 where
   pub word : List ℕ
-  pub form : List (List ℕ) → Option Read
+  pub form : List (List ℕ) → Result Command ℕ
 
 -- a row of the table of commands
-abbrev pub row : List ℕ → (List (List ℕ) → Option Read) → CommandRow
+abbrev pub row : List ℕ → (List (List ℕ) → Result Command ℕ) → CommandRow
 row word form = record { word = word; form = form }
 
--- the commands by their words, after drvctl(8)
+-- the commands by their words
 unfoldable pub commands : List CommandRow
 commands =
-    row (codes "open") (one_operand command.OpenDev)
-    ∷ row (codes "close") (one_operand command.CloseDev)
+    row (codes "open") (on_one command.OpenDev)
+    ∷ row (codes "close") (on_one command.CloseDev)
     ∷ row (codes "io") io_form
-    ∷ row (codes "detach") (one_operand command.Detach)
+    ∷ row (codes "detach") (on_one command.Detach)
     ∷ row (codes "rescan") rescan_form
-    ∷ row (codes "list") (operand_or_none command.ListDev)
-    ∷ row (codes "tree") (operand_or_none command.TreeDev)
-    ∷ row (codes "suspend") (one_operand command.Suspend)
-    ∷ row (codes "resume") (one_operand command.Resume)
-    ∷ row (codes "resumetree") (one_operand command.ResumeTree)
-    ∷ row (codes "plug") (one_operand command.Plug)
-    ∷ row (codes "unplug") (one_operand command.Unplug)
+    ∷ row (codes "list") (on_any command.ListDev)
+    ∷ row (codes "tree") (on_any command.TreeDev)
+    ∷ row (codes "suspend") (on_one command.Suspend)
+    ∷ row (codes "resume") (on_one command.Resume)
+    ∷ row (codes "resumetree") (on_one command.ResumeTree)
+    ∷ row (codes "plug") (on_one command.Plug)
+    ∷ row (codes "unplug") (on_one command.Unplug)
     ∷ []
 
 -- the row of this word
-abbrev pub row_of : List CommandRow → List ℕ → Option CommandRow
-row_of [] word = None
-row_of (r ∷ rows) word = if bytes_eq r.word word then Some r else row_of rows word
+abbrev pub row_of : List ℕ → Option CommandRow
+row_of word = find (λ r. bytes_eq r.word word) commands
 
--- the command of a line after so many: the codes in order
-abbrev pub by_form : ℕ → Option Read → Result Command ℕ
-by_form before None = Err 2
-by_form before (Some r) = if not r.fits then Err 3 else (if nat_le 500 before then Err 4 else Ok r.command)
+-- the command of a word with others behind it; code 1 where the word is that of no command
+abbrev pub command_of : List ℕ → List (List ℕ) → Result Command ℕ
+command_of word words = option_map_or (λ r. r.form words) (row_of word) (Err 1)
 
--- a word that no row has is no command
-abbrev pub by_row : ℕ → List (List ℕ) → Option CommandRow → Result Command ℕ
-by_row before ws None = Err 1
-by_row before ws (Some r) = by_form before (r.form ws)
+-- ---- scripts
 
--- the command of a line after so many; a line without words has none
-abbrev pub command_of : ℕ → List (List ℕ) → Result (List Command) ℕ
-command_of before [] = Ok []
-command_of before (w ∷ ws) = by_row before ws (row_of commands w) >>= λ c. Ok (c ∷ [])
+-- what the words of a line say: nothing where there are none, else a command, or a code from 1 to 3
+abbrev pub words_say : List (List ℕ) → Option (Result Command ℕ)
+words_say [] = None
+words_say (word ∷ words) = Some (command_of word words)
 
--- a byte that is not allowed comes before the other codes of its line
-abbrev pub line_commands : ℕ → List ℕ → Result (List Command) ℕ
-line_commands before line = if has_bad_byte line then Err 2 else command_of before (words_of line)
+-- what a line says; a byte that is not allowed comes before the other codes of its line
+abbrev pub line_says : List ℕ → Option (Result Command ℕ)
+line_says line = if has_bad_byte line then Some (Err 2) else words_say (words_of line)
 
--- the commands of these lines after those before
-abbrev pub commands_from : ℕ → List Command → List (List ℕ) → Result (List Command) (ℕ × ℕ)
-commands_from n before [] = Ok before
-commands_from n before (line ∷ lines) =
-    at_line n (line_commands (length before) line) >>= λ cs. commands_from (n + 1) (before ++ cs) lines
+-- what a script says, with the numbers of the lines
+abbrev pub sayings : List ℕ → List (ℕ × Result Command ℕ)
+sayings text = filter_map (λ l. option_map (λ said. (l.0, said)) (line_says l.1)) (enumerate_from 1 (lines_of text))
+
+-- the code of what is said after so many others: a script has at most 500 commands
+abbrev pub code_after : ℕ → Result Command ℕ → Option ℕ
+code_after before (Ok c) = given (nat_le 500 before) 4
+code_after before (Err code) = Some code
+
+-- the bad lines of a script with their codes
+abbrev pub bad_sayings : List ℕ → List (ℕ × ℕ)
+bad_sayings text = filter_map (λ s. option_map (λ code. (s.1.0, code)) (code_after s.0 s.1.1)) (enumerate_from 0 (sayings text))
+
+-- the commands that a script says
+abbrev pub commands_in : List ℕ → List Command
+commands_in text = filter_map (λ s. result_ok s.1) (sayings text)
+
+-- all of these, unless a line is bad: then the first bad line and its code
+abbrev pub unless_bad : {A : Type 0} → List (ℕ × ℕ) → List A → Result (List A) (ℕ × ℕ)
+unless_bad [] xs = Ok xs
+unless_bad (fault ∷ faults) xs = Err fault
 
 -- the commands of a script, or the first bad line and its code
 unfoldable pub commands_of : List ℕ → Result (List Command) (ℕ × ℕ)
-commands_of text = commands_from 1 [] (lines_of text)
+commands_of text = unless_bad (bad_sayings text) (commands_in text)
 
 -- ---- order files
 
--- the number of a caller
-abbrev pub is_turn : ℕ → ℤ → Bool
-is_turn callers v = int_le (pos 1) v && int_le v (pos callers)
+-- the number of a caller, from 1
+abbrev pub is_caller : ℕ → ℤ → Bool
+is_caller callers v = int_le (pos 1) v && int_le v (pos callers)
 
--- the turns of a line: each word has the shape of a number, and then each value is from 1 to the number of callers
-abbrev pub in_turn : ℕ → Option (List ℤ) → Result (List ℕ) ℕ
-in_turn callers None = Err 2
-in_turn callers (Some vs) = if list_all (is_turn callers) vs then Ok (map nat_abs vs) else Err 3
+-- a word that spells a number
+abbrev pub is_number : List ℕ → Bool
+is_number word = is_some (number word)
 
--- the turns of a line of these words
-abbrev pub turns_of : ℕ → List (List ℕ) → Result (List ℕ) ℕ
-turns_of callers ws = in_turn callers (each number ws)
+-- a word that spells the number of a caller
+abbrev pub is_turn : ℕ → List ℕ → Bool
+is_turn callers word = option_map_or (is_caller callers) (number word) false
 
--- the turns of these lines, numbered from n, or the first bad line
-abbrev pub order_from : ℕ → ℕ → List (List ℕ) → Result (List ℕ) (ℕ × ℕ)
-order_from callers n [] = Ok []
-order_from callers n (line ∷ lines) =
-    at_line n (if has_bad_byte line then Err 2 else turns_of callers (words_of line)) >>= λ ts. order_from callers (n + 1) lines >>= λ more. Ok (ts ++ more)
+-- the code of a line: 2 where a byte is not allowed or a word spells no number, else 3 where one is not the number of a
+-- caller
+abbrev pub turns_code : ℕ → List ℕ → Option ℕ
+turns_code callers line =
+    given (has_bad_byte line || not (list_all is_number (words_of line))) 2
+    or given (not (list_all (is_turn callers) (words_of line))) 3
 
--- the turns of an order file, or the first bad line and its code
+-- the bad lines of an order file with their codes
+abbrev pub bad_turns : ℕ → List ℕ → List (ℕ × ℕ)
+bad_turns callers text = filter_map (λ l. option_map (λ code. (l.0, code)) (turns_code callers l.1)) (enumerate_from 1 (lines_of text))
+
+-- the numbers that these words spell
+abbrev pub turns_of : List (List ℕ) → List ℕ
+turns_of words = filter_map (λ word. option_map nat_abs (number word)) words
+
+-- the turns of an order file for so many callers, or the first bad line and its code
 unfoldable pub order_of : ℕ → List ℕ → Result (List ℕ) (ℕ × ℕ)
-order_of callers text = order_from callers 1 (lines_of text)
+order_of callers text = unless_bad (bad_turns callers text) (turns_of (flat_map words_of (lines_of text)))
+
+-- ---- formed scripts
+
+-- the names of a command
+abbrev pub names_in : Command → List (List ℕ)
+names_in (command.OpenDev device) = device ∷ []
+names_in (command.CloseDev device) = device ∷ []
+names_in (command.Io device value) = device ∷ []
+names_in (command.Detach device) = device ∷ []
+names_in (command.Rescan device None pairs) = device ∷ map (λ g. g.name) pairs
+names_in (command.Rescan device (Some attr) pairs) = device ∷ attr ∷ map (λ g. g.name) pairs
+names_in (command.ListDev device) = option_to_list device
+names_in (command.TreeDev device) = option_to_list device
+names_in (command.Suspend device) = device ∷ []
+names_in (command.Resume device) = device ∷ []
+names_in (command.ResumeTree device) = device ∷ []
+names_in (command.Plug spot) = spot ∷ []
+names_in (command.Unplug spot) = spot ∷ []
+
+-- the pairs are few, and there are none without an attribute
+abbrev pub has_few_pairs : Command → Bool
+has_few_pairs (command.Rescan device None pairs) = nat_le (length pairs) 0
+has_few_pairs (command.Rescan device (Some attr) pairs) = nat_le (length pairs) 16
+has_few_pairs _ = true
+
+-- a command's names are operands; a rescan gives at most 16 pairs, and none where it names no attribute
+pub record FormedCommand (c : Command) : Type 0 where
+  pub names : All (λ name. is_operand name ≡ true) (names_in c)
+  pub pairs : has_few_pairs c ≡ true
+
+-- at most 500 formed commands
+pub record FormedScript (script : List Command) : Type 0 where
+  pub few : length script ≤ 500
+  pub commands : All FormedCommand script

@@ -4,5 +4,5 @@
 mod line;
 mod text;
 
-pub use line::{Line, MachineStop};
+pub use line::{Line, MachineStop, has_bad_byte, words_of};
 pub use text::records;

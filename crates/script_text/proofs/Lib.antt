@@ -1,0 +1,6 @@
+pub mod LeftLemmas
+pub mod OperandLemmas
+pub mod OrderLemmas
+pub mod PairLemmas
+pub mod ScriptLemmas
+pub mod VerbLemmas

@@ -1,0 +1,3 @@
+pub mod Left
+pub mod Verbs
+pub use Rattle.config_rules.specs.ScriptText

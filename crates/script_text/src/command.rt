@@ -1,0 +1,90 @@
+ghost use Rattle.std.specs.Prelude.{◌≡◌};
+ghost use Rattle.config_rules.specs.ScriptText.{command_of, io_form, rescan_form, rescan_on};
+ghost use Rattle.script_text.specs.Left.{Leaves};
+ghost use Rattle.script_text.specs.Verbs.{form_by};
+
+use crate::operand::{WRONG_WORDS, one_operand, operand, operand_or_none, transfer_value};
+use crate::pairs::pairs_of;
+use crate::stop::LineStop;
+use crate::verb::{Verb, verb_of};
+use cf_types::{Command, List, Text};
+use std::alloc::Global;
+
+/// The code of a word that is no command.
+const NO_COMMAND: u8 = 1;
+
+/// Reads what stands behind `io`.
+fn io_command(alloc: Global, words: &[Text]) -> Result<Command, LineStop>
+    ensures { Leaves (io_form words.now) result }
+{
+    match words {
+        [device, value] => {
+            let device = operand(alloc, device.items())?;
+            let value = transfer_value(value.items())?;
+            Ok(Command::Io(device, value))
+        }
+        _ => Err(LineStop::Code(WRONG_WORDS)),
+    }
+}
+
+/// Reads `rescan D A` with the words behind it.
+fn rescan_on(alloc: Global, device: &[u8], attr: &[u8], words: &[Text]) -> Result<Command, LineStop>
+    ensures { Leaves (rescan_on device.now attr.now words.now) result }
+{
+    let device = operand(alloc, device)?;
+    let attr = operand(alloc, attr)?;
+    let given = pairs_of(alloc, words)?;
+    Ok(Command::Rescan {
+        device,
+        attr: Some(attr),
+        given,
+    })
+}
+
+/// Reads what stands behind `rescan`.
+fn rescan_command(alloc: Global, words: &[Text]) -> Result<Command, LineStop>
+    ensures { Leaves (rescan_form words.now) result }
+{
+    match words {
+        [device] => {
+            let device = operand(alloc, device.items())?;
+            Ok(Command::Rescan {
+                device,
+                attr: None,
+                given: List::make(alloc),
+            })
+        }
+        [device, attr, more @ ..] => rescan_on(alloc, device.items(), attr.items(), more),
+        [] => Err(LineStop::Code(WRONG_WORDS)),
+    }
+}
+
+/// Reads what stands behind a verb.
+fn command_by(alloc: Global, verb: Verb, words: &[Text]) -> Result<Command, LineStop>
+    ensures { Leaves (form_by verb words.now) result }
+{
+    match verb {
+        Verb::Open => Ok(Command::OpenDev(one_operand(alloc, words)?)),
+        Verb::Close => Ok(Command::CloseDev(one_operand(alloc, words)?)),
+        Verb::Io => io_command(alloc, words),
+        Verb::Detach => Ok(Command::Detach(one_operand(alloc, words)?)),
+        Verb::Rescan => rescan_command(alloc, words),
+        Verb::List => Ok(Command::ListDev(operand_or_none(alloc, words)?)),
+        Verb::Tree => Ok(Command::TreeDev(operand_or_none(alloc, words)?)),
+        Verb::Suspend => Ok(Command::Suspend(one_operand(alloc, words)?)),
+        Verb::Resume => Ok(Command::Resume(one_operand(alloc, words)?)),
+        Verb::ResumeTree => Ok(Command::ResumeTree(one_operand(alloc, words)?)),
+        Verb::Plug => Ok(Command::Plug(one_operand(alloc, words)?)),
+        Verb::Unplug => Ok(Command::Unplug(one_operand(alloc, words)?)),
+    }
+}
+
+/// Reads the command of a word with others behind it.
+pub fn command_of(alloc: Global, word: &[u8], words: &[Text]) -> Result<Command, LineStop>
+    ensures { Leaves (command_of word.now words.now) result }
+{
+    match verb_of(word) {
+        Some(verb) => command_by(alloc, verb, words),
+        None => Err(LineStop::Code(NO_COMMAND)),
+    }
+}

@@ -1,0 +1,123 @@
+ghost use Rattle.std.specs.Prelude.{◌≡◌, ◌≤◌, IsTrue, length, nat_abs};
+ghost use Rattle.cf_text.specs.Shapes.{in_range};
+ghost use Rattle.config_rules.specs.Form.{given};
+ghost use Rattle.config_rules.specs.ScriptText.{is_caller, is_number, is_operand, is_value, natural_within, number_within, one_operand, operand, operand_or_none};
+ghost use Rattle.script_text.specs.Left.{Leaves};
+
+use crate::stop::LineStop;
+use cf_text::{NumberRead, is_name, read_number};
+use cf_types::{Name, Text};
+use std::alloc::Global;
+
+/// The greatest length of a name in a script.
+const MAX_OPERAND: usize = 80;
+
+/// The greatest value of a transfer.
+const MAX_VALUE: i64 = 4_294_967_295;
+
+/// The code of other words than the form has.
+pub const WRONG_WORDS: u8 = 2;
+
+/// The code of a number out of its range.
+const OUT_OF_RANGE: u8 = 3;
+
+/// Whether a word is a name of at most 80 bytes.
+pub fn is_operand(word: &[u8]) -> bool
+    ensures value { result ≡ is_operand word.now }
+    ensures not_empty { IsTrue result → 1 ≤ length word.now }
+    ensures not_long { IsTrue result → length word.now ≤ 80 }
+{
+    is_name(word) && word.len() <= MAX_OPERAND
+}
+
+/// The operand that a word is.
+pub fn operand(alloc: Global, word: &[u8]) -> Result<Name, LineStop>
+    ensures { Leaves (operand word.now) result }
+{
+    if !is_operand(word) {
+        return Err(LineStop::Code(WRONG_WORDS));
+    }
+    Ok(Name::make(alloc, word)?)
+}
+
+/// The one operand of a command.
+pub fn one_operand(alloc: Global, words: &[Text]) -> Result<Name, LineStop>
+    ensures { Leaves (one_operand words.now) result }
+{
+    match words {
+        [word] => operand(alloc, word.items()),
+        _ => Err(LineStop::Code(WRONG_WORDS)),
+    }
+}
+
+/// The operand of a command that may have none.
+pub fn operand_or_none(alloc: Global, words: &[Text]) -> Result<Option<Name>, LineStop>
+    ensures { Leaves (operand_or_none words.now) result }
+{
+    if words.is_empty() {
+        return Ok(None);
+    }
+    Ok(Some(one_operand(alloc, words)?))
+}
+
+/// Whether a word spells a number of any size.
+pub fn is_number(word: &[u8]) -> bool
+    ensures { result ≡ is_number word.now }
+{
+    match read_number(word) {
+        NumberRead::Not => false,
+        NumberRead::OutOfRange => true,
+        NumberRead::Value(_) => true,
+    }
+}
+
+/// The number that a word spells, from -2147483648 to 4294967295.
+pub fn written_value(word: &[u8]) -> Result<i64, LineStop>
+    ensures { Leaves (number_within in_range word.now) result }
+{
+    match read_number(word) {
+        NumberRead::Not => Err(LineStop::Code(WRONG_WORDS)),
+        NumberRead::OutOfRange => Err(LineStop::Code(OUT_OF_RANGE)),
+        NumberRead::Value(value) => Ok(value),
+    }
+}
+
+fn in_transfer_range(value: i64) -> Option<u32>
+    ensures { result ≡ given (is_value value) (nat_abs value) }
+{
+    if 0 <= value && value <= MAX_VALUE {
+        Some(value as u32)
+    } else {
+        None
+    }
+}
+
+fn in_caller_range(callers: u8, value: i64) -> Option<u8>
+    ensures { result ≡ given (is_caller callers value) (nat_abs value) }
+{
+    if 1 <= value && value <= i64::from(callers) {
+        Some(value as u8)
+    } else {
+        None
+    }
+}
+
+/// The value of a transfer that a word spells, from 0 to 4294967295.
+pub fn transfer_value(word: &[u8]) -> Result<u32, LineStop>
+    ensures { Leaves (natural_within is_value word.now) result }
+{
+    match in_transfer_range(written_value(word)?) {
+        Some(value) => Ok(value),
+        None => Err(LineStop::Code(OUT_OF_RANGE)),
+    }
+}
+
+/// The caller whose number a word spells, from 1 to `callers`.
+pub fn caller_number(callers: u8, word: &[u8]) -> Result<u8, LineStop>
+    ensures { Leaves (natural_within (is_caller callers) word.now) result }
+{
+    match in_caller_range(callers, written_value(word)?) {
+        Some(caller) => Ok(caller),
+        None => Err(LineStop::Code(OUT_OF_RANGE)),
+    }
+}

@@ -1,0 +1,51 @@
+ghost use Rattle.std.specs.Prelude.{◌≡◌, IsTrue};
+ghost use Rattle.config_rules.specs.ScriptText.{are_pairs, given_in, pairs_of};
+ghost use Rattle.script_text.specs.Left.{Leaves};
+
+use crate::operand::{WRONG_WORDS, is_number, is_operand, operand, written_value};
+use crate::stop::LineStop;
+use cf_types::{Given, List, Text};
+use std::alloc::Global;
+
+/// The most words behind `rescan D A`: 16 pairs.
+const MAX_PAIR_WORDS: usize = 32;
+
+/// Whether the words are pairs of a name and a number.
+fn are_pairs(words: &[Text]) -> bool
+    ensures { result ≡ are_pairs words.now }
+{
+    let mut rest = words;
+    while let [name, value, more @ ..] = rest {
+        if !is_operand(name.items()) || !is_number(value.items()) {
+            return false;
+        }
+        rest = more;
+    }
+    rest.is_empty()
+}
+
+/// The locators that pairs give, with their values.
+fn given_in(alloc: Global, words: &[Text]) -> Result<List<Given>, LineStop>
+    requires { IsTrue (are_pairs words.now) }
+    ensures { Leaves (given_in words.now) result }
+{
+    let mut given = List::make(alloc);
+    let mut rest = words;
+    while let [name, value, more @ ..] = rest {
+        let value = written_value(value.items())?;
+        let name = operand(alloc, name.items())?;
+        given.push(Given { name, value })?;
+        rest = more;
+    }
+    Ok(given)
+}
+
+/// Reads up to 16 pairs of a locator and its value.
+pub fn pairs_of(alloc: Global, words: &[Text]) -> Result<List<Given>, LineStop>
+    ensures { Leaves (pairs_of words.now) result }
+{
+    if words.len() > MAX_PAIR_WORDS || !are_pairs(words) {
+        return Err(LineStop::Code(WRONG_WORDS));
+    }
+    given_in(alloc, words)
+}

@@ -1,0 +1,69 @@
+ghost use Rattle.std.specs.Prelude.{◌≡◌, ◌≤◌, IfOk, length};
+ghost use Rattle.config_rules.specs.ScriptText.{FormedScript, commands_of, line_says, words_say};
+ghost use Rattle.script_text.specs.Left.{Adds, Gives, Says};
+
+use crate::command::command_of;
+use crate::operand::WRONG_WORDS;
+use crate::stop::{LineStop, ScriptStop};
+use cf_types::{Command, List, Text};
+use machine_text::{has_bad_byte, words_of};
+use std::alloc::Global;
+
+/// The most commands of a script.
+const MAX_COMMANDS: usize = 500;
+
+/// The code of a command too many.
+const TOO_MANY: u8 = 4;
+
+/// What the words of a line say: `None` where there are none.
+fn words_say(alloc: Global, words: &[Text]) -> Result<Option<Command>, LineStop>
+    ensures { Says (words_say words.now) result }
+{
+    match words.split_first() {
+        Some((word, rest)) => Ok(Some(command_of(alloc, word.items(), rest)?)),
+        None => Ok(None),
+    }
+}
+
+/// What a line says: `None` where it has no words.
+fn line_says(alloc: Global, line: &[u8]) -> Result<Option<Command>, LineStop>
+    ensures { Says (line_says line.now) result }
+{
+    if has_bad_byte(line) {
+        return Err(LineStop::Code(WRONG_WORDS));
+    }
+    let words = words_of(alloc, line)?;
+    words_say(alloc, words.items())
+}
+
+/// Adds the command of a line, if it has one, to those before it.
+fn add_line(alloc: Global, commands: &mut List<Command>, line: &[u8]) -> Result<(), LineStop>
+    ensures { Adds (line_says line.now) commands.old commands.new result }
+{
+    let Some(command) = line_says(alloc, line)? else {
+        return Ok(());
+    };
+    if MAX_COMMANDS <= commands.len() {
+        return Err(LineStop::Code(TOO_MANY));
+    }
+    commands.push(command)?;
+    Ok(())
+}
+
+/// Reads a script of at most 1,048,576 bytes: its commands, at most 500, or the first bad line and its code, 1 to 4. A
+/// line has one command, as drvctl(8) has them, and `#` begins a comment. The format is this project's own.
+pub fn read_script(alloc: Global, text: &[u8]) -> Result<List<Command>, ScriptStop>
+    requires { length text.now ≤ 1048576 }
+    ensures gives { Gives (commands_of text.now) result }
+    ensures formed { IfOk result FormedScript }
+{
+    let mut commands = List::make(alloc);
+    let mut number = 1;
+    for line in text.split(|&byte| byte == b'\n') {
+        if let Err(stop) = add_line(alloc, &mut commands, line) {
+            return Err(stop.at(number));
+        }
+        number += 1;
+    }
+    Ok(commands)
+}
