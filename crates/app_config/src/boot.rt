@@ -14,7 +14,7 @@ use ref_ledger::PlainSlots;
 use std::alloc::Global;
 
 /// The board of a machine after its boot.
-fn booted(alloc: Global, tables: Tables, machine: Machine) -> Result<Board, Memory>
+pub fn booted(alloc: Global, tables: Tables, machine: Machine) -> Result<Board, Memory>
     requires formed { FormedTables tables }
     requires fits { FittingMachine tables machine }
     ensures { IfOk result (λ board. Boot (opening (setup_of tables machine [])) board.events board.world × (board.world.setup ≡ setup_of tables machine [])) }

@@ -17,7 +17,7 @@ use std::alloc::Global;
 use tree_text::put_dev;
 
 /// Puts a piece whole.
-fn put_piece<S: Sink>(piece: &[u8], out: &mut S) -> Status
+pub fn put_piece<S: Sink>(piece: &[u8], out: &mut S) -> Status
     ensures { Puts piece.now (S.faults out.old) (S.faults out.new) (S.bytes out.old) (S.bytes out.new) result }
 {
     match out.put(piece) {

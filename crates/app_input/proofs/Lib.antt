@@ -1,2 +1,4 @@
+pub mod CountLemmas
 pub mod DueLaws
+pub mod MadeLaws
 pub mod OperandLemmas

@@ -1,21 +1,40 @@
 -- What the words and the files call for, and what reading them answers.
-use Rattle.std.specs.Prelude.{◌≡◌, ℕ, ◌<◌, ◌≤◌, ◌⊎◌, nat_le, Option, Some, None, IfSome, Result, List, length, if◌then◌else◌, ⊤}
+use Rattle.std.specs.Prelude.{◌≡◌, ℕ, ◌<◌, ◌≤◌, ◌⊎◌, nat_le, true, Option, Some, None, IfSome, Result, List, [], ◌∷◌, length, codes, if◌then◌else◌, ⊤}
 use Rattle.std.specs.Prelude as std
 use Rattle.cf_types.specs.declared.machine.Machine.{Machine}
 use Rattle.cf_types.specs.declared.tables.Refusal.{Refusal}
 use Rattle.cf_types.specs.declared.tables.Tables.{Tables}
 use Rattle.cf_io.specs.Faults.{Rose}
+use Rattle.cf_io.specs.declared.file.MemFile.{MemFile}
 use Rattle.cf_io.specs.declared.files.TheConstants.{MAX_FILE}
+use Rattle.cf_io.specs.Memory.{file_named}
 use Rattle.config_rules.specs.Fault.{first_fault}
 use Rattle.config_rules.specs.Formed.{FittingMachine, FormedTables}
 use Rattle.config_rules.specs.MachineText.{machine_of}
 use Rattle.config_rules.specs.Meaning.{Means}
 use Rattle.config_rules.specs.Reading.{Files}
+use Rattle.load_maker.specs.Generated.{conf_text, machine_text}
 use Rattle.app_input.specs.declared.inputs.Inputs.{Inputs}
-use Rattle.app_input.specs.declared.inputs.Inputs.TheVariants.{Ioconf, Boot}
+use Rattle.app_input.specs.declared.inputs.Inputs.TheVariants.{Ioconf, Boot, Load}
 use Rattle.app_input.specs.declared.status.Status.{Status}
 use Rattle.app_input.specs.declared.status.Status.TheVariants.{Ok, ConfigRefused, Usage, MachineRefused, Absent, TooLong, ReadFault, WriteFault, Memory}
-use Rattle.app_input.specs.Words.{Form, ioconf, boot, config_of}
+use Rattle.app_input.specs.Words.{Form, ioconf, boot, load, config_of, is_from_outside, machine_in}
+
+-- the generated files of a machine with so many spots
+unfoldable pub made_files : ℕ → List MemFile
+made_files n = record { name = codes "conf"; bytes = conf_text } ∷ record { name = codes "mach"; bytes = machine_text n } ∷ []
+
+-- the files that a form speaks of, where they are told: generated ones are
+abbrev pub told_of : Form → Option Files → Option Files
+told_of (ioconf file) told = told
+told_of (boot file machine) told = told
+told_of (load n) told = Some (file_named (made_files n))
+
+-- the files that a form speaks of
+abbrev pub files_of : Form → Files → Files
+files_of (ioconf file) files = files
+files_of (boot file machine) files = files
+files_of (load n) files = file_named (made_files n)
 
 -- where the files are told, the configuration means the tables
 abbrev pub IsMeant : Option Files → List ℕ → Tables → Type 0
@@ -71,22 +90,30 @@ Describes described (std.Err (MachineRefused line code)) = described ≡ std.Err
 Describes described (std.Err Memory) = ⊤
 Describes described (std.Err _) = ⊥
 
--- the words ask for a boot, the configuration means the tables, and P holds of the machine file with them
-abbrev pub Boots : Option Form → Option Files → (List ℕ → Tables → Type 0) → Type 0
-Boots form told P = (file name : List ℕ) × (tables : Tables) × (form ≡ Some (boot file name)) × IsMeant told file tables × P name tables
+-- the words ask for a boot, the configuration means the tables, and P holds of the files and the machine file with them
+abbrev pub Boots : Option Form → Option Files → (Option Files → List ℕ → Tables → Type 0) → Type 0
+Boots form told P =
+    (f : Form) × (name : List ℕ) × (tables : Tables) × (form ≡ Some f) × (machine_in f ≡ Some name) × IsMeant (told_of f told) (config_of f) tables
+    × P (told_of f told) name tables
+
+-- the generated configuration means the tables, and the generated machine file describes the machine with them
+abbrev pub Made : ℕ → Tables → Machine → Type 0
+Made n tables machine =
+    IsMeant (Some (file_named (made_files n))) (codes "conf") tables × IsDescribed (Some (file_named (made_files n))) (codes "mach") tables (std.Ok machine)
 
 -- why the words and the files were read as these inputs, or refused
 abbrev pub Reads : Option Form → Option Files → Result Inputs Status → Type 0
 Reads form told (std.Ok (Ioconf tables)) = (file : List ℕ) × (form ≡ Some (ioconf file)) × IsMeant told file tables
 Reads form told (std.Ok (Boot tables machine)) =
     (file name : List ℕ) × (form ≡ Some (boot file name)) × IsMeant told file tables × IsDescribed told name tables (std.Ok machine)
+Reads form told (std.Ok (Load n tables machine)) = (form ≡ Some (load n)) × Made n tables machine
 Reads form told (std.Err (ConfigRefused file line code)) =
-    (f : Form) × (form ≡ Some f) × IsFirstFault told (config_of f) (record { file = file; line = line; code = code })
+    (f : Form) × (form ≡ Some f) × IsFirstFault (told_of f told) (config_of f) (record { file = file; line = line; code = code })
 Reads form told (std.Err Usage) = form ≡ None
-Reads form told (std.Err (MachineRefused line code)) = Boots form told (λ name tables. IsDescribed told name tables (std.Err (line, code)))
-Reads form told (std.Err (Absent absent)) = Boots form told (λ name tables. (absent ≡ name) × IsLacking told name)
-Reads form told (std.Err (TooLong long)) = Boots form told (λ name tables. (long ≡ name) × IsLong told name)
-Reads form told (std.Err ReadFault) = (f : Form) × (form ≡ Some f)
+Reads form told (std.Err (MachineRefused line code)) = Boots form told (λ files name tables. IsDescribed files name tables (std.Err (line, code)))
+Reads form told (std.Err (Absent absent)) = Boots form told (λ files name tables. (absent ≡ name) × IsLacking files name)
+Reads form told (std.Err (TooLong long)) = Boots form told (λ files name tables. (long ≡ name) × IsLong files name)
+Reads form told (std.Err ReadFault) = (f : Form) × (form ≡ Some f) × (is_from_outside f ≡ true)
 Reads form told (std.Err Memory) = ⊤
 Reads form told (std.Err Ok) = ⊥
 Reads form told (std.Err WriteFault) = ⊥
@@ -101,21 +128,24 @@ Counts before after (std.Err _) = after ≡ before
 abbrev pub FormedInputs : Inputs → Type 0
 FormedInputs (Ioconf tables) = FormedTables tables
 FormedInputs (Boot tables machine) = FormedTables tables × FittingMachine tables machine
+FormedInputs (Load n tables machine) = FormedTables tables × FittingMachine tables machine
 
--- what a machine file gives with the tables
-abbrev pub booted : Tables → Result Machine (ℕ × ℕ) → Result Inputs Status
-booted tables (std.Ok machine) = std.Ok (Boot tables machine)
-booted tables (std.Err fault) = std.Err (MachineRefused fault.0 fault.1)
+-- what a machine file gives: the inputs with its machine, or its refusal
+abbrev pub booted : (Machine → Inputs) → Result Machine (ℕ × ℕ) → Result Inputs Status
+booted inputs (std.Ok machine) = std.Ok (inputs machine)
+booted inputs (std.Err fault) = std.Err (MachineRefused fault.0 fault.1)
 
 -- the same of a file that may be absent, or too long
-abbrev pub booted_from : Tables → List ℕ → Option (List ℕ) → Result Inputs Status
-booted_from tables name None = std.Err (Absent name)
-booted_from tables name (Some text) = if nat_le (length text) MAX_FILE then booted tables (machine_of tables text) else std.Err (TooLong name)
+abbrev pub booted_from : (Machine → Inputs) → Tables → List ℕ → Option (List ℕ) → Result Inputs Status
+booted_from inputs tables name None = std.Err (Absent name)
+booted_from inputs tables name (Some text) =
+    if nat_le (length text) MAX_FILE then booted inputs (machine_of tables text) else std.Err (TooLong name)
 
 -- what a form gives where its configuration means the tables
 abbrev pub given_by : Form → Files → Tables → Result Inputs Status
 given_by (ioconf file) files tables = std.Ok (Ioconf tables)
-given_by (boot file name) files tables = booted_from tables name (files name)
+given_by (boot file name) files tables = booted_from (Boot tables) tables name (files name)
+given_by (load n) files tables = booted_from (Load n tables) tables (codes "mach") (files (codes "mach"))
 
 -- the refusal of a configuration
 abbrev pub refused_by : Refusal → Result Inputs Status
@@ -129,4 +159,4 @@ IsDueAt form files (Some refusal) answer = answer ≡ refused_by refusal
 -- the answer is the one that the words and the files call for
 abbrev pub IsDue : Option Form → Files → Result Inputs Status → Type 0
 IsDue None files answer = answer ≡ std.Err Usage
-IsDue (Some form) files answer = IsDueAt form files (first_fault files (config_of form)) answer
+IsDue (Some form) files answer = IsDueAt form (files_of form files) (first_fault (files_of form files) (config_of form)) answer

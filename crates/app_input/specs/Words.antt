@@ -1,8 +1,10 @@
 -- The forms that the words of a program may have.
-use Rattle.std.specs.Prelude.{◌≡◌, ℕ, Bool, ◌&&◌, ◌==◌, nat_lt, not, Option, Some, None, Result, List, [], ◌∷◌, length, slice_index, codes, if◌then◌else◌, ⊤}
+use Rattle.std.specs.Prelude.{◌≡◌, ℕ, ◌≤◌, Bool, true, false, ◌&&◌, ◌==◌, nat_lt, not, Option, Some, None, option_map, option_and_then, Result, List, [], ◌∷◌, length, slice_index, codes, if◌then◌else◌, ⊤, ℤ, pos, int_le, nat_abs}
 use Rattle.std.specs.Prelude as std
 use Rattle.std.specs.List.{list_all}
 use Rattle.std.specs.Str.{bytes_eq}
+use Rattle.cf_text.specs.Shapes.{number}
+use Rattle.config_rules.specs.Form.{given}
 use Rattle.app_input.specs.declared.inputs.Program.{Program}
 use Rattle.app_input.specs.declared.inputs.Program.TheVariants.{Devconf}
 use Rattle.app_input.specs.declared.words.Words.{Words}
@@ -12,10 +14,12 @@ use Rattle.clap.specs.declared.error.kind.ErrorKind.{ErrorKind}
 use Rattle.clap.specs.declared.error.kind.ErrorKind.TheVariants as kind
 use Rattle.app_input.specs.declared.words.WordStop.TheVariants.{Usage, Memory}
 
--- what words ask for: the listing of a configuration, or the boot of a machine by a configuration
+-- what words ask for: the listing of a configuration, the boot of a machine by a configuration, or the boot of a generated
+-- machine with so many spots
 pub data Form : Type 0 where
   ioconf : List ℕ → Form
   boot : List ℕ → List ℕ → Form
+  load : ℕ → Form
 
 -- a word that is not empty and does not begin with `-`
 abbrev pub is_operand : List ℕ → Bool
@@ -34,11 +38,26 @@ boot_form (file ∷ []) = None
 boot_form (file ∷ machine ∷ []) = Some (boot file machine)
 boot_form (file ∷ machine ∷ other ∷ more) = None
 
+-- a count of spots is from 1 to 1,000
+abbrev pub in_count_range : ℤ → Bool
+in_count_range v = int_le (pos 1) v && int_le v (pos 1000)
+
+-- the count that a word spells, in the shape of a number
+abbrev pub count_of : List ℕ → Option ℕ
+count_of word = option_and_then (λ v. given (in_count_range v) (nat_abs v)) (number word)
+
+-- `N`
+abbrev pub load_form : List (List ℕ) → Option Form
+load_form [] = None
+load_form (word ∷ []) = option_map load (count_of word)
+load_form (word ∷ other ∷ more) = None
+
 -- the operands behind the first word, which is compared byte for byte
 abbrev pub form_named : List ℕ → List (List ℕ) → Option Form
 form_named word operands =
     if bytes_eq word (codes "ioconf") then ioconf_form operands
-    else (if bytes_eq word (codes "boot") then boot_form operands else None)
+    else (if bytes_eq word (codes "boot") then boot_form operands
+    else (if bytes_eq word (codes "load") then load_form operands else None))
 
 -- the form of the words of `devconf`: each word behind the first is an operand
 abbrev pub devconf_form : List (List ℕ) → Option Form
@@ -49,15 +68,29 @@ devconf_form (word ∷ operands) = if list_all is_operand operands then form_nam
 abbrev pub form_of : Program → List (List ℕ) → Option Form
 form_of Devconf words = devconf_form words
 
--- the configuration that a form names
+-- the configuration of a form, by its name
 abbrev pub config_of : Form → List ℕ
 config_of (ioconf file) = file
 config_of (boot file machine) = file
+config_of (load n) = codes "conf"
+
+-- the machine file of a form, by its name
+abbrev pub machine_in : Form → Option (List ℕ)
+machine_in (ioconf file) = None
+machine_in (boot file machine) = Some machine
+machine_in (load n) = Some (codes "mach")
+
+-- whether a form names files from outside
+abbrev pub is_from_outside : Form → Bool
+is_from_outside (ioconf file) = true
+is_from_outside (boot file machine) = true
+is_from_outside (load n) = false
 
 -- the words were read as their form, or refused where they have none
 abbrev pub HasForm : Option Form → Result Words WordStop → Type 0
 HasForm form (std.Ok (words.Ioconf file)) = form ≡ Some (ioconf file.now)
 HasForm form (std.Ok (words.Boot file machine)) = form ≡ Some (boot file.now machine.now)
+HasForm form (std.Ok (words.Load count)) = (form ≡ Some (load count)) × (1 ≤ count) × (count ≤ 1000)
 HasForm form (std.Err Usage) = form ≡ None
 HasForm form (std.Err Memory) = ⊤
 

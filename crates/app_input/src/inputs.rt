@@ -1,10 +1,12 @@
-ghost use Rattle.std.specs.Prelude.{◌≡◌, ◌⊎◌, Err, IfOk, IfSome, Some, map, string_bytes};
+ghost use Rattle.std.specs.Prelude.{◌≡◌, ◌≢◌, ◌≤◌, ◌⊎◌, Err, Option, IfOk, IfSome, Some, map, string_bytes};
 ghost use Rattle.cf_io.specs.Faults.{Rose};
 ghost use Rattle.config_rules.specs.Formed.{FormedTables};
+ghost use Rattle.config_rules.specs.Reading.{Files as NamedFiles};
 ghost use Rattle.app_input.specs.Inputs.{Counts, FormedInputs, IsDue, Reads, ReadsTables};
-ghost use Rattle.app_input.specs.Words.{boot, form_of, ioconf};
+ghost use Rattle.app_input.specs.Words.{boot, form_of, ioconf, load};
 
 use crate::machine_file::load_machine;
+use crate::made::made_files;
 use crate::status::Status;
 use crate::words::{WordStop, Words, read_words};
 use cf_compile::{CompileStop, compile};
@@ -23,9 +25,20 @@ pub enum Program {
 #[derive(Drop)]
 pub enum Inputs {
     /// The tables of a configuration. See config(5).
-    Ioconf { tables: Tables },
+    Ioconf {
+        tables: Tables,
+    },
     /// The tables of a configuration, and a machine that is to boot by them.
-    Boot { tables: Tables, machine: Machine },
+    Boot {
+        tables: Tables,
+        machine: Machine,
+    },
+    /// The same of a generated machine with so many spots behind its bus, 1 to 1,000, and its configuration.
+    Load {
+        count: u32,
+        tables: Tables,
+        machine: Machine,
+    },
 }
 
 /// Compiles the configuration.
@@ -80,6 +93,32 @@ fn read_boot<F: Files>(
     }
 }
 
+/// Reads the inputs of `load N` from the generated files, the configuration first. No file from outside is asked for.
+fn read_load(alloc: Global, count: u32) -> Result<Inputs, Status>
+    requires some { 1 ≤ count }
+    requires few { count ≤ 1000 }
+    ensures reads { (told : Option NamedFiles) → Reads (Some (load count)) told result }
+    ensures quiet { result ≢ Err Status.ReadFault }
+    ensures formed { IfOk result FormedInputs }
+{
+    let mut files = match made_files(alloc, count) {
+        Ok(files) => files,
+        Err(_) => return Err(Status::Memory),
+    };
+    let tables = match read_tables(alloc, &mut files, b"conf") {
+        Ok(tables) => tables,
+        Err(status) => return Err(status),
+    };
+    match load_machine(alloc, &mut files, b"mach", &tables) {
+        Ok(machine) => Ok(Inputs::Load {
+            count,
+            tables,
+            machine,
+        }),
+        Err(status) => Err(status),
+    }
+}
+
 /// Reads the words behind a program's name and the files that they name, the configuration before the machine: what they
 /// give, or the first refusal in this order: the words, the configuration, the machine file. See config(1) and config(5).
 pub fn read_inputs<F: Files>(
@@ -102,6 +141,7 @@ pub fn read_inputs<F: Files>(
         Ok(Words::Boot { file, machine }) => {
             read_boot(alloc, files, file.as_bytes(), machine.as_bytes())
         }
+        Ok(Words::Load { count }) => read_load(alloc, count),
         Err(WordStop::Usage) => Err(Status::Usage),
         Err(WordStop::Memory) => Err(Status::Memory),
     }

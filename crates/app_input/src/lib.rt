@@ -1,8 +1,10 @@
 //! Reads the words of the programs, and all the files that the words name. See config(1).
 #![tactic(auto)]
 
+mod count;
 mod inputs;
 mod machine_file;
+mod made;
 mod operands;
 mod status;
 mod words;

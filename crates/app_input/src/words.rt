@@ -1,7 +1,8 @@
 ghost use Rattle.std.specs.Prelude.{◌≡◌, map, string_bytes};
 ghost use Rattle.std.specs.List.{list_all};
-ghost use Rattle.app_input.specs.Words.{HasForm, devconf_form, form_of, is_operand};
+ghost use Rattle.app_input.specs.Words.{HasForm, devconf_form, form_of, is_operand, load_form};
 
+use crate::count::count_of;
 use crate::inputs::Program;
 use crate::operands::{boot_words, ioconf_words};
 use std::alloc::Global;
@@ -13,6 +14,8 @@ pub enum Words<'a> {
     Ioconf { file: &'a str },
     /// `boot FILE MACHINE`
     Boot { file: &'a str, machine: &'a str },
+    /// `load N`, N from 1 to 1,000.
+    Load { count: u32 },
 }
 
 /// Why words were not read.
@@ -36,6 +39,22 @@ fn are_operands(words: &[String]) -> bool
     words.iter().all(|word| is_operand(word.as_bytes()))
 }
 
+/// Reads the operand `N`.
+fn load_words<'a>(operands: &'a [String]) -> Result<Words<'a>, WordStop>
+    ensures { HasForm (load_form (map string_bytes operands.now)) result }
+{
+    let Some((word, more)) = operands.split_first() else {
+        return Err(WordStop::Usage);
+    };
+    if !more.is_empty() {
+        return Err(WordStop::Usage);
+    }
+    match count_of(word.as_bytes()) {
+        Some(count) => Ok(Words::Load { count }),
+        None => Err(WordStop::Usage),
+    }
+}
+
 fn devconf_words<'a>(alloc: Global, words: &'a [String]) -> Result<Words<'a>, WordStop>
     ensures { HasForm (devconf_form (map string_bytes words.now)) result }
 {
@@ -50,6 +69,9 @@ fn devconf_words<'a>(alloc: Global, words: &'a [String]) -> Result<Words<'a>, Wo
     }
     if word.as_bytes() == b"boot".as_slice() {
         return boot_words(alloc, operands);
+    }
+    if word.as_bytes() == b"load".as_slice() {
+        return load_words(operands);
     }
     Err(WordStop::Usage)
 }

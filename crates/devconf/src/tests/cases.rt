@@ -1604,6 +1604,76 @@ match com_isa * 10
 % err
 usage: devconf ioconf FILE | boot FILE MACHINE | play FILE MACHINE ORDER SCRIPT.. | replay FILE MACHINE HISTORY SCRIPT.. | load N
 % status 2
+% run load 6
+% out
+load 6: devices 5, not configured 2, events 11
+% status 0
+% run load 1
+% out
+load 1: devices 1, not configured 1, events 6
+% status 0
+% run load 0x6
+% out
+load 6: devices 5, not configured 2, events 11
+% status 0
+% run load 010
+% out
+load 8: devices 6, not configured 3, events 13
+% status 0
+% run load 1000
+% out
+load 1000: devices 667, not configured 334, events 1005
+% status 0
+% run load 6
+% load 1
+% file conf
+no configuration
+% file mach
+no machine
+% out
+load 6: devices 5, not configured 2, events 11
+% status 0
+% run load 0
+% err
+usage: devconf ioconf FILE | boot FILE MACHINE | play FILE MACHINE ORDER SCRIPT.. | replay FILE MACHINE HISTORY SCRIPT.. | load N
+% status 2
+% run load 1001
+% err
+usage: devconf ioconf FILE | boot FILE MACHINE | play FILE MACHINE ORDER SCRIPT.. | replay FILE MACHINE HISTORY SCRIPT.. | load N
+% status 2
+% run load x
+% err
+usage: devconf ioconf FILE | boot FILE MACHINE | play FILE MACHINE ORDER SCRIPT.. | replay FILE MACHINE HISTORY SCRIPT.. | load N
+% status 2
+% run load
+% err
+usage: devconf ioconf FILE | boot FILE MACHINE | play FILE MACHINE ORDER SCRIPT.. | replay FILE MACHINE HISTORY SCRIPT.. | load N
+% status 2
+% run load 6 7
+% err
+usage: devconf ioconf FILE | boot FILE MACHINE | play FILE MACHINE ORDER SCRIPT.. | replay FILE MACHINE HISTORY SCRIPT.. | load N
+% status 2
+% run load -1
+% err
+usage: devconf ioconf FILE | boot FILE MACHINE | play FILE MACHINE ORDER SCRIPT.. | replay FILE MACHINE HISTORY SCRIPT.. | load N
+% status 2
+% run load -- 6
+% err
+usage: devconf ioconf FILE | boot FILE MACHINE | play FILE MACHINE ORDER SCRIPT.. | replay FILE MACHINE HISTORY SCRIPT.. | load N
+% status 2
+% run load 4294967302
+% err
+usage: devconf ioconf FILE | boot FILE MACHINE | play FILE MACHINE ORDER SCRIPT.. | replay FILE MACHINE HISTORY SCRIPT.. | load N
+% status 2
+% run Load 6
+% err
+usage: devconf ioconf FILE | boot FILE MACHINE | play FILE MACHINE ORDER SCRIPT.. | replay FILE MACHINE HISTORY SCRIPT.. | load N
+% status 2
+% run load 6
+% put 1
+% err
+write fault
+% status 9
 ";
 
 /// A bus whose first locator has to be written, an attribute that is no interface attribute, one that is, two device

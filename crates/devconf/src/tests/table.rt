@@ -162,7 +162,7 @@ fn runs_answer_as_the_table_tells(rt: HostRuntime) -> Result<(), Memory> {
         }
         told = take_line(&rt, rt.alloc(), told, line)?;
     }
-    assert_eq!(rt; runs, 94);
+    assert_eq!(rt; runs, 110);
     Ok(())
 }
 

@@ -1,9 +1,9 @@
-use Rattle.std.proofs.Common.{ℕ, ◌≤◌, ◌∙◌, ap, map, subst, arith}
+use Rattle.std.proofs.Common.{ℕ, ◌≤◌, ◌∙◌, ap, map, subst}
 use Rattle.cf_types.specs.Lines.{ended}
 use Rattle.cf_io.specs.Faults.{Rose}
 use Rattle.cf_io.proofs.TakenLemmas.{front_before, front_within, one_more_line}
 use Rattle.run_rules.specs.Tree.{dev_text}
-use Rattle.app_config.proofs.Sinks.{all_lines, line_read}
+use Rattle.app_config.proofs.Sinks.{line_read}
 use Rattle.app_config.proofs.history.put_devices.Goals as goal
 
 pub returns-in-Err : goal.returns-in-Err

@@ -1,4 +1,4 @@
-use Rattle.std.proofs.Common.{◌≡◌, ◌≤◌, length, map, take}
+use Rattle.std.proofs.Common.{◌≡◌, map, take}
 use Rattle.cf_types.specs.Lines.{text_of}
 use Rattle.cf_io.specs.Put.{appended}
 use Rattle.run_rules.specs.Tree.{dev_text}

@@ -4,7 +4,7 @@ use Rattle.cf_io.specs.Faults.{Rose}
 use Rattle.cf_io.proofs.TakenLemmas.{front_before, front_within, one_more_line}
 use Rattle.std.proofs.lemmas.Option.{slice_get_within}
 use Rattle.run_rules.specs.Lines.{line_of}
-use Rattle.app_config.proofs.Sinks.{all_lines, line_given}
+use Rattle.app_config.proofs.Sinks.{line_given}
 use Rattle.app_config.proofs.history.put_events.Goals as goal
 
 pub returns-in-Err : goal.returns-in-Err

@@ -1,9 +1,7 @@
-use Rattle.std.proofs.Common.{List, ℕ}
 use Rattle.std.specs.Prelude.{◌++◌}
 use Rattle.config_rules.specs.Listing.{listing}
 use Rattle.run_rules.specs.Lines.{lines}
 use Rattle.run_rules.specs.Tree.{tree_text}
-use Rattle.app_config.specs.Run.{Puts}
 use Rattle.app_config.proofs.Puts.{puts_stops, puts_then}
 use Rattle.app_config.proofs.history.put_run.Goals as goal
 

@@ -1,0 +1,59 @@
+ghost use Rattle.std.specs.Prelude.{◌≡◌, ◌≤◌, IfOk, Some};
+ghost use Rattle.cf_io.specs.Faults.{Counts};
+ghost use Rattle.cf_io.specs.Load.{is_failed, Fills, Loads};
+ghost use Rattle.cf_io.specs.Memory.{file_named};
+ghost use Rattle.app_input.specs.Inputs.{made_files};
+
+use cf_io::{Files, Load, MemFile, MemFiles};
+use cf_types::{List, Memory, Text};
+use load_maker::{conf_text, machine_text};
+use std::alloc::Global;
+use std::marker::Model;
+
+/// Files that the program made. No reading of them fails, so its count of faults stays at 0.
+#[derive(Drop)]
+pub struct MadeFiles {
+    files: MemFiles,
+}
+
+impl Model for MadeFiles {
+    ghost use Rattle.std.specs.Prelude.{◌≡◌, List, []};
+    ghost use Rattle.cf_io.specs.declared.file.MemFile.{MemFile};
+
+    ghost Value = { List MemFile };
+
+    ghost view = { λ it. it.files.files };
+
+    ghost invariant = { λ it. it.files.fail ≡ [] };
+}
+
+impl Files for MadeFiles {
+    ghost told = { λ it. Some (file_named it) };
+
+    ghost faults = { λ it. 0 };
+
+    fn load(&mut self, name: &[u8], into: &mut Vec<u8>) -> Load {
+        self.files.load(name, into)
+    }
+}
+
+/// The generated configuration and the generated machine of so many spots, under the names `conf` and `mach`.
+#[tactic(auto, unfolding(crate::specs::Inputs::made_files))]
+pub fn made_files(alloc: Global, count: u32) -> Result<MadeFiles, Memory>
+    requires some { 1 ≤ count }
+    requires few { count ≤ 1000 }
+    ensures { IfOk result (λ files. files ≡ made_files count) }
+{
+    let mut files = List::make(alloc);
+    files.push(MemFile {
+        name: Text::copied(alloc, b"conf")?,
+        bytes: conf_text(alloc)?,
+    })?;
+    files.push(MemFile {
+        name: Text::copied(alloc, b"mach")?,
+        bytes: machine_text(alloc, count)?,
+    })?;
+    Ok(MadeFiles {
+        files: MemFiles::make(files, List::make(alloc)),
+    })
+}
