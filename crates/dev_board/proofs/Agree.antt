@@ -14,11 +14,11 @@ use Rattle.ref_ledger.specs.declared.state.SlotState.{SlotState}
 use Rattle.ref_ledger.specs.declared.state.SlotState.TheVariants.{Free, Live}
 use Rattle.dev_board.specs.Agreement.{state_at}
 
-length_map_below : {A : Type 0} (f : ℕ → A) (n : ℕ) → length (map f (below n)) ≡ n
+pub length_map_below : {A : Type 0} (f : ℕ → A) (n : ℕ) → length (map f (below n)) ≡ n
 length_map_below f zero = refl
 length_map_below f (suc n) = rw (map-append f (below n) (n ∷ []), length-append (map f (below n)) (f n ∷ []), length_map_below f n) (omega arith)
 
-map_below_same : {A : Type 0} (f g : ℕ → A) (n : ℕ) → ((y : ℕ) → y < n → f y ≡ g y) → map f (below n) ≡ map g (below n)
+pub map_below_same : {A : Type 0} (f g : ℕ → A) (n : ℕ) → ((y : ℕ) → y < n → f y ≡ g y) → map f (below n) ≡ map g (below n)
 map_below_same f g zero h = refl
 map_below_same f g (suc n) h = rw (map-append f (below n) (n ∷ []), map-append g (below n) (n ∷ []), map_below_same f g n (λ y lt. h y (omega arith)), h n (omega arith)) refl
 

@@ -7,7 +7,7 @@ use Rattle.run_rules.specs.declared.world.Dev.{Dev}
 use Rattle.run_rules.specs.World.{device_at, parent_name, name_of, root_name}
 use Rattle.dev_board.specs.Events.{IsLive, name_live}
 
-any_found : (p : Dev → Bool) (xs : List Dev) → list_any p xs ≡ true → find p xs ≡ None → ⊥
+pub any_found : (p : Dev → Bool) (xs : List Dev) → list_any p xs ≡ true → find p xs ≡ None → ⊥
 any_found p [] h e = cc
 any_found p (x ∷ xs) h e = cases (λ k l. any_found p xs k l) (p x) h e
   where

@@ -54,13 +54,13 @@ known_live false live e h = h
 not_root : (s : ℕ) → 0 < s → (s == 0) ≡ false
 not_root s low = grind (arith, nat_tests)
 
-framed_live : (w : World) (k s : ℕ) (rest : List Frame) → Sound w → CallsDevices w → (caller_at w k).stack ≡ Finaliser s ∷ rest → IsTrue (is_live w.live s)
+pub framed_live : (w : World) (k s : ℕ) (rest : List Frame) → Sound w → CallsDevices w → (caller_at w k).stack ≡ Finaliser s ∷ rest → IsTrue (is_live w.live s)
 framed_live w k s rest sound calls e =
     let each = all_or (λ (c : Caller). AllByRecursion IsOfDevice c.stack) w.callers k nobody calls tt in
     let low : 0 < s = (subst (λ (fs : List Frame). AllByRecursion IsOfDevice fs) e each).0 in
     known_live (s == 0) (is_live w.live s) (not_root s low) (top_known w k (Finaliser s) rest sound e)
 
-called_live : (w : World) (s : ℕ) (listed : Option ℕ) (anew : Bool) → Kept w → CallsDevices w → has_ended w 0 ≡ false → IsCalled w 0 s listed anew → IsTrue (is_live w.live s)
+pub called_live : (w : World) (s : ℕ) (listed : Option ℕ) (anew : Bool) → Kept w → CallsDevices w → has_ended w 0 ≡ false → IsCalled w 0 s listed anew → IsTrue (is_live w.live s)
 called_live w s None anew kept calls goes called = framed_live w 0 s called.0 kept.sound calls called.1
 called_live w s (Some place) false kept calls goes called =
     rw called.5 (at_live w.live w.finalisers place (omega (arith, called.3, called.4)) (kept.sound.boot (not_ended w 0 goes)).finalisers)

@@ -6,6 +6,8 @@ pub mod Commits
 pub mod Events
 pub mod Late
 pub mod Marks
+pub mod Effects
+pub mod SlotWorks
 pub mod UnitsOf
 pub mod Witness
 pub mod Agreement
@@ -14,9 +16,13 @@ pub mod Stepping
 pub mod Booting
 pub mod Plans
 pub mod Works
+pub mod Sayings
+pub mod Choices
+pub mod Choosing
 pub mod View
 pub mod BoardView
 pub use Rattle.config_rules.specs.Formed
+pub use Rattle.config_rules.specs.ScriptText
 pub use Rattle.run_rules.specs.World
 pub use Rattle.run_rules.specs.Search
 pub use Rattle.run_rules.specs.Deeds

@@ -1,29 +1,47 @@
 //! The board: a world and its history, one event at a time. It boots formed tables on each machine that fits them; scripts it does not run yet.
 #![tactic(auto)]
 
+mod absent;
 mod answer;
 mod arrive;
 mod board;
 mod boot;
+mod busy;
 mod caller;
+mod choice;
+mod choose;
 mod closed;
+mod command;
 mod commit;
 mod due;
+mod effect;
+mod freed;
+mod freeing;
+mod hindered;
 mod late;
+mod lease;
 mod line;
 mod marks;
+mod named;
 mod names;
 mod parts;
 mod plan;
+mod power;
+mod rescan;
 mod search;
 mod seen;
+mod slots;
 mod spots;
 mod step;
 mod stepped;
 mod told;
+mod told_act;
+mod told_names;
 mod tree;
 mod unit;
+mod wanted;
 mod work;
+mod work_event;
 
 pub use answer::{Answer, LeaseStep};
 pub use board::Board;

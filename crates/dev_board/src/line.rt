@@ -20,7 +20,7 @@ use run_rules::{Act, Arrival, Event, Setup};
 use std::alloc::Global;
 
 /// The name of what came, if anything did.
-fn got_name(alloc: Global, setup: &Setup, got: Option<Arrival>) -> Result<Option<Name>, Memory>
+pub fn got_name(alloc: Global, setup: &Setup, got: Option<Arrival>) -> Result<Option<Name>, Memory>
     requires bounded { Bounded setup.now }
     requires row { IfSome got (λ a. a.row < length setup.now.tables.rows) }
     ensures text { IfOk result (λ name. name ≡ run.got_name setup.now got) }

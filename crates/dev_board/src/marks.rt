@@ -6,7 +6,7 @@ use cf_types::{Row, Tables};
 use match_search::LiveRows;
 
 /// Whether a row is of this device and unit, and not starred.
-fn is_hit(row: &Row, device: u32, unit: u32) -> bool
+pub fn is_hit(row: &Row, device: u32, unit: u32) -> bool
     ensures { hits row.now device unit ≡ result }
 {
     !row.star && (device == row.device && unit == row.unit)

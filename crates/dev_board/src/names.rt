@@ -12,7 +12,8 @@ use dev_tree::DevTree;
 use run_rules::Setup;
 use std::alloc::Global;
 
-fn driver_name(setup: &Setup, driver: u32) -> &[u8]
+/// The name of a driver.
+pub fn driver_name(setup: &Setup, driver: u32) -> &[u8]
     ensures { result.now ≡ world.driver_name setup.now driver }
 {
     match setup.tables.devices.items().get(driver as usize) {

@@ -66,7 +66,7 @@ fn after_turn(turn: Turn) -> Position
 
 /// What is done next on a scan.
 #[tactic(auto, unfolding(run_rules::specs::Next::next_scan))]
-fn plan_scan(
+pub fn plan_scan(
     graph: &Graph,
     setup: &Setup,
     core: &Core,
@@ -93,7 +93,7 @@ fn plan_scan(
 
 /// What the finaliser of a device does.
 #[tactic(auto, unfolding(run_rules::specs::Next::finalise))]
-fn plan_call(
+pub fn plan_call(
     graph: &Graph,
     setup: &Setup,
     core: &Core,
@@ -127,7 +127,7 @@ fn plan_call(
 
 /// What the boot does without a frame: interrupts first, then the finalisers, in passes until none answers 1. See
 /// autoconf(9).
-fn plan_boot(graph: &Graph, setup: &Setup, core: &Core) -> Plan
+pub fn plan_boot(graph: &Graph, setup: &Setup, core: &Core) -> Plan
     requires graph { IsGraphOf (declared_by setup.now.tables) graph.now }
     requires bounded { Bounded setup.now }
     requires books { Books setup.now core.now }

@@ -7,4 +7,5 @@ mod live;
 mod value;
 
 pub use choice::best;
+pub use fits::locators_at;
 pub use live::LiveRows;

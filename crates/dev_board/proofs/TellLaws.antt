@@ -1,0 +1,28 @@
+-- What is known of the caller whose event is made.
+use Rattle.std.proofs.Common.{◌≡◌, ◌<◌, ◌-◌, ◌^◌, ◌+◌, ℕ, length, ap, arith}
+use Rattle.std.proofs.lemmas.List.{length-map}
+use Rattle.run_rules.specs.declared.world.Setup.{Setup}
+use Rattle.run_rules.specs.Deeds.{Deed, Does}
+use Rattle.run_rules.specs.Next.{next}
+use Rattle.run_rules.specs.World.{Caller, caller_at}
+use Rattle.run_sound.specs.Kept.{Kept, MayRun}
+use Rattle.run_sound.proofs.Callers.{doing_there}
+use Rattle.run_sound.proofs.ScriptLaws.{over_low}
+use Rattle.dev_board.specs.declared.parts.Core.{Core}
+use Rattle.dev_board.specs.Arrivals.{state_at}
+use Rattle.dev_board.specs.View.{caller_of, world_of}
+use Rattle.dev_board.proofs.CallerLaws.{state_is}
+
+-- it is one of the callers
+pub doer_there : (s : Setup) (core : Core) (k : ℕ) (d : Deed) → next (world_of s core) k ≡ Does d → k < length core.callers.items
+doer_there s core k d chosen = omega (arith, doing_there (world_of s core) k d chosen, length-map core.callers.items caller_of)
+
+-- few of its commands are over
+pub few_over : (s : Setup) (core : Core) (k : ℕ) → MayRun s → Kept (world_of s core) → (state_at core.callers.items k).over < 2 ^ 32 - 1
+few_over s core k may kept =
+    let same : (state_at core.callers.items k).over ≡ (caller_at (world_of s core) k).over = ap (λ (c : Caller). c.over) (state_is core.callers.items k) in
+    omega (arith, same, over_low (world_of s core) may kept k)
+
+-- there are few devices
+pub few_live : (s : Setup) (core : Core) → MayRun s → Kept (world_of s core) → length core.tree.live + 1 < 2 ^ 32
+few_live s core may kept = omega (arith, kept.ranges.few, may.machine.few_spots)

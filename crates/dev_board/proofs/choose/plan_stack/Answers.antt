@@ -1,0 +1,18 @@
+use Rattle.std.proofs.Common.{refl}
+use Rattle.run_rules.specs.Deeds.{Does}
+use Rattle.dev_board.specs.Plans.{deed_of}
+use Rattle.dev_board.specs.View.{world_of}
+use Rattle.dev_board.proofs.ChooseLaws.{on_frame}
+use Rattle.dev_board.proofs.InputLaws.{bounded}
+use Rattle.dev_board.proofs.choose.plan_stack.Goals as goal
+
+pub plan_frame-requires-clause-bounded : goal.plan_frame-requires-clause-bounded
+plan_frame-requires-clause-bounded c = bounded c.args.setup.now c.requires.may
+
+pub plan_boot-requires-clause-bounded : goal.plan_boot-requires-clause-bounded
+plan_boot-requires-clause-bounded c = bounded c.args.setup.now c.requires.may
+
+pub returns-in-Some : goal.returns-in-Some
+returns-in-Some c =
+    on_frame (world_of c.args.setup.now c.args.core.now) c.args.core.now.callers.items c.args.caller c.index.result.now c.in-Some.frame.now (Does (deed_of c.plan_frame.result)) refl c.requires.caller c.index.ensures
+    c.in-Some.ensures (c.plan_frame.ensures c.args.caller)

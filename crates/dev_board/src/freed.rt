@@ -1,0 +1,88 @@
+//! A condemned device goes. See config_detach(9).
+ghost use Rattle.std.specs.Prelude.{◌≡◌, ◌≤◌, ◌<◌, ◌-◌, ◌^◌, [], length, IsTrue};
+ghost use Rattle.run_rules.specs.After as rule;
+ghost use Rattle.run_rules.specs.Deeds as deed;
+ghost use Rattle.run_rules.specs.World as world;
+ghost use Rattle.dev_board.specs.Arrivals.{state_at};
+ghost use Rattle.run_rules.specs.Sound.{HasSoundDevices};
+ghost use Rattle.dev_board.specs.Events.{HaveRows};
+ghost use Rattle.dev_board.specs.Effects.{freed_too};
+ghost use Rattle.dev_board.specs.Input.{Bounded};
+ghost use Rattle.dev_board.specs.View.{world_of, Books, SameAside};
+
+use crate::busy::finish;
+use crate::marks::is_hit;
+use crate::parts::Core;
+use crate::spots::driver_of;
+use cf_types::Tables;
+use match_search::LiveRows;
+use run_rules::{Activity, Setup};
+
+/// Marks the rows of a device and a unit that no device has any longer.
+fn mark_freed(tables: &Tables, rows: &mut LiveRows, device: u32, unit: u32)
+    requires length { length rows.old ≡ length tables.now.rows }
+    requires few { length tables.now.rows ≤ 8192 }
+    ensures { rows.new ≡ freed_too tables.now.rows rows.old device unit }
+{
+    for (index, row) in tables.rows.items().iter().enumerate() {
+        if is_hit(row, device, unit) {
+            rows.set(index as u32, true);
+        }
+    }
+}
+
+/// A device without children goes: its unit is given back, and its rows are live again.
+fn free_device(setup: &Setup, core: &mut Core, of: u64)
+    requires bounded { Bounded setup.now }
+    requires books { Books setup.now core.old }
+    requires sound { HasSoundDevices setup.now core.old.tree.live core.old.tree.next }
+    requires rows { HaveRows setup.now core.old.tree.live }
+    requires live { IsTrue (world.is_live core.old.tree.live of) }
+    requires children { world.children core.old.tree.live of ≡ [] }
+    ensures world { world_of setup.now core.new ≡ rule.freed (world_of setup.now core.old) of }
+    ensures callers { core.new.callers ≡ core.old.callers }
+    ensures books { Books setup.now core.new }
+    ensures aside { SameAside core.old core.new }
+{
+    match core.tree.get(of) {
+        Some(device) => {
+            let driver = driver_of(setup, device.row);
+            core.units.give(driver, device.unit);
+            core.tree.free(of);
+            mark_freed(&setup.tables, &mut core.rows, driver, device.unit);
+        }
+        None => unreachable!(),
+    }
+}
+
+/// Whether a caller is over with what it frees, once this device is gone.
+fn is_target(doing: Activity, serial: u64) -> bool
+    ensures { result ≡ rule.freeing_target doing serial }
+{
+    match doing {
+        Activity::Frees(target) => target == serial,
+        _ => false,
+    }
+}
+
+/// A condemned device goes; where it is the target of its caller's command, that is over.
+#[tactic(auto, unfolding(run_rules::specs::After::after))]
+pub fn free(setup: &Setup, core: &mut Core, caller: u8, of: u64)
+    requires bounded { Bounded setup.now }
+    requires books { Books setup.now core.old }
+    requires sound { HasSoundDevices setup.now core.old.tree.live core.old.tree.next }
+    requires rows { HaveRows setup.now core.old.tree.live }
+    requires live { IsTrue (world.is_live core.old.tree.live of) }
+    requires children { world.children core.old.tree.live of ≡ [] }
+    requires caller { caller < length core.old.callers.items }
+    requires low { (state_at core.old.callers.items caller).over < 2 ^ 32 - 1 }
+    ensures world { world_of setup.now core.new ≡ rule.after (world_of setup.now core.old) caller (deed.Free of) }
+    ensures books { Books setup.now core.new }
+    ensures aside { SameAside core.old core.new }
+{
+    let is_over = is_target(core.callers[caller as usize].doing, of);
+    free_device(setup, core, of);
+    if is_over {
+        finish(&mut core.callers, caller);
+    }
+}

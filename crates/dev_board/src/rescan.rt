@@ -1,0 +1,162 @@
+//! What a rescan searches, or why it does not begin. See drvctl(8).
+ghost use Rattle.std.specs.Prelude.{◌≡◌, ◌≤◌, Some, length, map, is_some};
+ghost use Rattle.std.specs.List.{list_any};
+ghost use Rattle.cf_types.specs.Locators.{locators_at};
+ghost use Rattle.cf_types.specs.declared.machine.Command.{Command};
+ghost use Rattle.run_rules.specs.declared.world.Dev.{Dev};
+ghost use Rattle.cf_types.specs.declared.tables.Place.TheVariants.{At};
+ghost use Rattle.attr_graph.specs.Graphs.{IsGraphOf, declared_by};
+ghost use Rattle.run_rules.specs.Next.{has_nothing, rescan_of, rescanning, wanted_of};
+ghost use Rattle.run_rules.specs.World as world;
+ghost use Rattle.run_rules.specs.World.{World, is_number, offered_by};
+ghost use Rattle.dev_board.specs.Choices.{deed_or, is_new_place, place_among, rescan_or, searched_alone};
+ghost use Rattle.dev_board.specs.View.{world_of};
+ghost use Rattle.dev_board.specs.Works.{given_by};
+
+use crate::hindered::is_pinned;
+use crate::named::attr_named;
+use crate::parts::Core;
+use crate::spots::{driver_of, has, policy_of};
+use crate::work::{Refusal, Work};
+use attr_graph::Graph;
+use cf_types::{Given, Locator, Name};
+use run_rules::{Dev, Setup};
+use scan_engine::offered;
+
+/// The locators of an attribute.
+pub fn locators_of(setup: &Setup, attr: u32) -> &[Locator]
+    ensures { result.now ≡ locators_at setup.now.tables.attrs (At attr) }
+{
+    match setup.tables.attrs.items().get(attr as usize) {
+        Some(a) => a.locs.items(),
+        None => &[],
+    }
+}
+
+/// The place of a locator.
+pub fn place_of(locators: &[Locator], name: &[u8]) -> Option<usize>
+    ensures { place_among locators.now name.now ≡ result }
+{
+    for (place, locator) in locators.iter().enumerate() {
+        if locator.name.bytes() == name {
+            return Some(place);
+        }
+    }
+    None
+}
+
+/// Whether a locator that is given has this place.
+fn stands_at(locators: &[Locator], given: &Given, place: usize) -> bool
+    ensures { result ≡ is_number (place_among locators.now given.now.name) place }
+{
+    match place_of(locators, given.name.bytes()) {
+        Some(found) => found == place,
+        None => false,
+    }
+}
+
+/// Whether a locator of this place is given.
+fn is_given(locators: &[Locator], place: usize, given: &[Given]) -> bool
+    ensures { result ≡ list_any (λ h. is_number (place_among locators.now h.name) place) given.now }
+{
+    given.iter().any(|given| stands_at(locators, given, place))
+}
+
+/// Whether a locator is one of these, and not given again.
+fn is_new(locators: &[Locator], first: &Given, rest: &[Given]) -> bool
+    ensures { is_new_place locators.now first.now rest.now ≡ result }
+{
+    match place_of(locators, first.name.bytes()) {
+        Some(place) => !is_given(locators, place, rest),
+        None => false,
+    }
+}
+
+/// Whether each locator that is given is one of these, and none is given twice.
+fn are_wanted(locators: &[Locator], given: &[Given]) -> bool
+    ensures { is_some (wanted_of (map (λ l. l.name) locators.now) given.now) ≡ result }
+{
+    match given {
+        [] => true,
+        [first, rest @ ..] => are_wanted(locators, rest) && is_new(locators, first, rest),
+    }
+}
+
+/// Whether there is nothing in a list.
+fn is_nothing(offers: &[u32]) -> bool
+    ensures { result ≡ has_nothing offers.now }
+{
+    match offers {
+        [] => true,
+        [..] => false,
+    }
+}
+
+/// The attribute of a name, if a rescan with these locator values may search it alone.
+fn attr_of(setup: &Setup, offers: &[u32], name: &[u8], given: &[Given]) -> Result<u32, Refusal>
+    requires few { length setup.now.tables.attrs ≤ 65536 }
+    ensures { searched_alone setup.now offers.now name.now given.now ≡ result }
+{
+    match attr_named(setup, name) {
+        None => Err(Refusal::BadAttribute),
+        Some(attr) => {
+            if !has(offers, attr) {
+                Err(Refusal::BadAttribute)
+            } else if !are_wanted(locators_of(setup, attr), given) {
+                Err(Refusal::BadLocator)
+            } else {
+                Ok(attr)
+            }
+        }
+    }
+}
+
+/// What a rescan of a device searches: one attribute alone, or all that the device offers.
+fn only_of(
+    setup: &Setup,
+    offers: &[u32],
+    attr: &Option<Name>,
+    given: &[Given],
+) -> Result<Option<u32>, Refusal>
+    requires few { length setup.now.tables.attrs ≤ 65536 }
+    ensures { (w : World) (said : Command) (d : Dev) → w.setup ≡ setup.now → offered_by w.setup d.row ≡ offers.now → given_by said ≡ given.now → rescan_of w said d attr.now given.now ≡ rescan_or w said d result }
+{
+    match attr {
+        None => Ok(None),
+        Some(name) => match attr_of(setup, offers, name.bytes(), given) {
+            Ok(attr) => Ok(Some(attr)),
+            Err(why) => Err(why),
+        },
+    }
+}
+
+/// A device is to be searched again.
+pub fn plan_search(
+    graph: &Graph,
+    setup: &Setup,
+    core: &Core,
+    device: Dev,
+    attr: &Option<Name>,
+    given: &[Given],
+) -> Result<Work, Refusal>
+    requires graph { IsGraphOf (declared_by setup.now.tables) graph.now }
+    requires few { length setup.now.tables.attrs ≤ 65536 }
+    requires there { world.device_at core.now.tree.live device.serial ≡ Some device }
+    ensures { (said : Command) → given_by said ≡ given.now → rescanning (world_of setup.now core.now) said device attr.now given.now ≡ deed_or (world_of setup.now core.now) said result }
+{
+    if is_pinned(core, device.serial) {
+        return Err(Refusal::Busy(device.serial));
+    }
+    if device.asleep {
+        return Err(Refusal::Asleep);
+    }
+    let offers = offered(graph, &setup.tables, driver_of(setup, device.row));
+    if policy_of(setup, device.row).norescan || is_nothing(offers) {
+        return Err(Refusal::NoRescan);
+    }
+    let only = only_of(setup, offers, attr, given)?;
+    Ok(Work::Rescan {
+        of: device.serial,
+        only,
+    })
+}

@@ -1,0 +1,205 @@
+//! What the works of scripts' callers do to the slots of spots.
+ghost use Rattle.std.specs.Prelude.{◌≡◌, ◌≢◌, ◌<◌, ◌≤◌, ℕ, IfErr, OnErr, OnOk, Some, false, length, slice_get, slice_set};
+ghost use Rattle.std.specs.Option.{option_map_or};
+ghost use Rattle.ref_ledger.specs.declared.state.SlotState.TheVariants.{Free, Condemned};
+ghost use Rattle.run_rules.specs.After as rule;
+ghost use Rattle.run_rules.specs.Deeds as deed;
+ghost use Rattle.run_rules.specs.Deeds.{Does};
+ghost use Rattle.run_rules.specs.Next.{next};
+ghost use Rattle.run_sound.specs.Kept.{Kept, MayRun};
+ghost use Rattle.dev_board.specs.SlotWorks as work_slots;
+ghost use Rattle.dev_board.specs.SlotWorks.{HaltIs, IsDenied, LatelyCondemned, SlotsLag, WaitsForLeases};
+ghost use Rattle.dev_board.specs.Input.{Bounded};
+ghost use Rattle.dev_board.specs.Works.{deed_by};
+ghost use Rattle.dev_board.specs.declared.work.Work.TheVariants as works;
+ghost use Rattle.run_rules.specs.World as world;
+ghost use Rattle.dev_board.specs.Agreement.{slots_of};
+ghost use Rattle.dev_board.specs.View.{world_of, Books, SameAside};
+
+use crate::effect::do_work;
+use crate::freed::free;
+use crate::parts::Core;
+use crate::work::Work;
+use cf_types::{Command, Memory};
+use dev_tree::DevTree;
+use ref_ledger::{Bury, Slots};
+use run_rules::{Setup, Wait};
+use std::alloc::Global;
+
+/// Why a work was not done.
+#[derive(Clone, Copy)]
+pub enum Halt {
+    Memory,
+    Waits(Wait),
+}
+
+/// Whether a spot's device is in the subtree of another.
+fn stands_below(tree: &DevTree, spot: u16, target: u64) -> bool
+    ensures { option_map_or (λ d. world.is_under tree.now.live target d.serial) (world.device_on tree.now.live spot) false ≡ result }
+{
+    match tree.on_spot(spot) {
+        Some(serial) => tree.is_under(serial, target),
+        None => false,
+    }
+}
+
+/// Condemns the slots of a device and of all that is below it, on a board whose devices were condemned just now.
+pub fn condemn_slots<S: Slots>(slots: &mut S, setup: &Setup, core: &Core, target: u64)
+    requires few { length setup.now.machine.spots ≤ 1024 }
+    requires lately { LatelyCondemned setup.now core.now.tree.live target (S.states slots.old) }
+    ensures agree { S.states slots.new ≡ slots_of (world_of setup.now core.now) }
+    ensures denials { S.denials slots.new ≡ S.denials slots.old }
+    ensures last { S.last_denial slots.new ≡ S.last_denial slots.old }
+{
+    for spot in 0..setup.machine.spots.len() as u16 {
+        if stands_below(&core.tree, spot, target) {
+            slots.condemn(spot);
+        }
+    }
+}
+
+/// Frees a condemned slot; or answers who holds it, bit k-1 for caller k, and nothing changes but the denials.
+fn bury_slot<S: Slots>(slots: &mut S, slot: u16) -> Result<(), u16>
+    requires { slice_get (S.states slots.old) slot ≡ Some Condemned }
+    ensures freed { OnOk result (S.states slots.new ≡ slice_set (S.states slots.old) slot Free) }
+    ensures quiet { OnOk result ((S.denials slots.new ≡ S.denials slots.old) × (S.last_denial slots.new ≡ S.last_denial slots.old)) }
+    ensures same { OnErr result (S.states slots.new ≡ S.states slots.old) }
+    ensures held { IfErr result (λ mask. IsDenied slot (S.denials slots.old) mask (S.denials slots.new) (S.last_denial slots.new)) }
+{
+    match slots.bury(slot) {
+        Bury::Buried(token) => {
+            let _ = token.spend();
+            Ok(())
+        }
+        Bury::Held(mask) => Err(mask),
+    }
+}
+
+/// A condemned device goes, its slot first; or callers hold the slot, and nothing changes but the denials.
+pub fn free_with<S: Slots>(
+    setup: &Setup,
+    core: &mut Core,
+    caller: u8,
+    of: u64,
+    slots: &mut S,
+) -> Result<(), Wait>
+    requires may { MayRun setup.now }
+    requires bounded { Bounded setup.now }
+    requires books { Books setup.now core.old }
+    requires kept { Kept (world_of setup.now core.old) }
+    requires caller { caller < length core.old.callers.items }
+    requires chosen { next (world_of setup.now core.old) caller ≡ Does (deed.Free of) }
+    requires agree { S.states slots.old ≡ slots_of (world_of setup.now core.old) }
+    ensures freed { OnOk result (world_of setup.now core.new ≡ rule.after (world_of setup.now core.old) caller (deed.Free of)) }
+    ensures quiet { OnOk result ((S.denials slots.new ≡ S.denials slots.old) × (S.last_denial slots.new ≡ S.last_denial slots.old)) }
+    ensures same { OnErr result (core.new ≡ core.old) }
+    ensures waits { IfErr result (λ wait. WaitsForLeases core.old.tree.live of (S.denials slots.old) wait (S.denials slots.new) (S.last_denial slots.new)) }
+    ensures agree { S.states slots.new ≡ slots_of (world_of setup.now core.new) }
+    ensures books { Books setup.now core.new }
+    ensures aside { SameAside core.old core.new }
+{
+    match core.tree.get(of) {
+        Some(device) => match bury_slot(slots, device.spot) {
+            Ok(()) => {
+                free(setup, core, caller, of);
+                Ok(())
+            }
+            Err(mask) => Err(Wait::Leases(of, mask)),
+        },
+        None => unreachable!(),
+    }
+}
+
+/// The device that a work condemns, with all that is below it.
+fn condemned_by(work: Work) -> Option<u64>
+    ensures { result ≡ work_slots.condemned_by work }
+{
+    match work {
+        Work::Detach { of } => Some(of),
+        Work::Unplug { spot: _, of } => of,
+        _ => None,
+    }
+}
+
+/// Condemns the slots of what was condemned just now, if anything was.
+fn condemn_too<S: Slots>(slots: &mut S, setup: &Setup, core: &Core, target: Option<u64>)
+    requires few { length setup.now.machine.spots ≤ 1024 }
+    requires lag { SlotsLag setup.now core.now.tree.live target (S.states slots.old) }
+    ensures agree { S.states slots.new ≡ slots_of (world_of setup.now core.now) }
+    ensures denials { S.denials slots.new ≡ S.denials slots.old }
+    ensures last { S.last_denial slots.new ≡ S.last_denial slots.old }
+{
+    match target {
+        Some(target) => condemn_slots(slots, setup, core, target),
+        None => {}
+    }
+}
+
+/// Does a work that frees nothing, and condemns the slots that it condemns. At `Memory` all is as before.
+fn do_with<S: Slots>(
+    alloc: Global,
+    setup: &Setup,
+    core: &mut Core,
+    caller: u8,
+    said: &Command,
+    work: Work,
+    slots: &mut S,
+) -> Result<(), Memory>
+    requires may { MayRun setup.now }
+    requires bounded { Bounded setup.now }
+    requires books { Books setup.now core.old }
+    requires kept { Kept (world_of setup.now core.old) }
+    requires caller { caller < length core.old.callers.items }
+    requires chosen { next (world_of setup.now core.old) caller ≡ Does (deed_by (world_of setup.now core.old) said.now work) }
+    requires agree { S.states slots.old ≡ slots_of (world_of setup.now core.old) }
+    requires other { (of : ℕ) → work ≢ works.Free of }
+    ensures done { OnOk result (world_of setup.now core.new ≡ rule.after (world_of setup.now core.old) caller (deed_by (world_of setup.now core.old) said.now work)) }
+    ensures same { OnErr result (world_of setup.now core.new ≡ world_of setup.now core.old) }
+    ensures agree { S.states slots.new ≡ slots_of (world_of setup.now core.new) }
+    ensures denials { S.denials slots.new ≡ S.denials slots.old }
+    ensures last { S.last_denial slots.new ≡ S.last_denial slots.old }
+    ensures books { Books setup.now core.new }
+    ensures aside { SameAside core.old core.new }
+{
+    do_work(alloc, setup, core, caller, said, work)?;
+    condemn_too(slots, setup, core, condemned_by(work));
+    Ok(())
+}
+
+/// Does a work that the caller chose, with its slots; or memory runs out, or callers hold the slot of the device that
+/// is to be freed, and nothing changes but the denials.
+pub fn run_work<S: Slots>(
+    alloc: Global,
+    setup: &Setup,
+    core: &mut Core,
+    caller: u8,
+    said: &Command,
+    work: Work,
+    slots: &mut S,
+) -> Result<(), Halt>
+    requires may { MayRun setup.now }
+    requires bounded { Bounded setup.now }
+    requires books { Books setup.now core.old }
+    requires kept { Kept (world_of setup.now core.old) }
+    requires caller { caller < length core.old.callers.items }
+    requires chosen { next (world_of setup.now core.old) caller ≡ Does (deed_by (world_of setup.now core.old) said.now work) }
+    requires agree { S.states slots.old ≡ slots_of (world_of setup.now core.old) }
+    ensures done { OnOk result (world_of setup.now core.new ≡ rule.after (world_of setup.now core.old) caller (deed_by (world_of setup.now core.old) said.now work)) }
+    ensures quiet { OnOk result ((S.denials slots.new ≡ S.denials slots.old) × (S.last_denial slots.new ≡ S.last_denial slots.old)) }
+    ensures same { OnErr result (world_of setup.now core.new ≡ world_of setup.now core.old) }
+    ensures halt { IfErr result (λ why. HaltIs core.old.tree.live work (S.denials slots.old) (S.last_denial slots.old) why (S.denials slots.new) (S.last_denial slots.new)) }
+    ensures agree { S.states slots.new ≡ slots_of (world_of setup.now core.new) }
+    ensures books { Books setup.now core.new }
+    ensures aside { SameAside core.old core.new }
+{
+    match work {
+        Work::Free { of } => match free_with(setup, core, caller, of, slots) {
+            Ok(()) => Ok(()),
+            Err(wait) => Err(Halt::Waits(wait)),
+        },
+        _ => match do_with(alloc, setup, core, caller, said, work, slots) {
+            Ok(()) => Ok(()),
+            Err(_) => Err(Halt::Memory),
+        },
+    }
+}

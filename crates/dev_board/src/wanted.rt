@@ -1,0 +1,87 @@
+//! The locator values that a rescan wants. See drvctl(8).
+ghost use Rattle.std.specs.Prelude.{ℕ, ◌≡◌, ◌≤◌, true, length, Some, bytes_eq, is_some, map, position, IfOk, IfSome};
+ghost use Rattle.cf_types.specs.Locators as shared;
+ghost use Rattle.cf_types.specs.declared.tables.Place.TheVariants.{At};
+ghost use Rattle.run_rules.specs.Next as next;
+ghost use Rattle.run_rules.specs.World.{World};
+ghost use Rattle.dev_board.specs.Works as works;
+ghost use Rattle.dev_board.specs.Effects.{IsKnown};
+
+use cf_types::{Command, Given, List, Locator, Memory, Place};
+use match_search::locators_at;
+use run_rules::{Setup, Wanted};
+use std::alloc::Global;
+
+/// The locator values that a command gives.
+fn given_by(said: &Command) -> &[Given]
+    ensures { result.now ≡ works.given_by said.now }
+{
+    match said {
+        Command::Rescan {
+            device: _,
+            attr: _,
+            given,
+        } => given.items(),
+        _ => &[],
+    }
+}
+
+/// The place of a locator among those of an attribute, of which there are at most 16.
+fn locator_place(locators: &[Locator], name: &[u8]) -> Option<u8>
+    requires few { length locators.now ≤ 16 }
+    ensures { position (λ l. bytes_eq l.name name.now) locators.now ≡ result }
+{
+    for (place, locator) in locators.iter().enumerate() {
+        if locator.name.bytes() == name {
+            return Some(place as u8);
+        }
+    }
+    None
+}
+
+/// The value that is given for the locator of a place.
+fn wanted_at(place: u8, given: &Given) -> Wanted
+    ensures { result ≡ record { place = place; value = given.now.value } }
+{
+    Wanted {
+        place,
+        value: given.value,
+    }
+}
+
+/// The locator values that a rescan wants, each by its place.
+fn wanted_of(alloc: Global, locators: &[Locator], given: &[Given]) -> Result<List<Wanted>, Memory>
+    requires few { length locators.now ≤ 16 }
+    requires known { is_some (next.wanted_of (map (λ l. l.name) locators.now) given.now) ≡ true }
+    ensures { IfOk result (λ list. next.wanted_of (map (λ l. l.name) locators.now) given.now ≡ Some list) }
+{
+    let mut list = List::make(alloc);
+    for value in given {
+        match locator_place(locators, value.name.bytes()) {
+            Some(place) => list.push(wanted_at(place, value))?,
+            None => unreachable!(),
+        }
+    }
+    Ok(list)
+}
+
+/// The values that a rescan of an attribute wants by its command; none where it is of all attributes.
+pub fn wanted_by(
+    alloc: Global,
+    setup: &Setup,
+    said: &Command,
+    only: Option<u32>,
+) -> Result<List<Wanted>, Memory>
+    requires few { (a : ℕ) → length (shared.locators_at setup.now.tables.attrs (At a)) ≤ 16 }
+    requires known { IfSome only (IsKnown setup.now said.now) }
+    ensures { IfOk result (λ list. (w : World) → w.setup ≡ setup.now → works.wanted_by w said.now only ≡ list) }
+{
+    match only {
+        Some(attr) => wanted_of(
+            alloc,
+            locators_at(&setup.tables, Place::At(attr)),
+            given_by(said),
+        ),
+        None => Ok(List::make(alloc)),
+    }
+}
