@@ -67,7 +67,7 @@ fn try_case(rt: &impl Abort, alloc: Global, case: Case, status: u64) -> Result<(
         err: told,
     } = case;
     let mut files = MemFiles::make(files, calls(alloc, fail_load)?);
-    let mut out = MemSink::make(alloc, calls(alloc, fail_put)?, 65_536)?;
+    let mut out = MemSink::make(alloc, calls(alloc, fail_put)?, 262_144)?;
     let mut err = MemSink::make(alloc, List::make(alloc), 4_096)?;
     let answer = devconf_top(alloc, &words, &mut files, &mut out, &mut err);
     assert_eq!(rt; err.bytes(), told.as_slice());

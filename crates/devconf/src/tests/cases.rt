@@ -1676,6 +1676,566 @@ write fault
 % status 9
 ";
 
+/// Boots of the widest machines, told as those runs are. A line `% up` has a number of copies and a form: `#` is the number
+/// of a copy, from 0 upwards, `+` the next one, `>` that many steps of indent, and `|` ends a line. A line `% down`
+/// numbers them downwards to 0, and `% events` tells how many events the boot has.
+pub const WIDEST: &[u8] = b"% run boot conf mach
+% file conf
+device bus {}
+attach bus at root
+device leaf
+attach leaf at bus
+bus0 at root
+leaf* at bus?
+% file mach
+spot b root root
+% up 1023 spot x# b bus
+match bus b 1
+match leaf * 1
+% out
+tables
+iattr bus
+device bus offers bus
+device leaf
+attach bus of bus at root
+attach leaf of leaf at bus
+row 0 bus0 at root by bus on root flags 0
+row 1 leaf* from 0 at bus? by leaf on bus flags 0
+history 1
+0.0 found root: bus0
+% up 1023 0.0 found bus0: leaf#
+0.0 scan bus0: done
+0.0 scan root: done
+0.0 interrupts
+0.0 end
+tree
+bus0 at root row 0
+% up 1023   leaf# at bus0 row 1
+% events 1028
+% status 0
+% run boot conf mach
+% file conf
+device bus {}
+attach bus at root
+device leaf
+attach leaf at bus
+bus0 at root
+leaf* at bus?
+% file mach
+spot b root root
+% up 1023 spot x# b bus
+match bus b 1
+match leaf * 0
+% out
+tables
+iattr bus
+device bus offers bus
+device leaf
+attach bus of bus at root
+attach leaf of leaf at bus
+row 0 bus0 at root by bus on root flags 0
+row 1 leaf* from 0 at bus? by leaf on bus flags 0
+history 1
+0.0 found root: bus0
+% up 1023 0.0 found bus0: not configured
+0.0 scan bus0: done
+0.0 scan root: done
+0.0 interrupts
+0.0 end
+tree
+bus0 at root row 0
+% events 1028
+% status 0
+% run boot conf mach
+% file conf
+device bus {}
+attach bus at root
+device leaf
+attach leaf at bus
+bus0 at root
+leaf* at bus?
+% file mach
+spot b root root
+% up 511 spot x# b bus|spot y# b bus
+spot x511 b bus
+match bus b 1
+% up 512 match leaf x# 1
+% out
+tables
+iattr bus
+device bus offers bus
+device leaf
+attach bus of bus at root
+attach leaf of leaf at bus
+row 0 bus0 at root by bus on root flags 0
+row 1 leaf* from 0 at bus? by leaf on bus flags 0
+history 1
+0.0 found root: bus0
+% up 511 0.0 found bus0: leaf#|0.0 found bus0: not configured
+0.0 found bus0: leaf511
+0.0 scan bus0: done
+0.0 scan root: done
+0.0 interrupts
+0.0 end
+tree
+bus0 at root row 0
+% up 512   leaf# at bus0 row 1
+% events 1028
+% status 0
+% run boot conf mach
+% file conf
+device bus {}
+attach bus at root
+device leaf
+attach leaf at bus
+bus0 at root
+leaf* at bus?
+% file mach
+spot b root root
+% up 127 spot x# b bus|spot y# b bus
+spot x127 b bus
+match bus b 1
+% up 128 match leaf x# 1
+style bus bus indirect
+% out
+tables
+iattr bus
+device bus offers bus
+device leaf
+attach bus of bus at root
+attach leaf of leaf at bus
+row 0 bus0 at root by bus on root flags 0
+row 1 leaf* from 0 at bus? by leaf on bus flags 0
+history 1
+0.0 found root: bus0
+% up 128 0.0 found bus0: leaf#
+0.0 scan bus0: done
+0.0 scan root: done
+0.0 interrupts
+0.0 end
+tree
+bus0 at root row 0
+% up 128   leaf# at bus0 row 1
+% events 133
+% status 0
+% run boot conf mach
+% file conf
+device bus {}
+attach bus at root
+device leaf
+attach leaf at bus
+bus0 at root
+leaf* at bus?
+% file mach
+spot b root root
+% up 127 spot x# b bus late|spot y# b bus late
+spot x127 b bus late
+match bus b 1
+% up 128 match leaf x# 1
+driver bus final
+% out
+tables
+iattr bus
+device bus offers bus
+device leaf
+attach bus of bus at root
+attach leaf of leaf at bus
+row 0 bus0 at root by bus on root flags 0
+row 1 leaf* from 0 at bus? by leaf on bus flags 0
+history 1
+0.0 found root: bus0
+0.0 scan bus0: done
+0.0 scan root: done
+0.0 interrupts
+% up 127 0.0 final bus0: 1 leaf#|0.0 final bus0: 1 not configured
+0.0 final bus0: 1 leaf127
+0.0 final bus0: 0
+0.0 end
+tree
+bus0 at root row 0
+% up 128   leaf# at bus0 row 1
+% events 261
+% status 0
+% run boot conf mach
+% file conf
+device bus {}
+attach bus at root
+device leaf
+attach leaf at bus
+bus0 at root
+leaf* at bus?
+% file mach
+spot b root root
+% up 1024 spot x# b bus
+% err
+machine mach:1025: code 8
+% status 3
+";
+
+/// Boots in which as many searches and finalisers wait as can, told as those are.
+pub const LONGEST: &[u8] = b"% run boot conf mach
+% file conf
+device bus {}
+attach bus at root
+device hub {}
+attach hub at bus
+bus0 at root
+hub* at bus?
+% file mach
+spot b root root
+% up 1023 spot h# b bus
+match bus b 1
+match hub * 1
+driver hub defer
+% out
+tables
+iattr bus
+iattr hub
+device bus offers bus
+device hub offers hub
+attach bus of bus at root
+attach hub of hub at bus
+row 0 bus0 at root by bus on root flags 0
+row 1 hub* from 0 at bus? by hub on bus flags 0
+history 1
+0.0 found root: bus0
+% up 1023 0.0 found bus0: hub#
+0.0 scan bus0: done
+% up 1023 0.0 scan hub#: done
+0.0 scan root: done
+0.0 interrupts
+0.0 end
+tree
+bus0 at root row 0
+% up 1023   hub# at bus0 row 1
+% events 2051
+% status 0
+% run boot conf mach
+% file conf
+device bus {}
+attach bus at root
+device hub {}
+attach hub at bus
+bus0 at root
+hub* at bus?
+% file mach
+spot b root root
+% up 1023 spot h# b bus
+match bus b 1
+match hub * 1
+driver hub final defer interrupts
+% out
+tables
+iattr bus
+iattr hub
+device bus offers bus
+device hub offers hub
+attach bus of bus at root
+attach hub of hub at bus
+row 0 bus0 at root by bus on root flags 0
+row 1 hub* from 0 at bus? by hub on bus flags 0
+history 1
+0.0 found root: bus0
+% up 1023 0.0 found bus0: hub#
+0.0 scan bus0: done
+0.0 scan root: done
+0.0 interrupts
+% up 1023 0.0 scan hub#: done
+% up 1023 0.0 final hub#: 0
+0.0 end
+tree
+bus0 at root row 0
+% up 1023   hub# at bus0 row 1
+% events 3074
+% status 0
+";
+
+/// Boots of the deepest machines, told as those are.
+pub const DEEPEST: &[u8] = b"% run boot conf mach
+% file conf
+device bus {}
+attach bus at root, bus
+bus* at root
+bus* at bus?
+% file mach
+spot s0 root root
+% up 63 spot s+ s# bus
+match bus * 1
+% out
+tables
+iattr bus
+device bus offers bus
+attach bus of bus at root bus
+row 0 bus* from 0 at root by bus on root flags 0
+row 1 bus* from 0 at bus? by bus on bus flags 0
+history 1
+0.0 found root: bus0
+% up 63 0.0 found bus#: bus+
+% down 64 0.0 scan bus#: done
+0.0 scan root: done
+0.0 interrupts
+0.0 end
+tree
+bus0 at root row 0
+% up 63 >  bus+ at bus# row 1
+% events 131
+% status 0
+% run boot conf mach
+% file conf
+device bus {}
+attach bus at root, bus
+bus* at root
+bus* at bus?
+% file mach
+spot s0 root root
+% up 63 spot s+ s# bus
+match bus * 1
+driver bus defer
+% out
+tables
+iattr bus
+device bus offers bus
+attach bus of bus at root bus
+row 0 bus* from 0 at root by bus on root flags 0
+row 1 bus* from 0 at bus? by bus on bus flags 0
+history 1
+0.0 found root: bus0
+0.0 scan root: done
+% up 63 0.0 found bus#: bus+|0.0 scan bus#: done
+0.0 scan bus63: done
+0.0 interrupts
+0.0 end
+tree
+bus0 at root row 0
+% up 63 >  bus+ at bus# row 1
+% events 131
+% status 0
+% run boot conf mach
+% file conf
+device bus {}
+attach bus at root, bus
+bus* at root
+bus* at bus?
+% file mach
+spot s0 root root
+% up 63 spot s+ s# bus
+match bus * 1
+driver bus interrupts
+% out
+tables
+iattr bus
+device bus offers bus
+attach bus of bus at root bus
+row 0 bus* from 0 at root by bus on root flags 0
+row 1 bus* from 0 at bus? by bus on bus flags 0
+history 1
+0.0 found root: bus0
+0.0 scan root: done
+0.0 interrupts
+% up 63 0.0 found bus#: bus+
+% down 64 0.0 scan bus#: done
+0.0 end
+tree
+bus0 at root row 0
+% up 63 >  bus+ at bus# row 1
+% events 131
+% status 0
+% run boot conf mach
+% file conf
+device bus {}
+attach bus at root, bus
+bus* at root
+bus* at bus?
+% file mach
+spot s0 root root
+% up 63 spot s+ s# bus
+match bus * 1
+driver bus defer interrupts
+% out
+tables
+iattr bus
+device bus offers bus
+attach bus of bus at root bus
+row 0 bus* from 0 at root by bus on root flags 0
+row 1 bus* from 0 at bus? by bus on bus flags 0
+history 1
+0.0 found root: bus0
+0.0 scan root: done
+0.0 interrupts
+% up 63 0.0 found bus#: bus+|0.0 scan bus#: done
+0.0 scan bus63: done
+0.0 end
+tree
+bus0 at root row 0
+% up 63 >  bus+ at bus# row 1
+% events 131
+% status 0
+% run boot conf mach
+% file conf
+device bus {}
+attach bus at root, bus
+bus* at root
+bus* at bus?
+% file mach
+spot s0 root root
+% up 63 spot s+ s# bus late
+match bus * 1
+driver bus final
+% out
+tables
+iattr bus
+device bus offers bus
+attach bus of bus at root bus
+row 0 bus* from 0 at root by bus on root flags 0
+row 1 bus* from 0 at bus? by bus on bus flags 0
+history 1
+0.0 found root: bus0
+0.0 scan bus0: done
+0.0 scan root: done
+0.0 interrupts
+% up 63 0.0 final bus#: 1 bus+|0.0 scan bus+: done
+0.0 final bus63: 0
+% up 64 0.0 final bus#: 0
+0.0 end
+tree
+bus0 at root row 0
+% up 63 >  bus+ at bus# row 1
+% events 196
+% status 0
+% run boot conf mach
+% file conf
+device bus {}
+attach bus at root, bus
+bus* at root
+bus* at bus?
+% file mach
+spot s0 root root
+% up 63 spot s+ s# bus late
+match bus * 1
+driver bus final defer
+% out
+tables
+iattr bus
+device bus offers bus
+attach bus of bus at root bus
+row 0 bus* from 0 at root by bus on root flags 0
+row 1 bus* from 0 at bus? by bus on bus flags 0
+history 1
+0.0 found root: bus0
+0.0 scan root: done
+0.0 scan bus0: done
+0.0 interrupts
+% up 63 0.0 final bus#: 1 bus+|0.0 scan bus+: done
+0.0 final bus63: 0
+% up 64 0.0 final bus#: 0
+0.0 end
+tree
+bus0 at root row 0
+% up 63 >  bus+ at bus# row 1
+% events 196
+% status 0
+% run boot conf mach
+% file conf
+device bus {}
+attach bus at root, bus
+bus* at root
+bus* at bus?
+% file mach
+spot s0 root root
+% up 63 spot s+ s# bus late
+match bus * 1
+driver bus final defer interrupts
+% out
+tables
+iattr bus
+device bus offers bus
+attach bus of bus at root bus
+row 0 bus* from 0 at root by bus on root flags 0
+row 1 bus* from 0 at bus? by bus on bus flags 0
+history 1
+0.0 found root: bus0
+0.0 scan root: done
+0.0 interrupts
+0.0 scan bus0: done
+% up 63 0.0 final bus#: 1 bus+|0.0 scan bus+: done
+0.0 final bus63: 0
+% up 64 0.0 final bus#: 0
+0.0 end
+tree
+bus0 at root row 0
+% up 63 >  bus+ at bus# row 1
+% events 196
+% status 0
+% run boot conf mach
+% file conf
+device bus {}
+attach bus at root, bus
+bus* at root
+bus* at bus?
+% file mach
+spot s0 root root
+% up 64 spot s+ s# bus
+% err
+machine mach:65: code 9
+% status 3
+% run boot conf mach
+% file conf
+device bus {}
+attach bus at root, bus
+device leaf
+attach leaf at bus
+bus* at root
+bus* at bus?
+leaf* at bus?
+% file mach
+spot s0 root root
+% up 62 spot s+ s# bus
+% up 961 spot x# s62 bus
+% up 63 match bus s# 1
+% up 961 match leaf x# 1
+% out
+tables
+iattr bus
+device bus offers bus
+device leaf
+attach bus of bus at root bus
+attach leaf of leaf at bus
+row 0 bus* from 0 at root by bus on root flags 0
+row 1 bus* from 0 at bus? by bus on bus flags 0
+row 2 leaf* from 0 at bus? by leaf on bus flags 0
+history 1
+0.0 found root: bus0
+% up 62 0.0 found bus#: bus+
+% up 961 0.0 found bus62: leaf#
+% down 63 0.0 scan bus#: done
+0.0 scan root: done
+0.0 interrupts
+0.0 end
+tree
+bus0 at root row 0
+% up 62 >  bus+ at bus# row 1
+% up 961                                                                                                                               leaf# at bus62 row 2
+% events 1090
+% status 0
+% run boot conf mach
+% file conf
+device bus {}
+attach bus at root, bus
+device leaf
+attach leaf at bus
+bus* at root
+bus* at bus?
+leaf* at bus?
+% file mach
+spot s0 root root
+% up 63 spot s+ s# bus
+% up 960 spot x# s62 bus
+spot z s63 bus
+% err
+machine mach:1025: code 8
+% status 3
+";
+
 /// A bus whose first locator has to be written, an attribute that is no interface attribute, one that is, two device
 /// classes, a device without any attachment and one that is attached to the bus.
 pub const BEFORE: &[u8] = b"define plain

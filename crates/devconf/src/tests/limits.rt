@@ -1,5 +1,7 @@
-//! The limits of the language, each met and passed by one.
+//! The limits of the language and of machines, each met and passed by one.
 
+use super::cases::{DEEPEST, LONGEST, WIDEST};
+use super::table::try_runs;
 use super::{Case, lists, refuses, try_case};
 use cf_types::{Memory, Text};
 use std::alloc::Global;
@@ -151,4 +153,22 @@ fn conditions_too_deep_are_refused(rt: HostRuntime) -> Result<(), Memory> {
     )?;
     case.err.extend_from_slice(b"config b:1: code 21\n")?;
     try_case(&rt, alloc, case, 1)
+}
+
+#[test]
+fn the_widest_machines_boot(rt: HostRuntime) -> Result<(), Memory> {
+    assert_eq!(rt; try_runs(&rt, rt.alloc(), WIDEST)?, 6);
+    Ok(())
+}
+
+#[test]
+fn boots_end_in_which_the_most_wait(rt: HostRuntime) -> Result<(), Memory> {
+    assert_eq!(rt; try_runs(&rt, rt.alloc(), LONGEST)?, 2);
+    Ok(())
+}
+
+#[test]
+fn the_deepest_machines_boot(rt: HostRuntime) -> Result<(), Memory> {
+    assert_eq!(rt; try_runs(&rt, rt.alloc(), DEEPEST)?, 10);
+    Ok(())
 }

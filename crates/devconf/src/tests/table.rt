@@ -42,6 +42,46 @@ fn word(alloc: Global, bytes: &[u8]) -> Result<String, Memory> {
     Ok(String::from_str(alloc, text)?)
 }
 
+/// Appends the lines of a form: `#` stands for the number, `+` for the next one, `>` for a step of indent for each
+/// number up to it, and `|` ends a line.
+fn add_copy(alloc: Global, text: &mut Vec<u8>, form: &[u8], number: u64) -> Result<(), Memory> {
+    for byte in form {
+        match *byte {
+            b'#' => add_number(alloc, text, number)?,
+            b'+' => add_number(alloc, text, number.saturating_add(1))?,
+            b'>' => add_indent(text, number)?,
+            b'|' => text.push(b'\n')?,
+            other => text.push(other)?,
+        }
+    }
+    text.push(b'\n')?;
+    Ok(())
+}
+
+fn add_number(alloc: Global, text: &mut Vec<u8>, number: u64) -> Result<(), Memory> {
+    let digits = format!(in alloc; "{number}")?;
+    text.extend_from_slice(digits.as_bytes())?;
+    Ok(())
+}
+
+fn add_indent(text: &mut Vec<u8>, number: u64) -> Result<(), Memory> {
+    for _ in 0..number {
+        text.extend_from_slice(b"  ")?;
+    }
+    Ok(())
+}
+
+/// How many lines are events of a boot.
+fn events(text: &[u8]) -> u64 {
+    let mut events: u64 = 0;
+    for line in text.split(|byte| *byte == b'\n') {
+        if line.starts_with(b"0.0 ") {
+            events = events.saturating_add(1);
+        }
+    }
+    events
+}
+
 impl Told {
     fn make(alloc: Global) -> Told {
         Told {
@@ -65,6 +105,24 @@ impl Told {
         let text = self.text();
         text.extend_from_slice(line)?;
         text.push(b'\n')?;
+        Ok(())
+    }
+
+    /// Adds so many copies of a form, numbered from 0 upwards.
+    fn add_upwards(&mut self, alloc: Global, rest: &[u8]) -> Result<(), Memory> {
+        let (copies, form) = parted(rest);
+        for copy in 0..number(copies) {
+            add_copy(alloc, self.text(), form, copy)?;
+        }
+        Ok(())
+    }
+
+    /// Adds so many copies of a form, numbered downwards to 0.
+    fn add_downwards(&mut self, alloc: Global, rest: &[u8]) -> Result<(), Memory> {
+        let (copies, form) = parted(rest);
+        for copy in (0..number(copies)).rev() {
+            add_copy(alloc, self.text(), form, copy)?;
+        }
         Ok(())
     }
 
@@ -120,6 +178,9 @@ fn direct(
         b"err" => told.section = Section::Err,
         b"load" => told.case.fail_load = number(rest),
         b"put" => told.case.fail_put = number(rest),
+        b"up" => told.add_upwards(alloc, rest)?,
+        b"down" => told.add_downwards(alloc, rest)?,
+        b"events" => assert_eq!(rt; events(&told.case.out), number(rest)),
         _ => {
             let Told { case, .. } = told.close_file(alloc)?;
             try_case(rt, alloc, case, number(rest))?;
@@ -152,17 +213,22 @@ fn take_line(rt: &impl Abort, alloc: Global, told: Told, line: &[u8]) -> Result<
     Ok(told)
 }
 
-#[test]
-fn runs_answer_as_the_table_tells(rt: HostRuntime) -> Result<(), Memory> {
-    let mut told = Told::make(rt.alloc());
+/// Tries the runs of a table, and tells how many they are.
+pub fn try_runs(rt: &impl Abort, alloc: Global, table: &[u8]) -> Result<u32, Memory> {
+    let mut told = Told::make(alloc);
     let mut runs = 0_u32;
-    for line in RUNS.split(|byte| *byte == b'\n') {
+    for line in table.split(|byte| *byte == b'\n') {
         if line.starts_with(b"% status") {
             runs = runs.saturating_add(1);
         }
-        told = take_line(&rt, rt.alloc(), told, line)?;
+        told = take_line(rt, alloc, told, line)?;
     }
-    assert_eq!(rt; runs, 110);
+    Ok(runs)
+}
+
+#[test]
+fn runs_answer_as_the_table_tells(rt: HostRuntime) -> Result<(), Memory> {
+    assert_eq!(rt; try_runs(&rt, rt.alloc(), RUNS)?, 110);
     Ok(())
 }
 
