@@ -18,6 +18,7 @@ pub mod RangesDeeds
 pub mod OwnCaller
 pub mod RangesCallers
 pub mod Scripts
+pub mod Tickets
 pub mod Holding
 pub mod Holders
 pub mod Ranges

@@ -15,6 +15,7 @@ use Rattle.run_rules.specs.Sound.{IsSoundCaller, IsUnbegun, Sound, is_power}
 use Rattle.run_sound.specs.Kept.{InRange, Kept, MayRun}
 use Rattle.run_sound.specs.Left.{free_spots}
 use Rattle.run_sound.proofs.Scripts.{scripts_open}
+use Rattle.run_sound.proofs.Tickets.{tickets_open}
 
 -- with no device each spot is free
 all_free : (n : ℕ) → free_spots [] n ≡ n
@@ -115,6 +116,7 @@ ranges_open s = record {
   callers = omega (arith, length-map s.scripts (λ script. beginning []));
   booting = inl refl;
   placed = scripts_open s;
+  tickets = tickets_open s;
   holders = tt;
   few = omega (arith, all_free (length s.machine.spots));
   few_called = λ h. omega (arith, all_free (length s.machine.spots));

@@ -21,6 +21,7 @@ use Rattle.run_sound.proofs.RangesCallers.{boot_deed, boot_did, boots_after, cal
 use Rattle.run_sound.proofs.RangesDeeds.{ComesFit, after_serials, ranged_after, shown_fits}
 use Rattle.run_sound.proofs.RangesOf.{AreRanged, FitsIn, ranged_of}
 use Rattle.run_sound.proofs.Scripts.{scripts_after}
+use Rattle.run_sound.proofs.Tickets.{tickets_after}
 use Rattle.run_sound.proofs.Holders.{holders_after}
 use Rattle.run_sound.proofs.Spots.{free_falls}
 
@@ -169,6 +170,7 @@ ranges_after w k d may kept e =
       callers = rw (after_setup w k d) (callers_many w k d ∙ r.callers);
       booting = boots_after w k d e r.booting;
       placed = scripts_after w k d e r.placed;
+      tickets = tickets_after w k d e r.tickets;
       holders = holders_after w k d r e;
       few = ranged.few;
       few_called = λ goes. (listed_then w k d may kept e goes).few;

@@ -3,6 +3,7 @@ use Rattle.std.specs.Prelude.{◌≡◌, ◌≢◌, ◌⊎◌, ◌≤◌, ⊤, �
 use Rattle.cf_types.specs.declared.machine.Command.{Command}
 use Rattle.cf_types.specs.declared.machine.Command.TheVariants as command
 use Rattle.cf_types.specs.declared.machine.Given.{Given}
+use Rattle.cf_types.specs.declared.machine.Ticket.{Ticket}
 use Rattle.run_rules.specs.declared.world.Setup.{Setup}
 use Rattle.run_rules.specs.declared.world.Activity.{Activity}
 use Rattle.run_rules.specs.declared.world.Activity.TheVariants as activity
@@ -32,3 +33,7 @@ pub record IsInScript (script : List Command) (c : Caller) : Type 0 where
   pub within : c.over ≤ length script
   pub amid : IsAmid c.doing (slice_get script c.over)
   pub scans : c.doing ≡ activity.Scans → c.stack ≢ []
+
+-- the transfer that a caller is in the middle of is its own
+abbrev pub NamesCaller : ℕ → Caller → Type 0
+NamesCaller k c = (t : Ticket) → c.doing ≡ activity.Transfer t → t.caller ≡ k
