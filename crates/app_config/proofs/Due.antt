@@ -8,7 +8,7 @@ use Rattle.app_input.specs.Inputs.{IsDue}
 use Rattle.app_input.specs.Words.{Form}
 use Rattle.app_input.specs.declared.inputs.Inputs.{Inputs}
 use Rattle.app_input.specs.declared.status.Status.{Status}
-use Rattle.app_input.specs.declared.status.Status.TheVariants.{Ok, ConfigRefused, Usage, MachineRefused, Absent, TooLong, ReadFault, WriteFault, Memory}
+use Rattle.app_input.specs.declared.status.Status.TheVariants.{Ok, ConfigRefused, Usage, MachineRefused, ScriptRefused, Absent, TooLong, ReadFault, WriteFault, Memory}
 use Rattle.app_config.specs.Run.{IsDueStatus, PutsOne}
 
 -- the status of a run that was asked for
@@ -24,6 +24,7 @@ due_written P form files inputs writes writes' old new Memory due puts none = in
 due_written P form files inputs writes writes' old new (ConfigRefused file line code) due puts none = absurd puts
 due_written P form files inputs writes writes' old new Usage due puts none = absurd puts
 due_written P form files inputs writes writes' old new (MachineRefused line code) due puts none = absurd puts
+due_written P form files inputs writes writes' old new (ScriptRefused which line code) due puts none = absurd puts
 due_written P form files inputs writes writes' old new (Absent name) due puts none = absurd puts
 due_written P form files inputs writes writes' old new (TooLong name) due puts none = absurd puts
 due_written P form files inputs writes writes' old new ReadFault due puts none = absurd puts

@@ -1,7 +1,7 @@
 -- Texts that are put one after the other.
 use Rattle.std.proofs.Common.{inr, take, drop, ◌≡◌, ◌≢◌, ℕ, ◌≤◌, Option, List, [], ◌++◌, refl, ap, sym, ◌∙◌, subst, append_assoc}
 use Rattle.app_input.specs.declared.status.Status.{Status}
-use Rattle.app_input.specs.declared.status.Status.TheVariants.{Ok, ConfigRefused, Usage, MachineRefused, Absent, TooLong, ReadFault, WriteFault, Memory}
+use Rattle.app_input.specs.declared.status.Status.TheVariants.{Ok, ConfigRefused, Usage, MachineRefused, ScriptRefused, Absent, TooLong, ReadFault, WriteFault, Memory}
 use Rattle.cf_io.specs.Faults.{Rose}
 use Rattle.cf_io.specs.Put.{appended}
 use Rattle.cf_io.specs.Taken.{TakesFront}
@@ -37,6 +37,7 @@ puts_then a b before between after old mid new Memory first h = (front_behind a 
 puts_then a b before between after old mid new (ConfigRefused file line code) first h = h
 puts_then a b before between after old mid new Usage first h = h
 puts_then a b before between after old mid new (MachineRefused line code) first h = h
+puts_then a b before between after old mid new (ScriptRefused which line code) first h = h
 puts_then a b before between after old mid new (Absent name) first h = h
 puts_then a b before between after old mid new (TooLong name) first h = h
 puts_then a b before between after old mid new ReadFault first h = h
@@ -50,6 +51,7 @@ puts_stops a b before after old new Memory stops h = (front_longer a b old new h
 puts_stops a b before after old new (ConfigRefused file line code) stops h = h
 puts_stops a b before after old new Usage stops h = h
 puts_stops a b before after old new (MachineRefused line code) stops h = h
+puts_stops a b before after old new (ScriptRefused which line code) stops h = h
 puts_stops a b before after old new (Absent name) stops h = h
 puts_stops a b before after old new (TooLong name) stops h = h
 puts_stops a b before after old new ReadFault stops h = h
@@ -67,6 +69,7 @@ puts_one P a before after old new Memory p h = (inr (a, p, h.0), h.1)
 puts_one P a before after old new (ConfigRefused file line code) p h = h
 puts_one P a before after old new Usage p h = h
 puts_one P a before after old new (MachineRefused line code) p h = h
+puts_one P a before after old new (ScriptRefused which line code) p h = h
 puts_one P a before after old new (Absent name) p h = h
 puts_one P a before after old new (TooLong name) p h = h
 puts_one P a before after old new ReadFault p h = h

@@ -8,22 +8,24 @@ use Rattle.cf_types.specs.declared.tables.Refusal.{Refusal}
 use Rattle.cf_types.specs.declared.tables.Tables.{Tables}
 use Rattle.cf_io.specs.Faults.{Rose}
 use Rattle.cf_io.specs.declared.files.TheConstants.{MAX_FILE}
+use Rattle.config_rules.specs.Cut.{◌>>=◌}
 use Rattle.config_rules.specs.Fault.{first_fault}
 use Rattle.config_rules.specs.MachineText.{machine_of}
 use Rattle.config_rules.specs.Meaning.{Means}
 use Rattle.config_rules.specs.Reading.{Files}
 use Rattle.app_input.specs.declared.inputs.Inputs.{Inputs}
-use Rattle.app_input.specs.declared.inputs.Inputs.TheVariants.{Ioconf, Boot, Load}
+use Rattle.app_input.specs.declared.inputs.Inputs.TheVariants.{Ioconf, Boot, Load, Play}
 use Rattle.app_input.specs.declared.status.Status.{Status}
-use Rattle.app_input.specs.declared.status.Status.TheVariants.{Ok, ConfigRefused, Usage, MachineRefused, Absent, TooLong, ReadFault, WriteFault, Memory}
-use Rattle.app_input.specs.Inputs.{Counts, IsDue, IsDueAt, Reads, booted, booted_from, files_of, given_by, refused_by, told_of}
-use Rattle.app_input.specs.Words.{Form, boot, config_of, ioconf, load, machine_in}
+use Rattle.app_input.specs.declared.status.Status.TheVariants.{Ok, ConfigRefused, Usage, MachineRefused, ScriptRefused, Absent, TooLong, ReadFault, WriteFault, Memory}
+use Rattle.app_input.specs.Inputs.{Counts, IsDue, IsDueAt, IsRefusedPlay, Reads, booted, booted_from, files_of, given_by, played_with, refused_by, told_of}
+use Rattle.app_input.specs.Words.{Form, boot, config_of, ioconf, load, play, machine_in}
 
 -- where the files are told, those that a form speaks of are
 at_files : (P : Files → Type 0) (form : Form) (files : Files) → IfSome (told_of form (Some files)) P → P (files_of form files)
 at_files P (ioconf file) files holds = holds
 at_files P (boot file name) files holds = holds
 at_files P (load n) files holds = holds
+at_files P (play file name order scripts) files holds = holds
 
 -- what the tables give is due
 due_by_tables : (form : Form) (files : Files) (tables : Tables) (answer : Result Inputs Status) → Means (files_of form files) (config_of form) tables
@@ -37,49 +39,75 @@ due_by_fault form files refusal fault = subst (λ (found : Option Refusal). IsDu
 
 -- what a form with a machine file gives
 machine_given : (form : Form) (files : Files) (name : List ℕ) (tables : Tables) → machine_in form ≡ Some name
-    → (inputs : Machine → Inputs) × (given_by form files tables ≡ booted_from inputs tables name (files name))
+    → (next : Machine → Result Inputs Status) × (given_by form files tables ≡ booted_from next tables name (files name))
 machine_given (ioconf file) files name tables is = absurd cc
 machine_given (boot file other) files name tables is =
-    let same : other ≡ name = cc in (Boot tables, ap (λ (x : List ℕ). booted_from (Boot tables) tables x (files x)) same)
+    let same : other ≡ name = cc in let next : Machine → Result Inputs Status = λ machine. std.Ok (Boot tables machine) in
+    (next, ap (λ (x : List ℕ). booted_from next tables x (files x)) same)
 machine_given (load n) files name tables is =
-    let same : codes "mach" ≡ name = cc in (Load n tables, ap (λ (x : List ℕ). booted_from (Load n tables) tables x (files x)) same)
+    let same : codes "mach" ≡ name = cc in let next : Machine → Result Inputs Status = λ machine. std.Ok (Load n tables machine) in
+    (next, ap (λ (x : List ℕ). booted_from next tables x (files x)) same)
+machine_given (play file other order scripts) files name tables is =
+    let same : other ≡ name = cc in
+    (played_with files order scripts tables, ap (λ (x : List ℕ). booted_from (played_with files order scripts tables) tables x (files x)) same)
 
 -- what the machine file gives is due
 due_by_machine : (form : Form) (files : Files) (name : List ℕ) (tables : Tables) (answer : Result Inputs Status) → machine_in form ≡ Some name
-    → Means (files_of form files) (config_of form) tables → ((inputs : Machine → Inputs) → booted_from inputs tables name (files_of form files name) ≡ answer)
+    → Means (files_of form files) (config_of form) tables → ((next : Machine → Result Inputs Status) → booted_from next tables name (files_of form files name) ≡ answer)
     → IsDue (Some form) files answer
 due_by_machine form files name tables answer is meant gives =
     let given = machine_given form (files_of form files) name tables is in
     due_by_tables form files tables answer meant (sym (given.1 ∙ gives given.0))
 
-if_true : {A : Type 0} (a b : A) (test : Bool) → test ≡ true → (if test then a else b) ≡ a
+pub if_true : {A : Type 0} (a b : A) (test : Bool) → test ≡ true → (if test then a else b) ≡ a
 if_true a b test e = rw e refl
 
-if_false : {A : Type 0} (a b : A) (test : Bool) → test ≡ false → (if test then a else b) ≡ b
+pub if_false : {A : Type 0} (a b : A) (test : Bool) → test ≡ false → (if test then a else b) ≡ b
 if_false a b test e = rw e refl
 
-lt_leb : (m n : ℕ) → n < m → nat_le m n ≡ false
+pub lt_leb : (m n : ℕ) → n < m → nat_le m n ≡ false
 lt_leb m n h = grind arith
 
 -- a file that is short enough
-short_file : (inputs : Machine → Inputs) (tables : Tables) (name text : List ℕ) (file : Option (List ℕ)) → file ≡ Some text → length text ≤ MAX_FILE
-    → booted_from inputs tables name file ≡ booted inputs (machine_of tables text)
-short_file inputs tables name text file is short = rw is (if_true _ _ (nat_le (length text) MAX_FILE) (le-leb (length text) MAX_FILE short))
+short_file : (next : Machine → Result Inputs Status) (tables : Tables) (name text : List ℕ) (file : Option (List ℕ)) → file ≡ Some text → length text ≤ MAX_FILE
+    → booted_from next tables name file ≡ booted next (machine_of tables text)
+short_file next tables name text file is short = rw is (if_true _ _ (nat_le (length text) MAX_FILE) (le-leb (length text) MAX_FILE short))
 
 -- a file that is too long
-long_file : (inputs : Machine → Inputs) (tables : Tables) (name text : List ℕ) (file : Option (List ℕ)) → file ≡ Some text → MAX_FILE < length text
-    → booted_from inputs tables name file ≡ std.Err (TooLong name)
-long_file inputs tables name text file is long = rw is (if_false _ _ (nat_le (length text) MAX_FILE) (lt_leb (length text) MAX_FILE long))
+long_file : (next : Machine → Result Inputs Status) (tables : Tables) (name text : List ℕ) (file : Option (List ℕ)) → file ≡ Some text → MAX_FILE < length text
+    → booted_from next tables name file ≡ std.Err (TooLong name)
+long_file next tables name text file is long = rw is (if_false _ _ (nat_le (length text) MAX_FILE) (lt_leb (length text) MAX_FILE long))
+
+-- what the scripts and the order file give is due, where the machine file describes a machine
+due_by_play : (form : Option Form) (files : Files) (file name order : List ℕ) (scripts : List (List ℕ)) (tables : Tables) (machine : Machine) (text : List ℕ) (answer : Result Inputs Status)
+    → form ≡ Some (play file name order scripts) → Means files file tables → files name ≡ Some text → length text ≤ MAX_FILE → machine_of tables text ≡ std.Ok machine
+    → played_with files order scripts tables machine ≡ answer → IsDue form files answer
+due_by_play form files file name order scripts tables machine text answer is meant there short described gives =
+    let next = played_with files order scripts tables in
+    rw is (due_by_tables (play file name order scripts) files tables answer meant
+    (sym (short_file next tables name text (files name) there short ∙ ap (booted next) described ∙ gives)))
+
+-- the refusal of a script or of the order file is due
+due_refused : (form : Option Form) (files : Files) (status : Status) → IsRefusedPlay form (Some files) status → IsDue form files (std.Err status)
+due_refused form files status (file, name, order, scripts, tables, machine, is, meant, (text, there, short, described), gives, of) =
+    due_by_play form files file name order scripts tables machine text (std.Err status) is meant there short described
+    (ap (λ r. r >>= λ p. std.Ok (Play tables machine p.scripts p.order)) gives)
 
 due : (form : Option Form) (files : Files) (before after : ℕ) (answer : Result Inputs Status) → Reads form (Some files) answer → Counts before after answer
     → ¬ Rose before after → (answer ≡ std.Err Memory) ⊎ IsDue form files answer
 due form files before after (std.Ok (Ioconf tables)) (file, is, meant) counts quiet = inr (rw is (due_by_tables (ioconf file) files tables (std.Ok (Ioconf tables)) meant refl))
 due form files before after (std.Ok (Boot tables machine)) (file, name, is, meant, (text, there, short, described)) counts quiet =
     inr (rw is (due_by_tables (boot file name) files tables (std.Ok (Boot tables machine)) meant
-    (sym (short_file (Boot tables) tables name text (files name) there short ∙ ap (booted (Boot tables)) described))))
+    (sym (short_file (λ m. std.Ok (Boot tables m)) tables name text (files name) there short ∙ ap (booted (λ m. std.Ok (Boot tables m))) described))))
 due form files before after (std.Ok (Load n tables machine)) (is, (meant, (text, there, short, described))) counts quiet =
     inr (rw is (due_by_tables (load n) files tables (std.Ok (Load n tables machine)) meant
-    (sym (short_file (Load n tables) tables (codes "mach") text _ there short ∙ ap (booted (Load n tables)) described))))
+    (sym (short_file (λ m. std.Ok (Load n tables m)) tables (codes "mach") text _ there short ∙ ap (booted (λ m. std.Ok (Load n tables m))) described))))
+due form files before after (std.Ok (Play tables machine scripts order)) (file, name, turns, names, is, meant, (text, there, short, described), gives) counts quiet =
+    inr (due_by_play form files file name turns names tables machine text (std.Ok (Play tables machine scripts order)) is meant there short described
+    (ap (λ r. r >>= λ p. std.Ok (Play tables machine p.scripts p.order)) gives))
+due form files before after (std.Err (ScriptRefused which line code)) refused counts quiet = inr (due_refused form files (ScriptRefused which line code) refused)
+due form files before after (std.Err (Absent absent)) (inr refused) counts quiet = inr (due_refused form files (Absent absent) refused)
+due form files before after (std.Err (TooLong long)) (inr refused) counts quiet = inr (due_refused form files (TooLong long) refused)
 due form files before after (std.Err (ConfigRefused file line code)) (f, is, fault) counts quiet =
     let refusal : Refusal = record { file = file; line = line; code = code } in
     inr (rw is (due_by_fault f files refusal (at_files (λ named. first_fault named (config_of f) ≡ Some refusal) f files fault)))
@@ -87,15 +115,15 @@ due form files before after (std.Err Usage) is counts quiet = inr (rw is refl)
 due form files before after (std.Err (MachineRefused line code)) (f, name, tables, is, named, meant, described) counts quiet =
     let found = at_files (λ named. (text : List ℕ) × (named name ≡ Some text) × (length text ≤ MAX_FILE) × (machine_of tables text ≡ std.Err (line, code))) f files described in
     inr (rw is (due_by_machine f files name tables (std.Err (MachineRefused line code)) named (at_files (λ named. Means named (config_of f) tables) f files meant)
-    (λ inputs. short_file inputs tables name found.0 (files_of f files name) found.1 found.2 ∙ ap (booted inputs) found.3)))
-due form files before after (std.Err (Absent absent)) (f, name, tables, is, named, meant, (same, lacking)) counts quiet =
+    (λ next. short_file next tables name found.0 (files_of f files name) found.1 found.2 ∙ ap (booted next) found.3)))
+due form files before after (std.Err (Absent absent)) (inl (f, name, tables, is, named, meant, (same, lacking))) counts quiet =
     let none = at_files (λ named. named name ≡ None) f files lacking in
     inr (rw is (due_by_machine f files name tables (std.Err (Absent absent)) named (at_files (λ named. Means named (config_of f) tables) f files meant)
-    (λ inputs. ap (booted_from inputs tables name) none ∙ ap (λ (n : List ℕ). std.Err (Absent n)) (sym same))))
-due form files before after (std.Err (TooLong long)) (f, name, tables, is, named, meant, (same, big)) counts quiet =
+    (λ next. ap (booted_from next tables name) none ∙ ap (λ (n : List ℕ). std.Err (Absent n)) (sym same))))
+due form files before after (std.Err (TooLong long)) (inl (f, name, tables, is, named, meant, (same, big))) counts quiet =
     let found = at_files (λ named. (text : List ℕ) × (named name ≡ Some text) × (MAX_FILE < length text)) f files big in
     inr (rw is (due_by_machine f files name tables (std.Err (TooLong long)) named (at_files (λ named. Means named (config_of f) tables) f files meant)
-    (λ inputs. long_file inputs tables name found.0 (files_of f files name) found.1 found.2 ∙ ap (λ (n : List ℕ). std.Err (TooLong n)) (sym same))))
+    (λ next. long_file next tables name found.0 (files_of f files name) found.1 found.2 ∙ ap (λ (n : List ℕ). std.Err (TooLong n)) (sym same))))
 due form files before after (std.Err ReadFault) reads counts quiet = absurd (quiet counts.1)
 due form files before after (std.Err Ok) never counts quiet = elim never [ ]
 due form files before after (std.Err WriteFault) never counts quiet = elim never [ ]

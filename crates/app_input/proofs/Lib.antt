@@ -2,3 +2,4 @@ pub mod CountLemmas
 pub mod DueLaws
 pub mod MadeLaws
 pub mod OperandLemmas
+pub mod PlayLaws

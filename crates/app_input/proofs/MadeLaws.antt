@@ -10,7 +10,7 @@ use Rattle.config_rules.specs.Reading.{Files}
 use Rattle.app_input.specs.declared.inputs.Inputs.{Inputs}
 use Rattle.app_input.specs.declared.inputs.Inputs.TheVariants.{Load}
 use Rattle.app_input.specs.declared.status.Status.{Status}
-use Rattle.app_input.specs.declared.status.Status.TheVariants.{Ok, ConfigRefused, Usage, MachineRefused, Absent, TooLong, ReadFault, WriteFault, Memory}
+use Rattle.app_input.specs.declared.status.Status.TheVariants.{Ok, ConfigRefused, Usage, MachineRefused, ScriptRefused, Absent, TooLong, ReadFault, WriteFault, Memory}
 use Rattle.app_input.specs.Inputs.{Counts, IsDescribed, IsFirstFault, IsLacking, IsLong, IsMeant, Reads, ReadsMachine, ReadsTables, made_files}
 use Rattle.app_input.specs.Words.{load}
 
@@ -32,6 +32,7 @@ made_refused n read told Memory is why quiet = tt
 made_refused n read told Ok is why quiet = elim why [ ]
 made_refused n read told Usage is why quiet = elim why [ ]
 made_refused n read told (MachineRefused line code) is why quiet = elim why [ ]
+made_refused n read told (ScriptRefused which line code) is why quiet = elim why [ ]
 made_refused n read told (Absent name) is why quiet = elim why [ ]
 made_refused n read told (TooLong name) is why quiet = elim why [ ]
 made_refused n read told WriteFault is why quiet = elim why [ ]
@@ -48,7 +49,7 @@ made_unfit n read told tables (MachineRefused line code) is meant why quiet = (
   subst (λ (files : Option Files). IsMeant files (codes "conf") tables) is meant,
   subst (λ (files : Option Files). IsDescribed files (codes "mach") tables (std.Err (line, code))) is why,
 )
-made_unfit n read told tables (Absent absent) is meant why quiet = (
+made_unfit n read told tables (Absent absent) is meant why quiet = inl (
   load n,
   codes "mach",
   tables,
@@ -57,7 +58,7 @@ made_unfit n read told tables (Absent absent) is meant why quiet = (
   subst (λ (files : Option Files). IsMeant files (codes "conf") tables) is meant,
   subst (λ (files : Option Files). (absent ≡ codes "mach") × IsLacking files (codes "mach")) is why,
 )
-made_unfit n read told tables (TooLong long) is meant why quiet = (
+made_unfit n read told tables (TooLong long) is meant why quiet = inl (
   load n,
   codes "mach",
   tables,
@@ -70,6 +71,7 @@ made_unfit n read told tables ReadFault is meant why quiet = absurd (quiet refl)
 made_unfit n read told tables Memory is meant why quiet = tt
 made_unfit n read told tables Ok is meant why quiet = elim why [ ]
 made_unfit n read told tables (ConfigRefused file line code) is meant why quiet = elim why [ ]
+made_unfit n read told tables (ScriptRefused which line code) is meant why quiet = elim why [ ]
 made_unfit n read told tables Usage is meant why quiet = elim why [ ]
 made_unfit n read told tables WriteFault is meant why quiet = elim why [ ]
 
@@ -91,6 +93,7 @@ counts_quiet n (std.Err Ok) quiet = refl
 counts_quiet n (std.Err (ConfigRefused file line code)) quiet = refl
 counts_quiet n (std.Err Usage) quiet = refl
 counts_quiet n (std.Err (MachineRefused line code)) quiet = refl
+counts_quiet n (std.Err (ScriptRefused which line code)) quiet = refl
 counts_quiet n (std.Err (Absent name)) quiet = refl
 counts_quiet n (std.Err (TooLong name)) quiet = refl
 counts_quiet n (std.Err ReadFault) quiet = absurd (quiet refl)

@@ -8,6 +8,7 @@ use Rattle.cf_io.specs.Faults.{Rose}
 use Rattle.cf_io.specs.declared.file.MemFile.{MemFile}
 use Rattle.cf_io.specs.declared.files.TheConstants.{MAX_FILE}
 use Rattle.cf_io.specs.Memory.{file_named}
+use Rattle.config_rules.specs.Cut.{◌>>=◌}
 use Rattle.config_rules.specs.Fault.{first_fault}
 use Rattle.config_rules.specs.Formed.{FittingMachine, FormedTables}
 use Rattle.config_rules.specs.MachineText.{machine_of}
@@ -15,10 +16,11 @@ use Rattle.config_rules.specs.Meaning.{Means}
 use Rattle.config_rules.specs.Reading.{Files}
 use Rattle.load_maker.specs.Generated.{conf_text, machine_text}
 use Rattle.app_input.specs.declared.inputs.Inputs.{Inputs}
-use Rattle.app_input.specs.declared.inputs.Inputs.TheVariants.{Ioconf, Boot, Load}
+use Rattle.app_input.specs.declared.inputs.Inputs.TheVariants.{Ioconf, Boot, Load, Play}
 use Rattle.app_input.specs.declared.status.Status.{Status}
-use Rattle.app_input.specs.declared.status.Status.TheVariants.{Ok, ConfigRefused, Usage, MachineRefused, Absent, TooLong, ReadFault, WriteFault, Memory}
-use Rattle.app_input.specs.Words.{Form, ioconf, boot, load, config_of, is_from_outside, machine_in}
+use Rattle.app_input.specs.declared.status.Status.TheVariants.{Ok, ConfigRefused, Usage, MachineRefused, ScriptRefused, Absent, TooLong, ReadFault, WriteFault, Memory}
+use Rattle.app_input.specs.Played.{FormedPlay, IsOfPlay, played}
+use Rattle.app_input.specs.Words.{Form, ioconf, boot, load, play, config_of, is_from_outside, machine_in}
 
 -- the generated files of a machine with so many spots
 unfoldable pub made_files : ℕ → List MemFile
@@ -28,12 +30,14 @@ made_files n = record { name = codes "conf"; bytes = conf_text } ∷ record { na
 abbrev pub told_of : Form → Option Files → Option Files
 told_of (ioconf file) told = told
 told_of (boot file machine) told = told
+told_of (play file machine order scripts) told = told
 told_of (load n) told = Some (file_named (made_files n))
 
 -- the files that a form speaks of
 abbrev pub files_of : Form → Files → Files
 files_of (ioconf file) files = files
 files_of (boot file machine) files = files
+files_of (play file machine order scripts) files = files
 files_of (load n) files = file_named (made_files n)
 
 -- where the files are told, the configuration means the tables
@@ -56,6 +60,15 @@ IsLacking told name = IfSome told (λ files. files name ≡ None)
 -- where the files are told, that of this name has more bytes than a file may have
 abbrev pub IsLong : Option Files → List ℕ → Type 0
 IsLong told name = IfSome told (λ files. (text : List ℕ) × (files name ≡ Some text) × (MAX_FILE < length text))
+
+-- why a file was loaded whole, or refused
+abbrev pub ReadsFile : Option Files → List ℕ → Result (List ℕ) Status → Type 0
+ReadsFile told name (std.Ok text) = (length text ≤ MAX_FILE) × IfSome told (λ files. files name ≡ Some text)
+ReadsFile told name (std.Err (Absent absent)) = (absent ≡ name) × IsLacking told name
+ReadsFile told name (std.Err (TooLong long)) = (long ≡ name) × IsLong told name
+ReadsFile told name (std.Err ReadFault) = ⊤
+ReadsFile told name (std.Err Memory) = ⊤
+ReadsFile told name (std.Err _) = ⊥
 
 -- why the configuration was read as tables, or refused
 abbrev pub ReadsTables : Option Files → List ℕ → Result Tables Status → Type 0
@@ -96,6 +109,14 @@ Boots form told P =
     (f : Form) × (name : List ℕ) × (tables : Tables) × (form ≡ Some f) × (machine_in f ≡ Some name) × IsMeant (told_of f told) (config_of f) tables
     × P (told_of f told) name tables
 
+-- the words ask to play, the configuration means the tables, the machine file describes a machine with them, and the scripts or
+-- the order file are refused so
+abbrev pub IsRefusedPlay : Option Form → Option Files → Status → Type 0
+IsRefusedPlay form told status =
+    (file name order : List ℕ) × (scripts : List (List ℕ)) × (tables : Tables) × (machine : Machine) × (form ≡ Some (play file name order scripts))
+    × IsMeant told file tables × IsDescribed told name tables (std.Ok machine) × IfSome told (λ files. played files scripts order ≡ std.Err status)
+    × IsOfPlay scripts order status
+
 -- the generated configuration means the tables, and the generated machine file describes the machine with them
 abbrev pub Made : ℕ → Tables → Machine → Type 0
 Made n tables machine =
@@ -107,12 +128,18 @@ Reads form told (std.Ok (Ioconf tables)) = (file : List ℕ) × (form ≡ Some (
 Reads form told (std.Ok (Boot tables machine)) =
     (file name : List ℕ) × (form ≡ Some (boot file name)) × IsMeant told file tables × IsDescribed told name tables (std.Ok machine)
 Reads form told (std.Ok (Load n tables machine)) = (form ≡ Some (load n)) × Made n tables machine
+Reads form told (std.Ok (Play tables machine scripts order)) =
+    (file name turns : List ℕ) × (names : List (List ℕ)) × (form ≡ Some (play file name turns names)) × IsMeant told file tables
+    × IsDescribed told name tables (std.Ok machine) × IfSome told (λ files. played files names turns ≡ std.Ok (record { scripts = scripts; order = order }))
 Reads form told (std.Err (ConfigRefused file line code)) =
     (f : Form) × (form ≡ Some f) × IsFirstFault (told_of f told) (config_of f) (record { file = file; line = line; code = code })
 Reads form told (std.Err Usage) = form ≡ None
 Reads form told (std.Err (MachineRefused line code)) = Boots form told (λ files name tables. IsDescribed files name tables (std.Err (line, code)))
-Reads form told (std.Err (Absent absent)) = Boots form told (λ files name tables. (absent ≡ name) × IsLacking files name)
-Reads form told (std.Err (TooLong long)) = Boots form told (λ files name tables. (long ≡ name) × IsLong files name)
+Reads form told (std.Err (ScriptRefused which line code)) = IsRefusedPlay form told (ScriptRefused which line code)
+Reads form told (std.Err (Absent absent)) =
+    Boots form told (λ files name tables. (absent ≡ name) × IsLacking files name) ⊎ IsRefusedPlay form told (Absent absent)
+Reads form told (std.Err (TooLong long)) =
+    Boots form told (λ files name tables. (long ≡ name) × IsLong files name) ⊎ IsRefusedPlay form told (TooLong long)
 Reads form told (std.Err ReadFault) = (f : Form) × (form ≡ Some f) × (is_from_outside f ≡ true)
 Reads form told (std.Err Memory) = ⊤
 Reads form told (std.Err Ok) = ⊥
@@ -124,28 +151,35 @@ Counts before after (std.Ok inputs) = after ≡ before
 Counts before after (std.Err ReadFault) = (before ≤ after) × Rose before after
 Counts before after (std.Err _) = after ≡ before
 
--- the tables are formed, and the machine fits them
+-- the tables are formed, the machine fits them, and so do the scripts and their turns
 abbrev pub FormedInputs : Inputs → Type 0
 FormedInputs (Ioconf tables) = FormedTables tables
 FormedInputs (Boot tables machine) = FormedTables tables × FittingMachine tables machine
 FormedInputs (Load n tables machine) = FormedTables tables × FittingMachine tables machine
+FormedInputs (Play tables machine scripts order) =
+    FormedTables tables × FittingMachine tables machine × FormedPlay (record { scripts = scripts; order = order })
 
--- what a machine file gives: the inputs with its machine, or its refusal
-abbrev pub booted : (Machine → Inputs) → Result Machine (ℕ × ℕ) → Result Inputs Status
-booted inputs (std.Ok machine) = std.Ok (inputs machine)
-booted inputs (std.Err fault) = std.Err (MachineRefused fault.0 fault.1)
+-- what a machine file gives: what follows by its machine, or its refusal
+abbrev pub booted : (Machine → Result Inputs Status) → Result Machine (ℕ × ℕ) → Result Inputs Status
+booted next (std.Ok machine) = next machine
+booted next (std.Err fault) = std.Err (MachineRefused fault.0 fault.1)
 
 -- the same of a file that may be absent, or too long
-abbrev pub booted_from : (Machine → Inputs) → Tables → List ℕ → Option (List ℕ) → Result Inputs Status
-booted_from inputs tables name None = std.Err (Absent name)
-booted_from inputs tables name (Some text) =
-    if nat_le (length text) MAX_FILE then booted inputs (machine_of tables text) else std.Err (TooLong name)
+abbrev pub booted_from : (Machine → Result Inputs Status) → Tables → List ℕ → Option (List ℕ) → Result Inputs Status
+booted_from next tables name None = std.Err (Absent name)
+booted_from next tables name (Some text) =
+    if nat_le (length text) MAX_FILE then booted next (machine_of tables text) else std.Err (TooLong name)
+
+-- what the scripts and the order file give behind a machine
+abbrev pub played_with : Files → List ℕ → List (List ℕ) → Tables → Machine → Result Inputs Status
+played_with files order scripts tables machine = played files scripts order >>= λ p. std.Ok (Play tables machine p.scripts p.order)
 
 -- what a form gives where its configuration means the tables
 abbrev pub given_by : Form → Files → Tables → Result Inputs Status
 given_by (ioconf file) files tables = std.Ok (Ioconf tables)
-given_by (boot file name) files tables = booted_from (Boot tables) tables name (files name)
-given_by (load n) files tables = booted_from (Load n tables) tables (codes "mach") (files (codes "mach"))
+given_by (boot file name) files tables = booted_from (λ machine. std.Ok (Boot tables machine)) tables name (files name)
+given_by (load n) files tables = booted_from (λ machine. std.Ok (Load n tables machine)) tables (codes "mach") (files (codes "mach"))
+given_by (play file name order scripts) files tables = booted_from (played_with files order scripts tables) tables name (files name)
 
 -- the refusal of a configuration
 abbrev pub refused_by : Refusal → Result Inputs Status

@@ -1,8 +1,10 @@
 pub mod Commands
 pub mod Inputs
+pub mod Played
 pub mod Status
 pub mod Words
 pub use Rattle.config_rules.specs.Formed
 pub use Rattle.config_rules.specs.MachineText
 pub use Rattle.config_rules.specs.Meaning
+pub use Rattle.config_rules.specs.ScriptText
 pub use Rattle.load_maker.specs.Generated

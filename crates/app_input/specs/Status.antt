@@ -1,6 +1,6 @@
 use Rattle.std.specs.Prelude.{ℕ}
 use Rattle.app_input.specs.declared.status.Status.{Status}
-use Rattle.app_input.specs.declared.status.Status.TheVariants.{Ok, ConfigRefused, Usage, MachineRefused, Absent, TooLong, ReadFault, WriteFault, Memory}
+use Rattle.app_input.specs.declared.status.Status.TheVariants.{Ok, ConfigRefused, Usage, MachineRefused, ScriptRefused, Absent, TooLong, ReadFault, WriteFault, Memory}
 
 -- the number of a status
 abbrev pub status_number : Status → ℕ
@@ -8,6 +8,7 @@ status_number Ok = 0
 status_number (ConfigRefused file line code) = 1
 status_number Usage = 2
 status_number (MachineRefused line code) = 3
+status_number (ScriptRefused which line code) = 4
 status_number (Absent name) = 6
 status_number (TooLong name) = 7
 status_number ReadFault = 8

@@ -1,5 +1,5 @@
 -- The forms that the words of a program may have.
-use Rattle.std.specs.Prelude.{◌≡◌, ℕ, ◌≤◌, Bool, true, false, ◌&&◌, ◌==◌, nat_lt, not, Option, Some, None, option_map, option_and_then, Result, List, [], ◌∷◌, length, slice_index, codes, if◌then◌else◌, ⊤, ℤ, pos, int_le, nat_abs}
+use Rattle.std.specs.Prelude.{◌≡◌, ℕ, ◌≤◌, Bool, true, false, ◌&&◌, ◌==◌, nat_le, nat_lt, not, Option, Some, None, option_map, option_and_then, Result, List, [], ◌∷◌, length, map, slice_index, string_bytes, codes, if◌then◌else◌, ⊤, ℤ, pos, int_le, nat_abs}
 use Rattle.std.specs.Prelude as std
 use Rattle.std.specs.List.{list_all}
 use Rattle.std.specs.Str.{bytes_eq}
@@ -14,12 +14,13 @@ use Rattle.clap.specs.declared.error.kind.ErrorKind.{ErrorKind}
 use Rattle.clap.specs.declared.error.kind.ErrorKind.TheVariants as kind
 use Rattle.app_input.specs.declared.words.WordStop.TheVariants.{Usage, Memory}
 
--- what words ask for: the listing of a configuration, the boot of a machine by a configuration, or the boot of a generated
--- machine with so many spots
+-- what words ask for: the listing of a configuration, the boot of a machine by a configuration, the boot of a generated
+-- machine with so many spots, or a boot with scripts behind it, whose turns an order file has
 pub data Form : Type 0 where
   ioconf : List ℕ → Form
   boot : List ℕ → List ℕ → Form
   load : ℕ → Form
+  play : List ℕ → List ℕ → List ℕ → List (List ℕ) → Form
 
 -- a word that is not empty and does not begin with `-`
 abbrev pub is_operand : List ℕ → Bool
@@ -52,12 +53,24 @@ load_form [] = None
 load_form (word ∷ []) = option_map load (count_of word)
 load_form (word ∷ other ∷ more) = None
 
+-- from 1 to 16 scripts may be played
+abbrev pub is_script_count : ℕ → Bool
+is_script_count n = nat_le 1 n && nat_le n 16
+
+-- `FILE MACHINE ORDER SCRIPT..`
+abbrev pub play_form : List (List ℕ) → Option Form
+play_form [] = None
+play_form (file ∷ []) = None
+play_form (file ∷ machine ∷ []) = None
+play_form (file ∷ machine ∷ order ∷ scripts) = given (is_script_count (length scripts)) (play file machine order scripts)
+
 -- the operands behind the first word, which is compared byte for byte
 abbrev pub form_named : List ℕ → List (List ℕ) → Option Form
 form_named word operands =
     if bytes_eq word (codes "ioconf") then ioconf_form operands
     else (if bytes_eq word (codes "boot") then boot_form operands
-    else (if bytes_eq word (codes "load") then load_form operands else None))
+    else (if bytes_eq word (codes "load") then load_form operands
+    else (if bytes_eq word (codes "play") then play_form operands else None)))
 
 -- the form of the words of `devconf`: each word behind the first is an operand
 abbrev pub devconf_form : List (List ℕ) → Option Form
@@ -72,18 +85,21 @@ form_of Devconf words = devconf_form words
 abbrev pub config_of : Form → List ℕ
 config_of (ioconf file) = file
 config_of (boot file machine) = file
+config_of (play file machine order scripts) = file
 config_of (load n) = codes "conf"
 
 -- the machine file of a form, by its name
 abbrev pub machine_in : Form → Option (List ℕ)
 machine_in (ioconf file) = None
 machine_in (boot file machine) = Some machine
+machine_in (play file machine order scripts) = Some machine
 machine_in (load n) = Some (codes "mach")
 
 -- whether a form names files from outside
 abbrev pub is_from_outside : Form → Bool
 is_from_outside (ioconf file) = true
 is_from_outside (boot file machine) = true
+is_from_outside (play file machine order scripts) = true
 is_from_outside (load n) = false
 
 -- the words were read as their form, or refused where they have none
@@ -91,6 +107,8 @@ abbrev pub HasForm : Option Form → Result Words WordStop → Type 0
 HasForm form (std.Ok (words.Ioconf file)) = form ≡ Some (ioconf file.now)
 HasForm form (std.Ok (words.Boot file machine)) = form ≡ Some (boot file.now machine.now)
 HasForm form (std.Ok (words.Load count)) = (form ≡ Some (load count)) × (1 ≤ count) × (count ≤ 1000)
+HasForm form (std.Ok (words.Play file machine order scripts)) =
+    (form ≡ Some (play file.now machine.now order.now (map string_bytes scripts.now))) × (1 ≤ length scripts.now) × (length scripts.now ≤ 16)
 HasForm form (std.Err Usage) = form ≡ None
 HasForm form (std.Err Memory) = ⊤
 

@@ -1,17 +1,18 @@
-ghost use Rattle.std.specs.Prelude.{◌≡◌, ◌≢◌, ◌≤◌, ◌⊎◌, Err, Option, IfOk, IfSome, Some, map, string_bytes};
+ghost use Rattle.std.specs.Prelude.{◌≡◌, ◌≢◌, ◌≤◌, ◌⊎◌, Err, Option, IfOk, IfSome, Some, length, map, string_bytes};
 ghost use Rattle.cf_io.specs.Faults.{Rose};
 ghost use Rattle.config_rules.specs.Formed.{FormedTables};
 ghost use Rattle.config_rules.specs.Reading.{Files as NamedFiles};
 ghost use Rattle.app_input.specs.Inputs.{Counts, FormedInputs, IsDue, Reads, ReadsTables};
-ghost use Rattle.app_input.specs.Words.{boot, form_of, ioconf, load};
+ghost use Rattle.app_input.specs.Words.{boot, form_of, ioconf, load, play};
 
 use crate::machine_file::load_machine;
 use crate::made::made_files;
+use crate::scripts::{Played, load_played};
 use crate::status::Status;
 use crate::words::{WordStop, Words, read_words};
 use cf_compile::{CompileStop, compile};
 use cf_io::Files;
-use cf_types::{Machine, Refusal, Tables};
+use cf_types::{List, Machine, Refusal, Script, Tables};
 use std::alloc::Global;
 
 /// The program whose words are read.
@@ -38,6 +39,14 @@ pub enum Inputs {
         count: u32,
         tables: Tables,
         machine: Machine,
+    },
+    /// The same of a boot with 1 to 16 scripts behind it, and the numbers of the scripts whose turns follow, each from 1.
+    /// See drvctl(8).
+    Play {
+        tables: Tables,
+        machine: Machine,
+        scripts: List<Script>,
+        order: List<u8>,
     },
 }
 
@@ -93,6 +102,41 @@ fn read_boot<F: Files>(
     }
 }
 
+/// Reads the inputs of `play FILE MACHINE ORDER SCRIPT..`: the configuration, the machine, the scripts, the order file.
+fn read_play<F: Files>(
+    alloc: Global,
+    files: &mut F,
+    config: &[u8],
+    name: &[u8],
+    order: &[u8],
+    scripts: &[String],
+) -> Result<Inputs, Status>
+    requires some { 1 ≤ length scripts.now }
+    requires few { length scripts.now ≤ 16 }
+    ensures told { F.told files.new ≡ F.told files.old }
+    ensures reads { Reads (Some (play config.now name.now order.now (map string_bytes scripts.now))) (F.told files.old) result }
+    ensures counted { Counts (F.faults files.old) (F.faults files.new) result }
+    ensures formed { IfOk result FormedInputs }
+{
+    let tables = match read_tables(alloc, files, config) {
+        Ok(tables) => tables,
+        Err(status) => return Err(status),
+    };
+    let machine = match load_machine(alloc, files, name, &tables) {
+        Ok(machine) => machine,
+        Err(status) => return Err(status),
+    };
+    match load_played(alloc, files, scripts, order) {
+        Ok(Played { scripts, order }) => Ok(Inputs::Play {
+            tables,
+            machine,
+            scripts,
+            order,
+        }),
+        Err(status) => Err(status),
+    }
+}
+
 /// Reads the inputs of `load N` from the generated files, the configuration first. No file from outside is asked for.
 fn read_load(alloc: Global, count: u32) -> Result<Inputs, Status>
     requires some { 1 ≤ count }
@@ -120,7 +164,8 @@ fn read_load(alloc: Global, count: u32) -> Result<Inputs, Status>
 }
 
 /// Reads the words behind a program's name and the files that they name, the configuration before the machine: what they
-/// give, or the first refusal in this order: the words, the configuration, the machine file. See config(1) and config(5).
+/// give, or the first refusal in this order: the words, the configuration, the machine file, the scripts in order, the
+/// order file. Each file is judged before the next is loaded. See config(1), config(5) and drvctl(8).
 pub fn read_inputs<F: Files>(
     alloc: Global,
     program: Program,
@@ -142,6 +187,23 @@ pub fn read_inputs<F: Files>(
             read_boot(alloc, files, file.as_bytes(), machine.as_bytes())
         }
         Ok(Words::Load { count }) => read_load(alloc, count),
+        Ok(
+            Words::Play {
+                file,
+                machine,
+                order,
+                scripts,
+            },
+        ) => {
+            read_play(
+                alloc,
+                files,
+                file.as_bytes(),
+                machine.as_bytes(),
+                order.as_bytes(),
+                scripts,
+            )
+        }
         Err(WordStop::Usage) => Err(Status::Usage),
         Err(WordStop::Memory) => Err(Status::Memory),
     }

@@ -2,10 +2,12 @@
 #![tactic(auto)]
 
 mod count;
+mod file;
 mod inputs;
 mod machine_file;
 mod made;
 mod operands;
+mod scripts;
 mod status;
 mod words;
 

@@ -2,33 +2,14 @@ ghost use Rattle.std.specs.Prelude.{◌≡◌, ◌≤◌, IfOk, length};
 ghost use Rattle.cf_io.specs.declared.files.TheConstants.{MAX_FILE};
 ghost use Rattle.config_rules.specs.MachineText.{machine_of};
 ghost use Rattle.config_rules.specs.Formed.{FittingMachine, FormedTables};
-ghost use Rattle.app_input.specs.Inputs.{Counts, Describes, IsAbsent, IsTooLong, ReadsMachine};
+ghost use Rattle.app_input.specs.Inputs.{Counts, Describes, ReadsMachine};
 
+use crate::file::load_file;
 use crate::status::Status;
-use cf_io::{Files, Load};
-use cf_types::{List, Machine, Tables};
+use cf_io::Files;
+use cf_types::{Machine, Tables};
 use machine_model::{MachineStop, read_machine};
 use std::alloc::Global;
-
-/// There is no file of this name.
-fn absent(alloc: Global, name: &[u8]) -> Status
-    ensures { IsAbsent name.now result }
-{
-    match List::copied(alloc, name) {
-        Ok(name) => Status::Absent { name },
-        Err(_) => Status::Memory,
-    }
-}
-
-/// The file of this name is too long.
-fn too_long(alloc: Global, name: &[u8]) -> Status
-    ensures { IsTooLong name.now result }
-{
-    match List::copied(alloc, name) {
-        Ok(name) => Status::TooLong { name },
-        Err(_) => Status::Memory,
-    }
-}
 
 /// The machine that a text describes.
 fn judge(alloc: Global, text: &[u8], tables: &Tables) -> Result<Machine, Status>
@@ -57,12 +38,8 @@ pub fn load_machine<F: Files>(
     ensures counted { Counts (F.faults files.old) (F.faults files.new) result }
     ensures fits { IfOk result (λ machine. FittingMachine tables.now machine) }
 {
-    let mut text = Vec::new(alloc);
-    match files.load(name, &mut text) {
-        Load::Whole => judge(alloc, &text, tables),
-        Load::Absent => Err(absent(alloc, name)),
-        Load::TooLong => Err(too_long(alloc, name)),
-        Load::Failed => Err(Status::ReadFault),
-        Load::Memory => Err(Status::Memory),
+    match load_file(alloc, files, name) {
+        Ok(text) => judge(alloc, text.items(), tables),
+        Err(status) => Err(status),
     }
 }

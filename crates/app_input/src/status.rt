@@ -15,6 +15,9 @@ pub enum Status {
     Usage,
     /// The machine file has a fault: the line, counted from 1, and the code.
     MachineRefused { line: u32, code: u8 },
+    /// A script, by its number from 1, or the order file, by 0, has a bad line: its number, counted from 1, and its code.
+    /// See drvctl(8).
+    ScriptRefused { which: u8, line: u32, code: u8 },
     /// There is no file of this name.
     Absent { name: Text },
     /// The file of this name has more than 1,048,576 bytes.
@@ -37,6 +40,7 @@ impl Status {
             Status::ConfigRefused { .. } => 1,
             Status::Usage => 2,
             Status::MachineRefused { .. } => 3,
+            Status::ScriptRefused { .. } => 4,
             Status::Absent { .. } => 6,
             Status::TooLong { .. } => 7,
             Status::ReadFault => 8,

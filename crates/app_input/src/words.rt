@@ -1,21 +1,38 @@
 ghost use Rattle.std.specs.Prelude.{◌≡◌, map, string_bytes};
 ghost use Rattle.std.specs.List.{list_all};
-ghost use Rattle.app_input.specs.Words.{HasForm, devconf_form, form_of, is_operand, load_form};
+ghost use Rattle.app_input.specs.Words.{HasForm, devconf_form, form_of, is_operand, load_form, play_form};
 
 use crate::count::count_of;
 use crate::inputs::Program;
 use crate::operands::{boot_words, ioconf_words};
 use std::alloc::Global;
 
+/// The most scripts that are played.
+const MAX_SCRIPTS: usize = 16;
+
 /// What words ask for.
 #[derive(Drop)]
 pub enum Words<'a> {
     /// `ioconf FILE`
-    Ioconf { file: &'a str },
+    Ioconf {
+        file: &'a str,
+    },
     /// `boot FILE MACHINE`
-    Boot { file: &'a str, machine: &'a str },
+    Boot {
+        file: &'a str,
+        machine: &'a str,
+    },
     /// `load N`, N from 1 to 1,000.
-    Load { count: u32 },
+    Load {
+        count: u32,
+    },
+    /// `play FILE MACHINE ORDER SCRIPT..`, with 1 to 16 scripts.
+    Play {
+        file: &'a str,
+        machine: &'a str,
+        order: &'a str,
+        scripts: &'a [String],
+    },
 }
 
 /// Why words were not read.
@@ -55,6 +72,24 @@ fn load_words<'a>(operands: &'a [String]) -> Result<Words<'a>, WordStop>
     }
 }
 
+/// Reads the operands `FILE MACHINE ORDER SCRIPT..`.
+fn play_words<'a>(operands: &'a [String]) -> Result<Words<'a>, WordStop>
+    ensures { HasForm (play_form (map string_bytes operands.now)) result }
+{
+    let [file, machine, order, scripts @ ..] = operands else {
+        return Err(WordStop::Usage);
+    };
+    if scripts.is_empty() || MAX_SCRIPTS < scripts.len() {
+        return Err(WordStop::Usage);
+    }
+    Ok(Words::Play {
+        file: file.as_str(),
+        machine: machine.as_str(),
+        order: order.as_str(),
+        scripts,
+    })
+}
+
 fn devconf_words<'a>(alloc: Global, words: &'a [String]) -> Result<Words<'a>, WordStop>
     ensures { HasForm (devconf_form (map string_bytes words.now)) result }
 {
@@ -72,6 +107,9 @@ fn devconf_words<'a>(alloc: Global, words: &'a [String]) -> Result<Words<'a>, Wo
     }
     if word.as_bytes() == b"load".as_slice() {
         return load_words(operands);
+    }
+    if word.as_bytes() == b"play".as_slice() {
+        return play_words(operands);
     }
     Err(WordStop::Usage)
 }

@@ -74,3 +74,7 @@ state_is cs k = index_map caller_of cs k _
 pub callers_alike : (cs : List CallerState) (k : ℕ) (x y : CallerState) → k < length cs → x ≡ slice_index_or cs k x → caller_of y ≡ caller_of x → callers_of (slice_set cs k y) ≡ callers_of cs
 callers_alike cs k x y lt is alike =
     map_set caller_of cs k y ∙ ap (slice_set (callers_of cs) k) (alike ∙ at_is caller_of cs k x nobody lt is) ∙ set_own (callers_of cs) k nobody
+
+-- how many commands of the caller at a place are over
+pub over_is : (cs : List CallerState) (k : ℕ) (x : CallerState) → k < length cs → x ≡ slice_index_or cs k x → x.over ≡ (slice_index_or (callers_of cs) k nobody).over
+over_is cs k x lt is = ap (λ (c : Caller). c.over) (at_is caller_of cs k x nobody lt is)

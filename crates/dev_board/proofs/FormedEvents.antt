@@ -44,7 +44,8 @@ use Rattle.run_sound.proofs.ScriptLaws.{amid_said, doer_low}
 use Rattle.dev_board.specs.Arrivals.{MayArrive}
 use Rattle.dev_board.specs.Events.{AreLive, IsLive}
 use Rattle.dev_board.specs.Plans.{deed_of, got_of}
-use Rattle.dev_board.specs.Sayings.{EndsLive, FormedScripts, IsInForce, MaySay, RefusesLive}
+use Rattle.dev_board.specs.Sayings.{EndsLive, IsInForce, MaySay, RefusesLive}
+use Rattle.dev_board.specs.Scripted.{FormedScripts}
 use Rattle.dev_board.specs.Works.{deed_by, end_of, reply_of}
 use Rattle.dev_board.specs.declared.plan.Plan.{Plan}
 use Rattle.dev_board.specs.declared.plan.Plan.TheVariants as plan
@@ -314,12 +315,13 @@ power_is kind.Suspend name = refl
 power_is kind.Resume name = refl
 power_is kind.ResumeTree name = refl
 
-record IsPowerEnd (w : World) (k : ℕ) : Type 0 where
-  what : PowerKind
-  name : List ℕ
-  said : command_of w k ≡ Some (power_command what name)
+-- the power command that ends is the one in force
+pub record IsPowerEnd (w : World) (k : ℕ) : Type 0 where
+  pub what : PowerKind
+  pub name : List ℕ
+  pub said : command_of w k ≡ Some (power_command what name)
 
-power_end : (w : World) (k s : ℕ) (r : Reply) → Kept w → EndsPower w k s r → IsPowerEnd w k
+pub power_end : (w : World) (k s : ℕ) (r : Reply) → Kept w → EndsPower w k s r → IsPowerEnd w k
 power_end w k s r kept why =
     let amid = amid_of (command_of w k) why.amid (amid_said w k kept (amid_later w k kept.ranges (λ e. busy (sym why.amid ∙ e)) (λ e. runs (sym why.amid ∙ e)))) in
     record { what = why.kind; name = amid.0; said = amid.1 }

@@ -107,7 +107,3 @@ bounded_tables t h =
 
 pub bounded : (s : Setup) → MayRun s → Bounded s
 bounded s may = record { tables = bounded_tables s.tables may.tables; few_spots = may.machine.few_spots }
-
--- without scripts formed tables and a machine that fits them may run
-pub may_run : (s : Setup) → FormedTables s.tables → FittingMachine s.tables s.machine → s.scripts ≡ [] → MayRun s
-may_run s tables machine none = record { tables = tables; machine = machine; few_scripts = rw none (omega arith); short_scripts = rw none tt }

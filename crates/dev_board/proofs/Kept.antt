@@ -1,6 +1,7 @@
--- A step of caller 0 keeps what a board keeps.
+-- A step of a caller keeps what a board keeps.
 use Rattle.std.proofs.Common.{◌≡◌, ◌&&◌, ℕ, Bool, true, false, not, find, None, List, [], ◌∷◌, ◌++◌, length, refl, sym, ◌∙◌, ap, subst, inl, inr, arith, length-append}
 use Rattle.std.specs.List.{AllByRecursion}
+use Rattle.cf_types.specs.declared.machine.Command.{Command}
 use Rattle.run_rules.specs.declared.event.Event.{Event}
 use Rattle.run_rules.specs.declared.world.Activity.{Activity}
 use Rattle.run_rules.specs.declared.world.Activity.TheVariants as activity
@@ -8,7 +9,7 @@ use Rattle.run_rules.specs.declared.world.Dev.{Dev}
 use Rattle.run_rules.specs.declared.world.Setup.{Setup}
 use Rattle.run_rules.specs.World.{World, opening, has_ended, is_ended, is_held, caller_at}
 use Rattle.run_rules.specs.Deeds.{Deed, Does}
-use Rattle.run_rules.specs.Next.{next, on_top}
+use Rattle.run_rules.specs.Next.{next}
 use Rattle.run_rules.specs.After.{after}
 use Rattle.run_rules.specs.Lines.{IsFormed}
 use Rattle.run_rules.specs.Run.{Run, event_of}
@@ -21,17 +22,21 @@ use Rattle.run_sound.proofs.Holding.{refs_same}
 use Rattle.run_sound.proofs.RangesDeeds.{after_serials}
 use Rattle.run_sound.proofs.Steps.{kept_after}
 use Rattle.run_sound.specs.Kept.{Kept}
+use Rattle.dev_board.specs.declared.answer.LeaseStep.{LeaseStep}
 use Rattle.dev_board.specs.declared.answer.LeaseStep.TheVariants.{Keep}
 use Rattle.dev_board.specs.declared.parts.Core.{Core}
 use Rattle.dev_board.specs.declared.plan.Plan.{Plan}
 use Rattle.dev_board.specs.declared.plan.Plan.TheVariants as plan
+use Rattle.dev_board.specs.declared.work.Work.{Work}
+use Rattle.dev_board.specs.declared.work.Work.TheVariants as work
 use Rattle.dev_board.specs.Commits.{Performed}
 use Rattle.dev_board.specs.Plans.{deed_of}
 use Rattle.dev_board.specs.Stepping.{DoesNext}
 use Rattle.dev_board.specs.View.{Books, CoreKept, shown_of, world_of}
 use Rattle.dev_board.specs.Witness.{Witness, lease_step, told_did}
+use Rattle.dev_board.specs.Works.{deed_by}
 
--- ---- what caller 0 does next
+-- ---- the caller that boots
 
 clash : (a : Activity) → a ≡ activity.Ended → is_ended a ≡ false → ⊥
 clash activity.Ended e h = cc
@@ -44,35 +49,48 @@ clash (activity.Power what s) e h = cc
 pub boot_idle : (w : World) → Kept w → has_ended w 0 ≡ false → (caller_at w 0).doing ≡ activity.Idle
 boot_idle w kept goes = elim kept.ranges.booting [ inl idle ↦ idle | inr ended ↦ absurd (clash (caller_at w 0).doing ended goes) ]
 
-pub boot_next : (w : World) (d : Deed) → Kept w → has_ended w 0 ≡ false → on_top w 0 (caller_at w 0).stack ≡ Does d → next w 0 ≡ Does d
-unfolding next
-boot_next w d kept goes top = rw (goes, boot_idle w kept goes) top
-
 -- ---- what is kept
 
-rescans_not : (x : Plan) → IsRescan (deed_of x)
-rescans_not (plan.Search parent moved got) = tt
-rescans_not (plan.EndScan of) = tt
-rescans_not plan.BeginInterrupts = tt
-rescans_not (plan.Finalise of shown got listed anew) = tt
-rescans_not plan.EndCaller = tt
+pub plan_scans : (x : Plan) → IsRescan (deed_of x)
+plan_scans (plan.Search parent moved got) = tt
+plan_scans (plan.EndScan of) = tt
+plan_scans plan.BeginInterrupts = tt
+plan_scans (plan.Finalise of shown got listed anew) = tt
+plan_scans plan.EndCaller = tt
 
-pub kept_step : (s : Setup) (old new : Core) (x : Plan) → CoreKept s old → next (world_of s old) 0 ≡ Does (deed_of x) → Performed s old new (deed_of x) → Books s new → CoreKept s new
-kept_step s old new x kept chosen did books =
+pub work_scans : (w : World) (said : Command) (x : Work) → IsRescan (deed_by w said x)
+work_scans w said (work.Open of) = tt
+work_scans w said (work.Close of) = tt
+work_scans w said (work.Drop of) = tt
+work_scans w said (work.Detach of) = tt
+work_scans w said (work.Sleep of) = tt
+work_scans w said (work.Wake of) = tt
+work_scans w said (work.Free of) = tt
+work_scans w said (work.Refuse why) = tt
+work_scans w said (work.Start ticket) = tt
+work_scans w said (work.Rescan of only) = tt
+work_scans w said (work.BeginPower kind of) = tt
+work_scans w said (work.Plug spot) = tt
+work_scans w said (work.Unplug spot of) = tt
+work_scans w said work.Tell = tt
+work_scans w said (work.EndPower of end) = tt
+work_scans w said work.End = tt
+
+pub kept_step : (s : Setup) (old new : Core) (k : ℕ) (d : Deed) → CoreKept s old → IsRescan d → next (world_of s old) k ≡ Does d → Performed s old new k d → Books s new → CoreKept s new
+kept_step s old new k d kept scans chosen did books =
     let w : World = world_of s old in
-    let d : Deed = deed_of x in
-    let long : Run (opening s) (old.events.items ++ event_of w 0 d ∷ []) (after w 0 d) = run_on (opening s) old.events.items w 0 d kept.run chosen in
-    let moved : Run (opening s) new.events.items (after w 0 d) = subst (λ (h : List Event). Run (opening s) h (after w 0 d)) (sym did.events) long in
-    let grown : new.tree.next ≡ (after w 0 d).next = ap (λ (v : World). v.next) did.world in
+    let long : Run (opening s) (old.events.items ++ event_of w k d ∷ []) (after w k d) = run_on (opening s) old.events.items w k d kept.run chosen in
+    let moved : Run (opening s) new.events.items (after w k d) = subst (λ (h : List Event). Run (opening s) h (after w k d)) (sym did.events) long in
+    let grown : new.tree.next ≡ (after w k d).next = ap (λ (v : World). v.next) did.world in
     record {
       run = subst (λ (v : World). Run (opening s) new.events.items v) (sym did.world) moved;
-      kept = subst Kept (sym did.world) (kept_after w 0 d kept.may kept.kept chosen);
-      calls = subst CallsDevices (sym did.world) (calls_after w 0 d kept.kept.ranges.counted (rescans_not x) kept.calls);
+      kept = subst Kept (sym did.world) (kept_after w k d kept.may kept.kept chosen);
+      calls = subst CallsDevices (sym did.world) (calls_after w k d kept.kept.ranges.counted scans kept.calls);
       may = kept.may;
-      no_scripts = kept.no_scripts;
+      scripts = kept.scripts;
       books = books;
-      formed = subst (AllByRecursion IsFormed) (sym did.events) (all_snoc IsFormed old.events.items (event_of w 0 d) kept.formed did.formed);
-      next_high = omega (arith, grown, (after_serials w 0 d).1, kept.next_high, ap length did.events, length-append old.events.items (event_of w 0 d ∷ []));
+      formed = subst (AllByRecursion IsFormed) (sym did.events) (all_snoc IsFormed old.events.items (event_of w k d) kept.formed did.formed);
+      next_high = omega (arith, grown, (after_serials w k d).1, kept.next_high, ap length did.events, length-append old.events.items (event_of w k d ∷ []));
     }
 
 -- ---- the witness
@@ -100,20 +118,22 @@ and_not true = refl
 and_not false = refl
 
 -- where the references stay, nobody takes or gives a lease
-no_lease : (w v : World) (k : ℕ) → v.refs ≡ w.refs → lease_step w v k ≡ Keep
+pub no_lease : (w v : World) (k : ℕ) → v.refs ≡ w.refs → lease_step w v k ≡ Keep
 unfolding lease_step
 no_lease w v k same =
     rw (same, never_found (λ (d : Dev). is_held w k d.serial && not (is_held w k d.serial)) w.live (λ d. and_not (is_held w k d.serial))) refl
 
-pub does_next : (s : Setup) (old new : Core) (x : Plan) (place : ℕ) (told : Witness) → next (world_of s old) 0 ≡ Does (deed_of x) → Performed s old new (deed_of x)
-    → place ≡ length old.events.items → told ≡ told_did (opening s) 0 (length old.events.items) (event_of (world_of s old) 0 (deed_of x)) Keep
-    → DoesNext (shown_of s old) 0 place told (shown_of s new)
-does_next s old new x place told chosen did at is =
-    let same : (world_of s new).refs ≡ (world_of s old).refs = ap (λ (v : World). v.refs) did.world ∙ refs_same (world_of s old) 0 (deed_of x) (opens_none x) (returns_none x) in
-    record {
-      deed = deed_of x;
-      chosen = chosen;
-      last = at;
-      board = rw (did.world, did.events, did.stops, did.stopped) refl;
-      told = rw (no_lease (world_of s old) (world_of s new) 0 same, at) is;
-    }
+-- a scan, a finaliser and the boot leave them
+pub plan_keeps : (w v : World) (k : ℕ) (x : Plan) → v ≡ after w k (deed_of x) → lease_step w v k ≡ Keep
+plan_keeps w v k x is = no_lease w v k (ap (λ (u : World). u.refs) is ∙ refs_same w k (deed_of x) (opens_none x) (returns_none x))
+
+pub does_next : (s : Setup) (old new : Core) (k : ℕ) (d : Deed) (place : ℕ) (lease : LeaseStep) (told : Witness) → next (world_of s old) k ≡ Does d → Performed s old new k d
+    → place ≡ length old.events.items → lease_step (world_of s old) (world_of s new) k ≡ lease → told ≡ told_did (opening s) k (length old.events.items) (event_of (world_of s old) k d) lease
+    → DoesNext (shown_of s old) k place told (shown_of s new)
+does_next s old new k d place lease told chosen did at steps is = record {
+  deed = d;
+  chosen = chosen;
+  last = at;
+  board = rw (did.world, did.events, did.stops, did.stopped) refl;
+  told = rw (steps, at) is;
+}

@@ -33,3 +33,5 @@ pub mod BelowLaws
 pub mod FormedEvents
 pub mod TellLaws
 pub mod ScriptedLaws
+pub mod NextLaws
+pub mod TurnLaws

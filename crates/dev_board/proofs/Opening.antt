@@ -9,6 +9,7 @@ use Rattle.run_sound.proofs.Calls.{calls_first}
 use Rattle.run_sound.proofs.Opening.{opening_kept}
 use Rattle.dev_board.specs.declared.caller.CallerState.{CallerState}
 use Rattle.dev_board.specs.declared.parts.Core.{Core}
+use Rattle.dev_board.specs.Scripted.{FormedScripts}
 use Rattle.dev_board.specs.View.{callers_of, CoreKept, IsFirst}
 use Rattle.dev_board.proofs.MarkLaws.{first_marks}
 use Rattle.dev_board.proofs.UnitLaws.{first_units}
@@ -37,8 +38,8 @@ from_one : (s : Setup) → (opening s).next ≡ 1
 unfolding opening
 from_one s = refl
 
-pub begins : (s : Setup) (c : Core) → MayRun s → s.scripts ≡ [] → IsFirst s c → CoreKept s c
-begins s c may none f =
+pub begins : (s : Setup) (c : Core) → MayRun s → FormedScripts s → IsFirst s c → CoreKept s c
+begins s c may scripts f =
     let live : c.tree.live ≡ [] = ap (λ (w : World). w.live) f.world ∙ no_devices s in
     let next : c.tree.next ≡ 1 = ap (λ (w : World). w.next) f.world ∙ from_one s in
     record {
@@ -46,7 +47,7 @@ begins s c may none f =
       kept = subst Kept (sym f.world) (opening_kept s may);
       calls = subst CallsDevices (sym f.world) (calls_first s);
       may = may;
-      no_scripts = none;
+      scripts = scripts;
       books = record { marks = rw (f.rows, live) (first_marks s); units = rw live (first_units s c.units f.units); drivers = rw (f.drivers, live) refl };
       formed = rw f.events tt;
       next_high = omega (arith, next);

@@ -1,22 +1,15 @@
 -- Formed scripts may run.
-use Rattle.std.proofs.Common.{◌≡◌, ◌≤◌, List, [], length, sym, subst}
+use Rattle.std.proofs.Common.{◌≤◌, List, length}
 use Rattle.std.specs.Prelude.{All}
-use Rattle.std.proofs.lemmas.List.Elements.{All-nil}
 use Rattle.cf_types.specs.declared.machine.Command.{Command}
 use Rattle.cf_types.specs.declared.machine.Machine.{Machine}
 use Rattle.cf_types.specs.declared.tables.Tables.{Tables}
 use Rattle.config_rules.specs.Formed.{FormedTables, FittingMachine}
 use Rattle.config_rules.specs.ScriptText.{FormedScript}
-use Rattle.run_rules.specs.declared.world.Setup.{Setup}
 use Rattle.run_rules.specs.World.{setup_of}
 use Rattle.run_rules.proofs.Devices.{all_imp}
 use Rattle.run_sound.specs.Kept.{MayRun}
-use Rattle.dev_board.specs.Sayings.{FormedScripts}
 use Rattle.dev_board.proofs.InputLaws.{by_recursion}
-
--- where there are none, all of them are formed
-pub none_formed : (s : Setup) → s.scripts ≡ [] → FormedScripts s
-none_formed s e = record { formed = subst (λ (scripts : List (List Command)). All FormedScript scripts) (sym e) (All-nil FormedScript) }
 
 -- formed tables, a fitting machine and at most 16 formed scripts
 pub scripts_may : (t : Tables) (m : Machine) (scripts : List (List Command)) → FormedTables t → FittingMachine t m → length scripts ≤ 16 → All FormedScript scripts → MayRun (setup_of t m scripts)

@@ -1,4 +1,4 @@
--- The slots agree again after what caller 0 did.
+-- The slots agree again after what a caller planned.
 use Rattle.std.proofs.Common.{◌≡◌, ℕ, Bool, true, false, List, [], ◌∷◌, ◌++◌, map, length, Option, Some, None, is_some, refl, ◌∙◌, ap}
 use Rattle.std.specs.Prelude.{IfSome}
 use Rattle.cf_types.specs.Numbers.{below}
@@ -43,23 +43,23 @@ ended_live w k None anew true = refl
 ended_live w k None anew false = refl
 ended_live w k (Some place) anew answer = refl
 
-plan_live : (w : World) (x : Plan) → (after w 0 (deed_of x)).live ≡ come w (got_of x)
+plan_live : (w : World) (k : ℕ) (x : Plan) → (after w k (deed_of x)).live ≡ come w (got_of x)
 unfolding after released
-plan_live w (plan.Search parent moved None) = refl
-plan_live w (plan.Search parent moved (Some a)) = arrived_live _ 0 (Some a) true
-plan_live w (plan.EndScan of) = refl
-plan_live w plan.BeginInterrupts = refl
-plan_live w (plan.Finalise of shown got listed anew) =
-    ended_live (arrived (show_spot w shown) 0 got false) 0 listed anew (is_some shown) ∙ arrived_live (show_spot w shown) 0 got false ∙ shown_live w got shown
-plan_live w plan.EndCaller = refl
+plan_live w k (plan.Search parent moved None) = refl
+plan_live w k (plan.Search parent moved (Some a)) = arrived_live _ k (Some a) true
+plan_live w k (plan.EndScan of) = refl
+plan_live w k plan.BeginInterrupts = refl
+plan_live w k (plan.Finalise of shown got listed anew) =
+    ended_live (arrived (show_spot w shown) k got false) k listed anew (is_some shown) ∙ arrived_live (show_spot w shown) k got false ∙ shown_live w got shown
+plan_live w k plan.EndCaller = refl
 
 published_come : (w : World) (got : Option Arrival) → IfSome got (MayArrive w.setup w.live)
     → published got (map (state_at w.live) (below (length w.setup.machine.spots))) ≡ map (state_at (come w got)) (below (length w.setup.machine.spots))
 published_come w None may = refl
 published_come w (Some a) may = slots_come w.live (new_device w a) (length w.setup.machine.spots) may.spot may.bare refl
 
-pub slots_step : (w v : World) (x : Plan) → v ≡ after w 0 (deed_of x) → v.setup ≡ w.setup → IfSome (got_of x) (MayArrive w.setup w.live) → published (got_of x) (slots_of w) ≡ slots_of v
+pub slots_step : (w v : World) (k : ℕ) (x : Plan) → v ≡ after w k (deed_of x) → v.setup ≡ w.setup → IfSome (got_of x) (MayArrive w.setup w.live) → published (got_of x) (slots_of w) ≡ slots_of v
 unfolding slots_of
-slots_step w v x is same may =
-    let live : v.live ≡ come w (got_of x) = ap (λ (u : World). u.live) is ∙ plan_live w x in
+slots_step w v k x is same may =
+    let live : v.live ≡ come w (got_of x) = ap (λ (u : World). u.live) is ∙ plan_live w k x in
     rw (live, same) (published_come w (got_of x) may)

@@ -32,10 +32,10 @@ abbrev pub shown_now : List ℕ → Option ℕ → List ℕ
 shown_now hidden None = hidden
 shown_now hidden (Some x) = filter (λ y. not (y == x)) hidden
 
--- what a deed of caller 0 leaves: the world after it, and its event as the last one
-pub record Performed (s : Setup) (old new : Core) (d : Deed) : Type 0 where
-  pub world : world_of s new ≡ after (world_of s old) 0 d
-  pub events : new.events.items ≡ old.events.items ++ event_of (world_of s old) 0 d ∷ []
-  pub formed : IsFormed (event_of (world_of s old) 0 d)
+-- what a deed of a caller leaves: the world after it, and its event as the last one
+pub record Performed (s : Setup) (old new : Core) (k : ℕ) (d : Deed) : Type 0 where
+  pub world : world_of s new ≡ after (world_of s old) k d
+  pub events : new.events.items ≡ old.events.items ++ event_of (world_of s old) k d ∷ []
+  pub formed : IsFormed (event_of (world_of s old) k d)
   pub stops : new.stops ≡ old.stops
   pub stopped : new.stopped ≡ old.stopped

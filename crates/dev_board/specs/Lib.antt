@@ -14,8 +14,11 @@ pub mod Agreement
 pub mod Shown
 pub mod Stepping
 pub mod Booting
+pub mod Posting
+pub mod Playing
 pub mod Plans
 pub mod Works
+pub mod Scripted
 pub mod Sayings
 pub mod Choices
 pub mod Choosing

@@ -1,11 +1,9 @@
 -- What the events of scripts' callers are made of.
-use Rattle.std.specs.Prelude.{◌≡◌, ⊤, ℕ, true, List, Option, Some, None, All}
+use Rattle.std.specs.Prelude.{◌≡◌, ⊤, ℕ, true, List, Option, Some, None}
 use Rattle.cf_types.specs.declared.machine.Command.{Command}
-use Rattle.config_rules.specs.ScriptText.{FormedScript}
 use Rattle.run_rules.specs.declared.event.Reply.{Reply}
 use Rattle.run_rules.specs.declared.event.Reply.TheVariants as reply
 use Rattle.run_rules.specs.declared.world.Dev.{Dev}
-use Rattle.run_rules.specs.declared.world.Setup.{Setup}
 use Rattle.run_rules.specs.World.{World}
 use Rattle.run_rules.specs.Next.{command_of, is_power}
 use Rattle.dev_board.specs.Events.{IsLive}
@@ -16,10 +14,6 @@ use Rattle.dev_board.specs.declared.work.PowerEnd.{PowerEnd}
 use Rattle.dev_board.specs.declared.work.PowerEnd.TheVariants as ends
 use Rattle.dev_board.specs.declared.work.Work.{Work}
 use Rattle.dev_board.specs.declared.work.Work.TheVariants as work
-
--- each script is formed
-pub record FormedScripts (s : Setup) : Type 0 where
-  pub formed : All FormedScript s.scripts
 
 -- the reply of a command: that of a refusal, or that it had its effect
 abbrev pub answer_by : World → Option Refusal → Reply

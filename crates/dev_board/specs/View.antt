@@ -10,6 +10,7 @@ use Rattle.dev_board.specs.declared.parts.Core.{Core}
 use Rattle.match_search.specs.Best.{live_rows}
 use Rattle.run_sound.specs.Calls.{CallsDevices}
 use Rattle.run_sound.specs.Kept.{MayRun, Kept}
+use Rattle.dev_board.specs.Scripted.{FormedScripts}
 use Rattle.dev_board.specs.Shown.{Shown}
 use Rattle.dev_board.specs.UnitsOf.{AreUnitsOf}
 use Rattle.unit_alloc.specs.Taken.{NoneTaken}
@@ -54,7 +55,7 @@ pub record CoreKept (s : Setup) (c : Core) : Type 0 where
   pub kept : Kept (world_of s c)
   pub calls : CallsDevices (world_of s c)
   pub may : MayRun s
-  pub no_scripts : s.scripts ≡ []
+  pub scripts : FormedScripts s
   pub books : Books s c
   pub formed : AllByRecursion IsFormed c.events.items
   pub next_high : c.tree.next ≤ length c.events.items + 1

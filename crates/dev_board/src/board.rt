@@ -1,7 +1,8 @@
-ghost use Rattle.std.specs.Prelude.{◌≡◌, ◌<◌, ◌≤◌, ◌+◌, ◌^◌, ◌-◌, [], IfOk, Some, None, length, min, slice_get};
+ghost use Rattle.std.specs.Prelude.{◌≡◌, ◌<◌, ◌≤◌, ◌+◌, ◌^◌, ◌-◌, [], All, IfOk, Some, None, length, min, slice_get};
 ghost use Rattle.std.specs.List.{AllByRecursion};
 ghost use Rattle.std.specs.Option.{option_or};
 ghost use Rattle.config_rules.specs.Formed.{FormedTables, FittingMachine};
+ghost use Rattle.config_rules.specs.ScriptText.{FormedScript};
 ghost use Rattle.run_rules.specs.Counts.{ends_of};
 ghost use Rattle.run_rules.specs.Lines.{IsFormed};
 ghost use Rattle.run_rules.specs.Run.{Run};
@@ -11,11 +12,15 @@ ghost use Rattle.run_rules.specs.Tree as tree;
 ghost use Rattle.run_rules.specs.World.{opening, setup_of};
 ghost use Rattle.dev_board.specs.Agreement.{slots_of};
 ghost use Rattle.run_sound.specs.Left.{boot_left};
+ghost use Rattle.dev_board.specs.Posting.{PostIs};
 ghost use Rattle.dev_board.specs.Shown.{began};
-ghost use Rattle.dev_board.specs.Stepping.{StepIs, IsDid};
+ghost use Rattle.dev_board.specs.Stepping.{StepIs, IsDid, IsOfBoot, DenialsAre};
 
 use crate::closed::closed_in;
+use crate::io_result::IoResult;
 use crate::parts::{Core, begin};
+use crate::post::post_core;
+use crate::posted::Posted;
 use crate::search;
 use crate::step::step_core;
 use crate::stepped::Stepped;
@@ -49,7 +54,7 @@ impl Model for Board {
 }
 
 impl Board {
-    /// The board before any event, of formed tables, a machine that fits them, and no scripts yet.
+    /// The board before any event, of formed tables, a machine that fits them, and at most 16 formed scripts of drvctl(8) commands.
     pub fn start(
         alloc: Global,
         tables: Tables,
@@ -58,7 +63,8 @@ impl Board {
     ) -> Result<Board, Memory>
         requires tables { FormedTables tables }
         requires machine { FittingMachine tables machine }
-        requires scripts { scripts ≡ [] }
+        requires few_scripts { length scripts ≤ 16 }
+        requires scripts { All FormedScript scripts }
         ensures world { IfOk result (λ b. b.world ≡ opening (setup_of tables machine scripts)) }
         ensures events { IfOk result (λ b. b.events ≡ []) }
         ensures stops { IfOk result (λ b. (b.stops ≡ 0) × (b.stopped ≡ None)) }
@@ -78,13 +84,15 @@ impl Board {
         })
     }
 
-    /// One step of a caller: the one event that it does next, or nothing. See autoconf(9) for what a boot does.
+    /// One step of a caller: the one event that it does next, or nothing. See autoconf(9) for what a boot does, drvctl(8) for scripts.
     pub fn step<S: Slots>(&mut self, caller: u8, slots: &mut S) -> Stepped
         requires caller { caller ≤ length self.old.world.setup.scripts }
         requires agree { S.states slots.old ≡ slots_of self.old.world }
         ensures step { StepIs self.old caller result self.new }
         ensures agree { S.states slots.new ≡ slots_of self.new.world }
-        ensures falls { IsDid result → boot_left self.new.world < boot_left self.old.world }
+        ensures boot { caller ≡ 0 → IsOfBoot result }
+        ensures denials { DenialsAre self.old.world.live (S.denials slots.old) (S.last_denial slots.old) result (S.denials slots.new) (S.last_denial slots.new) }
+        ensures falls { IsDid result → caller ≡ 0 → boot_left self.new.world < boot_left self.old.world }
     {
         step_core(
             self.alloc,
@@ -94,6 +102,14 @@ impl Board {
             caller,
             slots,
         )
+    }
+
+    /// The result of a transfer: the transfer ends by it, or nothing changes. The result is spent at every answer.
+    pub fn post(&mut self, done: IoResult) -> Posted
+        ensures post { PostIs self.old done result self.new }
+        ensures slots { slots_of self.new.world ≡ slots_of self.old.world }
+    {
+        post_core(self.alloc, &self.setup, &mut self.core, done.spend())
     }
 
     /// Stops the board in the name of a caller. Each later step answers so, and nothing else changes; the first stop stays.

@@ -19,6 +19,8 @@ pub fn run_boot<S: Slots>(board: &mut Board, slots: &mut S) -> Result<(), Memory
         match board.step(0, slots) {
             Stepped::Did(_, _) => {}
             Stepped::Closed => return Ok(()),
+            Stepped::Waits(_) => unreachable!(),
+            Stepped::Transfer(_, _) => unreachable!(),
             Stepped::Stopped(_, _) => unreachable!(),
             Stepped::Memory => return Err(Memory),
         }

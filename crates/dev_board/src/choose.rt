@@ -25,11 +25,10 @@ use run_rules::{Activity, Frame, Setup, Wait};
 use std::alloc::Global;
 
 /// The next command of the caller of a script, of which so many are over.
-fn command_at(setup: &Setup, caller: u8, over: u32) -> Option<&Command>
-    requires { 1 ≤ caller }
+pub fn command_at(setup: &Setup, caller: u8, over: u32) -> Option<&Command>
     ensures { slice_get (slice_index_or setup.now.scripts (caller - 1) []) over ≡ option_copied result }
 {
-    match setup.scripts.items().get((caller - 1) as usize) {
+    match setup.scripts.items().get(caller.saturating_sub(1) as usize) {
         Some(script) => script.items().get(over as usize),
         None => None,
     }

@@ -1,4 +1,4 @@
-//! The board: a world and its history, one event at a time. It boots formed tables on each machine that fits them; scripts it does not run yet.
+//! The board: a world and its history, one event at a time. It boots formed tables on each machine that fits them; then the callers of scripts take their turns.
 #![tactic(auto)]
 
 mod absent;
@@ -18,6 +18,7 @@ mod effect;
 mod freed;
 mod freeing;
 mod hindered;
+mod io_result;
 mod late;
 mod lease;
 mod line;
@@ -26,8 +27,11 @@ mod named;
 mod names;
 mod parts;
 mod plan;
+mod post;
+mod posted;
 mod power;
 mod rescan;
+mod script_step;
 mod search;
 mod seen;
 mod slots;
@@ -38,6 +42,7 @@ mod told;
 mod told_act;
 mod told_names;
 mod tree;
+mod turns;
 mod unit;
 mod wanted;
 mod work;
@@ -46,5 +51,8 @@ mod work_event;
 pub use answer::{Answer, LeaseStep};
 pub use board::Board;
 pub use boot::run_boot;
+pub use io_result::IoResult;
+pub use posted::Posted;
 pub use stepped::Stepped;
 pub use told::Told;
+pub use turns::run_turns;

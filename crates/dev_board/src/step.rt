@@ -1,7 +1,9 @@
 //! One step over the parts of a board.
 ghost use Rattle.std.specs.Prelude.{◌≡◌, ◌<◌, ◌≤◌, length, None, IfOk, OnOk, OnErr};
 ghost use Rattle.run_rules.specs.Run.{event_of};
+ghost use Rattle.run_rules.specs.World as world;
 ghost use Rattle.run_rules.specs.World.{opening};
+ghost use Rattle.run_rules.specs.declared.world.Setup as from;
 ghost use Rattle.run_rules.specs.Deeds.{Does};
 ghost use Rattle.run_rules.specs.Next.{next};
 ghost use Rattle.attr_graph.specs.Graphs.{IsGraphOf, declared_by};
@@ -13,20 +15,23 @@ ghost use Rattle.dev_board.specs.Witness.{told_did};
 ghost use Rattle.dev_board.specs.declared.answer.LeaseStep.TheVariants.{Keep};
 ghost use Rattle.dev_board.specs.Plans as plans;
 ghost use Rattle.dev_board.specs.Plans.{deed_of, SlotReady, published};
-ghost use Rattle.dev_board.specs.Stepping.{StepIs, IsDid};
+ghost use Rattle.dev_board.specs.Stepping.{StepIs, IsDid, IsOfBoot, DenialsAre};
 ghost use Rattle.dev_board.specs.View.{world_of, shown_of, Books, CoreKept};
 
-use crate::arrive::is_booted;
+use crate::answer::LeaseStep;
+use crate::choice::Choice;
+use crate::choose::choose;
 use crate::commit::commit;
-use crate::line::planned_event;
 use crate::parts::{Core, append};
-use crate::plan::{Plan, plan_top};
+use crate::plan::Plan;
+use crate::script_step::step_script;
 use crate::stepped::Stepped;
 use crate::told::Told;
+use crate::work_event::frame_event;
 use attr_graph::Graph;
 use cf_types::Memory;
 use ref_ledger::Slots;
-use run_rules::{Arrival, Key, Setup};
+use run_rules::{Activity, Arrival, Key, Setup};
 use std::alloc::Global;
 
 /// How many frames a plan may push.
@@ -96,7 +101,9 @@ fn got_of(plan: Plan) -> Option<Arrival>
 /// Publishes the slot of a device that comes.
 fn publish<S: Slots>(slots: &mut S, got: Option<Arrival>)
     requires { SlotReady got (S.states slots.old) }
-    ensures { S.states slots.new ≡ published got (S.states slots.old) }
+    ensures states { S.states slots.new ≡ published got (S.states slots.old) }
+    ensures denials { S.denials slots.new ≡ S.denials slots.old }
+    ensures last { S.last_denial slots.new ≡ S.last_denial slots.old }
 {
     match got {
         Some(arrival) => slots.publish(arrival.spot),
@@ -104,53 +111,65 @@ fn publish<S: Slots>(slots: &mut S, got: Option<Arrival>)
     }
 }
 
-/// Does what caller 0 plans, and appends its event. At `Memory` all is as before.
+/// Whether a caller has ended.
+fn is_ended(core: &Core, caller: u8) -> bool
+    requires { caller < length core.now.callers.items }
+    ensures { (s : from.Setup) → result ≡ world.has_ended (world_of s core.now) caller }
+{
+    matches!(core.callers[caller as usize].doing, Activity::Ended)
+}
+
+/// Does what a caller plans, and appends its event. At `Memory` all is as before.
 fn perform(
     alloc: Global,
     graph: &Graph,
     setup: &Setup,
     core: &mut Core,
+    caller: u8,
     plan: Plan,
 ) -> Result<Told, Memory>
     requires graph { IsGraphOf (declared_by setup.now.tables) graph.now }
     requires kept { CoreKept setup.now core.old }
-    requires chosen { next (world_of setup.now core.old) 0 ≡ Does (deed_of plan) }
-    ensures ok { OnOk result (Performed setup.now core.old core.new (deed_of plan)) }
-    ensures told { IfOk result (λ told. told ≡ told_did (opening setup.now) 0 (length core.old.events.items) (event_of (world_of setup.now core.old) 0 (deed_of plan)) Keep) }
+    requires caller { caller < length core.old.callers.items }
+    requires chosen { next (world_of setup.now core.old) caller ≡ Does (deed_of plan) }
+    ensures ok { OnOk result (Performed setup.now core.old core.new caller (deed_of plan)) }
+    ensures told { IfOk result (λ told. told ≡ told_did (opening setup.now) caller (length core.old.events.items) (event_of (world_of setup.now core.old) caller (deed_of plan)) Keep) }
     ensures err { OnErr result (shown_of setup.now core.new ≡ shown_of setup.now core.old) }
     ensures books { Books setup.now core.new }
 {
-    reserve(setup, core, 0, plan)?;
-    let event = planned_event(alloc, setup, core, plan)?;
-    let told = Told::of_event(setup, 0, core.events.len() as u64, &event);
-    commit(alloc, graph, setup, core, 0, plan)?;
+    reserve(setup, core, caller, plan)?;
+    let event = frame_event(alloc, setup, core, caller, plan)?;
+    let place = core.events.len() as u64;
+    let told = Told::of_event(setup, caller, place, &event, LeaseStep::Keep);
+    commit(alloc, graph, setup, core, caller, plan)?;
     append(&mut core.events, event);
     Ok(told)
 }
 
-/// The next event of caller 0, on a board that was not stopped.
-fn next_step<S: Slots>(
+/// A scan, a finaliser or the boot goes on by what its caller plans.
+fn step_plan<S: Slots>(
     alloc: Global,
     graph: &Graph,
     setup: &Setup,
     core: &mut Core,
+    caller: u8,
+    plan: Plan,
     slots: &mut S,
 ) -> Stepped
     requires graph { IsGraphOf (declared_by setup.now.tables) graph.now }
     requires kept { CoreKept setup.now core.old }
+    requires caller { caller < length core.old.callers.items }
     requires agree { S.states slots.old ≡ slots_of (world_of setup.now core.old) }
     requires goes_on { core.old.stopped ≡ None }
-    ensures step { StepIs (shown_of setup.now core.old) 0 result (shown_of setup.now core.new) }
+    requires chosen { next (world_of setup.now core.old) caller ≡ Does (deed_of plan) }
+    ensures step { StepIs (shown_of setup.now core.old) caller result (shown_of setup.now core.new) }
     ensures kept { CoreKept setup.now core.new }
-    ensures falls { IsDid result → boot_left (world_of setup.now core.new) < boot_left (world_of setup.now core.old) }
     ensures agree { S.states slots.new ≡ slots_of (world_of setup.now core.new) }
+    ensures denials { DenialsAre core.old.tree.live (S.denials slots.old) (S.last_denial slots.old) result (S.denials slots.new) (S.last_denial slots.new) }
+    ensures falls { IsDid result → caller ≡ 0 → boot_left (world_of setup.now core.new) < boot_left (world_of setup.now core.old) }
 {
-    if is_booted(core) {
-        return Stepped::Closed;
-    }
     let place = core.events.len() as u64;
-    let plan = plan_top(graph, setup, core);
-    match perform(alloc, graph, setup, core, plan) {
+    match perform(alloc, graph, setup, core, caller, plan) {
         Err(_) => Stepped::Memory,
         Ok(told) => {
             publish(slots, got_of(plan));
@@ -159,7 +178,42 @@ fn next_step<S: Slots>(
     }
 }
 
-/// One step of a caller; without scripts it is caller 0.
+/// The next event of a caller, on a board that was not stopped.
+fn next_step<S: Slots>(
+    alloc: Global,
+    graph: &Graph,
+    setup: &Setup,
+    core: &mut Core,
+    caller: u8,
+    slots: &mut S,
+) -> Stepped
+    requires graph { IsGraphOf (declared_by setup.now.tables) graph.now }
+    requires kept { CoreKept setup.now core.old }
+    requires caller { caller < length core.old.callers.items }
+    requires agree { S.states slots.old ≡ slots_of (world_of setup.now core.old) }
+    requires goes_on { core.old.stopped ≡ None }
+    ensures step { StepIs (shown_of setup.now core.old) caller result (shown_of setup.now core.new) }
+    ensures kept { CoreKept setup.now core.new }
+    ensures agree { S.states slots.new ≡ slots_of (world_of setup.now core.new) }
+    ensures denials { DenialsAre core.old.tree.live (S.denials slots.old) (S.last_denial slots.old) result (S.denials slots.new) (S.last_denial slots.new) }
+    ensures falls { IsDid result → caller ≡ 0 → boot_left (world_of setup.now core.new) < boot_left (world_of setup.now core.old) }
+{
+    if is_ended(core, caller) {
+        return Stepped::Closed;
+    }
+    match choose(alloc, graph, setup, core, caller) {
+        Err(_) => Stepped::Memory,
+        Ok(Choice::Ended) => Stepped::Closed,
+        Ok(Choice::Waits(why)) => Stepped::Waits(why),
+        Ok(Choice::Transfer(ticket)) => {
+            Stepped::Transfer(ticket, Told::of_transfer(setup, caller, ticket))
+        }
+        Ok(Choice::Scan(plan)) => step_plan(alloc, graph, setup, core, caller, plan, slots),
+        Ok(Choice::Does(work)) => step_script(alloc, setup, core, caller, work, slots),
+    }
+}
+
+/// One step of a caller: the one that boots, or that of a script.
 pub fn step_core<S: Slots>(
     alloc: Global,
     graph: &Graph,
@@ -173,12 +227,14 @@ pub fn step_core<S: Slots>(
     requires caller { caller ≤ length setup.now.scripts }
     requires agree { S.states slots.old ≡ slots_of (world_of setup.now core.old) }
     ensures step { StepIs (shown_of setup.now core.old) caller result (shown_of setup.now core.new) }
+    ensures boot { caller ≡ 0 → IsOfBoot result }
     ensures kept { CoreKept setup.now core.new }
-    ensures falls { IsDid result → boot_left (world_of setup.now core.new) < boot_left (world_of setup.now core.old) }
     ensures agree { S.states slots.new ≡ slots_of (world_of setup.now core.new) }
+    ensures denials { DenialsAre core.old.tree.live (S.denials slots.old) (S.last_denial slots.old) result (S.denials slots.new) (S.last_denial slots.new) }
+    ensures falls { IsDid result → caller ≡ 0 → boot_left (world_of setup.now core.new) < boot_left (world_of setup.now core.old) }
 {
     match core.stopped {
         Some(first) => Stepped::Stopped(first, Told::of_stop(setup, caller, first)),
-        None => next_step(alloc, graph, setup, core, slots),
+        None => next_step(alloc, graph, setup, core, caller, slots),
     }
 }

@@ -1,9 +1,9 @@
 ghost use Rattle.std.specs.Prelude.{◌≡◌};
 ghost use Rattle.run_rules.specs.World.{opening};
-ghost use Rattle.dev_board.specs.declared.answer.LeaseStep.TheVariants.{Keep};
 
 use crate::answer::{Answer, LeaseStep};
 use crate::seen::Seen;
+use cf_types::Ticket;
 use run_rules::{Event, Setup};
 use std::marker::Model;
 
@@ -34,17 +34,49 @@ impl Model for Told {
 }
 
 impl Told {
-    ghost use Rattle.dev_board.specs.Witness.{told_did, told_stop};
+    ghost use Rattle.dev_board.specs.Witness.{told_did, told_stale, told_stop, told_transfer};
 
-    /// The witness of an event of a caller that holds afterwards what it held before.
-    pub(crate) fn of_event(setup: &Setup, caller: u8, place: u64, event: &Event) -> Told
-        ensures { result ≡ told_did (opening setup.now) caller place event.now Keep }
+    /// The witness of an event of a caller, with what becomes of its leases.
+    pub(crate) fn of_event(
+        setup: &Setup,
+        caller: u8,
+        place: u64,
+        event: &Event,
+        lease: LeaseStep,
+    ) -> Told
+        ensures { result ≡ told_did (opening setup.now) caller place event.now lease }
     {
         Told {
             setup: Seen::of(setup),
             caller,
             answer: Answer::Did(place),
             event: Some(Seen::of(event)),
+            lease,
+        }
+    }
+
+    /// The witness of a transfer whose result its caller waits for.
+    pub(crate) fn of_transfer(setup: &Setup, caller: u8, ticket: Ticket) -> Told
+        ensures { result ≡ told_transfer (opening setup.now) caller ticket }
+    {
+        Told {
+            setup: Seen::of(setup),
+            caller,
+            answer: Answer::Transfer(ticket),
+            event: None,
+            lease: LeaseStep::Keep,
+        }
+    }
+
+    /// The witness of a result whose ticket is not the one that the board keeps.
+    pub(crate) fn of_stale(setup: &Setup, caller: u8, held: Option<Ticket>) -> Told
+        ensures { result ≡ told_stale (opening setup.now) caller held }
+    {
+        Told {
+            setup: Seen::of(setup),
+            caller,
+            answer: Answer::Stale(held),
+            event: None,
             lease: LeaseStep::Keep,
         }
     }

@@ -13,7 +13,8 @@ ghost use Rattle.dev_board.specs.Arrivals.{state_at};
 ghost use Rattle.dev_board.specs.Events.{AreLive, HaveRows};
 ghost use Rattle.dev_board.specs.Input.{Bounded};
 ghost use Rattle.dev_board.specs.Plans.{deed_of, got_of};
-ghost use Rattle.dev_board.specs.Sayings.{FormedScripts, IsInForce};
+ghost use Rattle.dev_board.specs.Sayings.{IsInForce};
+ghost use Rattle.dev_board.specs.Scripted.{FormedScripts};
 ghost use Rattle.dev_board.specs.View.{world_of};
 ghost use Rattle.dev_board.specs.Works.{deed_by};
 

@@ -1,23 +1,12 @@
-use Rattle.std.proofs.Common.{◌≡◌, ◌∙◌, [], List, ap}
+use Rattle.std.proofs.Common.{[], List, ap, arith, length, sym, subst}
+use Rattle.std.specs.Prelude.{All}
+use Rattle.std.proofs.lemmas.List.Elements.{All-nil}
 use Rattle.cf_types.specs.declared.machine.Command.{Command}
-use Rattle.run_rules.specs.World.{World, opening, setup_of}
-use Rattle.run_rules.proofs.Setups.{run_setup}
-use Rattle.dev_board.proofs.Boots.{boot_is}
-use Rattle.app_config.proofs.Slots.{opening_setup, slots_opening}
+use Rattle.config_rules.specs.ScriptText.{FormedScript}
 use Rattle.app_config.proofs.boot.booted.Goals as goal
 
-pub run_boot-requires-clause-agree : goal.run_boot-requires-clause-agree
-run_boot-requires-clause-agree c =
-    slots_opening c.in_ok-board.board.world (setup_of c.args.tables c.args.machine []) c.in_ok-slots.slots c.spots.result
-    (c.in_ok-board.ensures.world ∙ ap (λ (scripts : List (List Command)). opening (setup_of c.args.tables c.args.machine scripts)) c.make.ensures)
-    c.spots.ensures c.in_ok-slots.ensures
+pub started-requires-clause-few_scripts : goal.started-requires-clause-few_scripts
+started-requires-clause-few_scripts c = omega (arith, ap length c.make.ensures)
 
-pub returns : goal.returns
-returns c =
-    let began : c.in_ok-board.board.world ≡ opening (setup_of c.args.tables c.args.machine []) =
-    c.in_ok-board.ensures.world ∙ ap (λ (scripts : List (List Command)). opening (setup_of c.args.tables c.args.machine scripts)) c.make.ensures in
-    let boots = c.in_ok-run_boot.ensures.booted in (
-      boot_is (setup_of c.args.tables c.args.machine []) c.in_ok-board.board c.run_boot.new.board began c.in_ok-board.ensures.events boots,
-      run_setup c.in_ok-board.board.world boots.0 c.run_boot.new.board.world boots.1.run
-          ∙ ap (λ (w : World). w.setup) began ∙ opening_setup (setup_of c.args.tables c.args.machine []),
-    )
+pub started-requires-clause-scripts : goal.started-requires-clause-scripts
+started-requires-clause-scripts c = subst (λ (scripts : List (List Command)). All FormedScript scripts) (sym c.make.ensures) (All-nil FormedScript)

@@ -25,3 +25,8 @@ returns-in-Ok-Load-clause-due g c =
     let told = g.F.Files.told c.args.files.now in
     let reads : Reads (form_of c.args.program (map string_bytes c.args.words.now)) told c.read_load.result = subst (λ (form : Option Form). Reads form told c.read_load.result) (sym (rw c.in-Ok-Load.field-0-is at c.in-Ok-Load.ensures).0) (c.read_load.ensures.reads told) in
     due_told _ _ _ _ c.read_load.result reads (counts_quiet _ c.read_load.result c.read_load.ensures.quiet)
+
+pub returns-in-Ok-Play-clause-due : goal.returns-in-Ok-Play-clause-due
+returns-in-Ok-Play-clause-due g c =
+    let reads : Reads (form_of c.args.program (map string_bytes c.args.words.now)) (g.F.Files.told c.args.files.now) c.read_play.result = search rules in
+    due_told _ _ _ _ c.read_play.result reads c.read_play.ensures.counted

@@ -1,7 +1,7 @@
 use Rattle.attr_graph.proofs.GraphLaws.{formed_fit}
 use Rattle.run_rules.specs.declared.world.Setup.{Setup}
-use Rattle.dev_board.proofs.InputLaws.{may_run}
 use Rattle.dev_board.proofs.Opening.{begins}
+use Rattle.dev_board.proofs.ScriptedLaws.{scripts_may}
 use Rattle.dev_board.proofs.board.Board.start.Goals as goal
 
 pub graph_of-requires : goal.graph_of-requires
@@ -12,8 +12,11 @@ begin-requires c = record { few = c.requires.machine.few_spots; few_devices = c.
 
 pub invariant_of-result : goal.invariant_of-result
 invariant_of-result c =
-    let s : Setup = record { tables = c.args.tables; machine = c.args.machine; scripts = c.args.scripts } in
-    (begins s c.in_ok-core.core (may_run s c.requires.tables c.requires.machine c.requires.scripts) c.requires.scripts c.in_ok-core.ensures, c.in_ok-graph.ensures)
+    let s : Setup = record { tables = c.args.tables; machine = c.args.machine; scripts = c.args.scripts } in (
+      begins s c.in_ok-core.core (scripts_may c.args.tables c.args.machine c.args.scripts c.requires.tables c.requires.machine c.requires.few_scripts c.requires.scripts)
+          (record { formed = c.requires.scripts }) c.in_ok-core.ensures,
+      c.in_ok-graph.ensures,
+    )
 
 pub returns-clause-world : goal.returns-clause-world
 returns-clause-world c = c.in_ok-core.ensures.world

@@ -1,0 +1,89 @@
+-- What the scripts and the order file of a play give.
+use Rattle.std.specs.Prelude.{◌≡◌, ℕ, ◌+◌, ◌≤◌, ◌⊎◌, nat_le, Option, Some, None, IfSome, All, Result, List, [], ◌∷◌, map, filter_map, length, slice_get, if◌then◌else◌, ⊤}
+use Rattle.std.specs.Prelude as std
+use Rattle.std.specs.List.{enumerate_from}
+use Rattle.std.specs.Result.{result_err, result_ok}
+use Rattle.cf_types.specs.declared.machine.Command.{Command}
+use Rattle.cf_io.specs.declared.files.TheConstants.{MAX_FILE}
+use Rattle.config_rules.specs.Cut.{◌>>=◌}
+use Rattle.config_rules.specs.Reading.{Files}
+use Rattle.config_rules.specs.ScriptText.{FormedScript, commands_of, order_of}
+use Rattle.app_input.specs.declared.scripts.Played.{Played}
+use Rattle.app_input.specs.declared.status.Status.{Status}
+use Rattle.app_input.specs.declared.status.Status.TheVariants.{ScriptRefused, Absent, TooLong, ReadFault, Memory}
+
+-- what a file gives by its text; one that is not there, or has more bytes than a file may have, is refused
+abbrev pub file_gives : {A : Type 0} → (List ℕ → Result A Status) → List ℕ → Option (List ℕ) → Result A Status
+file_gives by_text name None = std.Err (Absent name)
+file_gives by_text name (Some text) = if nat_le (length text) MAX_FILE then by_text text else std.Err (TooLong name)
+
+-- what a text gives, or the refusal of the file with this number
+abbrev pub unless_bad_line : {A : Type 0} → ℕ → Result A (ℕ × ℕ) → Result A Status
+unless_bad_line which (std.Ok x) = std.Ok x
+unless_bad_line which (std.Err fault) = std.Err (ScriptRefused which fault.0 fault.1)
+
+-- the script with this number and name
+abbrev pub script_of : Files → ℕ → List ℕ → Result (List Command) Status
+script_of files which name = file_gives (λ text. unless_bad_line which (commands_of text)) name (files name)
+
+-- the turns of so many callers; the order file has the number 0
+abbrev pub turns_of : Files → ℕ → List ℕ → Result (List ℕ) Status
+turns_of files callers name = file_gives (λ text. unless_bad_line 0 (order_of callers text)) name (files name)
+
+-- the scripts with these names, numbered from n
+abbrev pub scripts_from : Files → ℕ → List (List ℕ) → List (Result (List Command) Status)
+scripts_from files n names = map (λ s. script_of files s.0 s.1) (enumerate_from n names)
+
+-- the values, or the first refusal
+abbrev pub unless_refused : {A : Type 0} → List Status → List A → Result (List A) Status
+unless_refused [] xs = std.Ok xs
+unless_refused (refusal ∷ refusals) xs = std.Err refusal
+
+-- all that these files give, or the first refusal
+abbrev pub all_of : {A : Type 0} → List (Result A Status) → Result (List A) Status
+all_of results = unless_refused (filter_map result_err results) (filter_map result_ok results)
+
+-- the scripts with these names, numbered from 1, or the first refusal
+abbrev pub scripts_of : Files → List (List ℕ) → Result (List (List Command)) Status
+scripts_of files names = all_of (scripts_from files 1 names)
+
+-- the scripts, and then the turns that the order file has for them, or the first refusal
+abbrev pub played : Files → List (List ℕ) → List ℕ → Result Played Status
+played files names order =
+    scripts_of files names >>= λ scripts. turns_of files (length names) order >>= λ turns. std.Ok (record { scripts = scripts; order = turns })
+
+-- what a text says, or the refusal of the file with this number, or memory ran out
+abbrev pub Says : {A : Type 0} → ℕ → Result A (ℕ × ℕ) → Result A Status → Type 0
+Says which said (std.Ok x) = said ≡ std.Ok x
+Says which said (std.Err (ScriptRefused number line code)) = (number ≡ which) × (said ≡ std.Err (line, code))
+Says which said (std.Err Memory) = ⊤
+Says which said (std.Err _) = ⊥
+
+-- where the files are told, the answer is the one that they call for, unless reading failed or memory ran out
+abbrev pub IsCalledFor : {A : Type 0} → Option Files → (Files → Result A Status) → Result A Status → Type 0
+IsCalledFor told called answer =
+    (answer ≡ std.Err ReadFault) ⊎ ((answer ≡ std.Err Memory) ⊎ IfSome told (λ files. called files ≡ answer))
+
+-- a refusal is that of the file with this number and name
+abbrev pub IsOfFile : ℕ → List ℕ → Status → Type 0
+IsOfFile which name (ScriptRefused number line code) = number ≡ which
+IsOfFile which name (Absent absent) = absent ≡ name
+IsOfFile which name (TooLong long) = long ≡ name
+IsOfFile which name ReadFault = ⊤
+IsOfFile which name Memory = ⊤
+IsOfFile which name _ = ⊥
+
+-- a refusal is that of one of the scripts with these names, by its number from 1
+abbrev pub IsOfScript : List (List ℕ) → Status → Type 0
+IsOfScript names status = (place : ℕ) × (name : List ℕ) × (slice_get names place ≡ Some name) × IsOfFile (place + 1) name status
+
+-- a refusal is that of a script or of the order file
+abbrev pub IsOfPlay : List (List ℕ) → List ℕ → Status → Type 0
+IsOfPlay names order status = IsOfScript names status ⊎ IsOfFile 0 order status
+
+-- from 1 to 16 scripts, each formed, and each turn is that of one of them
+pub record FormedPlay (p : Played) : Type 0 where
+  pub some : 1 ≤ length p.scripts
+  pub few : length p.scripts ≤ 16
+  pub scripts : All FormedScript p.scripts
+  pub turns : All (λ turn. (1 ≤ turn) × (turn ≤ length p.scripts)) p.order

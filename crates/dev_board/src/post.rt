@@ -1,0 +1,112 @@
+//! The result of a transfer, over the parts of a board.
+ghost use Rattle.std.specs.Prelude.{◌≡◌, IfOk, None, OnErr, OnOk, Some, length};
+ghost use Rattle.run_rules.specs.Deeds.{Does, Done};
+ghost use Rattle.run_rules.specs.Next.{next};
+ghost use Rattle.run_rules.specs.Run.{event_of};
+ghost use Rattle.run_rules.specs.World.{opening};
+ghost use Rattle.run_rules.specs.declared.world.Setup as from;
+ghost use Rattle.dev_board.specs.Agreement.{slots_of};
+ghost use Rattle.dev_board.specs.Commits.{Performed};
+ghost use Rattle.dev_board.specs.Posting as posting;
+ghost use Rattle.dev_board.specs.Posting.{PostIs};
+ghost use Rattle.dev_board.specs.View.{world_of, shown_of, Books, CoreKept};
+ghost use Rattle.dev_board.specs.Witness.{told_did};
+ghost use Rattle.dev_board.specs.declared.answer.LeaseStep.TheVariants.{Keep};
+
+use crate::answer::LeaseStep;
+use crate::effect::finish_transfer;
+use crate::parts::{Core, append};
+use crate::posted::Posted;
+use crate::told::Told;
+use crate::work_event::done_event;
+use cf_types::{Memory, Ticket};
+use run_rules::{Activity, Setup};
+use std::alloc::Global;
+
+/// The transfer that a caller is in the middle of.
+fn ticket_in(doing: Activity) -> Option<Ticket>
+    ensures { result ≡ posting.ticket_in doing }
+{
+    match doing {
+        Activity::Transfer(ticket) => Some(ticket),
+        _ => None,
+    }
+}
+
+/// The transfer that the board keeps for a caller.
+fn kept_ticket(core: &Core, caller: u8) -> Option<Ticket>
+    ensures { (s : from.Setup) → posting.kept_ticket (world_of s core.now) caller ≡ result }
+{
+    match core.callers.get(caller as usize) {
+        Some(state) => ticket_in(state.doing),
+        None => None,
+    }
+}
+
+/// A transfer ends, and its event is appended. At `Memory` all is as before.
+fn end_transfer(
+    alloc: Global,
+    setup: &Setup,
+    core: &mut Core,
+    ticket: Ticket,
+) -> Result<Told, Memory>
+    requires kept { CoreKept setup.now core.old }
+    requires chosen { next (world_of setup.now core.old) ticket.caller ≡ Does (Done ticket) }
+    ensures ok { OnOk result (Performed setup.now core.old core.new ticket.caller (Done ticket)) }
+    ensures told { IfOk result (λ told. told ≡ told_did (opening setup.now) ticket.caller (length core.old.events.items) (event_of (world_of setup.now core.old) ticket.caller (Done ticket)) Keep) }
+    ensures err { OnErr result (shown_of setup.now core.new ≡ shown_of setup.now core.old) }
+    ensures books { Books setup.now core.new }
+{
+    core.events.reserve(1)?;
+    let event = done_event(alloc, setup, core, ticket.caller, ticket)?;
+    let place = core.events.len() as u64;
+    let told = Told::of_event(setup, ticket.caller, place, &event, LeaseStep::Keep);
+    finish_transfer(core, ticket.caller);
+    append(&mut core.events, event);
+    Ok(told)
+}
+
+/// The result of the transfer that the board keeps.
+fn post_kept(alloc: Global, setup: &Setup, core: &mut Core, ticket: Ticket) -> Posted
+    requires kept { CoreKept setup.now core.old }
+    requires goes_on { core.old.stopped ≡ None }
+    requires held { posting.kept_ticket (world_of setup.now core.old) ticket.caller ≡ Some ticket }
+    ensures post { PostIs (shown_of setup.now core.old) ticket result (shown_of setup.now core.new) }
+    ensures kept { CoreKept setup.now core.new }
+    ensures slots { slots_of (world_of setup.now core.new) ≡ slots_of (world_of setup.now core.old) }
+{
+    let place = core.events.len() as u64;
+    match end_transfer(alloc, setup, core, ticket) {
+        Ok(told) => Posted::Did(place, told),
+        Err(_) => Posted::Memory,
+    }
+}
+
+/// The result of a transfer, on a board that was not stopped.
+fn post_result(alloc: Global, setup: &Setup, core: &mut Core, ticket: Ticket) -> Posted
+    requires kept { CoreKept setup.now core.old }
+    requires goes_on { core.old.stopped ≡ None }
+    ensures post { PostIs (shown_of setup.now core.old) ticket result (shown_of setup.now core.new) }
+    ensures kept { CoreKept setup.now core.new }
+    ensures slots { slots_of (world_of setup.now core.new) ≡ slots_of (world_of setup.now core.old) }
+{
+    let held = kept_ticket(core, ticket.caller);
+    if held == Some(ticket) {
+        post_kept(alloc, setup, core, ticket)
+    } else {
+        Posted::Stale(held, Told::of_stale(setup, ticket.caller, held))
+    }
+}
+
+/// The result of a transfer: the transfer ends by it, or nothing changes.
+pub fn post_core(alloc: Global, setup: &Setup, core: &mut Core, ticket: Ticket) -> Posted
+    requires kept { CoreKept setup.now core.old }
+    ensures post { PostIs (shown_of setup.now core.old) ticket result (shown_of setup.now core.new) }
+    ensures kept { CoreKept setup.now core.new }
+    ensures slots { slots_of (world_of setup.now core.new) ≡ slots_of (world_of setup.now core.old) }
+{
+    match core.stopped {
+        Some(first) => Posted::Stopped(first, Told::of_stop(setup, ticket.caller, first)),
+        None => post_result(alloc, setup, core, ticket),
+    }
+}
