@@ -465,9 +465,6 @@ work_formed w k said x may scripts kept chosen = event_formed w k (deed_by w sai
 pub done_formed : (w : World) (k : ℕ) (t : Ticket) → MayRun w.setup → Kept w → next w k ≡ Does (Done t) → IsFormed (event_of w k (Done t))
 done_formed w k t may kept chosen = event_formed w k (Done t) may kept chosen (done_printed w k t may kept chosen)
 
-pub drop_formed : (w : World) (k s : ℕ) → MayRun w.setup → Kept w → next w k ≡ Does (Drop s) → IsFormed (event_of w k (Drop s))
-drop_formed w k s may kept chosen = event_formed w k (Drop s) may kept chosen (drop_printed w k s may kept chosen)
-
 -- ---- what a work names
 
 busy_named : (said : Command) (n : List ℕ) → Fits said (reply.Busy n) → IsDeviceName n

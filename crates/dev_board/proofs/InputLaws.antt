@@ -6,7 +6,7 @@ use Rattle.cf_text.specs.Shapes.{is_written, ends_with_digit}
 use Rattle.cf_types.specs.declared.tables.Device.{Device}
 use Rattle.cf_types.specs.declared.tables.Row.{Row}
 use Rattle.cf_types.specs.declared.tables.Tables.{Tables}
-use Rattle.config_rules.specs.Formed.{FittingMachine, FormedTables, FormedRow, fixed_units}
+use Rattle.config_rules.specs.Formed.{FormedTables, FormedRow, fixed_units}
 use Rattle.config_rules.specs.MachineText.{differ, is_one, is_free_name}
 use Rattle.run_rules.specs.Formed.{IsNamed, HasFormedDevices}
 use Rattle.run_rules.specs.Sound.{EachLater}

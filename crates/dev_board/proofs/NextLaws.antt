@@ -1,5 +1,5 @@
 -- What a caller waits for, and when it has ended.
-use Rattle.std.proofs.Common.{◌≡◌, ◌==◌, ◌&&◌, ℕ, Bool, true, false, not, cond, nat_lt, ◌+◌, option_map, List, [], ◌∷◌, find, reverse, length, Option, Some, None, refl, sym, ◌∙◌, ap, subst, eq-eqb}
+use Rattle.std.proofs.Common.{◌≡◌, ◌==◌, ◌&&◌, ℕ, Bool, true, false, not, cond, nat_lt, ◌+◌, option_map, List, [], ◌∷◌, find, reverse, length, Option, Some, None, refl, sym, ◌∙◌, ap, subst}
 use Rattle.std.specs.Prelude.{⊤, slice_index_or}
 use Rattle.std.specs.List.{AllByRecursion}
 use Rattle.std.specs.Option.{option_map_or, option_or}
@@ -29,6 +29,7 @@ use Rattle.ref_ledger.specs.Slots.{Denial}
 use Rattle.run_sound.specs.Commands.{power_command}
 use Rattle.run_sound.specs.Kept.{Kept}
 use Rattle.run_sound.proofs.Callers.{clash, doing_so, not_ended}
+use Rattle.run_sound.proofs.Freeing.{is_numbered}
 use Rattle.run_sound.proofs.Reasons.{has_command_reason}
 use Rattle.dev_board.specs.Choosing.{sleeps}
 use Rattle.dev_board.specs.Posting.{kept_ticket, ticket_in}
@@ -126,9 +127,6 @@ none_last {A} p (x ∷ xs) e =
     cases more None f true g h = absurd cc
     cases more None f false g h = (g, more f)
 
-numbered : (o : Option ℕ) (k : ℕ) → o ≡ Some k → is_number o k ≡ true
-numbered o k e = rw e (eq-eqb k k refl)
-
 some_freed : (w : World) (k s : ℕ) → IsFreed w k s → find (λ d. is_number d.condemned k) (reverse w.live) ≡ None → ⊥
 some_freed w k s is none = cases (device_at w.live s) refl
   where
@@ -136,7 +134,7 @@ some_freed w k s is none = cases (device_at w.live s) refl
     cases None e = found_there w.live s is.1 e
     cases (Some d) e =
         let its : d.condemned ≡ Some k = found_in (λ (x : Dev). x.serial ≡ s → x.condemned ≡ Some k) (λ x. x.serial == s) w.live d is.0 e (serial_found w.live s d e) in
-        clash (is_number d.condemned k) (numbered d.condemned k its)
+        clash (is_number d.condemned k) (is_numbered d.condemned k its)
         (found_in (λ (x : Dev). is_number x.condemned k ≡ false) (λ x. x.serial == s) w.live d (none_last (λ x. is_number x.condemned k) w.live none) e)
 
 free_goes : (w : World) (k s : ℕ) → IsFreed w k s → Goes (freeing w k)

@@ -1,5 +1,5 @@
--- What is known of a plan of caller 0, and what a step keeps.
-use Rattle.std.proofs.Common.{◌≡◌, ◌<◌, ◌||◌, ◌==◌, ℕ, zero, suc, Bool, true, false, List, [], ◌∷◌, length, Option, Some, None, refl, subst, arith}
+-- What is known of a plan.
+use Rattle.std.proofs.Common.{◌≡◌, ◌<◌, ◌||◌, ◌==◌, ℕ, zero, suc, Bool, true, false, List, [], ◌∷◌, length, Option, Some, None, subst, arith}
 use Rattle.std.specs.Prelude.{IsTrue, IfSome}
 use Rattle.run_rules.specs.declared.world.Setup.{Setup}
 use Rattle.run_rules.specs.declared.world.Dev.{Dev}
@@ -10,19 +10,17 @@ use Rattle.run_rules.specs.declared.world.Frame.{Frame}
 use Rattle.run_rules.specs.declared.world.Frame.TheVariants.{Finaliser}
 use Rattle.run_rules.specs.Sound.{Sound}
 use Rattle.run_rules.specs.World.{World, Caller, caller_at, has_ended, is_live, nobody}
-use Rattle.run_rules.specs.Deeds.{Finalise, Does}
+use Rattle.run_rules.specs.Deeds.{Does}
 use Rattle.run_rules.specs.Next.{next}
 use Rattle.run_rules.specs.After.{show_spot}
 use Rattle.run_sound.specs.Calls.{CallsDevices, IsOfDevice}
 use Rattle.run_sound.specs.Coming.{MayCome, IsCalled}
 use Rattle.run_sound.specs.Kept.{MayRun, Kept}
 use Rattle.run_sound.proofs.Arrivals.{search_comes, finalise_comes, none_shown, top_known}
-use Rattle.run_sound.proofs.Callers.{all_or, doing_so, not_ended}
-use Rattle.run_sound.proofs.Reasons.{has_reason}
+use Rattle.run_sound.proofs.Callers.{all_or, not_ended}
 use Rattle.dev_board.specs.declared.plan.Plan.{Plan}
 use Rattle.dev_board.specs.declared.plan.Plan.TheVariants as plan
 use Rattle.dev_board.specs.Arrivals.{MayArrive}
-use Rattle.dev_board.specs.Events.{AreLive, Follows}
 use Rattle.dev_board.specs.Plans.{deed_of, got_of}
 
 arrives : (s : Setup) (live : List Dev) (hidden : List ℕ) (p : ℕ) (a : Arrival) → MayCome s live hidden p a → MayArrive s live a
@@ -66,23 +64,3 @@ called_live w s (Some place) false kept calls goes called =
     rw called.5 (at_live w.live w.finalisers place (omega (arith, called.3, called.4)) (kept.sound.boot (not_ended w 0 goes)).finalisers)
 called_live w s (Some place) true kept calls goes called =
     rw called.5 (at_live w.live w.finalisers 0 (kept.ranges.some_called goes called.6) (kept.sound.boot (not_ended w 0 goes)).finalisers)
-
-pub plan_live : (w : World) (x : Plan) → Kept w → CallsDevices w → next w 0 ≡ Does (deed_of x) → AreLive w.live x
-plan_live w (plan.Search parent moved got) kept calls chosen = tt
-plan_live w (plan.EndScan of) kept calls chosen = tt
-plan_live w plan.BeginInterrupts kept calls chosen = tt
-plan_live w (plan.Finalise of shown got listed anew) kept calls chosen =
-    called_live w of listed anew kept calls (doing_so w 0 (Finalise of shown got listed anew) chosen).unended (has_reason w 0 (Finalise of shown got listed anew) chosen).called
-plan_live w plan.EndCaller kept calls chosen = tt
-
-pub plan_follows : (w : World) (x : Plan) → next w 0 ≡ Does (deed_of x) → Follows x
-plan_follows w (plan.Search parent moved got) chosen = tt
-plan_follows w (plan.EndScan of) chosen = tt
-plan_follows w plan.BeginInterrupts chosen = tt
-plan_follows w (plan.Finalise of None None listed anew) chosen = λ h. refl
-plan_follows w (plan.Finalise of None (Some a) listed anew) chosen = absurd (none_shown w 0 of a listed anew chosen)
-plan_follows w (plan.Finalise of (Some x) got listed anew) chosen = λ h. absurd (clash h)
-  where
-    clash : Some x ≡ None → ⊥
-    clash h = cc
-plan_follows w plan.EndCaller chosen = tt

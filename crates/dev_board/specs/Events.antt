@@ -1,5 +1,5 @@
 -- What the event of a plan is made of.
-use Rattle.std.specs.Prelude.{◌≡◌, ◌<◌, ⊤, ℕ, IsTrue, List, [], None, length}
+use Rattle.std.specs.Prelude.{◌<◌, ⊤, ℕ, IsTrue, List, [], length}
 use Rattle.std.specs.List.{AllByRecursion}
 use Rattle.std.specs.Option.{option_map_or}
 use Rattle.run_rules.specs.declared.world.Setup.{Setup}
@@ -22,14 +22,6 @@ AreLive live (plan.Search parent moved got) = ⊤
 AreLive live (plan.EndScan of) = ⊤
 AreLive live plan.BeginInterrupts = ⊤
 AreLive live plan.EndCaller = ⊤
-
--- what comes by a finaliser comes to a spot that it shows
-abbrev pub Follows : Plan → Type 0
-Follows (plan.Finalise of shown got listed anew) = shown ≡ None → got ≡ None
-Follows (plan.Search parent moved got) = ⊤
-Follows (plan.EndScan of) = ⊤
-Follows plan.BeginInterrupts = ⊤
-Follows plan.EndCaller = ⊤
 
 -- the name of a live device
 abbrev pub name_live : Setup → List Dev → ℕ → List ℕ

@@ -1,6 +1,5 @@
 -- What a step of a board does, by its answer.
 use Rattle.std.specs.Prelude.{◌≡◌, ⊤, ℕ, length, [], ◌∷◌, ◌++◌, true, false, List, Option, Some, None}
-use Rattle.cf_types.specs.declared.machine.Ticket.{Ticket}
 use Rattle.ref_ledger.specs.Slots.{Denial}
 use Rattle.run_rules.specs.declared.world.Dev.{Dev}
 use Rattle.run_rules.specs.declared.world.Wait.{Wait}

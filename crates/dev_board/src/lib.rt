@@ -21,7 +21,6 @@ mod hindered;
 mod io_result;
 mod late;
 mod lease;
-mod line;
 mod marks;
 mod named;
 mod names;

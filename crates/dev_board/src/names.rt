@@ -1,7 +1,8 @@
 //! The external names of devices.
-ghost use Rattle.std.specs.Prelude.{◌≡◌, ◌<◌, ◌++◌, length, IfOk, IsTrue, decimal};
+ghost use Rattle.std.specs.Prelude.{◌≡◌, ◌<◌, ◌++◌, length, IfOk, IfSome, IsTrue, decimal};
 ghost use Rattle.cf_text.specs.Shapes.{is_written};
 ghost use Rattle.run_rules.specs.Lines.{IsDeviceName, IsFormedName};
+ghost use Rattle.run_rules.specs.Run as run;
 ghost use Rattle.run_rules.specs.World as world;
 ghost use Rattle.dev_board.specs.Input.{Bounded};
 ghost use Rattle.dev_board.specs.Events.{HaveRows};
@@ -9,7 +10,7 @@ ghost use Rattle.dev_board.specs.Events.{HaveRows};
 use crate::spots::driver_of;
 use cf_types::{Memory, Name};
 use dev_tree::DevTree;
-use run_rules::Setup;
+use run_rules::{Arrival, Setup};
 use std::alloc::Global;
 
 /// The name of a driver.
@@ -60,5 +61,21 @@ pub fn parent_name(
     match tree.get(serial) {
         Some(d) => unit_name(alloc, setup, d.row, d.unit),
         None => Name::make(alloc, b"root"),
+    }
+}
+
+/// The name of what came, if anything did.
+pub fn got_name(alloc: Global, setup: &Setup, got: Option<Arrival>) -> Result<Option<Name>, Memory>
+    requires bounded { Bounded setup.now }
+    requires row { IfSome got (λ a. a.row < length setup.now.tables.rows) }
+    ensures text { IfOk result (λ name. name ≡ run.got_name setup.now got) }
+    ensures formed { IfOk result (λ name. IfSome name IsDeviceName) }
+{
+    match got {
+        Some(a) => {
+            let name = unit_name(alloc, setup, a.row, a.unit)?;
+            Ok(Some(name))
+        }
+        None => Ok(None),
     }
 }

@@ -1,9 +1,8 @@
 //! What a caller does next.
 ghost use Rattle.std.specs.Prelude.{◌≡◌, ◌≤◌, ◌<◌, Some, true, false, length, slice_index_or};
 ghost use Rattle.run_rules.specs.Deeds.{Does};
-ghost use Rattle.run_rules.specs.Next.{next, next_scan, next_boot, finalise, on_top};
+ghost use Rattle.run_rules.specs.Next.{next_scan, next_boot, finalise};
 ghost use Rattle.run_rules.specs.Search as rule;
-ghost use Rattle.run_rules.specs.World.{has_ended, caller_at};
 ghost use Rattle.attr_graph.specs.Graphs.{IsGraphOf, declared_by};
 ghost use Rattle.run_sound.specs.Kept.{Kept};
 ghost use Rattle.dev_board.specs.Input.{Bounded};
@@ -16,7 +15,7 @@ use crate::parts::Core;
 use crate::search::arrival;
 use crate::spots::place_of;
 use attr_graph::Graph;
-use run_rules::{Arrival, Frame, Position, Setup, Turn, Wanted};
+use run_rules::{Arrival, Position, Setup, Turn, Wanted};
 
 /// What is done next. A finaliser that is called from the boot's list has its place there, and whether a new pass begins
 /// with it.
@@ -146,36 +145,4 @@ pub fn plan_boot(graph: &Graph, setup: &Setup, core: &Core) -> Plan
         return plan_call(graph, setup, core, core.finalisers[0], Some(0), true);
     }
     Plan::EndCaller
-}
-
-/// What the caller that boots does next.
-pub fn plan_top(graph: &Graph, setup: &Setup, core: &Core) -> Plan
-    requires graph { IsGraphOf (declared_by setup.now.tables) graph.now }
-    requires bounded { Bounded setup.now }
-    requires books { Books setup.now core.now }
-    requires live { length core.now.tree.live ≤ 1024 }
-    requires called { core.now.again ≡ true → 0 < length core.now.finalisers.items }
-    requires there { 0 < length core.now.callers.items }
-    ensures { on_top (world_of setup.now core.now) 0 (caller_at (world_of setup.now core.now) 0).stack ≡ Does (deed_of result) }
-{
-    match core.callers[0].stack.top() {
-        Some(
-            Frame::Scan {
-                serial,
-                only,
-                filter,
-                position,
-            },
-        ) => plan_scan(
-            graph,
-            setup,
-            core,
-            *serial,
-            *only,
-            filter.items(),
-            *position,
-        ),
-        Some(Frame::Finaliser { serial }) => plan_call(graph, setup, core, *serial, None, false),
-        None => plan_boot(graph, setup, core),
-    }
 }

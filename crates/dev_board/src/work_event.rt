@@ -2,7 +2,7 @@
 ghost use Rattle.std.specs.Prelude.{◌≡◌, ◌<◌, ◌+◌, ◌-◌, ◌^◌, ℕ, IfOk, IfSome, length};
 ghost use Rattle.run_rules.specs.declared.event.Act.{Act};
 ghost use Rattle.run_rules.specs.declared.world.Setup.{Setup};
-ghost use Rattle.run_rules.specs.Deeds.{Does, Done, Drop};
+ghost use Rattle.run_rules.specs.Deeds.{Does, Done};
 ghost use Rattle.run_rules.specs.Lines.{IsFormed};
 ghost use Rattle.run_rules.specs.Next.{next};
 ghost use Rattle.run_rules.specs.Run as run;
@@ -18,8 +18,7 @@ ghost use Rattle.dev_board.specs.Scripted.{FormedScripts};
 ghost use Rattle.dev_board.specs.View.{world_of};
 ghost use Rattle.dev_board.specs.Works.{deed_by};
 
-use crate::line::got_name;
-use crate::names::parent_name;
+use crate::names::{got_name, parent_name};
 use crate::parts::Core;
 use crate::plan::Plan;
 use crate::told_act::{answer_for, work_act};
@@ -159,28 +158,5 @@ pub fn done_event(
             device,
             answer: answer_for(ticket),
         },
-    })
-}
-
-/// The event of a caller that has no command left and returns a reference.
-#[tactic(auto, unfolding(run_rules::specs::Run::event_of, run_rules::specs::Run::printed))]
-pub fn drop_event(
-    alloc: Global,
-    setup: &Setup,
-    core: &Core,
-    caller: u8,
-    of: u64,
-) -> Result<Event, Memory>
-    requires kept { Kept (world_of setup.now core.now) }
-    requires may { MayRun setup.now }
-    requires chosen { next (world_of setup.now core.now) caller ≡ Does (Drop of) }
-    ensures event { IfOk result (λ e. e ≡ event_of (world_of setup.now core.now) caller (Drop of)) }
-    ensures formed { IfOk result IsFormed }
-{
-    let device = live_name(alloc, setup, &core.tree, of)?;
-    Ok(Event {
-        caller,
-        number: number_of(core, caller),
-        act: Act::DropRef { device },
     })
 }

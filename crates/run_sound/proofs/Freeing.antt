@@ -89,7 +89,7 @@ number_is : (o : Option ℕ) (k : ℕ) → is_number o k ≡ true → o ≡ Some
 number_is None k h = absurd cc
 number_is (Some m) k h = ap (λ (x : ℕ). Some x) (eqb-true m k h)
 
-is_numbered : (o : Option ℕ) (k : ℕ) → o ≡ Some k → is_number o k ≡ true
+pub is_numbered : (o : Option ℕ) (k : ℕ) → o ≡ Some k → is_number o k ≡ true
 is_numbered o k e = rw e (eq-eqb k k refl)
 
 frees_is : (a b : ℕ) → activity.Frees a ≡ activity.Frees b → a ≡ b

@@ -1,4 +1,4 @@
-use Rattle.std.proofs.Common.{◌≡◌, ◌∙◌, refl, sym}
+use Rattle.std.proofs.Common.{◌∙◌, refl, sym}
 use Rattle.run_rules.specs.World.{World}
 use Rattle.run_sound.proofs.Reasons.{has_command_reason}
 use Rattle.run_rules.specs.Deeds.{Done}

@@ -1,4 +1,4 @@
-use Rattle.std.proofs.Common.{◌≡◌, ◌∙◌, ap, sym, Some, subst, ℕ}
+use Rattle.std.proofs.Common.{◌≡◌, ◌∙◌, ap, sym, Some, subst}
 use Rattle.cf_types.specs.declared.machine.Ticket.{Ticket}
 use Rattle.dev_board.specs.Posting.{kept_ticket}
 use Rattle.dev_board.specs.Stepping.{DoesNext}

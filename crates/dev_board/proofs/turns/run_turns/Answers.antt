@@ -1,4 +1,4 @@
-use Rattle.std.proofs.Common.{◌≡◌, ◌≤◌, ◌∷◌, ◌++◌, [], ℕ, List, arith, get_or, length, subst, sym, take}
+use Rattle.std.proofs.Common.{◌≤◌, ◌∷◌, [], ℕ, List, arith, get_or, length, subst, sym, take}
 use Rattle.std.proofs.lemmas.List.{take_more}
 use Rattle.run_rules.specs.declared.world.Setup.{Setup}
 use Rattle.run_sound.proofs.Callers.{all_or}
