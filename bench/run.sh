@@ -23,3 +23,4 @@ row benchmark 'processor s' ratio
 rows_of text.sh 'ioconf, a text of' KiB
 rows_of ioconf.sh ioconf, statements
 rows_of load.sh 'load, a bus with' disks
+rows_of rescan.sh 'play, 1,024 spots,' rescans

@@ -9,7 +9,8 @@ tried=0
 wrong=0
 tab=$(printf '\t')
 
-# The rows of a table with five cells: its fault line, its wrong lines and its right lines, parted by tabs and newline marks.
+# The rows of the tables with five cells whose fault line begins so: the fault line, the wrong lines and the right lines,
+# parted by tabs and newline marks.
 rows() {
     awk -F'|' -v kind="$1" '
     function lines(cell, k, n, part, text) {
@@ -17,7 +18,7 @@ rows() {
         for (k = 2; k <= n; k += 2) text = text part[k] "\001"
         return text
     }
-    NF == 7 && index($5, "`" kind " ") { said = $5; gsub(/^ *`|` *$/, "", said); print said "\t" lines($4) "\t" lines($6) }
+    NF == 7 && index($5, "`" kind) { said = $5; gsub(/^ *`|` *$/, "", said); print said "\t" lines($4) "\t" lines($6) }
     ' "$top/docs/FAULTS.md"
 }
 
@@ -51,6 +52,21 @@ try_machine() {
     expect 3 "$1" boot conf mach
     write mach "$3"
     expect 0 '' boot conf mach
+}
+
+try_script() {
+    write s "$2"
+    expect 4 "$1" play conf mach o s
+    write s "$3"
+    expect 0 '' play conf mach o s
+}
+
+# Two scripts are one file named twice.
+try_order() {
+    write o "$2"
+    expect 4 "$1" play conf mach o s s
+    write o "$3"
+    expect 0 '' play conf mach o s s
 }
 
 # So many lines of this text, in which # stands for the number of the line, counted from 0.
@@ -89,12 +105,37 @@ machines_by_number() {
     expect 3 'machine mach:65: code 9' boot conf mach
 }
 
-rows config >"$folder/rows"
+scripts_by_number() {
+    expect 6 'nofile: absent' play conf mach o s nofile
+    expect 6 'nofile: absent' play conf mach nofile s
+    printf 'open com0\001\n' >"$folder/s"
+    expect 4 'script s:1: code 2' play conf mach o s
+    { printf 'open '; count 81 a | tr -d '\n'; } >"$folder/s"
+    expect 4 'script s:1: code 2' play conf mach o s
+    { printf 'rescan isa0 isa'; count 17 ' port 1' | tr -d '\n'; } >"$folder/s"
+    expect 4 'script s:1: code 2' play conf mach o s
+    count 501 list >"$folder/s"
+    expect 4 'script s:501: code 4' play conf mach o s
+    head -c 1048577 /dev/zero | tr '\0' '\n' >"$folder/s"
+    expect 7 's: too long' play conf mach o s
+    expect 7 's: too long' play conf mach s o
+}
+
+rows 'config ' >"$folder/rows"
 while IFS=$tab read -r said wrongly rightly; do try_config "$said" "$wrongly" "$rightly"; done <"$folder/rows"
 by_number
 cp "$top/examples/small.conf" "$folder/conf"
-rows machine >"$folder/rows"
+rows 'machine ' >"$folder/rows"
 while IFS=$tab read -r said wrongly rightly; do try_machine "$said" "$wrongly" "$rightly"; done <"$folder/rows"
 machines_by_number
+cp "$top/examples/small.machine" "$folder/mach"
+echo 1 >"$folder/o"
+rows 'script s:' >"$folder/rows"
+while IFS=$tab read -r said wrongly rightly; do try_script "$said" "$wrongly" "$rightly"; done <"$folder/rows"
+echo list >"$folder/s"
+rows 'script o:' >"$folder/rows"
+while IFS=$tab read -r said wrongly rightly; do try_order "$said" "$wrongly" "$rightly"; done <"$folder/rows"
+echo '# no turns, and no commands' >"$folder/o"
+scripts_by_number
 echo "$tried calls tried, $wrong of them wrong"
 [ "$wrong" = 0 ]

@@ -2,6 +2,7 @@
 
 mod cases;
 mod limits;
+mod scripts;
 mod table;
 
 use app_config::devconf_top;

@@ -882,7 +882,7 @@ mainbus0 at root
 % err
 usage: devconf ioconf FILE | boot FILE MACHINE | play FILE MACHINE ORDER SCRIPT.. | replay FILE MACHINE HISTORY SCRIPT.. | load N
 % status 2
-% run play conf mach ord s1
+% run replay conf mach hist s1
 % file conf
 device mainbus
 attach mainbus at root

@@ -1,6 +1,7 @@
 //! Runs that tables tell.
 
 use super::cases::{BEFORE, CODES, MACHINE, MACHINE_CODES, RUNS, SMALL};
+use super::scripts::{LARGEST_RUNS, ORDER_CODES, SCRIPT_CODES, SCRIPT_RUNS, text_of};
 use super::{Case, refuses, try_case};
 use cf_types::{Memory, Text};
 use std::alloc::Global;
@@ -135,6 +136,30 @@ impl Told {
         Ok(())
     }
 
+    /// Appends a text of the machines that scripts are played on, named by these two pieces.
+    fn add_text(&mut self, alloc: Global, machine: &[u8], part: &[u8]) -> Result<(), Memory> {
+        let mut name = Vec::from_slice(alloc, machine)?;
+        name.extend_from_slice(part)?;
+        self.text().extend_from_slice(text_of(&name))?;
+        Ok(())
+    }
+
+    /// Begins the output with what the boot of that machine writes.
+    fn add_boot(&mut self, alloc: Global, machine: &[u8]) -> Result<(), Memory> {
+        self.section = Section::Out;
+        self.add_text(alloc, machine, b".tables")?;
+        self.add_text(alloc, machine, b".boot")
+    }
+
+    /// Opens the two files of that machine one after the other, with their texts.
+    fn open_machine(self, alloc: Global, machine: &[u8]) -> Result<Told, Memory> {
+        let mut told = self.open_file(alloc, b"conf")?;
+        told.add_text(alloc, machine, b".conf")?;
+        let mut told = told.open_file(alloc, b"mach")?;
+        told.add_text(alloc, machine, b".machine")?;
+        Ok(told)
+    }
+
     /// Ends the file that is open, if there is one.
     fn close_file(self, alloc: Global) -> Result<Told, Memory> {
         let Told {
@@ -172,8 +197,12 @@ fn direct(
 ) -> Result<Told, Memory> {
     let mut told = told;
     match word {
+        b"case" => {}
         b"run" => told.add_words(alloc, rest)?,
+        b"on" => return told.open_machine(alloc, rest),
         b"file" => return told.open_file(alloc, rest),
+        b"copy" => told.add_text(alloc, rest, b"")?,
+        b"booted" => told.add_boot(alloc, rest)?,
         b"out" => told.section = Section::Out,
         b"err" => told.section = Section::Err,
         b"load" => told.case.fail_load = number(rest),
@@ -275,4 +304,62 @@ fn the_first_of_several_codes_of_a_machine_line_is_told(rt: HostRuntime) -> Resu
         refuses_machine(&rt, rt.alloc(), line, number(code))?;
     }
     Ok(())
+}
+
+#[test]
+fn scripts_are_played_as_the_table_tells(rt: HostRuntime) -> Result<(), Memory> {
+    assert_eq!(rt; try_runs(&rt, rt.alloc(), SCRIPT_RUNS)?, 90);
+    Ok(())
+}
+
+#[test]
+fn scripts_are_played_on_the_largest_machines(rt: HostRuntime) -> Result<(), Memory> {
+    assert_eq!(rt; try_runs(&rt, rt.alloc(), LARGEST_RUNS)?, 2);
+    Ok(())
+}
+
+/// The play of two scripts on the small PC, of which the first, or the order file, has this one line.
+fn refuses_line(
+    rt: &impl Abort,
+    alloc: Global,
+    name: &str,
+    line: &[u8],
+    code: u64,
+) -> Result<(), Memory> {
+    let mut case = Case::make(alloc);
+    for word in &["play", "conf", "mach", "order", "first", "second"] {
+        case.words.push(String::from_str(alloc, word)?)?;
+    }
+    case.add_file(
+        Text::copied(alloc, name.as_bytes())?,
+        Vec::from_slice(alloc, line)?,
+    )?;
+    case.add_file(
+        Text::copied(alloc, b"conf")?,
+        Vec::from_slice(alloc, SMALL)?,
+    )?;
+    for word in &["mach", "order", "first", "second"] {
+        case.add_file(Text::copied(alloc, word.as_bytes())?, Vec::new(alloc))?;
+    }
+    let told = format!(in alloc; "script {name}:1: code {code}\n")?;
+    case.err.extend_from_slice(told.as_bytes())?;
+    try_case(rt, alloc, case, 4)
+}
+
+/// Tries each line of a table of codes in the file of this name.
+fn refuses_lines(rt: &impl Abort, alloc: Global, name: &str, table: &[u8]) -> Result<(), Memory> {
+    for entry in table.split(|byte| *byte == b'\n') {
+        let (code, line) = parted(entry);
+        if line.is_empty() {
+            return Ok(());
+        }
+        refuses_line(rt, alloc, name, line, number(code))?;
+    }
+    Ok(())
+}
+
+#[test]
+fn the_first_of_several_codes_of_a_script_is_told(rt: HostRuntime) -> Result<(), Memory> {
+    refuses_lines(&rt, rt.alloc(), "first", SCRIPT_CODES)?;
+    refuses_lines(&rt, rt.alloc(), "order", ORDER_CODES)
 }
