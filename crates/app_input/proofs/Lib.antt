@@ -3,3 +3,4 @@ pub mod DueLaws
 pub mod MadeLaws
 pub mod OperandLemmas
 pub mod PlayLaws
+pub mod PlayOperands

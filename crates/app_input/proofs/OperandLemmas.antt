@@ -39,7 +39,7 @@ pub boot_is_free : is_simple_and_free boot_app ≡ true
 unfolding clap_on_literals
 boot_is_free = refl
 
-no_short : (x : ℕ) (xs : Text) → (x == 45) ≡ false → short_of (x ∷ xs) ≡ None
+pub no_short : (x : ℕ) (xs : Text) → (x == 45) ≡ false → short_of (x ∷ xs) ≡ None
 no_short x xs e = rw e refl
 
 one_fault : (x : ℕ) (xs : Text) → (x == 45) ≡ false → fault_of ioconf_app ((x ∷ xs) ∷ []) ≡ []
@@ -83,17 +83,17 @@ unfolding clap_on_literals
 third_fault x y z xs ys zs more e d f = rw (e, no_short x xs e, d, no_short y ys d, f, no_short z zs f) refl
 
 -- a word that is an operand begins with another byte than `-`
-plain : (x : ℕ) (xs : Text) (words : List Text) → list_all is_operand ((x ∷ xs) ∷ words) ≡ true → (x == 45) ≡ false
+pub plain : (x : ℕ) (xs : Text) (words : List Text) → list_all is_operand ((x ∷ xs) ∷ words) ≡ true → (x == 45) ≡ false
 plain x xs words all = grind arith
 
-rest : (word : Text) (words : List Text) → list_all is_operand (word ∷ words) ≡ true → list_all is_operand words ≡ true
+pub rest : (word : Text) (words : List Text) → list_all is_operand (word ∷ words) ≡ true → list_all is_operand words ≡ true
 rest word words all = grind arith
 
-empty : (words : List Text) → list_all is_operand ([] ∷ words) ≡ true → ⊥
+pub empty : (words : List Text) → list_all is_operand ([] ∷ words) ≡ true → ⊥
 empty words all = grind arith
 
 -- an error without a fault is want of memory, and refuses nothing
-unrefused : (form : Option Form) (k : ErrorKind) → (k ≡ kind.OutOfMemory) ⊎ ⊥ → HasForm form (Err (stop_of k))
+pub unrefused : (form : Option Form) (k : ErrorKind) → (k ≡ kind.OutOfMemory) ⊎ ⊥ → HasForm form (Err (stop_of k))
 unrefused form k (inl e) = rw e tt
 unrefused form k (inr none) = elim none [ ]
 
@@ -101,7 +101,7 @@ no_form : (stop : WordStop) → HasForm None (Err stop)
 no_form Usage = refl
 no_form Memory = tt
 
-refused : (k : ErrorKind) → HasForm None (Err (stop_of k))
+pub refused : (k : ErrorKind) → HasForm None (Err (stop_of k))
 refused k = no_form (stop_of k)
 
 -- what a parse of the operand gives, by cases on how many there are
@@ -151,7 +151,7 @@ stopped form (Ok words) k is h = elim is [ ]
 stopped form (Err stop) k is h = rw is h
 
 -- what a getter reads is the value of a row
-row_value : (app : App) (words : List Text) (m : ArgMatches) (id : Text) → is_simple app ≡ true → HasMatchesOf app words m → value_of (found_of m) id ≡ first_of id (matches_of app words)
+pub row_value : (app : App) (words : List Text) (m : ArgMatches) (id : Text) → is_simple app ≡ true → HasMatchesOf app words m → value_of (found_of m) id ≡ first_of id (matches_of app words)
 row_value app words m id simple has = first_value-rows (found_of m) id ∙ ap (first_of id) (has simple).0
 
 pub ioconf_error : (app : App) (words : List Text) (e : Error) → app ≡ ioconf_app → list_all is_operand words ≡ true

@@ -1,5 +1,5 @@
 -- The commands by which operands are read, as what a parse sees of them.
-use Rattle.std.specs.Prelude.{ℕ, true, List, codes}
+use Rattle.std.specs.Prelude.{ℕ, true, Some, List, codes}
 use Rattle.clap.specs.Walk.{Rule}
 use Rattle.clap.specs.Simple.{App, new_app, new_rule, on_top, with_rule}
 
@@ -18,3 +18,11 @@ ioconf_app = with_rule (bare_app (codes "ioconf")) (required_rule (codes "file")
 -- `FILE MACHINE`
 abbrev pub boot_app : App
 boot_app = with_rule (with_rule (bare_app (codes "boot")) (required_rule (codes "file"))) (required_rule (codes "machine"))
+
+-- from 1 to 16 scripts
+abbrev pub scripts_rule : Rule
+scripts_rule = record (required_rule (codes "scripts")) { range = Some (record { start_inclusive = 1; end_inclusive = 16 }) }
+
+-- `FILE MACHINE ORDER SCRIPT..`
+abbrev pub play_app : App
+play_app = with_rule (with_rule (with_rule (with_rule (bare_app (codes "play")) (required_rule (codes "file"))) (required_rule (codes "machine"))) (required_rule (codes "order"))) scripts_rule

@@ -1,14 +1,17 @@
 ghost use Rattle.std.specs.Prelude.{◌≡◌, IfOk, false, true, map, string_bytes};
 ghost use Rattle.std.specs.List.{list_all};
 ghost use Rattle.clap.specs.Words.{app_of, kind_of, rule_of};
-ghost use Rattle.app_input.specs.Commands.{bare_app, boot_app, ioconf_app, required_rule};
-ghost use Rattle.app_input.specs.Words.{HasForm, boot_form, ioconf_form, is_operand, stop_of};
+ghost use Rattle.app_input.specs.Commands.{bare_app, boot_app, ioconf_app, play_app, required_rule, scripts_rule};
+ghost use Rattle.app_input.specs.Words.{HasForm, boot_form, ioconf_form, is_operand, play_form, stop_of};
 ghost use Rattle.app_input.specs.declared.words.WordStop.TheVariants as stops;
 
 use crate::words::{WordStop, Words};
 use clap::error::ErrorKind;
 use clap::{Arg, Command, Error};
 use std::alloc::{AllocError, Global};
+
+/// The most scripts that are played.
+const MAX_SCRIPTS: usize = 16;
 
 impl From<AllocError> for WordStop {
     ghost from_gives = { λ _ stop. stop ≡ stops.Memory };
@@ -60,6 +63,24 @@ fn boot_command<'a>(alloc: Global) -> Result<Command<'a>, AllocError>
         .arg(required(alloc, "machine"))
 }
 
+/// The scripts, at least one.
+fn scripts<'a>(alloc: Global) -> Arg<'a>
+    ensures rule { rule_of result ≡ scripts_rule }
+    ensures local { result.global ≡ false }
+{
+    required(alloc, "scripts").num_args(1..=MAX_SCRIPTS)
+}
+
+fn play_command<'a>(alloc: Global) -> Result<Command<'a>, AllocError>
+    ensures { IfOk result (λ command. app_of command ≡ play_app) }
+{
+    bare(alloc, "play")
+        .arg(required(alloc, "file"))?
+        .arg(required(alloc, "machine"))?
+        .arg(required(alloc, "order"))?
+        .arg(scripts(alloc))
+}
+
 /// Reads the operand `FILE`.
 pub fn ioconf_words<'a>(alloc: Global, operands: &'a [String]) -> Result<Words<'a>, WordStop>
     requires { list_all is_operand (map string_bytes operands.now) ≡ true }
@@ -87,4 +108,31 @@ pub fn boot_words<'a>(alloc: Global, operands: &'a [String]) -> Result<Words<'a>
         return Err(WordStop::Usage);
     };
     Ok(Words::Boot { file, machine })
+}
+
+/// Reads the operands `FILE MACHINE ORDER SCRIPT..`.
+pub fn play_words<'a>(alloc: Global, operands: &'a [String]) -> Result<Words<'a>, WordStop>
+    requires { list_all is_operand (map string_bytes operands.now) ≡ true }
+    ensures { HasForm (play_form (map string_bytes operands.now)) result }
+{
+    let [_, _, _, scripts @ ..] = operands else {
+        return Err(WordStop::Usage);
+    };
+    let command = play_command(alloc)?;
+    let matches = command.try_get_matches_from(operands)?;
+    let Some(file) = matches.get_str("file") else {
+        return Err(WordStop::Usage);
+    };
+    let Some(machine) = matches.get_str("machine") else {
+        return Err(WordStop::Usage);
+    };
+    let Some(order) = matches.get_str("order") else {
+        return Err(WordStop::Usage);
+    };
+    Ok(Words::Play {
+        file,
+        machine,
+        order,
+        scripts,
+    })
 }

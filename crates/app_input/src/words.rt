@@ -1,14 +1,11 @@
 ghost use Rattle.std.specs.Prelude.{◌≡◌, map, string_bytes};
 ghost use Rattle.std.specs.List.{list_all};
-ghost use Rattle.app_input.specs.Words.{HasForm, devconf_form, form_of, is_operand, load_form, play_form};
+ghost use Rattle.app_input.specs.Words.{HasForm, devconf_form, form_of, is_operand, load_form};
 
 use crate::count::count_of;
 use crate::inputs::Program;
-use crate::operands::{boot_words, ioconf_words};
+use crate::operands::{boot_words, ioconf_words, play_words};
 use std::alloc::Global;
-
-/// The most scripts that are played.
-const MAX_SCRIPTS: usize = 16;
 
 /// What words ask for.
 #[derive(Drop)]
@@ -72,24 +69,6 @@ fn load_words<'a>(operands: &'a [String]) -> Result<Words<'a>, WordStop>
     }
 }
 
-/// Reads the operands `FILE MACHINE ORDER SCRIPT..`.
-fn play_words<'a>(operands: &'a [String]) -> Result<Words<'a>, WordStop>
-    ensures { HasForm (play_form (map string_bytes operands.now)) result }
-{
-    let [file, machine, order, scripts @ ..] = operands else {
-        return Err(WordStop::Usage);
-    };
-    if scripts.is_empty() || MAX_SCRIPTS < scripts.len() {
-        return Err(WordStop::Usage);
-    }
-    Ok(Words::Play {
-        file: file.as_str(),
-        machine: machine.as_str(),
-        order: order.as_str(),
-        scripts,
-    })
-}
-
 fn devconf_words<'a>(alloc: Global, words: &'a [String]) -> Result<Words<'a>, WordStop>
     ensures { HasForm (devconf_form (map string_bytes words.now)) result }
 {
@@ -109,7 +88,7 @@ fn devconf_words<'a>(alloc: Global, words: &'a [String]) -> Result<Words<'a>, Wo
         return load_words(operands);
     }
     if word.as_bytes() == b"play".as_slice() {
-        return play_words(operands);
+        return play_words(alloc, operands);
     }
     Err(WordStop::Usage)
 }
