@@ -1,12 +1,12 @@
 -- What a board uses of formed tables and of a machine that fits them.
-use Rattle.std.proofs.Common.{◌≡◌, ◌≢◌, ◌<◌, ◌≤◌, ◌+◌, ℕ, suc, Bool, true, false, not, ◌&&◌, ◌==◌, List, [], ◌∷◌, map, length, max, Some, None, bytes_eq, refl, arith}
-use Rattle.std.specs.Prelude.{IsTrue, fold, if◌then◌else◌}
-use Rattle.std.specs.List.{All, AllByRecursion, cons_option}
+use Rattle.std.proofs.Common.{◌≡◌, ◌≢◌, ◌<◌, ◌≤◌, ◌+◌, ℕ, suc, Bool, true, false, not, ◌&&◌, ◌==◌, List, [], ◌∷◌, map, length, Some, None, bytes_eq, refl, arith}
+use Rattle.std.specs.Prelude.{IsTrue}
+use Rattle.std.specs.List.{All, AllByRecursion}
 use Rattle.cf_text.specs.Shapes.{is_written, ends_with_digit}
 use Rattle.cf_types.specs.declared.tables.Device.{Device}
 use Rattle.cf_types.specs.declared.tables.Row.{Row}
 use Rattle.cf_types.specs.declared.tables.Tables.{Tables}
-use Rattle.config_rules.specs.Formed.{FormedTables, FormedRow, fixed_units}
+use Rattle.config_rules.specs.Formed.{FormedTables, FormedRow}
 use Rattle.config_rules.specs.MachineText.{differ, is_one, is_free_name}
 use Rattle.run_rules.specs.Formed.{IsNamed, HasFormedDevices}
 use Rattle.run_rules.specs.Sound.{EachLater}
@@ -15,6 +15,7 @@ use Rattle.std.proofs.lemmas.Slice.Eq.{bytes_eq-Decides}
 use Rattle.run_rules.proofs.Below.{and_both}
 use Rattle.run_rules.proofs.Devices.{or_false, all_imp}
 use Rattle.run_sound.specs.Kept.{MayRun}
+use Rattle.run_sound.proofs.Inputs.{IsLow, low_unit}
 use Rattle.dev_board.specs.Input.{BoundedTables, Bounded}
 
 -- ---- lists
@@ -71,37 +72,13 @@ formed_devices t h = record {
 
 -- ---- units
 
-low_max : (bound first : ℕ) (units : List ℕ) → first ≤ bound + 1 → AllByRecursion (λ u. u ≤ bound) units → fold (λ n unit. max n (unit + 1)) first units ≤ bound + 1
-low_max bound first [] le h = le
-low_max bound first (u ∷ us) le h = low_max bound (max first (u + 1)) us (omega (arith, h.0)) h.1
-
-abbrev AreLow : Row → Type 0
-AreLow r = r.star ≡ false → r.unit ≤ 65535
-
-low_fixed : (rows : List Row) (d : ℕ) → AllByRecursion AreLow rows → AllByRecursion (λ u. u ≤ 65535) (fixed_units rows d)
-low_fixed [] d h = tt
-low_fixed (r ∷ rs) d h = cases r.star (r.device == d) h.0 (low_fixed rs d h.1)
-  where
-    cases : (star own : Bool) → (star ≡ false → r.unit ≤ 65535) → AllByRecursion (λ u. u ≤ 65535) (fixed_units rs d)
-        → AllByRecursion (λ u. u ≤ 65535) (cons_option (if not star && own then Some r.unit else None) (fixed_units rs d))
-    cases true own low more = more
-    cases false true low more = (low refl, more)
-    cases false false low more = more
-
-low_unit : (t : Tables) (r : Row) → AllByRecursion AreLow t.rows → FormedRow t r → r.unit ≤ 65536
-low_unit t r low f = cases r.star refl
-  where
-    cases : (b : Bool) → r.star ≡ b → r.unit ≤ 65536
-    cases true e = omega (arith, f.starred_unit e, low_max 65535 0 (fixed_units t.rows r.device) (omega arith) (low_fixed t.rows r.device low))
-    cases false e = omega (arith, f.fixed_unit e)
-
 pub bounded_tables : (t : Tables) → FormedTables t → BoundedTables t
 bounded_tables t h =
     let rows = by_recursion (FormedRow t) t.rows h.rows in
     record {
       formed = formed_devices t h;
       few_rows = h.few_rows;
-      low_units = all_imp (FormedRow t) (λ (r : Row). r.unit ≤ 65536) (λ r f. low_unit t r (all_imp (FormedRow t) AreLow (λ q g. g.fixed_unit) t.rows rows) f) t.rows rows;
+      low_units = all_imp (FormedRow t) (λ (r : Row). r.unit ≤ 65536) (λ r f. low_unit t r (all_imp (FormedRow t) IsLow (λ q g. g.fixed_unit) t.rows rows) f) t.rows rows;
       few_offered = h.few_offered_by_device;
     }
 

@@ -14,7 +14,6 @@ pub mod GoneSpots
 pub mod UnitLaws
 pub mod Agree
 pub mod Boots
-pub mod Trees
 pub mod CallerLaws
 pub mod ChoiceLaws
 pub mod LookLaws

@@ -1,5 +1,4 @@
 pub mod NextKinds
-pub mod Setups
 pub mod Counts
 pub mod ParentLaw
 pub mod Outcome

@@ -16,7 +16,7 @@ use Rattle.run_laws.specs.Parents.{IsQuiet, QuietRun, ParentLives, ParentsFrom, 
 use Rattle.run_laws.proofs.Counts.{lives_attached, lives_other}
 use Rattle.run_rules.proofs.Devices.{all_snoc, all_imp, found_in}
 use Rattle.run_rules.proofs.Lives.{live_attach, live_pass, live_scan, live_phase, live_end}
-use Rattle.run_laws.proofs.Setups.{after_setup}
+use Rattle.run_rules.proofs.Setups.{after_setup}
 
 pub parents_snoc : (before h : List Event) (e : Event) → ParentsFrom before h → ParentLives (before ++ h) e → ParentsFrom before (h ++ e ∷ [])
 parents_snoc before [] e all here = (λ x is. subst (λ (g : List Event). (attached_below e.act ≡ root_name) ⊎ (lives g (attached_below e.act) ≡ true)) (append-nil before) (here x is), tt)

@@ -13,7 +13,7 @@ low_max : (bound first : ℕ) (units : List ℕ) → first ≤ bound + 1 → All
 low_max bound first [] le h = le
 low_max bound first (u ∷ us) le h = low_max bound (max first (u + 1)) us (omega (arith, h.0)) h.1
 
-abbrev IsLow : Row → Type 0
+abbrev pub IsLow : Row → Type 0
 IsLow r = r.star ≡ false → r.unit ≤ 65535
 
 low_fixed : (rows : List Row) (d : ℕ) → AllByRecursion IsLow rows → AllByRecursion (λ u. u ≤ 65535) (fixed_units rows d)
@@ -26,7 +26,7 @@ low_fixed (r ∷ rs) d h = cases r.star (r.device == d) h.0 (low_fixed rs d h.1)
     cases false true low more = (low refl, more)
     cases false false low more = more
 
-low_unit : (t : Tables) (r : Row) → AllByRecursion IsLow t.rows → FormedRow t r → r.unit ≤ 65536
+pub low_unit : (t : Tables) (r : Row) → AllByRecursion IsLow t.rows → FormedRow t r → r.unit ≤ 65536
 low_unit t r low f = cases r.star refl
   where
     cases : (b : Bool) → r.star ≡ b → r.unit ≤ 65536
