@@ -1,5 +1,4 @@
 ghost use Rattle.std.specs.Prelude.{◌≡◌, ◌<◌, ◌≤◌, ◌++◌, ◌+◌, [], ℕ, List as Items, None, length, IfOk, OnOk, if◌then◌else◌};
-ghost use Rattle.std.specs.List.{slice_index_or};
 ghost use Rattle.std.specs.Option.{option_to_list};
 ghost use Rattle.cf_types.specs.declared.stmt.Placed.{Placed};
 ghost use Rattle.cf_declare.specs.Graphs.{FitsDeclared};
@@ -9,6 +8,7 @@ ghost use Rattle.config_rules.specs.Written.{AreWritten};
 ghost use Rattle.cf_compile.specs.Judged.{Judges, instance_at};
 
 use cf_declare::Declarations;
+use cf_rows::file_name;
 use cf_types::{Instance, List, Memory, Placed, Refusal, Stmt, Text};
 use std::alloc::Global;
 
@@ -24,16 +24,6 @@ pub struct Standing {
 pub enum Verdict {
     Accepted(Standing),
     Refused(Refusal),
-}
-
-/// The name of a file, by its place.
-fn file_name(alloc: Global, files: &[Text], file: u32) -> Result<Text, Memory>
-    ensures { IfOk result (λ name. name ≡ slice_index_or files.now file []) }
-{
-    match files.get(file as usize) {
-        Some(name) => Text::copied(alloc, name.items()),
-        None => Ok(List::make(alloc)),
-    }
 }
 
 /// A code at the file and line of a statement.

@@ -7,8 +7,8 @@ ghost use Rattle.cf_rows.specs.Idle.{ArePlacesOfNegations, ArePlacesOfNames, Are
 use cf_types::{Instance, List, Memory, Placed, Text, WarnKind, Warning};
 use std::alloc::Global;
 
-/// The name of a file, by its place.
-fn file_name(alloc: Global, files: &[Text], file: u32) -> Result<Text, Memory>
+/// A copy of the name under which a file was loaded, by its place; empty where there is none.
+pub fn file_name(alloc: Global, files: &[Text], file: u32) -> Result<Text, Memory>
     ensures { IfOk result (λ name. name ≡ slice_index_or files.now file []) }
 {
     match files.get(file as usize) {

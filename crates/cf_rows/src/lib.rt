@@ -7,6 +7,6 @@ mod marks;
 mod rows;
 mod units;
 
-pub use idle::warnings;
+pub use idle::{file_name, warnings};
 pub use marks::{Split, split_by_marks};
 pub use rows::rows_of;
