@@ -1,4 +1,4 @@
-use Rattle.std.proofs.Common.{[], List, ap, arith, length, sym, subst}
+use Rattle.std.proofs.Common.{List, ap, arith, length, sym, subst}
 use Rattle.std.specs.Prelude.{All}
 use Rattle.std.proofs.lemmas.List.Elements.{All-nil}
 use Rattle.cf_types.specs.declared.machine.Command.{Command}

@@ -1,5 +1,5 @@
-use Rattle.std.proofs.Common.{◌≡◌, ◌∙◌, None, ap}
-use Rattle.run_rules.specs.World.{World, opening, setup_of}
+use Rattle.std.proofs.Common.{◌∙◌, ap}
+use Rattle.run_rules.specs.World.{World, setup_of}
 use Rattle.run_rules.proofs.Setups.{run_setup}
 use Rattle.dev_board.proofs.Boots.{boot_is}
 use Rattle.app_config.proofs.Slots.{opening_setup, slots_opening}
