@@ -32,11 +32,13 @@ use Rattle.run_sound.proofs.Callers.{clash, doing_so, not_ended}
 use Rattle.run_sound.proofs.Freeing.{is_numbered}
 use Rattle.run_sound.proofs.Reasons.{has_command_reason}
 use Rattle.dev_board.specs.Choosing.{sleeps}
-use Rattle.dev_board.specs.Posting.{kept_ticket, ticket_in}
 use Rattle.dev_board.specs.Shown.{Shown}
-use Rattle.dev_board.specs.Stepping.{DenialsAre, IsOfBoot, StepIs, WaitIs}
+use Rattle.dev_board.specs.Stepping.{DenialsAre, IsOfBoot, StepIs, WaitIs, kept_ticket, ticket_in}
 use Rattle.dev_board.specs.declared.stepped.Stepped.{Stepped}
 use Rattle.dev_board.specs.declared.stepped.Stepped.TheVariants as stepped
+use Rattle.dev_board.specs.Plans.{deed_of}
+use Rattle.dev_board.specs.declared.plan.Plan.{Plan}
+use Rattle.dev_board.specs.declared.plan.Plan.TheVariants as plan
 use Rattle.dev_board.specs.declared.work.Work.{Work}
 use Rattle.dev_board.specs.declared.work.Work.TheVariants as work
 use Rattle.dev_board.specs.Sayings.{IsInForce}
@@ -337,3 +339,40 @@ kept_next w k t kept e =
 -- and the other way
 pub next_kept : (w : World) (k : ℕ) (t : Ticket) → next w k ≡ Does (Done t) → kept_ticket w k ≡ Some t
 next_kept w k t e = ap ticket_in (has_command_reason w k (Done t) e)
+
+-- ---- who does something else is in no transfer
+
+same_deed : (d e : Deed) → Does d ≡ Does e → d ≡ e
+same_deed d e h = cc
+
+none_kept : (w : World) (k : ℕ) (d : Deed) → Kept w → next w k ≡ Does d → ((t : Ticket) → d ≡ Done t → ⊥) → kept_ticket w k ≡ None
+none_kept w k d kept chosen other = cases (kept_ticket w k) refl
+  where
+    cases : (o : Option Ticket) → kept_ticket w k ≡ o → kept_ticket w k ≡ None
+    cases None e = e
+    cases (Some t) e = absurd (other t (same_deed d (Done t) (sym chosen ∙ kept_next w k t kept e)))
+
+pub plan_unkept : (w : World) (k : ℕ) (x : Plan) → Kept w → next w k ≡ Does (deed_of x) → kept_ticket w k ≡ None
+plan_unkept w k (plan.Search parent moved got) kept e = none_kept w k _ kept e (λ t h. cc)
+plan_unkept w k (plan.EndScan of) kept e = none_kept w k _ kept e (λ t h. cc)
+plan_unkept w k plan.BeginInterrupts kept e = none_kept w k _ kept e (λ t h. cc)
+plan_unkept w k (plan.Finalise of shown got listed anew) kept e = none_kept w k _ kept e (λ t h. cc)
+plan_unkept w k plan.EndCaller kept e = none_kept w k _ kept e (λ t h. cc)
+
+pub work_unkept : (w : World) (k : ℕ) (said : Command) (x : Work) → Kept w → next w k ≡ Does (deed_by w said x) → kept_ticket w k ≡ None
+work_unkept w k said (work.Open of) kept e = none_kept w k _ kept e (λ t h. cc)
+work_unkept w k said (work.Close of) kept e = none_kept w k _ kept e (λ t h. cc)
+work_unkept w k said (work.Drop of) kept e = none_kept w k _ kept e (λ t h. cc)
+work_unkept w k said (work.Detach of) kept e = none_kept w k _ kept e (λ t h. cc)
+work_unkept w k said (work.Sleep of) kept e = none_kept w k _ kept e (λ t h. cc)
+work_unkept w k said (work.Wake of) kept e = none_kept w k _ kept e (λ t h. cc)
+work_unkept w k said (work.Free of) kept e = none_kept w k _ kept e (λ t h. cc)
+work_unkept w k said (work.Refuse why) kept e = none_kept w k _ kept e (λ t h. cc)
+work_unkept w k said (work.Start ticket) kept e = none_kept w k _ kept e (λ t h. cc)
+work_unkept w k said (work.Rescan of only) kept e = none_kept w k _ kept e (λ t h. cc)
+work_unkept w k said (work.BeginPower kind of) kept e = none_kept w k _ kept e (λ t h. cc)
+work_unkept w k said (work.EndPower of end) kept e = none_kept w k _ kept e (λ t h. cc)
+work_unkept w k said (work.Plug spot) kept e = none_kept w k _ kept e (λ t h. cc)
+work_unkept w k said (work.Unplug spot of) kept e = none_kept w k _ kept e (λ t h. cc)
+work_unkept w k said work.Tell kept e = none_kept w k _ kept e (λ t h. cc)
+work_unkept w k said work.End kept e = none_kept w k _ kept e (λ t h. cc)

@@ -1,24 +1,13 @@
 -- What the result of a transfer does to a board, by its answer.
-use Rattle.std.specs.Prelude.{◌≡◌, ◌≢◌, ℕ, Option, Some, None}
+use Rattle.std.specs.Prelude.{◌≡◌, ◌≢◌, Some, None}
 use Rattle.cf_types.specs.declared.machine.Ticket.{Ticket}
-use Rattle.run_rules.specs.declared.world.Activity.{Activity}
-use Rattle.run_rules.specs.declared.world.Activity.TheVariants as activity
 use Rattle.run_rules.specs.Deeds.{Does, Done}
 use Rattle.run_rules.specs.Next.{next}
-use Rattle.run_rules.specs.World.{World, caller_at}
 use Rattle.dev_board.specs.Shown.{Shown, began}
-use Rattle.dev_board.specs.Stepping.{DoesNext}
+use Rattle.dev_board.specs.Stepping.{DoesNext, kept_ticket}
 use Rattle.dev_board.specs.Witness.{told_stale, told_stop}
 use Rattle.dev_board.specs.declared.posted.Posted.{Posted}
 use Rattle.dev_board.specs.declared.posted.Posted.TheVariants as posted
-
--- the transfer that a caller is in the middle of
-abbrev pub ticket_in : Activity → Option Ticket
-ticket_in (activity.Transfer ticket) = Some ticket
-ticket_in _ = None
-
-abbrev pub kept_ticket : World → ℕ → Option Ticket
-kept_ticket w k = ticket_in (caller_at w k).doing
 
 -- a stop stands before every other answer; the result is stale exactly where its ticket is not the one that is kept for its caller; else the
 -- transfer's end is what the caller does next, and it was done; at every other answer nothing changes

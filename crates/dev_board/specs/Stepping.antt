@@ -1,11 +1,14 @@
 -- What a step of a board does, by its answer.
 use Rattle.std.specs.Prelude.{◌≡◌, ⊤, ℕ, length, [], ◌∷◌, ◌++◌, true, false, List, Option, Some, None}
+use Rattle.cf_types.specs.declared.machine.Ticket.{Ticket}
 use Rattle.ref_ledger.specs.Slots.{Denial}
 use Rattle.run_rules.specs.declared.world.Dev.{Dev}
 use Rattle.run_rules.specs.declared.world.Wait.{Wait}
 use Rattle.run_rules.specs.declared.world.Wait.TheVariants as wait
 use Rattle.run_rules.specs.Deeds.{Deed, Does, Done, Free, Waits}
-use Rattle.run_rules.specs.World.{World, has_ended}
+use Rattle.run_rules.specs.declared.world.Activity.{Activity}
+use Rattle.run_rules.specs.declared.world.Activity.TheVariants as activity
+use Rattle.run_rules.specs.World.{World, caller_at, has_ended}
 use Rattle.run_rules.specs.Next.{next}
 use Rattle.run_rules.specs.After.{after}
 use Rattle.run_rules.specs.Run.{event_of}
@@ -28,9 +31,17 @@ abbrev pub WaitIs : World → ℕ → Wait → Type 0
 WaitIs w k (wait.Leases of mask) = next w k ≡ Does (Free of)
 WaitIs w k why = next w k ≡ Waits why
 
--- a stop stands before every other answer, `Closed` comes where the caller has ended, and at every answer but `Did` nothing changes
+-- the transfer that a caller is in the middle of
+abbrev pub ticket_in : Activity → Option Ticket
+ticket_in (activity.Transfer ticket) = Some ticket
+ticket_in _ = None
+
+abbrev pub kept_ticket : World → ℕ → Option Ticket
+kept_ticket w k = ticket_in (caller_at w k).doing
+
+-- a stop stands before every other answer, `Closed` comes where the caller has ended, `Transfer` where it is in a transfer, which `step` never ends, and at every answer but `Did` nothing changes
 abbrev pub StepIs : Shown → ℕ → Stepped → Shown → Type 0
-StepIs old k (stepped.Did place told) new = (old.stopped ≡ None) × DoesNext old k place told new
+StepIs old k (stepped.Did place told) new = (old.stopped ≡ None) × (kept_ticket old.world k ≡ None) × DoesNext old k place told new
 StepIs old k (stepped.Waits why) new = (old.stopped ≡ None) × WaitIs old.world k why × (new ≡ old)
 StepIs old k (stepped.Transfer ticket told) new =
     (old.stopped ≡ None) × (ticket.caller ≡ k) × (next old.world k ≡ Does (Done ticket)) × (told ≡ told_transfer (began old) k ticket) × (new ≡ old)

@@ -7,7 +7,7 @@ ghost use Rattle.run_rules.specs.World.{opening};
 ghost use Rattle.run_rules.specs.declared.world.Setup as from;
 ghost use Rattle.dev_board.specs.Agreement.{slots_of};
 ghost use Rattle.dev_board.specs.Commits.{Performed};
-ghost use Rattle.dev_board.specs.Posting as posting;
+ghost use Rattle.dev_board.specs.Stepping as stepping;
 ghost use Rattle.dev_board.specs.Posting.{PostIs};
 ghost use Rattle.dev_board.specs.View.{world_of, shown_of, Books, CoreKept};
 ghost use Rattle.dev_board.specs.Witness.{told_did};
@@ -25,7 +25,7 @@ use std::alloc::Global;
 
 /// The transfer that a caller is in the middle of.
 fn ticket_in(doing: Activity) -> Option<Ticket>
-    ensures { result ≡ posting.ticket_in doing }
+    ensures { result ≡ stepping.ticket_in doing }
 {
     match doing {
         Activity::Transfer(ticket) => Some(ticket),
@@ -35,7 +35,7 @@ fn ticket_in(doing: Activity) -> Option<Ticket>
 
 /// The transfer that the board keeps for a caller.
 fn kept_ticket(core: &Core, caller: u8) -> Option<Ticket>
-    ensures { (s : from.Setup) → posting.kept_ticket (world_of s core.now) caller ≡ result }
+    ensures { (s : from.Setup) → stepping.kept_ticket (world_of s core.now) caller ≡ result }
 {
     match core.callers.get(caller as usize) {
         Some(state) => ticket_in(state.doing),
@@ -70,7 +70,7 @@ fn end_transfer(
 fn post_kept(alloc: Global, setup: &Setup, core: &mut Core, ticket: Ticket) -> Posted
     requires kept { CoreKept setup.now core.old }
     requires goes_on { core.old.stopped ≡ None }
-    requires held { posting.kept_ticket (world_of setup.now core.old) ticket.caller ≡ Some ticket }
+    requires held { stepping.kept_ticket (world_of setup.now core.old) ticket.caller ≡ Some ticket }
     ensures post { PostIs (shown_of setup.now core.old) ticket result (shown_of setup.now core.new) }
     ensures kept { CoreKept setup.now core.new }
     ensures slots { slots_of (world_of setup.now core.new) ≡ slots_of (world_of setup.now core.old) }

@@ -5,7 +5,6 @@ ghost use Rattle.run_rules.specs.Deeds.{Does, Done};
 ghost use Rattle.run_rules.specs.Next.{next};
 ghost use Rattle.dev_board.specs.Agreement.{slots_of};
 ghost use Rattle.dev_board.specs.Playing.{Plays, PlaysSome};
-ghost use Rattle.dev_board.specs.Posting.{kept_ticket};
 
 use crate::board::Board;
 use crate::io_result::IoResult;

@@ -7,7 +7,7 @@ use Rattle.dev_board.proofs.boot.run_boot.Goals as goal
 pub loop-preserved : goal.loop-preserved
 loop-preserved g c =
     let did = c.in-Did.ensures.step in
-    let so : GoesOn c.args.board.now c.step.new.self = goes_further c.args.board.now c.loop.board c.step.new.self c.in-Did.field-0 c.in-Did.field-1 c.loop.invariant.so_far did.1 in
+    let so : GoesOn c.args.board.now c.step.new.self = goes_further c.args.board.now c.loop.board c.step.new.self c.in-Did.field-0 c.in-Did.field-1 c.loop.invariant.so_far did.2 in
     record { agree = c.step.ensures.agree; goes_on = so.1.stopped ∙ c.requires.goes_on; so_far = so }
 
 pub returns-in-Closed-clause-booted : goal.returns-in-Closed-clause-booted

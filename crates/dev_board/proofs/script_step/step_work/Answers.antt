@@ -1,4 +1,4 @@
-use Rattle.std.proofs.Common.{◌≡◌, ◌<◌, ℕ, subst, sym}
+use Rattle.std.proofs.Common.{◌≡◌, ◌<◌, ℕ, ap, arith, length, subst, sym}
 use Rattle.run_rules.specs.World.{World}
 use Rattle.run_rules.specs.Deeds.{Deed, Does}
 use Rattle.run_rules.specs.Next.{next}
@@ -7,8 +7,10 @@ use Rattle.run_sound.specs.Left.{boot_left}
 use Rattle.run_sound.proofs.Callers.{doing_so}
 use Rattle.run_sound.proofs.Falls.{boot_falls}
 use Rattle.dev_board.specs.View.{world_of}
+use Rattle.dev_board.specs.Witness.{lease_step}
 use Rattle.dev_board.specs.Works.{deed_by}
-use Rattle.dev_board.proofs.Kept.{kept_step, work_scans}
+use Rattle.dev_board.proofs.Kept.{does_next, kept_step, work_scans}
+use Rattle.dev_board.proofs.NextLaws.{work_unkept}
 use Rattle.dev_board.proofs.script_step.step_work.Goals as goal
 
 pub returns-in-Ok-clause-kept : goal.returns-in-Ok-clause-kept
@@ -28,3 +30,18 @@ pub returns-in-Err-Memory-clause-step : goal.returns-in-Err-Memory-clause-step
 returns-in-Err-Memory-clause-step g c =
     let w : World = world_of c.args.setup.now c.args.core.now in
     (c.requires.goes_on, (doing_so w c.args.caller (deed_by w c.args.said.now c.args.work) c.requires.chosen).unended, c.in-Err-Memory.ensures.err)
+
+pub returns-in-Ok-clause-step : goal.returns-in-Ok-clause-step
+returns-in-Ok-clause-step g c =
+    let s = c.args.setup.now in
+    let k = c.args.caller in
+    let w : World = world_of s c.args.core.now in
+    let x = c.args.work in
+    let d : Deed = deed_by w c.args.said.now x in
+    let did = c.in-Ok.ensures.ok in
+    let place : c.len-place.result ≡ length c.args.core.now.events.items = omega (arith, c.len-place.ensures, c.args.core.now.events.ok) in (
+      c.requires.goes_on,
+      work_unkept w k c.args.said.now x c.requires.kept.kept c.requires.chosen,
+      does_next s c.args.core.now c.perform_work.new.core k d c.len-place.result _ c.in-Ok.told c.requires.chosen did place (ap (λ (v : World). lease_step w v k) did.world)
+          c.in-Ok.ensures.told,
+    )

@@ -9,6 +9,7 @@ use Rattle.run_sound.proofs.Callers.{doing_so}
 use Rattle.dev_board.specs.Plans.{deed_of, published}
 use Rattle.dev_board.specs.View.{world_of}
 use Rattle.dev_board.proofs.Kept.{kept_step, does_next, plan_keeps, plan_scans}
+use Rattle.dev_board.proofs.NextLaws.{plan_unkept}
 use Rattle.dev_board.proofs.SlotSteps.{slot_ready, slots_step}
 use Rattle.dev_board.proofs.StepLaws.{plan_arrives}
 use Rattle.dev_board.proofs.step.step_plan.Goals as goal
@@ -29,6 +30,7 @@ returns-in-Ok-clause-step g c =
     let plan = c.args.plan in
     let place : c.len-place.result ≡ length c.args.core.now.events.items = omega (arith, c.len-place.ensures, c.args.core.now.events.ok) in (
       c.requires.goes_on,
+      plan_unkept w c.args.caller plan c.requires.kept.kept c.requires.chosen,
       does_next s c.args.core.now c.perform.new.core c.args.caller (deed_of plan) c.len-place.result _ c.in-Ok.told c.requires.chosen c.in-Ok.ensures.ok place
           (plan_keeps w (world_of s c.perform.new.core) c.args.caller plan c.in-Ok.ensures.ok.world) c.in-Ok.ensures.told,
     )

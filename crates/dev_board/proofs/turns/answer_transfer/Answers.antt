@@ -1,7 +1,6 @@
 use Rattle.std.proofs.Common.{◌≡◌, ◌∙◌, ap, sym, Some, subst}
 use Rattle.cf_types.specs.declared.machine.Ticket.{Ticket}
-use Rattle.dev_board.specs.Posting.{kept_ticket}
-use Rattle.dev_board.specs.Stepping.{DoesNext}
+use Rattle.dev_board.specs.Stepping.{DoesNext, kept_ticket}
 use Rattle.dev_board.proofs.NextLaws.{next_kept}
 use Rattle.dev_board.proofs.TurnLaws.{did_plays}
 use Rattle.dev_board.proofs.turns.answer_transfer.Goals as goal
