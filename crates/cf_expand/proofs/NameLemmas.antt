@@ -1,30 +1,18 @@
 -- One more name in the set of those that are declared.
-use Rattle.std.proofs.Common.{◌≡◌, ℕ, ◌||◌, Bool, true, false, Option, Some, List, [], ◌∷◌, Vec, refl, ap, sym, ◌∙◌}
-use Rattle.std.specs.Prelude.{Decides}
+use Rattle.std.proofs.Common.{◌≡◌, ℕ, ◌||◌, Bool, true, false, Option, Some, List, [], ◌∷◌, refl, ap, sym, ◌∙◌}
 use Rattle.std.specs.Option.{option_map_or}
 use Rattle.std.specs.List.{list_any}
 use Rattle.std.specs.Str.{bytes_eq}
 use Rattle.std.specs.BTreeSet.{BTreeSet, insert_key}
 use Rattle.std.specs.Cmp.Lexicographic.{slice_cmp}
-use Rattle.std.specs.Global.{Global}
 use Rattle.std.specs.Ordering.{is_eq, match_ordering, nat_cmp}
 use Rattle.std.specs.declared.cmp.Ordering.{Ordering}
 use Rattle.std.specs.declared.cmp.Ordering.TheVariants.{Less, Equal, Greater}
-use Rattle.std.proofs.lemmas.Map.Text.{is_eq-slice_cmp}
-use Rattle.std.proofs.lemmas.Slice.Eq.{bytes_eq-Decides}
+use Rattle.cf_types.proofs.KeyLemmas.{Key, is_key, key_cmp, key_is, same_text}
 use Rattle.cf_types.specs.declared.stmt.Stmt.{Stmt}
 use Rattle.cf_types.specs.declared.stmt.Stmt.TheVariants as stmt
 use Rattle.config_rules.specs.Reading.{declares}
 use Rattle.cf_expand.specs.Names.{declared_name, has}
-
-abbrev Key : Type 0
-Key = Vec ℕ Global
-
-abbrev key_cmp : Key → Key → Ordering
-key_cmp a b = slice_cmp nat_cmp a.items b.items
-
-abbrev is_key : List ℕ → Key → Bool
-is_key name k = is_eq (slice_cmp nat_cmp name k.items)
 
 moved : (a b : Bool) → (a || b) ≡ (b || a)
 moved true true = refl
@@ -45,19 +33,6 @@ or_false : (a : Bool) → (a || false) ≡ a
 or_false true = refl
 or_false false = refl
 
-same_text : (a b : List ℕ) → slice_cmp nat_cmp a b ≡ Equal → a ≡ b
-same_text a b e = (bytes_eq-Decides a b).0 (sym (is_eq-slice_cmp a b) ∙ ap is_eq e)
-
-same_bool : (P : Type 0) (a b : Bool) → Decides a P → Decides b P → a ≡ b
-same_bool P true true h k = refl
-same_bool P true false h k = sym (k.1 (h.0 refl))
-same_bool P false true h k = h.1 (k.0 refl)
-same_bool P false false h k = refl
-
-flipped : (a b : List ℕ) → bytes_eq a b ≡ bytes_eq b a
-flipped a b =
-    same_bool (a ≡ b) (bytes_eq a b) (bytes_eq b a) (bytes_eq-Decides a b) (λ t. sym ((bytes_eq-Decides b a).0 t), λ e. (bytes_eq-Decides b a).1 (sym e))
-
 key_added : (name : List ℕ) (keys : List Key) (k : Key) → list_any (is_key name) (insert_key key_cmp keys k) ≡ (list_any (is_key name) keys || is_key name k)
 key_added name [] k = or_false (is_key name k)
 key_added name (x ∷ xs) k = by_order (key_cmp k x) refl (key_added name xs k)
@@ -66,7 +41,7 @@ key_added name (x ∷ xs) k = by_order (key_cmp k x) refl (key_added name xs k)
         → list_any (is_key name) (match_ordering o (k ∷ x ∷ xs) (x ∷ xs) (x ∷ insert_key key_cmp xs k)) ≡ ((is_key name x || list_any (is_key name) xs) || is_key name k)
     by_order Less e h = moved (is_key name k) (is_key name x || list_any (is_key name) xs)
     by_order Equal e h =
-        let same : is_key name k ≡ is_key name x = ap (λ (t : List ℕ). is_eq (slice_cmp nat_cmp name t)) (same_text k.items x.items e) in
+        let same : is_key name k ≡ is_key name x = ap (λ (t : List ℕ). is_eq (slice_cmp nat_cmp name t)) (same_text k.items x.items (ap is_eq e)) in
         twice (is_key name x) (list_any (is_key name) xs) ∙ ap (λ b. (is_key name x || list_any (is_key name) xs) || b) (sym same)
     by_order Greater e h = ap (λ b. is_key name x || b) h ∙ grouped (is_key name x) (list_any (is_key name) xs) (is_key name k)
 
@@ -94,5 +69,4 @@ declares_by name (stmt.Free a b) = refl
 pub name_noted : (old new : BTreeSet Key) (k : Key) (name n : List ℕ) (s : Stmt) → new.keys ≡ insert_key key_cmp old.keys k → k.items ≡ n → declared_name s ≡ Some n → has new name ≡ (has old name || declares name s)
 name_noted old new k name n s e i d =
     let one : declares name s ≡ bytes_eq n name = declares_by name s ∙ ap (λ (o : Option (List ℕ)). option_map_or (λ m. bytes_eq m name) o false) d in
-    let key : is_key name k ≡ bytes_eq n name = is_eq-slice_cmp name k.items ∙ ap (bytes_eq name) i ∙ flipped name n in
-    ap (list_any (is_key name)) e ∙ key_added name old.keys k ∙ ap (λ b. has old name || b) (key ∙ sym one)
+    ap (list_any (is_key name)) e ∙ key_added name old.keys k ∙ ap (λ b. has old name || b) (key_is name n k i ∙ sym one)

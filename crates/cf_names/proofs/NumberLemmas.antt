@@ -1,36 +1,20 @@
 -- The numbers of names, with one more name.
-use Rattle.std.proofs.Common.{◌≡◌, ℕ, ◌+◌, suc, Bool, true, false, cond, Option, Some, None, List, [], ◌∷◌, ◌++◌, length, map, Vec, refl, ap, sym, ◌∙◌, subst, arith}
+use Rattle.std.proofs.Common.{◌≡◌, ℕ, ◌+◌, suc, Bool, true, false, cond, Option, Some, None, List, [], ◌∷◌, ◌++◌, length, map, refl, ap, sym, ◌∙◌, subst, arith}
 use Rattle.std.specs.Prelude.{bytes_eq, is_some, option_map, position}
 use Rattle.std.specs.BTreeMap.{BTreeMap, insert_entry}
 use Rattle.std.specs.Map.{lookup}
-use Rattle.std.specs.Global.{Global}
 use Rattle.std.specs.declared.cmp.Ordering.{Ordering}
 use Rattle.std.specs.declared.cmp.Ordering.TheVariants.{Less, Equal, Greater}
 use Rattle.std.specs.Cmp.Lexicographic.{slice_cmp}
 use Rattle.std.specs.Ordering.{is_eq, match_ordering, nat_cmp}
 use Rattle.std.proofs.lemmas.Bool.{false≢true}
 use Rattle.std.proofs.lemmas.List.{length-map, map-append}
-use Rattle.std.proofs.lemmas.Map.Text.{is_eq-slice_cmp}
 use Rattle.std.proofs.lemmas.Slice.Eq.{bytes_eq-Decides}
+use Rattle.cf_types.proofs.KeyLemmas.{Key, is_key, is_same, key_cmp, key_is, same_text}
 use Rattle.cf_types.proofs.PlaceLemmas.{position_cons, position-map}
 use Rattle.cf_names.specs.Numbers.{AreNumbers, number_in}
 
-abbrev Key : Type 0
-Key = Vec ℕ Global
-
-abbrev key_cmp : Key → Key → Ordering
-key_cmp a b = slice_cmp nat_cmp a.items b.items
-
-abbrev is_key : List ℕ → Key → Bool
-is_key name k = is_eq (slice_cmp nat_cmp name k.items)
-
 -- ---- one more key of a map
-
-same_text : (a b : List ℕ) → is_eq (slice_cmp nat_cmp a b) ≡ true → a ≡ b
-same_text a b e = (bytes_eq-Decides a b).0 (sym (is_eq-slice_cmp a b) ∙ e)
-
-is_same : (a b : List ℕ) → a ≡ b → is_eq (slice_cmp nat_cmp a b) ≡ true
-is_same a b e = is_eq-slice_cmp a b ∙ (bytes_eq-Decides a b).1 e
 
 over : {X : Type 0} (a b : Bool) (new old more : X) → a ≡ b → cond b new more ≡ cond a new (cond b old more)
 over true true new old more h = refl
@@ -101,16 +85,6 @@ known_name numbers name known names are q =
     are q
     ∙ known_if (bytes_eq name q) (position (λ n. bytes_eq n q) names) (length names) (place_is numbers names name q true are known)
     ∙ sym (position_push (λ n. bytes_eq n q) names name)
-
-turned : (a b : Bool) → (a ≡ true → b ≡ true) → (b ≡ true → a ≡ true) → a ≡ b
-turned true b f g = sym (f refl)
-turned false true f g = g refl
-turned false false f g = refl
-
-key_is : (q name : List ℕ) (k : Key) → k.items ≡ name → is_key q k ≡ bytes_eq name q
-key_is q name k is =
-    turned (is_key q k) (bytes_eq name q) (λ h. (bytes_eq-Decides name q).1 (sym is ∙ sym (same_text q k.items h)))
-    (λ h. is_same q k.items (sym ((bytes_eq-Decides name q).0 h) ∙ sym is))
 
 -- a new name has the next number
 pub new_name : (old new : BTreeMap Key ℕ) (k : Key) (name : List ℕ) (number : ℕ) → is_some (number_in old name) ≡ false

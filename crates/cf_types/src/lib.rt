@@ -1,7 +1,6 @@
 //! The plain types that the other crates share: lists and names, statements and tokens, tables, machines and scripts.
 #![tactic(auto)]
 
-mod decimal;
 mod declared;
 mod instance;
 mod list;
@@ -9,11 +8,11 @@ mod locs;
 mod machine;
 mod memory;
 mod name;
+mod put;
 mod stmt;
 mod tables;
 mod tree;
 
-pub use decimal::put_decimal;
 pub use declared::Declared;
 pub use instance::{AttachPlace, Instance, Joined, Target};
 pub use list::{List, Text};
@@ -21,6 +20,7 @@ pub use locs::Locs;
 pub use machine::{Command, Given, Machine, MatchLine, Policy, Script, Spot, StyleLine, Ticket};
 pub use memory::Memory;
 pub use name::Name;
+pub use put::{put_bytes, put_decimal};
 pub use stmt::{
     AtSpec, CondWord, Expanded, GivenLoc, Item, ItemKind, Piece, Placed, Stmt, Token, TokenKind,
     UnitMark,

@@ -2,10 +2,10 @@ ghost use Rattle.std.specs.Prelude.{◌≡◌, ◌++◌, OnOk, codes, decimal};
 ghost use Rattle.run_rules.specs.Lines as text;
 
 use crate::parts::{
-    put, put_answer, put_depth_names, put_final, put_got, put_named, put_names, put_number, put_of,
-    put_reply, put_said, put_started,
+    put_answer, put_depth_names, put_final, put_got, put_named, put_names, put_of, put_reply,
+    put_said, put_started,
 };
-use cf_types::{List, Memory, Name};
+use cf_types::{List, Memory, Name, put_bytes, put_decimal};
 use run_rules::{Act, DepthName, IoAnswer, PowerKind, Reply};
 
 fn power_word(kind: PowerKind) -> &'static [u8]
@@ -39,7 +39,7 @@ fn put_scan(out: &mut Vec<u8>, device: &Name) -> Result<(), Memory>
     ensures { OnOk result (out.new.items ≡ out.old.items ++ text.said_of (codes "scan ") device.now (codes "done")) }
 {
     put_said(out, b"scan ", device)?;
-    put(out, b"done")
+    put_bytes(out, b"done")
 }
 
 /// Appends what a finaliser answered, and what its search got.
@@ -60,9 +60,9 @@ fn put_transfer(out: &mut Vec<u8>, device: &Name, value: u32, reply: &Reply) -> 
     ensures { OnOk result (out.new.items ≡ out.old.items ++ (codes "io " ++ device.now ++ codes " " ++ decimal value ++ codes ": " ++ text.started_text reply.now)) }
 {
     put_named(out, b"io ", device)?;
-    put(out, b" ")?;
-    put_number(out, value)?;
-    put(out, b": ")?;
+    put_bytes(out, b" ")?;
+    put_decimal(out, i64::from(value))?;
+    put_bytes(out, b": ")?;
     put_started(out, reply)
 }
 
@@ -82,7 +82,7 @@ fn put_list(
 ) -> Result<(), Memory>
     ensures { OnOk result (out.new.items ≡ out.old.items ++ (codes "list" ++ text.of_text device.now ++ text.names_text names.now)) }
 {
-    put(out, b"list")?;
+    put_bytes(out, b"list")?;
     put_of(out, device)?;
     put_names(out, names)
 }
@@ -95,7 +95,7 @@ fn put_tree(
 ) -> Result<(), Memory>
     ensures { OnOk result (out.new.items ≡ out.old.items ++ (codes "tree" ++ text.of_text device.now ++ text.depth_names_text names.now)) }
 {
-    put(out, b"tree")?;
+    put_bytes(out, b"tree")?;
     put_of(out, device)?;
     put_depth_names(out, names)
 }
@@ -108,13 +108,13 @@ pub fn put_act(out: &mut Vec<u8>, act: &Act) -> Result<(), Memory>
     match act {
         Act::Found { parent, got } => put_found(out, parent, got),
         Act::ScanEnd { device } => put_scan(out, device),
-        Act::Interrupts => put(out, b"interrupts"),
+        Act::Interrupts => put_bytes(out, b"interrupts"),
         Act::Final {
             device,
             answer,
             got,
         } => put_finaliser(out, device, *answer, got),
-        Act::End => put(out, b"end"),
+        Act::End => put_bytes(out, b"end"),
         Act::DropRef { device } => put_named(out, b"drop ", device),
         Act::OpenDev { device, reply } => put_replied(out, b"open ", device, reply),
         Act::CloseDev { device, reply } => put_replied(out, b"close ", device, reply),

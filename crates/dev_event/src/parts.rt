@@ -2,31 +2,15 @@
 ghost use Rattle.std.specs.Prelude.{◌≡◌, ◌++◌, OnOk, codes, decimal, flat_map};
 ghost use Rattle.run_rules.specs.Lines.{reply_text, started_text, answer_text, got_text, final_text, of_text, names_text, depth_names_text};
 
-use cf_types::{List, Memory, Name};
+use cf_types::{List, Memory, Name, put_bytes, put_decimal};
 use run_rules::{DepthName, IoAnswer, Reply};
-
-/// Appends bytes.
-pub fn put(out: &mut Vec<u8>, bytes: &[u8]) -> Result<(), Memory>
-    ensures { OnOk result (out.new.items ≡ out.old.items ++ bytes.now) }
-{
-    out.extend_from_slice(bytes)?;
-    Ok(())
-}
-
-/// Appends a number in decimal.
-pub fn put_number(out: &mut Vec<u8>, value: u32) -> Result<(), Memory>
-    ensures { OnOk result (out.new.items ≡ out.old.items ++ decimal value) }
-{
-    let digits = format!(in *out.allocator(); "{value}")?;
-    put(out, digits.as_bytes())
-}
 
 /// Appends a word and a name.
 pub fn put_named(out: &mut Vec<u8>, word: &[u8], name: &Name) -> Result<(), Memory>
     ensures { OnOk result (out.new.items ≡ out.old.items ++ (word.now ++ name.now)) }
 {
-    put(out, word)?;
-    put(out, name.bytes())
+    put_bytes(out, word)?;
+    put_bytes(out, name.bytes())
 }
 
 /// Appends a word, a name, and the colon behind which follows what is said of it.
@@ -34,7 +18,7 @@ pub fn put_said(out: &mut Vec<u8>, word: &[u8], name: &Name) -> Result<(), Memor
     ensures { OnOk result (out.new.items ≡ out.old.items ++ (word.now ++ name.now ++ codes ": ")) }
 {
     put_named(out, word, name)?;
-    put(out, b": ")
+    put_bytes(out, b": ")
 }
 
 /// Appends a reply.
@@ -42,19 +26,19 @@ pub fn put_reply(out: &mut Vec<u8>, reply: &Reply) -> Result<(), Memory>
     ensures { OnOk result (out.new.items ≡ out.old.items ++ reply_text reply.now) }
 {
     match reply {
-        Reply::Ok => put(out, b"ok"),
-        Reply::NoDevice => put(out, b"no device"),
-        Reply::Gone => put(out, b"gone"),
-        Reply::HeldAlready => put(out, b"held already"),
-        Reply::NotHeld => put(out, b"not held"),
-        Reply::Asleep => put(out, b"asleep"),
+        Reply::Ok => put_bytes(out, b"ok"),
+        Reply::NoDevice => put_bytes(out, b"no device"),
+        Reply::Gone => put_bytes(out, b"gone"),
+        Reply::HeldAlready => put_bytes(out, b"held already"),
+        Reply::NotHeld => put_bytes(out, b"not held"),
+        Reply::Asleep => put_bytes(out, b"asleep"),
         Reply::Busy(name) => put_named(out, b"busy ", name),
         Reply::NotSupported(name) => put_named(out, b"not supported ", name),
         Reply::SuspendFailed(name) => put_named(out, b"suspend failed ", name),
-        Reply::NoRescan => put(out, b"no rescan"),
-        Reply::BadAttribute => put(out, b"bad attribute"),
-        Reply::BadLocator => put(out, b"bad locator"),
-        Reply::NoSpot => put(out, b"no spot"),
+        Reply::NoRescan => put_bytes(out, b"no rescan"),
+        Reply::BadAttribute => put_bytes(out, b"bad attribute"),
+        Reply::BadLocator => put_bytes(out, b"bad locator"),
+        Reply::NoSpot => put_bytes(out, b"no spot"),
     }
 }
 
@@ -63,7 +47,7 @@ pub fn put_started(out: &mut Vec<u8>, reply: &Reply) -> Result<(), Memory>
     ensures { OnOk result (out.new.items ≡ out.old.items ++ started_text reply.now) }
 {
     match reply {
-        Reply::Ok => put(out, b"started"),
+        Reply::Ok => put_bytes(out, b"started"),
         _ => put_reply(out, reply),
     }
 }
@@ -73,8 +57,8 @@ pub fn put_answer(out: &mut Vec<u8>, answer: IoAnswer) -> Result<(), Memory>
     ensures { OnOk result (out.new.items ≡ out.old.items ++ answer_text answer) }
 {
     match answer {
-        IoAnswer::Number(n) => put_number(out, n),
-        IoAnswer::DeviceError => put(out, b"error"),
+        IoAnswer::Number(n) => put_decimal(out, i64::from(n)),
+        IoAnswer::DeviceError => put_bytes(out, b"error"),
     }
 }
 
@@ -83,8 +67,8 @@ pub fn put_got(out: &mut Vec<u8>, got: &Option<Name>) -> Result<(), Memory>
     ensures { OnOk result (out.new.items ≡ out.old.items ++ got_text got.now) }
 {
     match got {
-        None => put(out, b"not configured"),
-        Some(name) => put(out, name.bytes()),
+        None => put_bytes(out, b"not configured"),
+        Some(name) => put_bytes(out, name.bytes()),
     }
 }
 
@@ -93,10 +77,10 @@ pub fn put_final(out: &mut Vec<u8>, answer: bool, got: &Option<Name>) -> Result<
     ensures { OnOk result (out.new.items ≡ out.old.items ++ final_text answer got.now) }
 {
     if answer {
-        put(out, b"1 ")?;
+        put_bytes(out, b"1 ")?;
         put_got(out, got)
     } else {
-        put(out, b"0")
+        put_bytes(out, b"0")
     }
 }
 
@@ -105,10 +89,10 @@ pub fn put_of(out: &mut Vec<u8>, device: &Option<Name>) -> Result<(), Memory>
     ensures { OnOk result (out.new.items ≡ out.old.items ++ of_text device.now) }
 {
     match device {
-        None => put(out, b":"),
+        None => put_bytes(out, b":"),
         Some(name) => {
             put_named(out, b" ", name)?;
-            put(out, b":")
+            put_bytes(out, b":")
         }
     }
 }
@@ -118,7 +102,7 @@ pub fn put_names(out: &mut Vec<u8>, names: &Option<List<Name>>) -> Result<(), Me
     ensures { OnOk result (out.new.items ≡ out.old.items ++ names_text names.now) }
 {
     match names {
-        None => put(out, b" no device"),
+        None => put_bytes(out, b" no device"),
         Some(names) => put_each(out, names.items()),
     }
 }
@@ -137,7 +121,7 @@ pub fn put_depth_names(out: &mut Vec<u8>, names: &Option<List<DepthName>>) -> Re
     ensures { OnOk result (out.new.items ≡ out.old.items ++ depth_names_text names.now) }
 {
     match names {
-        None => put(out, b" no device"),
+        None => put_bytes(out, b" no device"),
         Some(names) => put_each_depth(out, names.items()),
     }
 }
@@ -146,8 +130,8 @@ fn put_each_depth(out: &mut Vec<u8>, names: &[DepthName]) -> Result<(), Memory>
     ensures { OnOk result (out.new.items ≡ out.old.items ++ flat_map (λ d. codes " " ++ decimal d.depth ++ codes " " ++ d.name) names.now) }
 {
     for one in names {
-        put(out, b" ")?;
-        put_number(out, one.depth)?;
+        put_bytes(out, b" ")?;
+        put_decimal(out, i64::from(one.depth))?;
         put_named(out, b" ", &one.name)?;
     }
     Ok(())

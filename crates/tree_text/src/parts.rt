@@ -4,30 +4,14 @@ ghost use Rattle.std.specs.Int.{bit_at};
 ghost use Rattle.run_rules.specs.Tree.{marked_by, holding, held_text};
 ghost use Rattle.cf_types.specs.Numbers.{below};
 
-use cf_types::Memory;
-
-/// Appends bytes.
-pub fn put(out: &mut Vec<u8>, bytes: &[u8]) -> Result<(), Memory>
-    ensures { OnOk result (out.new.items ≡ out.old.items ++ bytes.now) }
-{
-    out.extend_from_slice(bytes)?;
-    Ok(())
-}
-
-/// Appends a number in decimal.
-pub fn put_number(out: &mut Vec<u8>, value: u32) -> Result<(), Memory>
-    ensures { OnOk result (out.new.items ≡ out.old.items ++ decimal value) }
-{
-    let digits = format!(in *out.allocator(); "{value}")?;
-    put(out, digits.as_bytes())
-}
+use cf_types::{Memory, put_bytes, put_decimal};
 
 /// Appends two spaces for each level.
 pub fn put_indent(out: &mut Vec<u8>, depth: u32) -> Result<(), Memory>
     ensures { OnOk result (out.new.items ≡ out.old.items ++ flat_map (λ _. codes "  ") (below depth)) }
 {
     for _level in 0..depth {
-        put(out, b"  ")?;
+        put_bytes(out, b"  ")?;
     }
     Ok(())
 }
@@ -36,7 +20,7 @@ pub fn put_indent(out: &mut Vec<u8>, depth: u32) -> Result<(), Memory>
 pub fn put_mark(out: &mut Vec<u8>, mark: bool, text: &[u8]) -> Result<(), Memory>
     ensures { OnOk result (out.new.items ≡ out.old.items ++ marked_by mark text.now) }
 {
-    if mark { put(out, text) } else { Ok(()) }
+    if mark { put_bytes(out, text) } else { Ok(()) }
 }
 
 fn is_set(holders: u16, index: u32) -> bool
@@ -52,8 +36,8 @@ fn put_callers(out: &mut Vec<u8>, holders: u16) -> Result<(), Memory>
 {
     for index in 0..16u32 {
         if is_set(holders, index) {
-            put(out, b" ")?;
-            put_number(out, index + 1)?;
+            put_bytes(out, b" ")?;
+            put_decimal(out, i64::from(index + 1))?;
         }
     }
     Ok(())
@@ -68,6 +52,6 @@ pub fn put_held(out: &mut Vec<u8>, holders: u16) -> Result<(), Memory>
     if callers.is_empty() {
         return Ok(());
     }
-    put(out, b" held")?;
-    put(out, &callers)
+    put_bytes(out, b" held")?;
+    put_bytes(out, &callers)
 }

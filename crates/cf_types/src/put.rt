@@ -3,12 +3,20 @@ ghost use Rattle.std.specs.Fmt.{signed_decimal};
 
 use crate::Memory;
 
+/// Appends bytes. Where memory runs out, nothing is appended.
+pub fn put_bytes(out: &mut Vec<u8>, bytes: &[u8]) -> Result<(), Memory>
+    ensures ok { OnOk result (out.new.items ≡ out.old.items ++ bytes.now) }
+    ensures err { OnErr result (out.new.items ≡ out.old.items) }
+{
+    out.extend_from_slice(bytes)?;
+    Ok(())
+}
+
 /// Appends a number in decimal, a negative one with `-`. Where memory runs out, nothing is appended.
 pub fn put_decimal(out: &mut Vec<u8>, value: i64) -> Result<(), Memory>
     ensures ok { OnOk result (out.new.items ≡ out.old.items ++ signed_decimal value) }
     ensures err { OnErr result (out.new.items ≡ out.old.items) }
 {
     let digits = format!(in *out.allocator(); "{value}")?;
-    out.extend_from_slice(digits.as_bytes())?;
-    Ok(())
+    put_bytes(out, digits.as_bytes())
 }
