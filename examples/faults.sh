@@ -1,8 +1,9 @@
 #!/bin/sh
 # Tries each fault of docs/FAULTS.md against the program: the wrong lines have to give the fault line and nothing else, and
-# the right lines have to be accepted. Usage: examples/faults.sh
+# the right lines have to be accepted. Without a word it runs ./devconf. Usage: examples/faults.sh [PROGRAM]
 set -e
 top=$(cd "$(dirname "$0")/.." && pwd)
+program=$(readlink -f "${1:-$top/devconf}")
 folder=$(mktemp -d)
 trap 'rm -rf "$folder"' EXIT
 tried=0
@@ -28,7 +29,7 @@ expect() {
     said=$2
     shift 2
     got=0
-    (cd "$folder" && "$top/devconf" "$@" >out 2>err) || got=$?
+    (cd "$folder" && "$program" "$@" >out 2>err) || got=$?
     tried=$((tried + 1))
     if [ "$got" != "$status" ] || [ "$(cat "$folder/err")" != "$said" ] || { [ "$status" != 0 ] && [ -s "$folder/out" ]; }; then
         wrong=$((wrong + 1))
