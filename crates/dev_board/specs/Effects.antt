@@ -1,6 +1,5 @@
--- What a command of a script leaves of its caller, and what a device that goes leaves of rows.
-use Rattle.std.specs.Prelude.{◌≡◌, ⊤, ℕ, ◌+◌, Bool, true, false, IsTrue, Some, is_some, map, ◌||◌, List, [], ◌∷◌, slice_set, slice_index_or}
-use Rattle.cf_types.specs.declared.tables.Row.{Row}
+-- What a command of a script leaves of its caller.
+use Rattle.std.specs.Prelude.{◌≡◌, ⊤, ℕ, ◌+◌, Bool, true, false, IsTrue, Some, is_some, map, List, [], ◌∷◌, slice_set, slice_index_or}
 use Rattle.cf_types.specs.Locators.{locators_at}
 use Rattle.cf_types.specs.declared.machine.Command.{Command}
 use Rattle.cf_types.specs.declared.tables.Place.TheVariants.{At}
@@ -13,7 +12,6 @@ use Rattle.run_rules.specs.World.{World, Caller, nobody, is_live, is_held, child
 use Rattle.ref_ledger.specs.Refs.{IsHolder}
 use Rattle.dev_board.specs.declared.work.Work.{Work}
 use Rattle.dev_board.specs.declared.work.Work.TheVariants as work
-use Rattle.dev_board.specs.Marks.{hits}
 use Rattle.dev_board.specs.Works.{given_by}
 
 abbrev pub caller_in : List Caller → ℕ → Caller
@@ -43,12 +41,6 @@ scanning_at cs k f = slice_set cs k (scanning (caller_in cs k) f)
 -- the values that the command gives are of locators of the attribute, each of another
 abbrev pub IsKnown : Setup → Command → ℕ → Type 0
 IsKnown s said a = is_some (wanted_of (map (λ l. l.name) (locators_at s.tables.attrs (At a))) (given_by said)) ≡ true
-
--- the truth values of rows, where those of this device and unit are live again
-abbrev pub freed_too : List Row → List Bool → ℕ → ℕ → List Bool
-freed_too [] marks device unit = marks
-freed_too (r ∷ rs) [] device unit = []
-freed_too (r ∷ rs) (b ∷ bs) device unit = (b || hits r device unit) ∷ freed_too rs bs device unit
 
 -- whether a work takes memory
 abbrev pub takes_memory : Work → Bool

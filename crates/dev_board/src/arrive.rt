@@ -10,7 +10,7 @@ ghost use Rattle.dev_board.specs.Input.{Bounded};
 ghost use Rattle.dev_board.specs.View.{caller_of, world_of, Books, SameAside};
 
 use crate::caller::{CallerState, new_scan};
-use crate::marks::mark_taken;
+use crate::marks::set_rows;
 use crate::parts::{Core, append};
 use crate::spots::{driver_of, policy_of};
 use attr_graph::Graph;
@@ -122,7 +122,7 @@ fn list(setup: &Setup, core: &mut Core, arrival: Arrival, placing: Placing) -> R
         arrival.spot,
     ) {
         Ok(serial) => {
-            mark_taken(&setup.tables, &mut core.rows, driver, arrival.unit);
+            set_rows(&setup.tables, &mut core.rows, driver, arrival.unit, false);
             Ok(serial)
         }
         Err(_) => {
