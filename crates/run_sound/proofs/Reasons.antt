@@ -298,61 +298,38 @@ next_reason w k =
 why_next : (w : World) (k : ℕ) (d : Deed) → next w k ≡ Does d → Why w k d
 why_next w k d e = (next_reason w k).each d e
 
--- the reason of a frame's deed that comes next
+-- the reason of the deed that comes next: a frame's or a command's
+has_reasons : (w : World) (k : ℕ) (d : Deed) → Why w k d → HasReason w k d × HasCommandReason w k d
+has_reasons w k (Search p to got) h = (h.0, tt)
+has_reasons w k (EndScan p) h = (h.0, tt)
+has_reasons w k BeginInterrupts h = (h.0, tt)
+has_reasons w k (Finalise s shown got listed anew) h = (h.0, tt)
+has_reasons w k EndCaller h = (h.0, tt)
+has_reasons w k (Drop s) h = (tt, h)
+has_reasons w k (Answer said r) h = (tt, h)
+has_reasons w k (Open said s) h = (tt, h)
+has_reasons w k (Close said s) h = (tt, h)
+has_reasons w k (Start said t) h = (tt, h)
+has_reasons w k (Done t) h = (tt, h)
+has_reasons w k (Detach said s) h = (tt, h)
+has_reasons w k (Free s) h = (tt, h)
+has_reasons w k (Rescan said f) h = (tt, h)
+has_reasons w k (BeginPower said kind s) h = (tt, h)
+has_reasons w k (Sleep s) h = (tt, h)
+has_reasons w k (Wake s) h = (tt, h)
+has_reasons w k (EndPower s r) h = (tt, h)
+has_reasons w k (Plug said x) h = (tt, h)
+has_reasons w k (Unplug said x None) h = (tt, h)
+has_reasons w k (Unplug said x (Some s)) h = (tt, h)
+has_reasons w k (Tell said) h = (tt, h)
+
+-- that of a frame's deed
 pub has_reason : (w : World) (k : ℕ) (d : Deed) → next w k ≡ Does d → HasReason w k d
-has_reason w k d e = cases d (why_next w k d e)
-  where
-    cases : (d : Deed) → Why w k d → HasReason w k d
-    cases (Search p to got) h = h.0
-    cases (EndScan p) h = h.0
-    cases BeginInterrupts h = h.0
-    cases (Finalise s shown got listed anew) h = h.0
-    cases EndCaller h = h.0
-    cases (Drop s) h = tt
-    cases (Answer said r) h = tt
-    cases (Open said s) h = tt
-    cases (Close said s) h = tt
-    cases (Start said t) h = tt
-    cases (Done t) h = tt
-    cases (Detach said s) h = tt
-    cases (Free s) h = tt
-    cases (Rescan said f) h = tt
-    cases (BeginPower said kind s) h = tt
-    cases (Sleep s) h = tt
-    cases (Wake s) h = tt
-    cases (EndPower s r) h = tt
-    cases (Plug said x) h = tt
-    cases (Unplug said x None) h = tt
-    cases (Unplug said x (Some s)) h = tt
-    cases (Tell said) h = tt
+has_reason w k d e = (has_reasons w k d (why_next w k d e)).0
 
 -- that of a command's deed
 pub has_command_reason : (w : World) (k : ℕ) (d : Deed) → next w k ≡ Does d → HasCommandReason w k d
-has_command_reason w k d e = cases d (why_next w k d e)
-  where
-    cases : (d : Deed) → Why w k d → HasCommandReason w k d
-    cases (Search p to got) h = tt
-    cases (EndScan p) h = tt
-    cases BeginInterrupts h = tt
-    cases (Finalise s shown got listed anew) h = tt
-    cases EndCaller h = tt
-    cases (Drop s) h = h
-    cases (Answer said r) h = h
-    cases (Open said s) h = h
-    cases (Close said s) h = h
-    cases (Start said t) h = h
-    cases (Done t) h = h
-    cases (Detach said s) h = h
-    cases (Free s) h = h
-    cases (Rescan said f) h = h
-    cases (BeginPower said kind s) h = h
-    cases (Sleep s) h = h
-    cases (Wake s) h = h
-    cases (EndPower s r) h = h
-    cases (Plug said x) h = h
-    cases (Unplug said x None) h = h
-    cases (Unplug said x (Some s)) h = h
-    cases (Tell said) h = h
+has_command_reason w k d e = (has_reasons w k d (why_next w k d e)).1
 
 -- ---- who rests
 
