@@ -31,7 +31,6 @@ use Rattle.run_sound.specs.Kept.{Kept}
 use Rattle.run_sound.proofs.Callers.{clash, doing_so, not_ended}
 use Rattle.run_sound.proofs.Freeing.{is_numbered}
 use Rattle.run_sound.proofs.Reasons.{has_command_reason}
-use Rattle.dev_board.specs.Choosing.{sleeps}
 use Rattle.dev_board.specs.Shown.{Shown}
 use Rattle.dev_board.specs.Stepping.{DenialsAre, IsOfBoot, StepIs, WaitIs, kept_ticket, ticket_in}
 use Rattle.dev_board.specs.declared.stepped.Stepped.{Stepped}
@@ -98,14 +97,12 @@ top_goes w k (Scan p only wanted from ∷ rest) = does _
 top_goes w k (Finaliser s ∷ rest) = does _
 top_goes w k [] = if_goes (k == 0) _ _ (boot_goes w) (command_goes w k)
 
-sleep_goes : (w : World) (target : ℕ) (d : Dev) → Goes (sleeps w target d)
-sleep_goes w target d =
-    if_goes (is_pinned w d.serial) (Waits (wait.Scan d.serial)) _ (waits_scan d.serial)
-    (if_goes (policy_of w.setup d.row).nopower _ _ (does _) (if_goes (policy_of w.setup d.row).failsuspend _ _ (does _) (does _)))
-
 suspend_goes : (w : World) (target : ℕ) → Goes (suspending w target)
 unfolding suspending
-suspend_goes w target = map_goes (sleeps w target) (next_sleep w.live target) (Does (EndPower target reply.Ok)) (λ d. sleep_goes w target d) (does _)
+suspend_goes w target =
+    map_goes _ (next_sleep w.live target) (Does (EndPower target reply.Ok))
+    (λ d. if_goes (is_pinned w d.serial) (Waits (wait.Scan d.serial)) _ (waits_scan d.serial)
+    (if_goes (policy_of w.setup d.row).nopower _ _ (does _) (if_goes (policy_of w.setup d.row).failsuspend _ _ (does _) (does _)))) (does _)
 
 wake_goes : (w : World) (target : ℕ) (whole : Bool) → Goes (waking w target whole)
 unfolding waking
