@@ -30,7 +30,8 @@ use Rattle.run_sound.specs.Commands.{power_command}
 use Rattle.run_sound.specs.Kept.{Kept}
 use Rattle.run_sound.proofs.Callers.{clash, doing_so, not_ended}
 use Rattle.run_sound.proofs.Freeing.{is_numbered}
-use Rattle.run_sound.proofs.Reasons.{has_command_reason}
+use Rattle.config_rules.proofs.Parts.{cond_both}
+use Rattle.run_sound.proofs.Reasons.{option_both, has_command_reason}
 use Rattle.dev_board.specs.Shown.{Shown}
 use Rattle.dev_board.specs.Stepping.{DenialsAre, IsOfBoot, StepIs, WaitIs, kept_ticket, ticket_in}
 use Rattle.dev_board.specs.declared.stepped.Stepped.{Stepped}
@@ -61,12 +62,10 @@ does : (d : Deed) → Goes (Does d)
 does d = record { so = tt }
 
 if_goes : (b : Bool) (x y : deeds.Choice) → Goes x → Goes y → Goes (cond b x y)
-if_goes true x y p q = p
-if_goes false x y p q = q
+if_goes b x y p q = cond_both Goes b x y (λ e. p) (λ e. q)
 
 map_goes : {A : Type 0} (f : A → deeds.Choice) (o : Option A) (c : deeds.Choice) → ((a : A) → Goes (f a)) → Goes c → Goes (option_map_or f o c)
-map_goes f None c p q = q
-map_goes f (Some a) c p q = p a
+map_goes f o c p q = option_both Goes f o c (λ a e. p a) (λ e. q)
 
 boot_goes : (w : World) → Goes (next_boot w)
 unfolding next_boot

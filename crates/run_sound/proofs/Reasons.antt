@@ -8,6 +8,7 @@ use Rattle.std.proofs.lemmas.Bool.Decides.{nat_tests}
 use Rattle.cf_types.specs.declared.machine.Command.{Command}
 use Rattle.cf_types.specs.declared.machine.Command.TheVariants as command
 use Rattle.cf_types.specs.declared.machine.Given.{Given}
+use Rattle.config_rules.proofs.Parts.{cond_both}
 use Rattle.run_rules.specs.declared.event.PowerKind.{PowerKind}
 use Rattle.run_rules.specs.declared.event.PowerKind.TheVariants as kind
 use Rattle.run_rules.specs.declared.world.Dev.{Dev}
@@ -42,6 +43,11 @@ Why w k d = HasCommandReason w k d
 
 -- ---- choices of choices
 
+-- what is made of an option has the property where both may
+pub option_both : {A B : Type 0} (P : B → Type 0) (f : A → B) (o : Option A) (d : B) → ((a : A) → o ≡ Some a → P (f a)) → (o ≡ None → P d) → P (option_map_or f o d)
+option_both P f None d p q = q refl
+option_both P f (Some a) d p q = p a refl
+
 -- each deed that the choice may come to has the property
 record Each (P : Deed → Type 0) (c : Choice) : Type 0 where
   each : (d : Deed) → c ≡ Does d → P d
@@ -53,20 +59,16 @@ because : {P : Deed → Type 0} (d : Deed) → P d → Each P (Does d)
 because {P} d h = record { each = λ e same. subst P (one_deed d e same) h }
 
 over_if : {P : Deed → Type 0} (b : Bool) (x y : Choice) → (b ≡ true → Each P x) → (b ≡ false → Each P y) → Each P (cond b x y)
-over_if true x y p q = p refl
-over_if false x y p q = q refl
+over_if {P} = cond_both (Each P)
 
 over_option : {P : Deed → Type 0} {A : Type 0} (f : A → Choice) (o : Option A) (c : Choice) → ((a : A) → o ≡ Some a → Each P (f a)) → (o ≡ None → Each P c) → Each P (option_map_or f o c)
-over_option f None c p q = q refl
-over_option f (Some a) c p q = p a refl
+over_option {P} = option_both (Each P)
 
 by_if : {P : Deed → Type 0} (b : Bool) (x y : Deed) → (b ≡ true → Each P (Does x)) → (b ≡ false → Each P (Does y)) → Each P (Does (cond b x y))
-by_if true x y p q = p refl
-by_if false x y p q = q refl
+by_if {P} = cond_both (λ d. Each P (Does d))
 
 by_option : {P : Deed → Type 0} {A : Type 0} (f : A → Deed) (o : Option A) (d : Deed) → ((a : A) → o ≡ Some a → Each P (Does (f a))) → (o ≡ None → Each P (Does d)) → Each P (Does (option_map_or f o d))
-by_option f None d p q = q refl
-by_option f (Some a) d p q = p a refl
+by_option {P} = option_both (λ d. Each P (Does d))
 
 nothing : {P : Deed → Type 0} (c : Choice) → ((d : Deed) → c ≡ Does d → ⊥) → Each P c
 nothing c never = record { each = λ d same. absurd (never d same) }
