@@ -169,42 +169,9 @@ pub fn is_booted(core: &Core) -> bool
     matches!(core.callers[0].doing, Activity::Ended)
 }
 
-/// A device comes by a caller's deed.
+/// A device comes by a caller's deed, if one was found.
 #[tactic(auto, unfolding(run_rules::specs::After::attached))]
 pub fn arrive(
-    alloc: Global,
-    graph: &Graph,
-    setup: &Setup,
-    core: &mut Core,
-    caller: u8,
-    arrival: Arrival,
-    may_defer: bool,
-) -> Result<(), Memory>
-    requires graph { IsGraphOf (declared_by setup.now.tables) graph.now }
-    requires bounded { Bounded setup.now }
-    requires books { Books setup.now core.old }
-    requires caller { caller < length core.old.callers.items }
-    requires may { MayArrive setup.now core.old.tree.live arrival }
-    requires next { core.old.tree.next < 2 ^ 64 - 1 }
-    requires frame_room { 2 ≤ (state_at core.old.callers.items caller).stack.room }
-    requires call_room { vec_len core.old.finalisers < vec_capacity core.old.finalisers }
-    ensures ok { OnOk result (world_of setup.now core.new ≡ after.attached (world_of setup.now core.old) caller arrival may_defer) }
-    ensures err { OnErr result (world_of setup.now core.new ≡ world_of setup.now core.old) }
-    ensures books { Books setup.now core.new }
-    ensures aside { SameAside core.old core.new }
-{
-    let policy = policy_of(setup, arrival.row);
-    let offers = offered(graph, &setup.tables, driver_of(setup, arrival.row));
-    let finaliser = finaliser_placing(policy, is_booted(core));
-    let scan = scan_placing(policy, offers, core.phase, may_defer);
-    let serial = list(setup, core, arrival, scan)?;
-    call_later(&mut core.finalisers, finaliser, serial);
-    core.callers[caller as usize].place(alloc, finaliser, scan, serial);
-    Ok(())
-}
-
-/// A device comes, if one was found.
-pub fn arrive_if(
     alloc: Global,
     graph: &Graph,
     setup: &Setup,
@@ -226,8 +193,16 @@ pub fn arrive_if(
     ensures books { Books setup.now core.new }
     ensures aside { SameAside core.old core.new }
 {
-    match got {
-        Some(arrival) => arrive(alloc, graph, setup, core, caller, arrival, may_defer),
-        None => Ok(()),
-    }
+    let arrival = match got {
+        Some(arrival) => arrival,
+        None => return Ok(()),
+    };
+    let policy = policy_of(setup, arrival.row);
+    let offers = offered(graph, &setup.tables, driver_of(setup, arrival.row));
+    let finaliser = finaliser_placing(policy, is_booted(core));
+    let scan = scan_placing(policy, offers, core.phase, may_defer);
+    let serial = list(setup, core, arrival, scan)?;
+    call_later(&mut core.finalisers, finaliser, serial);
+    core.callers[caller as usize].place(alloc, finaliser, scan, serial);
+    Ok(())
 }
