@@ -76,6 +76,11 @@ pub callers_alike : (cs : List CallerState) (k : ℕ) (x y : CallerState) → k 
 callers_alike cs k x y lt is alike =
     map_set caller_of cs k y ∙ ap (slice_set (callers_of cs) k) (alike ∙ at_is caller_of cs k x nobody lt is) ∙ set_own (callers_of cs) k nobody
 
+-- a caller in whose place one stands that it has become
+pub caller_set : (f : Caller → Caller) (cs : List CallerState) (k : ℕ) (x y : CallerState) → k < length cs → x ≡ slice_index_or cs k x → caller_of y ≡ f (caller_of x)
+    → callers_of (slice_set cs k y) ≡ slice_set (callers_of cs) k (f (slice_index_or (callers_of cs) k nobody))
+caller_set f cs k x y lt is so = map_set caller_of cs k y ∙ ap (slice_set (callers_of cs) k) (so ∙ ap f (at_is caller_of cs k x nobody lt is))
+
 -- a caller whose frames are the same, with another room
 pub room_made : (cs : List CallerState) (k : ℕ) (x : CallerState) (stack : Frames) → k < length cs → x ≡ slice_index_or cs k x → stack.frames ≡ x.stack.frames
     → callers_of (slice_set cs k (record x { stack = stack })) ≡ callers_of cs

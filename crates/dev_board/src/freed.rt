@@ -1,5 +1,5 @@
 //! A condemned device goes. See config_detach(9).
-ghost use Rattle.std.specs.Prelude.{◌≡◌, ◌≤◌, ◌<◌, ◌-◌, ◌^◌, [], length, IsTrue};
+ghost use Rattle.std.specs.Prelude.{◌≡◌, ◌<◌, ◌-◌, ◌^◌, [], length, IsTrue};
 ghost use Rattle.run_rules.specs.After as rule;
 ghost use Rattle.run_rules.specs.Deeds as deed;
 ghost use Rattle.run_rules.specs.World as world;
@@ -67,6 +67,6 @@ pub fn free(setup: &Setup, core: &mut Core, caller: u8, of: u64)
     let is_over = is_target(core.callers[caller as usize].doing, of);
     free_device(setup, core, of);
     if is_over {
-        finish(&mut core.callers, caller);
+        finish(core, caller);
     }
 }
