@@ -1,14 +1,13 @@
 //! A device comes: its unit is taken, it is listed, and its scan and its finaliser are placed. See config_attach(9).
-ghost use Rattle.std.specs.Prelude.{◌≡◌, ◌≤◌, ◌<◌, ◌+◌, ◌-◌, ◌^◌, ℕ, List, IfOk, IfSome, OnOk, OnErr, length, vec_len, vec_capacity};
+ghost use Rattle.std.specs.Prelude.{◌≡◌, ◌≤◌, ◌<◌, ◌-◌, ◌^◌, ℕ, List, IfOk, IfSome, OnOk, OnErr, length, vec_len, vec_capacity};
 ghost use Rattle.run_rules.specs.After as after;
-ghost use Rattle.run_rules.specs.World as world;
 ghost use Rattle.attr_graph.specs.Graphs.{IsGraphOf, declared_by};
 ghost use Rattle.dev_board.specs.Arrivals.{IsListed, MayArrive, StaysAsIs, called_too, finalised_too, put_off_too, searched_too, state_at};
 ghost use Rattle.run_rules.specs.declared.world.Deferred as entry;
-ghost use Rattle.run_rules.specs.declared.world.Setup as from;
 ghost use Rattle.dev_board.specs.Input.{Bounded};
 ghost use Rattle.dev_board.specs.View.{caller_of, world_of, Books, SameAside};
 
+use crate::busy::is_ended;
 use crate::caller::{CallerState, new_scan};
 use crate::marks::set_rows;
 use crate::parts::{Core, append};
@@ -16,7 +15,7 @@ use crate::spots::{driver_of, policy_of};
 use attr_graph::Graph;
 use cf_types::{Memory, Policy};
 use defer_queue::Deferred;
-use run_rules::{Activity, Arrival, Frame, Key, Placing, Setup};
+use run_rules::{Arrival, Frame, Key, Placing, Setup};
 use scan_engine::offered;
 use std::alloc::Global;
 
@@ -161,14 +160,6 @@ impl CallerState {
     }
 }
 
-/// Whether the boot is over.
-pub fn is_booted(core: &Core) -> bool
-    requires there { 0 < length core.now.callers.items }
-    ensures { (s : from.Setup) → result ≡ world.has_ended (world_of s core.now) 0 }
-{
-    matches!(core.callers[0].doing, Activity::Ended)
-}
-
 /// A device comes by a caller's deed, if one was found.
 #[tactic(auto, unfolding(run_rules::specs::After::attached))]
 pub fn arrive(
@@ -199,7 +190,7 @@ pub fn arrive(
     };
     let policy = policy_of(setup, arrival.row);
     let offers = offered(graph, &setup.tables, driver_of(setup, arrival.row));
-    let finaliser = finaliser_placing(policy, is_booted(core));
+    let finaliser = finaliser_placing(policy, is_ended(core, 0));
     let scan = scan_placing(policy, offers, core.phase, may_defer);
     let serial = list(setup, core, arrival, scan)?;
     call_later(&mut core.finalisers, finaliser, serial);

@@ -1,6 +1,7 @@
 //! What a caller is in the middle of.
 ghost use Rattle.std.specs.Prelude.{◌≡◌, ◌<◌, ◌-◌, ◌^◌, length, OnOk, OnErr};
 ghost use Rattle.run_rules.specs.After as rule;
+ghost use Rattle.run_rules.specs.World as world;
 ghost use Rattle.run_rules.specs.declared.world.Activity.TheVariants as activity;
 ghost use Rattle.run_rules.specs.declared.world.Setup as from;
 ghost use Rattle.dev_board.specs.Arrivals.{state_at};
@@ -9,6 +10,14 @@ ghost use Rattle.dev_board.specs.View.{world_of, Books, SameAside};
 use crate::parts::Core;
 use cf_types::Memory;
 use run_rules::{Activity, Frame};
+
+/// Whether a caller has ended.
+pub fn is_ended(core: &Core, caller: u8) -> bool
+    requires { caller < length core.now.callers.items }
+    ensures { (s : from.Setup) → result ≡ world.has_ended (world_of s core.now) caller }
+{
+    matches!(core.callers[caller as usize].doing, Activity::Ended)
+}
 
 /// The command of a caller is over.
 pub fn finish(core: &mut Core, caller: u8)
