@@ -1,4 +1,4 @@
-use Rattle.std.proofs.Common.{◌≡◌, ◌<◌, ◌∙◌, ◌+◌, ◌||◌, ◌&&◌, not, is_some, true, false, sym, ap, subst, arith, length, slice_set, List, Option, Some, None, Bool}
+use Rattle.std.proofs.Common.{◌≡◌, ◌<◌, ◌∙◌, ◌+◌, ◌||◌, ◌&&◌, not, is_some, true, false, sym, ap, subst, length, slice_set, List, Option, Some, None, Bool}
 use Rattle.run_rules.specs.declared.world.Arrival.{Arrival}
 use Rattle.run_rules.specs.declared.world.Activity.TheVariants.{Scans}
 use Rattle.run_rules.specs.After.{arrived, under_top, finaliser_done}
