@@ -11,6 +11,7 @@ use Rattle.run_rules.specs.World.{World, Caller, caller_at, nobody, scan_of}
 use Rattle.run_rules.specs.After.{settled, with_caller, with_stack}
 use Rattle.defer_queue.specs.Queue.{TakesLast, entry_of, entries_of}
 use Rattle.defer_queue.proofs.Queues.{entries_taken}
+use Rattle.scan_engine.specs.Frames.{Frames}
 use Rattle.dev_board.specs.declared.caller.CallerState.{CallerState}
 use Rattle.dev_board.specs.Arrivals.{state_at}
 use Rattle.dev_board.specs.Callers.{stacked, framed, released_frames}
@@ -74,6 +75,17 @@ state_is cs k = index_map caller_of cs k _
 pub callers_alike : (cs : List CallerState) (k : ℕ) (x y : CallerState) → k < length cs → x ≡ slice_index_or cs k x → caller_of y ≡ caller_of x → callers_of (slice_set cs k y) ≡ callers_of cs
 callers_alike cs k x y lt is alike =
     map_set caller_of cs k y ∙ ap (slice_set (callers_of cs) k) (alike ∙ at_is caller_of cs k x nobody lt is) ∙ set_own (callers_of cs) k nobody
+
+-- a caller in whose place one stands that it has become
+pub caller_set : (f : Caller → Caller) (cs : List CallerState) (k : ℕ) (x y : CallerState) → k < length cs → x ≡ slice_index_or cs k x → caller_of y ≡ f (caller_of x)
+    → callers_of (slice_set cs k y) ≡ slice_set (callers_of cs) k (f (slice_index_or (callers_of cs) k nobody))
+caller_set f cs k x y lt is so = map_set caller_of cs k y ∙ ap (slice_set (callers_of cs) k) (so ∙ ap f (at_is caller_of cs k x nobody lt is))
+
+-- a caller whose frames are the same, with another room
+pub room_made : (cs : List CallerState) (k : ℕ) (x : CallerState) (stack : Frames) → k < length cs → x ≡ slice_index_or cs k x → stack.frames ≡ x.stack.frames
+    → callers_of (slice_set cs k (record x { stack = stack })) ≡ callers_of cs
+room_made cs k x stack lt is same =
+    callers_alike cs k x (record x { stack = stack }) lt is (ap (λ (fs : List Frame). record { over = x.over; doing = x.doing; stack = fs }) same)
 
 -- how many commands of the caller at a place are over
 pub over_is : (cs : List CallerState) (k : ℕ) (x : CallerState) → k < length cs → x ≡ slice_index_or cs k x → x.over ≡ (slice_index_or (callers_of cs) k nobody).over

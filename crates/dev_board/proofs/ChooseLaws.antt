@@ -2,10 +2,10 @@
 use Rattle.std.proofs.Common.{◌≡◌, ◌≢◌, ◌<◌, ◌&&◌, ◌==◌, ℕ, Bool, true, false, not, List, [], ◌∷◌, length, Some, refl, sym, ap, ◌∙◌, ne_eqb}
 use Rattle.std.specs.List.{slice_index_or}
 use Rattle.run_rules.specs.declared.world.Frame.{Frame}
-use Rattle.run_rules.specs.World.{World, caller_at, has_ended, is_ended, nobody}
+use Rattle.run_rules.specs.World.{World, caller_at, has_ended, nobody}
 use Rattle.run_rules.specs.declared.world.Wait.TheVariants as wait
 use Rattle.run_rules.specs.Deeds as deeds
-use Rattle.run_rules.specs.Deeds.{Waits}
+use Rattle.run_rules.specs.Deeds.{Ended, Waits}
 use Rattle.run_rules.specs.Next.{by_activity, next, on_top}
 use Rattle.scan_engine.specs.Frames.{top_of}
 use Rattle.dev_board.specs.declared.caller.CallerState.{CallerState}
@@ -27,19 +27,17 @@ on_frame w cs k x f c all lt is top does =
 pub later_waits : (k : ℕ) (booted ended : Bool) → k ≢ 0 → booted ≡ ended → (not (k == 0) && not ended) ≡ not booted
 later_waits k booted ended later is = rw (ne_eqb k 0 later) (ap not (sym is))
 
-doing_is : (w : World) (cs : List CallerState) (k : ℕ) (x : CallerState) → w.callers ≡ callers_of cs → k < length cs → x ≡ slice_index_or cs k x → x.doing ≡ (caller_at w k).doing
+pub doing_is : (w : World) (cs : List CallerState) (k : ℕ) (x : CallerState) → w.callers ≡ callers_of cs → k < length cs → x ≡ slice_index_or cs k x → x.doing ≡ (caller_at w k).doing
 doing_is w cs k x all lt is = ap (λ c. c.doing) (at_is caller_of cs k x nobody lt is) ∙ ap (λ callers. (slice_index_or callers k nobody).doing) (sym all)
 
-pub next_waits : (w : World) (cs : List CallerState) (k : ℕ) (x : CallerState) (over waits : Bool) → w.callers ≡ callers_of cs → k < length cs → x ≡ slice_index_or cs k x
-    → over ≡ is_ended x.doing → over ≡ false → (not (k == 0) && not (has_ended w 0)) ≡ waits → waits ≡ true → next w k ≡ Waits wait.Boot
+pub next_ended : (w : World) (k : ℕ) → has_ended w k ≡ true → next w k ≡ Ended
 unfolding next
-next_waits w cs k x over waits all lt is ended off may on =
-    let goes : has_ended w k ≡ false = ap is_ended (sym (doing_is w cs k x all lt is)) ∙ sym ended ∙ off in
-    rw (goes, may, on) refl
+next_ended w k over = rw over refl
 
-pub next_goes : (w : World) (cs : List CallerState) (k : ℕ) (x : CallerState) (over waits : Bool) (c : deeds.Choice) → w.callers ≡ callers_of cs → k < length cs → x ≡ slice_index_or cs k x
-    → over ≡ is_ended x.doing → over ≡ false → (not (k == 0) && not (has_ended w 0)) ≡ waits → waits ≡ false → by_activity w k x.doing ≡ c → next w k ≡ c
+pub next_waits : (w : World) (k : ℕ) → has_ended w k ≡ false → (not (k == 0) && not (has_ended w 0)) ≡ true → next w k ≡ Waits wait.Boot
 unfolding next
-next_goes w cs k x over waits c all lt is ended off may on does =
-    let goes : has_ended w k ≡ false = ap is_ended (sym (doing_is w cs k x all lt is)) ∙ sym ended ∙ off in
-    rw (goes, may, on) (ap (by_activity w k) (sym (doing_is w cs k x all lt is)) ∙ does)
+next_waits w k goes waits = rw (goes, waits) refl
+
+pub next_goes : (w : World) (k : ℕ) → has_ended w k ≡ false → (not (k == 0) && not (has_ended w 0)) ≡ false → next w k ≡ by_activity w k (caller_at w k).doing
+unfolding next
+next_goes w k goes waits = rw (goes, waits) refl

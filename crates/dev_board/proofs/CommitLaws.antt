@@ -1,6 +1,8 @@
 -- What a commit changes is the world after the deed.
-use Rattle.std.proofs.Common.{◌≡◌, ℕ, Bool, true, false, not, List, [], ◌∷◌, ◌++◌, slice_set, is_some, Option, Some, None, refl, sym, ◌∙◌, ap}
+use Rattle.std.proofs.Common.{◌≡◌, ◌<◌, ℕ, Bool, true, false, not, List, [], ◌∷◌, ◌++◌, length, slice_set, is_some, Option, Some, None, refl, sym, ◌∙◌, ap, arith}
 use Rattle.std.specs.Prelude.{IsTrue}
+use Rattle.std.specs.List.{slice_index_or}
+use Rattle.std.proofs.lemmas.List.{length-map}
 use Rattle.run_rules.specs.declared.world.Activity.TheVariants as activity
 use Rattle.run_rules.specs.declared.world.Arrival.{Arrival}
 use Rattle.run_rules.specs.declared.world.Frame.{Frame}
@@ -9,14 +11,18 @@ use Rattle.run_rules.specs.declared.world.Key.TheVariants as key
 use Rattle.run_rules.specs.declared.world.Placing.{Placing}
 use Rattle.run_rules.specs.declared.world.Placing.TheVariants.{Nowhere, Queued, PutOff, Pushed}
 use Rattle.run_rules.specs.declared.world.Position.{Position}
+use Rattle.run_rules.specs.declared.world.Setup.{Setup}
 use Rattle.run_rules.specs.World.{World, Caller, caller_at, has_ended, nobody, policy_of, offered_by}
 use Rattle.run_rules.specs.Deeds.{Search, EndScan, BeginInterrupts, Finalise, EndCaller}
 use Rattle.run_rules.specs.After.{after, released, under_top, moved_top, with_stack, arrived, attached, listed, finaliser_placed, scan_placed, finaliser_placing, scan_placing, place_finaliser, place_scan, show_spot, list_moved, finaliser_done}
 use Rattle.defer_queue.specs.Queue.{others_of}
 use Rattle.scan_engine.specs.Frames.{is_scanning}
+use Rattle.dev_board.specs.declared.caller.CallerState.{CallerState}
+use Rattle.dev_board.specs.declared.parts.Core.{Core}
+use Rattle.dev_board.specs.View.{caller_of, callers_of, world_of}
 use Rattle.dev_board.specs.Callers.{stacked, framed, released_frames}
 use Rattle.dev_board.specs.Commits.{shown_now}
-use Rattle.dev_board.proofs.CallerLaws.{settled_frames, set_again, set_own}
+use Rattle.dev_board.proofs.CallerLaws.{at_is, settled_frames, set_again, set_own}
 
 abbrev pub with_callers : World → List Caller → World
 with_callers w cs = record w { callers = cs }
@@ -140,3 +146,11 @@ pub frame_over : (w v : World) (k of : ℕ) (shown : Option ℕ) (got : Option A
     → v ≡ with_callers w (slice_set w.callers k (framed (caller_at w k) (under_top (caller_at w k).stack))) → v ≡ after w k (Finalise of shown got listed anew)
 unfolding after
 frame_over w v k of shown got listed anew a b c is = rw (a, b, c) is
+
+-- the caller at a place, where the world is the same as before
+pub caller_same : (s : Setup) (old new : Core) (k : ℕ) (x : CallerState) → k < length old.callers.items → world_of s new ≡ world_of s old → x ≡ slice_index_or new.callers.items k x
+    → caller_of x ≡ caller_at (world_of s old) k
+caller_same s old new k x lt same is =
+    let here : callers_of new.callers.items ≡ callers_of old.callers.items = ap (λ (v : World). v.callers) same in
+    let there : k < length new.callers.items = omega (arith, lt, ap length here, length-map new.callers.items caller_of, length-map old.callers.items caller_of) in
+    at_is caller_of new.callers.items k x nobody there is ∙ ap (λ (cs : List Caller). slice_index_or cs k nobody) here

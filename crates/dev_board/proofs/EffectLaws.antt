@@ -1,5 +1,5 @@
 -- What a work needs is there where it is chosen, and what it leaves is the world after its deed.
-use Rattle.std.proofs.Common.{◌≡◌, ◌≢◌, ◌<◌, ◌≤◌, ◌^◌, ◌-◌, ℕ, zero, suc, false, List, [], ◌∷◌, length, Option, Some, None, refl, sym, ◌∙◌, ap, slice_set, arith}
+use Rattle.std.proofs.Common.{◌≡◌, ◌≢◌, ◌<◌, ◌≤◌, ◌^◌, ◌-◌, ℕ, zero, suc, false, List, [], ◌∷◌, length, Option, Some, None, refl, sym, ◌∙◌, ap, arith}
 use Rattle.std.specs.Prelude.{IsTrue, IfSome, OnOk, OnErr}
 use Rattle.std.specs.declared.result.Result.{Result}
 use Rattle.std.specs.declared.result.Result.TheVariants.{Ok, Err}
@@ -17,7 +17,7 @@ use Rattle.run_rules.specs.declared.world.Frame.TheVariants.{Scan}
 use Rattle.run_rules.specs.declared.world.Setup.{Setup}
 use Rattle.run_rules.specs.declared.world.Wanted.{Wanted}
 use Rattle.run_rules.specs.World.{World, Caller, caller_at, children, is_live, start}
-use Rattle.run_rules.specs.After.{after, with_caller, settled}
+use Rattle.run_rules.specs.After.{doing, pushed, settled, with_caller}
 use Rattle.run_rules.specs.Deeds.{Open, Close, Drop, Detach, Unplug, Sleep, Wake, Free, Rescan, Does}
 use Rattle.run_rules.specs.Next.{next, next_sleep, next_wake}
 use Rattle.run_sound.specs.Commands.{IsRescanFrame}
@@ -29,7 +29,7 @@ use Rattle.run_sound.proofs.ScriptLaws.{between_script, over_low}
 use Rattle.detach_engine.proofs.FreeLaws.{next_free_alone}
 use Rattle.dev_board.specs.declared.work.Work.{Work}
 use Rattle.dev_board.specs.declared.work.Work.TheVariants as work
-use Rattle.dev_board.specs.Effects.{IsKnown, MayDo, scanning, takes_memory}
+use Rattle.dev_board.specs.Effects.{IsKnown, MayDo, takes_memory}
 use Rattle.dev_board.specs.Works.{deed_by, wanted_by}
 use Rattle.dev_board.proofs.CallerLaws.{set_again}
 use Rattle.dev_board.proofs.InputLaws.{by_recursion}
@@ -42,15 +42,14 @@ pub err_more : {A B : Type 0} {P Q : Type 0} (r : Result A B) → OnErr r P → 
 err_more (Ok x) h f = h
 err_more (Err x) h f = f h
 
--- a rescan begins
-pub rescans : (w v : World) (k : ℕ) (said : Command) (f : Frame) → k < length w.callers → v ≡ record w { callers = slice_set w.callers k (scanning (caller_at w k) f) }
-    → v ≡ after w k (Rescan said f)
-unfolding after
-rescans w v k said f lt is =
+-- a frame is pushed onto a caller that scans from now on
+pub scans_on : (w : World) (k : ℕ) (f : Frame) → k < length w.callers
+    → with_caller w k (record { over = (caller_at w k).over; doing = activity.Scans; stack = f ∷ (caller_at w k).stack }) ≡ pushed (doing w k activity.Scans) k f
+scans_on w k f lt =
     let c : Caller = record { over = (caller_at w k).over; doing = activity.Scans; stack = (caller_at w k).stack } in
     let m : World = with_caller w k c in
-    is ∙ sym (ap (λ (x : Caller). with_caller m k (settled (record { over = x.over; doing = x.doing; stack = f ∷ x.stack }))) (caller_here w k c lt)
-    ∙ ap (λ (cs : List Caller). record w { callers = cs }) (set_again w.callers k c (scanning (caller_at w k) f)))
+    sym (ap (λ (x : Caller). with_caller m k (settled (record { over = x.over; doing = x.doing; stack = f ∷ x.stack }))) (caller_here w k c lt)
+    ∙ ap (λ (cs : List Caller). record w { callers = cs }) (set_again w.callers k c (record { over = c.over; doing = activity.Scans; stack = f ∷ c.stack })))
 
 -- ---- what a work needs
 

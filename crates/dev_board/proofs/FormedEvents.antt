@@ -38,7 +38,8 @@ use Rattle.run_sound.specs.Scripts.{IsAmid}
 use Rattle.run_sound.proofs.Arrivals.{finalise_comes, none_shown, search_comes}
 use Rattle.run_sound.proofs.Callers.{all_filter, doing_so}
 use Rattle.run_sound.proofs.Members.{all_flat_of, contained_live, each_mapped, found_contained, found_from_end, found_of, of_each}
-use Rattle.run_sound.proofs.Reasons.{has_command_reason, has_reason}
+use Rattle.config_rules.proofs.Parts.{cond_both}
+use Rattle.run_sound.proofs.Reasons.{option_both, has_command_reason, has_reason}
 use Rattle.run_sound.proofs.References.{amid_later}
 use Rattle.run_sound.proofs.ScriptLaws.{amid_said, doer_low}
 use Rattle.dev_board.specs.Arrivals.{MayArrive}
@@ -181,12 +182,10 @@ FitsDeed (EndPower s r) = MayEndPower r
 FitsDeed _ = ⊤
 
 by_if : (b : Bool) (x y : Deed) → FitsDeed x → FitsDeed y → FitsDeed (cond b x y)
-by_if true x y p q = p
-by_if false x y p q = q
+by_if b x y p q = cond_both FitsDeed b x y (λ e. p) (λ e. q)
 
 by_option : {A : Type 0} (f : A → Deed) (o : Option A) (d : Deed) → ((a : A) → o ≡ Some a → FitsDeed (f a)) → FitsDeed d → FitsDeed (option_map_or f o d)
-by_option f None d p q = q
-by_option f (Some a) d p q = p a refl
+by_option f o d p q = option_both FitsDeed f o d p (λ e. q)
 
 device_fits : (w : World) (said : Command) (name : List ℕ) (body : Dev → Deed) → ((d : Dev) → FitsDeed (body d)) → Fits said reply.Gone → Fits said reply.NoDevice
     → FitsDeed (on_device w said name body)
@@ -261,12 +260,10 @@ FitsChoice (Waits why) = ⊤
 FitsChoice Ended = ⊤
 
 choice_if : (b : Bool) (x y : Choice) → FitsChoice x → FitsChoice y → FitsChoice (cond b x y)
-choice_if true x y p q = p
-choice_if false x y p q = q
+choice_if b x y p q = cond_both FitsChoice b x y (λ e. p) (λ e. q)
 
 choice_option : {A : Type 0} (f : A → Choice) (o : Option A) (c : Choice) → ((a : A) → o ≡ Some a → FitsChoice (f a)) → FitsChoice c → FitsChoice (option_map_or f o c)
-choice_option f None c p q = q
-choice_option f (Some a) c p q = p a refl
+choice_option f o c p q = option_both FitsChoice f o c p (λ e. q)
 
 sleep_there : (w : World) (target : ℕ) (d : Dev) → AllNamed w → next_sleep w.live target ≡ Some d → Named w d
 unfolding next_sleep

@@ -1,7 +1,7 @@
 -- What a board keeps of its devices, where some are marked and where one is gone.
-use Rattle.std.proofs.Common.{◌≡◌, ◌<◌, ◌+◌, ℕ, zero, suc, Bool, true, false, not, ◌&&◌, ◌||◌, ◌==◌, cond, List, [], ◌∷◌, map, filter, length, take, get_or, slice_set, Some, None, refl, sym, ◌∙◌, ap, subst, arith, add-one, eq-eqb}
+use Rattle.std.proofs.Common.{◌≡◌, ℕ, Bool, true, false, not, ◌&&◌, ◌||◌, ◌==◌, cond, List, [], ◌∷◌, map, filter, Some, None, refl, sym, ◌∙◌, ap, subst, arith, eq-eqb}
 use Rattle.std.specs.List.{AllByRecursion}
-use Rattle.std.proofs.Math.Bool.{or-false, or-true}
+use Rattle.std.proofs.Math.Bool.{or-true}
 use Rattle.std.proofs.lemmas.Bool.{eqb-true, not-true}
 use Rattle.std.proofs.lemmas.Option.{same_Some}
 use Rattle.cf_types.specs.declared.tables.Row.{Row}
@@ -17,9 +17,9 @@ use Rattle.unit_alloc.specs.Taken.{GivenBack}
 use Rattle.match_search.specs.Best.{live_rows}
 use Rattle.dev_tree.proofs.Alike.{SamePlain}
 use Rattle.run_sound.proofs.Callers.{clash}
-use Rattle.dev_board.specs.Effects.{freed_too}
-use Rattle.dev_board.specs.Marks.{hits}
+use Rattle.dev_board.specs.Marks.{hits, rows_set}
 use Rattle.dev_board.specs.UnitsOf.{AreUnitsOf}
+use Rattle.dev_board.proofs.MarkLaws.{marks_by}
 
 -- ---- devices are marked: rows and units stay
 
@@ -108,25 +108,18 @@ units_without s live x old new apart at was less = record {
   taken = λ d n. less.taken d n ∙ ap (λ b. not (has_unit s x d n) && b) (was.taken d n) ∙ sym (taken_gone s live x d n apart at);
 }
 
-live_again : (star taken same own : Bool) → ((star || not taken) || (not star && (same && own))) ≡ (star || not (not (same && own) && taken))
+live_again : (star taken same own : Bool) → cond (not star && (same && own)) true (star || not taken) ≡ (star || not (not (same && own) && taken))
 live_again true taken same own = refl
-live_again false true true true = refl
-live_again false true true false = refl
-live_again false true false own = refl
-live_again false false true true = refl
-live_again false false true false = refl
-live_again false false false own = refl
-
-rows_gone : (s : Setup) (live : List Dev) (x : Dev) (rows : List Row) → EachLater (IsApart s) live → device_at live x.serial ≡ Some x
-    → freed_too rows (map (is_live_row s live) rows) (driver_of s x.row) x.unit ≡ map (is_live_row s (without live x.serial)) rows
-rows_gone s live x [] apart at = refl
-rows_gone s live x (r ∷ rs) apart at =
-    rw (taken_gone s live x r.device r.unit apart at, live_again r.star (is_taken s live r.device r.unit) (driver_of s x.row == r.device) (x.unit == r.unit), rows_gone s live x rs apart at) refl
+live_again false taken true true = refl
+live_again false taken true false = refl
+live_again false taken false own = refl
 
 marks_without : (s : Setup) (live : List Dev) (x : Dev) (old new : List Bool) → EachLater (IsApart s) live → device_at live x.serial ≡ Some x
-    → old ≡ live_rows s live → new ≡ freed_too s.tables.rows old (driver_of s x.row) x.unit → new ≡ live_rows s (without live x.serial)
-marks_without s live x old new apart at was is =
-    is ∙ ap (λ (bs : List Bool). freed_too s.tables.rows bs (driver_of s x.row) x.unit) was ∙ rows_gone s live x s.tables.rows apart at
+    → old ≡ live_rows s live → new ≡ rows_set s.tables.rows old (driver_of s x.row) x.unit true → new ≡ live_rows s (without live x.serial)
+marks_without s live x old new apart at = marks_by s live (without live x.serial) (driver_of s x.row) x.unit true old new each
+  where
+    each : (r : Row) → cond (hits r (driver_of s x.row) x.unit) true (is_live_row s live r) ≡ is_live_row s (without live x.serial) r
+    each r = rw (taken_gone s live x r.device r.unit apart at) (live_again r.star (is_taken s live r.device r.unit) (driver_of s x.row == r.device) (x.unit == r.unit))
 
 -- a live device is found, and its unit is taken
 pub found_there : (live : List Dev) (s : ℕ) → is_live live s ≡ true → device_at live s ≡ None → ⊥
@@ -157,37 +150,6 @@ units_gone s live of x old new apart at was less =
     subst (λ (n : ℕ). device_at live n ≡ Some x → AreUnitsOf s (without live n) new) (serial_found live of x at) (λ k. units_without s live x old new apart k was less) at
 
 pub marks_gone : (s : Setup) (live : List Dev) (of : ℕ) (x : Dev) (old new : List Bool) → EachLater (IsApart s) live → device_at live of ≡ Some x
-    → old ≡ live_rows s live → new ≡ freed_too s.tables.rows old (driver_of s x.row) x.unit → new ≡ live_rows s (without live of)
+    → old ≡ live_rows s live → new ≡ rows_set s.tables.rows old (driver_of s x.row) x.unit true → new ≡ live_rows s (without live of)
 marks_gone s live of x old new apart at was is =
     subst (λ (n : ℕ). device_at live n ≡ Some x → new ≡ live_rows s (without live n)) (serial_found live of x at) (λ k. marks_without s live x old new apart k was is) at
-
--- ---- row by row
-
-hit_suc : (rows : List Row) (marks : List Bool) (i device unit : ℕ) (r : Row) → i < length rows → hits (get_or rows i r) device unit ≡ true
-    → slice_set (freed_too (take i rows) marks device unit) i true ≡ freed_too (take (suc i) rows) marks device unit
-hit_suc [] marks i device unit r lt h = absurd (omega arith)
-hit_suc (x ∷ xs) [] zero device unit r lt h = refl
-hit_suc (x ∷ xs) (b ∷ bs) zero device unit r lt h = rw (h, or-true b) refl
-hit_suc (x ∷ xs) [] (suc i) device unit r lt h = refl
-hit_suc (x ∷ xs) (b ∷ bs) (suc i) device unit r lt h = ap (λ (ms : List Bool). (b || hits x device unit) ∷ ms) (hit_suc xs bs i device unit r (omega arith) h)
-
-miss_suc : (rows : List Row) (marks : List Bool) (i device unit : ℕ) (r : Row) → i < length rows → hits (get_or rows i r) device unit ≡ false
-    → freed_too (take i rows) marks device unit ≡ freed_too (take (suc i) rows) marks device unit
-miss_suc [] marks i device unit r lt h = absurd (omega arith)
-miss_suc (x ∷ xs) [] zero device unit r lt h = refl
-miss_suc (x ∷ xs) (b ∷ bs) zero device unit r lt h = rw (h, or-false b) refl
-miss_suc (x ∷ xs) [] (suc i) device unit r lt h = refl
-miss_suc (x ∷ xs) (b ∷ bs) (suc i) device unit r lt h = ap (λ (ms : List Bool). (b || hits x device unit) ∷ ms) (miss_suc xs bs i device unit r (omega arith) h)
-
-pub freed_hit : (rows : List Row) (old marks : List Bool) (i device unit : ℕ) (r : Row) → i < length rows → r ≡ get_or rows i r → hits r device unit ≡ true → marks ≡ freed_too (take i rows) old device unit
-    → slice_set marks i true ≡ freed_too (take (i + 1) rows) old device unit
-freed_hit rows old marks i device unit r lt is h so = rw (so, add-one) (hit_suc rows old i device unit r lt (ap (λ (x : Row). hits x device unit) (sym is) ∙ h))
-
-pub freed_miss : (rows : List Row) (old marks : List Bool) (i device unit : ℕ) (r : Row) → i < length rows → r ≡ get_or rows i r → hits r device unit ≡ false → marks ≡ freed_too (take i rows) old device unit
-    → marks ≡ freed_too (take (i + 1) rows) old device unit
-freed_miss rows old marks i device unit r lt is h so = rw (so, add-one) (miss_suc rows old i device unit r lt (ap (λ (x : Row). hits x device unit) (sym is) ∙ h))
-
-pub freed_length : (rows : List Row) (marks : List Bool) (device unit : ℕ) → length (freed_too rows marks device unit) ≡ length marks
-freed_length [] marks device unit = refl
-freed_length (r ∷ rs) [] device unit = refl
-freed_length (r ∷ rs) (b ∷ bs) device unit = ap suc (freed_length rs bs device unit)

@@ -30,8 +30,8 @@ use Rattle.run_sound.specs.Commands.{power_command}
 use Rattle.run_sound.specs.Kept.{Kept}
 use Rattle.run_sound.proofs.Callers.{clash, doing_so, not_ended}
 use Rattle.run_sound.proofs.Freeing.{is_numbered}
-use Rattle.run_sound.proofs.Reasons.{has_command_reason}
-use Rattle.dev_board.specs.Choosing.{sleeps}
+use Rattle.config_rules.proofs.Parts.{cond_both}
+use Rattle.run_sound.proofs.Reasons.{option_both, has_command_reason}
 use Rattle.dev_board.specs.Shown.{Shown}
 use Rattle.dev_board.specs.Stepping.{DenialsAre, IsOfBoot, StepIs, WaitIs, kept_ticket, ticket_in}
 use Rattle.dev_board.specs.declared.stepped.Stepped.{Stepped}
@@ -62,12 +62,10 @@ does : (d : Deed) → Goes (Does d)
 does d = record { so = tt }
 
 if_goes : (b : Bool) (x y : deeds.Choice) → Goes x → Goes y → Goes (cond b x y)
-if_goes true x y p q = p
-if_goes false x y p q = q
+if_goes b x y p q = cond_both Goes b x y (λ e. p) (λ e. q)
 
 map_goes : {A : Type 0} (f : A → deeds.Choice) (o : Option A) (c : deeds.Choice) → ((a : A) → Goes (f a)) → Goes c → Goes (option_map_or f o c)
-map_goes f None c p q = q
-map_goes f (Some a) c p q = p a
+map_goes f o c p q = option_both Goes f o c (λ a e. p a) (λ e. q)
 
 boot_goes : (w : World) → Goes (next_boot w)
 unfolding next_boot
@@ -98,14 +96,12 @@ top_goes w k (Scan p only wanted from ∷ rest) = does _
 top_goes w k (Finaliser s ∷ rest) = does _
 top_goes w k [] = if_goes (k == 0) _ _ (boot_goes w) (command_goes w k)
 
-sleep_goes : (w : World) (target : ℕ) (d : Dev) → Goes (sleeps w target d)
-sleep_goes w target d =
-    if_goes (is_pinned w d.serial) (Waits (wait.Scan d.serial)) _ (waits_scan d.serial)
-    (if_goes (policy_of w.setup d.row).nopower _ _ (does _) (if_goes (policy_of w.setup d.row).failsuspend _ _ (does _) (does _)))
-
 suspend_goes : (w : World) (target : ℕ) → Goes (suspending w target)
 unfolding suspending
-suspend_goes w target = map_goes (sleeps w target) (next_sleep w.live target) (Does (EndPower target reply.Ok)) (λ d. sleep_goes w target d) (does _)
+suspend_goes w target =
+    map_goes _ (next_sleep w.live target) (Does (EndPower target reply.Ok))
+    (λ d. if_goes (is_pinned w d.serial) (Waits (wait.Scan d.serial)) _ (waits_scan d.serial)
+    (if_goes (policy_of w.setup d.row).nopower _ _ (does _) (if_goes (policy_of w.setup d.row).failsuspend _ _ (does _) (does _)))) (does _)
 
 wake_goes : (w : World) (target : ℕ) (whole : Bool) → Goes (waking w target whole)
 unfolding waking

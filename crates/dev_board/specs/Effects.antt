@@ -1,54 +1,19 @@
--- What a command of a script leaves of its caller, and what a device that goes leaves of rows.
-use Rattle.std.specs.Prelude.{◌≡◌, ⊤, ℕ, ◌+◌, Bool, true, false, IsTrue, Some, is_some, map, ◌||◌, List, [], ◌∷◌, slice_set, slice_index_or}
-use Rattle.cf_types.specs.declared.tables.Row.{Row}
+-- What a work of a script needs of the world, and whether it takes memory.
+use Rattle.std.specs.Prelude.{◌≡◌, ⊤, ℕ, Bool, true, false, IsTrue, Some, is_some, map, []}
 use Rattle.cf_types.specs.Locators.{locators_at}
 use Rattle.cf_types.specs.declared.machine.Command.{Command}
 use Rattle.cf_types.specs.declared.tables.Place.TheVariants.{At}
 use Rattle.run_rules.specs.Next.{wanted_of}
-use Rattle.run_rules.specs.declared.world.Frame.{Frame}
 use Rattle.run_rules.specs.declared.world.Setup.{Setup}
-use Rattle.run_rules.specs.declared.world.Activity.{Activity}
-use Rattle.run_rules.specs.declared.world.Activity.TheVariants as activity
-use Rattle.run_rules.specs.World.{World, Caller, nobody, is_live, is_held, children}
+use Rattle.run_rules.specs.World.{World, is_live, is_held, children}
 use Rattle.ref_ledger.specs.Refs.{IsHolder}
 use Rattle.dev_board.specs.declared.work.Work.{Work}
 use Rattle.dev_board.specs.declared.work.Work.TheVariants as work
-use Rattle.dev_board.specs.Marks.{hits}
 use Rattle.dev_board.specs.Works.{given_by}
-
-abbrev pub caller_in : List Caller → ℕ → Caller
-caller_in cs k = slice_index_or cs k nobody
-
--- a caller whose command is over, and one that is in the middle of something
-abbrev pub finished : Caller → Caller
-finished c = record { over = c.over + 1; doing = activity.Idle; stack = c.stack }
-
-abbrev pub busy : Caller → Activity → Caller
-busy c a = record { over = c.over; doing = a; stack = c.stack }
-
--- a caller that searches again, by this frame
-abbrev pub scanning : Caller → Frame → Caller
-scanning c f = record { over = c.over; doing = activity.Scans; stack = f ∷ c.stack }
-
--- the callers, where one of them is so
-abbrev pub finished_at : List Caller → ℕ → List Caller
-finished_at cs k = slice_set cs k (finished (caller_in cs k))
-
-abbrev pub busy_at : List Caller → ℕ → Activity → List Caller
-busy_at cs k a = slice_set cs k (busy (caller_in cs k) a)
-
-abbrev pub scanning_at : List Caller → ℕ → Frame → List Caller
-scanning_at cs k f = slice_set cs k (scanning (caller_in cs k) f)
 
 -- the values that the command gives are of locators of the attribute, each of another
 abbrev pub IsKnown : Setup → Command → ℕ → Type 0
 IsKnown s said a = is_some (wanted_of (map (λ l. l.name) (locators_at s.tables.attrs (At a))) (given_by said)) ≡ true
-
--- the truth values of rows, where those of this device and unit are live again
-abbrev pub freed_too : List Row → List Bool → ℕ → ℕ → List Bool
-freed_too [] marks device unit = marks
-freed_too (r ∷ rs) [] device unit = []
-freed_too (r ∷ rs) (b ∷ bs) device unit = (b || hits r device unit) ∷ freed_too rs bs device unit
 
 -- whether a work takes memory
 abbrev pub takes_memory : Work → Bool

@@ -1,13 +1,11 @@
--- The rows that are live once a device has come.
-use Rattle.std.specs.Prelude.{ℕ, Bool, ◌==◌, ◌&&◌, not, List, [], ◌∷◌}
+-- The rows that are live once a device has come or gone.
+use Rattle.std.specs.Prelude.{ℕ, Bool, ◌==◌, ◌&&◌, not, if◌then◌else◌, List, map, zip}
 use Rattle.cf_types.specs.declared.tables.Row.{Row}
 
 -- a row of this device and unit that is not starred
 abbrev pub hits : Row → ℕ → ℕ → Bool
 hits r device unit = not r.star && (device == r.device && unit == r.unit)
 
--- the truth values of rows, where those of this device and unit are live no longer
-abbrev pub taken_too : List Row → List Bool → ℕ → ℕ → List Bool
-taken_too [] marks device unit = marks
-taken_too (r ∷ rs) [] device unit = []
-taken_too (r ∷ rs) (b ∷ bs) device unit = (b && not (hits r device unit)) ∷ taken_too rs bs device unit
+-- the truth values of rows, where those of this device and unit say whether they are live, and each other one what it said
+abbrev pub rows_set : List Row → List Bool → ℕ → ℕ → Bool → List Bool
+rows_set rows marks device unit live = map (λ p. if hits p.0 device unit then live else p.1) (zip rows marks)

@@ -1,22 +1,21 @@
 //! A device comes: its unit is taken, it is listed, and its scan and its finaliser are placed. See config_attach(9).
-ghost use Rattle.std.specs.Prelude.{◌≡◌, ◌≤◌, ◌<◌, ◌+◌, ◌-◌, ◌^◌, ℕ, List, IfOk, IfSome, OnOk, OnErr, length, vec_len, vec_capacity};
+ghost use Rattle.std.specs.Prelude.{◌≡◌, ◌≤◌, ◌<◌, ◌-◌, ◌^◌, ℕ, List, IfOk, IfSome, OnOk, OnErr, length, vec_len, vec_capacity};
 ghost use Rattle.run_rules.specs.After as after;
-ghost use Rattle.run_rules.specs.World as world;
 ghost use Rattle.attr_graph.specs.Graphs.{IsGraphOf, declared_by};
 ghost use Rattle.dev_board.specs.Arrivals.{IsListed, MayArrive, StaysAsIs, called_too, finalised_too, put_off_too, searched_too, state_at};
 ghost use Rattle.run_rules.specs.declared.world.Deferred as entry;
-ghost use Rattle.run_rules.specs.declared.world.Setup as from;
 ghost use Rattle.dev_board.specs.Input.{Bounded};
 ghost use Rattle.dev_board.specs.View.{caller_of, world_of, Books, SameAside};
 
+use crate::busy::is_ended;
 use crate::caller::{CallerState, new_scan};
-use crate::marks::mark_taken;
+use crate::marks::set_rows;
 use crate::parts::{Core, append};
 use crate::spots::{driver_of, policy_of};
 use attr_graph::Graph;
 use cf_types::{Memory, Policy};
 use defer_queue::Deferred;
-use run_rules::{Activity, Arrival, Frame, Key, Placing, Setup};
+use run_rules::{Arrival, Frame, Key, Placing, Setup};
 use scan_engine::offered;
 use std::alloc::Global;
 
@@ -122,7 +121,7 @@ fn list(setup: &Setup, core: &mut Core, arrival: Arrival, placing: Placing) -> R
         arrival.spot,
     ) {
         Ok(serial) => {
-            mark_taken(&setup.tables, &mut core.rows, driver, arrival.unit);
+            set_rows(&setup.tables, &mut core.rows, driver, arrival.unit, false);
             Ok(serial)
         }
         Err(_) => {
@@ -161,50 +160,9 @@ impl CallerState {
     }
 }
 
-/// Whether the boot is over.
-pub fn is_booted(core: &Core) -> bool
-    requires there { 0 < length core.now.callers.items }
-    ensures { (s : from.Setup) → result ≡ world.has_ended (world_of s core.now) 0 }
-{
-    matches!(core.callers[0].doing, Activity::Ended)
-}
-
-/// A device comes by a caller's deed.
+/// A device comes by a caller's deed, if one was found.
 #[tactic(auto, unfolding(run_rules::specs::After::attached))]
 pub fn arrive(
-    alloc: Global,
-    graph: &Graph,
-    setup: &Setup,
-    core: &mut Core,
-    caller: u8,
-    arrival: Arrival,
-    may_defer: bool,
-) -> Result<(), Memory>
-    requires graph { IsGraphOf (declared_by setup.now.tables) graph.now }
-    requires bounded { Bounded setup.now }
-    requires books { Books setup.now core.old }
-    requires caller { caller < length core.old.callers.items }
-    requires may { MayArrive setup.now core.old.tree.live arrival }
-    requires next { core.old.tree.next < 2 ^ 64 - 1 }
-    requires frame_room { 2 ≤ (state_at core.old.callers.items caller).stack.room }
-    requires call_room { vec_len core.old.finalisers < vec_capacity core.old.finalisers }
-    ensures ok { OnOk result (world_of setup.now core.new ≡ after.attached (world_of setup.now core.old) caller arrival may_defer) }
-    ensures err { OnErr result (world_of setup.now core.new ≡ world_of setup.now core.old) }
-    ensures books { Books setup.now core.new }
-    ensures aside { SameAside core.old core.new }
-{
-    let policy = policy_of(setup, arrival.row);
-    let offers = offered(graph, &setup.tables, driver_of(setup, arrival.row));
-    let finaliser = finaliser_placing(policy, is_booted(core));
-    let scan = scan_placing(policy, offers, core.phase, may_defer);
-    let serial = list(setup, core, arrival, scan)?;
-    call_later(&mut core.finalisers, finaliser, serial);
-    core.callers[caller as usize].place(alloc, finaliser, scan, serial);
-    Ok(())
-}
-
-/// A device comes, if one was found.
-pub fn arrive_if(
     alloc: Global,
     graph: &Graph,
     setup: &Setup,
@@ -226,8 +184,16 @@ pub fn arrive_if(
     ensures books { Books setup.now core.new }
     ensures aside { SameAside core.old core.new }
 {
-    match got {
-        Some(arrival) => arrive(alloc, graph, setup, core, caller, arrival, may_defer),
-        None => Ok(()),
-    }
+    let arrival = match got {
+        Some(arrival) => arrival,
+        None => return Ok(()),
+    };
+    let policy = policy_of(setup, arrival.row);
+    let offers = offered(graph, &setup.tables, driver_of(setup, arrival.row));
+    let finaliser = finaliser_placing(policy, is_ended(core, 0));
+    let scan = scan_placing(policy, offers, core.phase, may_defer);
+    let serial = list(setup, core, arrival, scan)?;
+    call_later(&mut core.finalisers, finaliser, serial);
+    core.callers[caller as usize].place(alloc, finaliser, scan, serial);
+    Ok(())
 }

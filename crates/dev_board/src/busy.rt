@@ -1,64 +1,58 @@
 //! What a caller is in the middle of.
 ghost use Rattle.std.specs.Prelude.{◌≡◌, ◌<◌, ◌-◌, ◌^◌, length, OnOk, OnErr};
+ghost use Rattle.run_rules.specs.After as rule;
+ghost use Rattle.run_rules.specs.World as world;
+ghost use Rattle.run_rules.specs.declared.world.Activity.TheVariants as activity;
+ghost use Rattle.run_rules.specs.declared.world.Setup as from;
 ghost use Rattle.dev_board.specs.Arrivals.{state_at};
-ghost use Rattle.dev_board.specs.Effects.{scanning, scanning_at, busy, busy_at, finished, finished_at};
-ghost use Rattle.dev_board.specs.View.{caller_of, callers_of};
+ghost use Rattle.dev_board.specs.View.{world_of, Books, SameAside};
 
-use crate::caller::CallerState;
+use crate::parts::Core;
 use cf_types::Memory;
 use run_rules::{Activity, Frame};
 
-impl CallerState {
-    /// Its command is over.
-    fn finish(&mut self)
-        requires low { self.old.over < 2 ^ 32 - 1 }
-        ensures { caller_of self.new ≡ finished (caller_of self.old) }
-    {
-        self.over += 1;
-        self.doing = Activity::Idle;
-    }
-
-    /// It is in the middle of something.
-    fn begin(&mut self, doing: Activity)
-        ensures { caller_of self.new ≡ busy (caller_of self.old) doing }
-    {
-        self.doing = doing;
-    }
-
-    /// It searches again. At `Memory` it is as before.
-    fn begin_scan(&mut self, frame: Frame) -> Result<(), Memory>
-        ensures ok { OnOk result (caller_of self.new ≡ scanning (caller_of self.old) frame) }
-        ensures err { OnErr result (caller_of self.new ≡ caller_of self.old) }
-    {
-        self.stack.reserve(1)?;
-        self.doing = Activity::Scans;
-        self.push(frame);
-        Ok(())
-    }
+/// Whether a caller has ended.
+pub fn is_ended(core: &Core, caller: u8) -> bool
+    requires { caller < length core.now.callers.items }
+    ensures { (s : from.Setup) → result ≡ world.has_ended (world_of s core.now) caller }
+{
+    matches!(core.callers[caller as usize].doing, Activity::Ended)
 }
 
 /// The command of a caller is over.
-pub fn finish(callers: &mut Vec<CallerState>, caller: u8)
-    requires caller { caller < length callers.old.items }
-    requires low { (state_at callers.old.items caller).over < 2 ^ 32 - 1 }
-    ensures { callers_of callers.new.items ≡ finished_at (callers_of callers.old.items) caller }
+pub fn finish(core: &mut Core, caller: u8)
+    requires caller { caller < length core.old.callers.items }
+    requires low { (state_at core.old.callers.items caller).over < 2 ^ 32 - 1 }
+    ensures world { (s : from.Setup) → world_of s core.new ≡ rule.over (world_of s core.old) caller }
+    ensures books { (s : from.Setup) → Books s core.old → Books s core.new }
+    ensures aside { SameAside core.old core.new }
 {
-    callers[caller as usize].finish();
+    let state = &mut core.callers[caller as usize];
+    state.over += 1;
+    state.doing = Activity::Idle;
 }
 
 /// A caller is in the middle of something.
-pub fn begin(callers: &mut Vec<CallerState>, caller: u8, doing: Activity)
-    requires caller { caller < length callers.old.items }
-    ensures { callers_of callers.new.items ≡ busy_at (callers_of callers.old.items) caller doing }
+pub fn begin(core: &mut Core, caller: u8, doing: Activity)
+    requires caller { caller < length core.old.callers.items }
+    ensures world { (s : from.Setup) → world_of s core.new ≡ rule.doing (world_of s core.old) caller doing }
+    ensures books { (s : from.Setup) → Books s core.old → Books s core.new }
+    ensures aside { SameAside core.old core.new }
 {
-    callers[caller as usize].begin(doing);
+    core.callers[caller as usize].doing = doing;
 }
 
 /// A caller searches again. At `Memory` all is as before.
-pub fn begin_scan(callers: &mut Vec<CallerState>, caller: u8, frame: Frame) -> Result<(), Memory>
-    requires caller { caller < length callers.old.items }
-    ensures ok { OnOk result (callers_of callers.new.items ≡ scanning_at (callers_of callers.old.items) caller frame) }
-    ensures err { OnErr result (callers_of callers.new.items ≡ callers_of callers.old.items) }
+pub fn begin_scan(core: &mut Core, caller: u8, frame: Frame) -> Result<(), Memory>
+    requires caller { caller < length core.old.callers.items }
+    ensures ok { OnOk result ((s : from.Setup) → world_of s core.new ≡ rule.pushed (rule.doing (world_of s core.old) caller activity.Scans) caller frame) }
+    ensures err { OnErr result ((s : from.Setup) → world_of s core.new ≡ world_of s core.old) }
+    ensures books { (s : from.Setup) → Books s core.old → Books s core.new }
+    ensures aside { SameAside core.old core.new }
 {
-    callers[caller as usize].begin_scan(frame)
+    let state = &mut core.callers[caller as usize];
+    state.stack.reserve(1)?;
+    state.doing = Activity::Scans;
+    state.push(frame);
+    Ok(())
 }

@@ -1,7 +1,7 @@
 //! What a caller does next.
 ghost use Rattle.std.specs.Prelude.{◌≡◌, ◌≤◌, ◌<◌, ◌-◌, ℕ, List, [], ◌∷◌, false, not, ◌&&◌, ◌==◌, Some, None, IfOk, length, option_copied, slice_get, slice_index_or, if◌then◌else◌};
 ghost use Rattle.run_rules.specs.Next as next;
-ghost use Rattle.run_rules.specs.World.{caller_at, has_ended, is_ended};
+ghost use Rattle.run_rules.specs.World.{caller_at, has_ended};
 ghost use Rattle.run_rules.specs.Deeds.{Does};
 ghost use Rattle.run_rules.specs.declared.world.Frame as frames;
 ghost use Rattle.run_rules.specs.declared.world.Setup as from;
@@ -12,7 +12,7 @@ ghost use Rattle.dev_board.specs.Input.{Bounded};
 ghost use Rattle.dev_board.specs.Plans.{deed_of};
 ghost use Rattle.dev_board.specs.View.{world_of, Books};
 
-use crate::arrive::is_booted;
+use crate::busy::is_ended;
 use crate::choice::Choice;
 use crate::command::plan_command;
 use crate::freeing::{plan_closing, plan_free};
@@ -196,18 +196,12 @@ fn plan_activity(
     }
 }
 
-fn is_over(doing: Activity) -> bool
-    ensures { result ≡ is_ended doing }
-{
-    matches!(doing, Activity::Ended)
-}
-
 /// Whether a caller waits for the boot to be over.
 fn waits_for_boot(core: &Core, caller: u8) -> bool
     requires there { 0 < length core.now.callers.items }
     ensures { (s : from.Setup) → (not (caller == 0) && not (has_ended (world_of s core.now) 0)) ≡ result }
 {
-    caller != 0 && !is_booted(core)
+    caller != 0 && !is_ended(core, 0)
 }
 
 /// What a caller does next.
@@ -226,12 +220,12 @@ pub fn choose(
     requires caller { caller < length core.now.callers.items }
     ensures { IfOk result (λ does. next.next (world_of setup.now core.now) caller ≡ choice_of (world_of setup.now core.now) caller does) }
 {
-    let doing = core.callers[caller as usize].doing;
-    if is_over(doing) {
+    if is_ended(core, caller) {
         return Ok(Choice::Ended);
     }
     if waits_for_boot(core, caller) {
         return Ok(Choice::Waits(Wait::Boot));
     }
+    let doing = core.callers[caller as usize].doing;
     plan_activity(alloc, graph, setup, core, caller, doing)
 }

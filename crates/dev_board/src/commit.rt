@@ -13,7 +13,7 @@ ghost use Rattle.dev_board.specs.Input.{Bounded};
 ghost use Rattle.dev_board.specs.Plans.{deed_of, got_of};
 ghost use Rattle.dev_board.specs.View.{world_of, Books, SameAside};
 
-use crate::arrive::arrive_if;
+use crate::arrive::arrive;
 use crate::parts::Core;
 use crate::plan::Plan;
 use attr_graph::Graph;
@@ -47,7 +47,7 @@ fn search(
 {
     let was = core.callers[caller as usize].position();
     core.callers[caller as usize].advance(moved);
-    if arrive_if(alloc, graph, setup, core, caller, got, true).is_err() {
+    if arrive(alloc, graph, setup, core, caller, got, true).is_err() {
         core.callers[caller as usize].advance(was);
         return Err(Memory);
     }
@@ -100,7 +100,7 @@ fn finalise(
     ensures books { Books setup.now core.new }
     ensures aside { SameAside core.old core.new }
 {
-    arrive_if(alloc, graph, setup, core, caller, got, false)?;
+    arrive(alloc, graph, setup, core, caller, got, false)?;
     show(&mut core.hidden, shown);
     match listed {
         Some(place) => {

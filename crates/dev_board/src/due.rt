@@ -1,5 +1,5 @@
 //! The due turn of a scan.
-ghost use Rattle.std.specs.Prelude.{◌≡◌, ◌≤◌, ◌<◌, ◌&&◌, not, false, IfSome, length, option_map, slice_get};
+ghost use Rattle.std.specs.Prelude.{◌≡◌, ◌<◌, ◌&&◌, false, IfSome, length, slice_get};
 ghost use Rattle.std.specs.Option.{option_map_or};
 ghost use Rattle.std.specs.Ordering.{int_eq};
 ghost use Rattle.run_rules.specs.World as world;
@@ -11,9 +11,10 @@ ghost use Rattle.dev_board.specs.Turns.{searcher_of};
 
 use crate::parts::Core;
 use crate::search::{is_occupied, winner_at};
-use crate::spots::{attach_of, driver_of, found_at, has_spot};
+use crate::spots::{attach_of, driver_of, has_spot};
 use attr_graph::Graph;
 use dev_tree::DevTree;
+use match_search::found_at;
 use run_rules::{Position, Setup, Turn, Wanted};
 use scan_engine::next_turn;
 
@@ -67,7 +68,7 @@ fn is_open(setup: &Setup, core: &Core, filter: &[Wanted], spot: u16) -> bool
     let absent = has_spot(&core.absent, spot);
     let hidden = has_spot(&core.hidden, spot);
     let occupied = is_occupied(&core.tree, spot);
-    let passes = passes_filter(found_at(setup, spot), filter);
+    let passes = passes_filter(found_at(&setup.machine, spot), filter);
     !absent && !hidden && !occupied && passes
 }
 

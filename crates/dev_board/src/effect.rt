@@ -32,21 +32,7 @@ use cf_types::{Command, Memory, Ticket};
 use run_rules::{Activity, Frame, Position, PowerKind, Setup};
 use std::alloc::Global;
 
-/// A command that changes nothing else is over: a refusal, a list or a tree.
-#[tactic(auto, unfolding(run_rules::specs::After::after))]
-fn answer(core: &mut Core, caller: u8)
-    requires caller { caller < length core.old.callers.items }
-    requires low { (state_at core.old.callers.items caller).over < 2 ^ 32 - 1 }
-    ensures refused { (s : from.Setup) (said : Command) (reply : Reply) → world_of s core.new ≡ rule.after (world_of s core.old) caller (deed.Answer said reply) }
-    ensures told { (s : from.Setup) (said : Command) → world_of s core.new ≡ rule.after (world_of s core.old) caller (deed.Tell said) }
-    ensures books { (s : from.Setup) → Books s core.old → Books s core.new }
-    ensures aside { SameAside core.old core.new }
-{
-    finish(&mut core.callers, caller);
-}
-
 /// The caller holds a device from now on. At `Memory` all is as before.
-#[tactic(auto, unfolding(run_rules::specs::After::after))]
 fn open(core: &mut Core, caller: u8, of: u64) -> Result<(), Memory>
     requires caller { caller < length core.old.callers.items }
     requires low { (state_at core.old.callers.items caller).over < 2 ^ 32 - 1 }
@@ -58,12 +44,11 @@ fn open(core: &mut Core, caller: u8, of: u64) -> Result<(), Memory>
     ensures aside { SameAside core.old core.new }
 {
     core.refs.grant(of, caller)?;
-    finish(&mut core.callers, caller);
+    finish(core, caller);
     Ok(())
 }
 
 /// The caller holds a device no longer.
-#[tactic(auto, unfolding(run_rules::specs::After::after))]
 fn close(core: &mut Core, caller: u8, of: u64)
     requires caller { caller < length core.old.callers.items }
     requires low { (state_at core.old.callers.items caller).over < 2 ^ 32 - 1 }
@@ -73,7 +58,7 @@ fn close(core: &mut Core, caller: u8, of: u64)
     ensures aside { SameAside core.old core.new }
 {
     core.refs.give_back(of, caller);
-    finish(&mut core.callers, caller);
+    finish(core, caller);
 }
 
 /// After its last command the caller returns a device.
@@ -87,19 +72,7 @@ fn give_back(core: &mut Core, caller: u8, of: u64)
     core.refs.give_back(of, caller);
 }
 
-/// A transfer begins.
-#[tactic(auto, unfolding(run_rules::specs::After::after))]
-fn start_transfer(core: &mut Core, caller: u8, ticket: Ticket)
-    requires caller { caller < length core.old.callers.items }
-    ensures world { (s : from.Setup) (said : Command) → world_of s core.new ≡ rule.after (world_of s core.old) caller (deed.Start said ticket) }
-    ensures books { (s : from.Setup) → Books s core.old → Books s core.new }
-    ensures aside { SameAside core.old core.new }
-{
-    begin(&mut core.callers, caller, Activity::Transfer(ticket));
-}
-
 /// A transfer is over.
-#[tactic(auto, unfolding(run_rules::specs::After::after))]
 pub fn finish_transfer(core: &mut Core, caller: u8)
     requires caller { caller < length core.old.callers.items }
     requires low { (state_at core.old.callers.items caller).over < 2 ^ 32 - 1 }
@@ -107,22 +80,10 @@ pub fn finish_transfer(core: &mut Core, caller: u8)
     ensures books { (s : from.Setup) → Books s core.old → Books s core.new }
     ensures aside { SameAside core.old core.new }
 {
-    finish(&mut core.callers, caller);
-}
-
-/// The script is over.
-#[tactic(auto, unfolding(run_rules::specs::After::after))]
-fn end_script(core: &mut Core, caller: u8)
-    requires caller { caller < length core.old.callers.items }
-    ensures world { (s : from.Setup) → world_of s core.new ≡ rule.after (world_of s core.old) caller (deed.EndCaller) }
-    ensures books { (s : from.Setup) → Books s core.old → Books s core.new }
-    ensures aside { SameAside core.old core.new }
-{
-    begin(&mut core.callers, caller, Activity::Ended);
+    finish(core, caller);
 }
 
 /// A power command begins: the caller has the power turn.
-#[tactic(auto, unfolding(run_rules::specs::After::after))]
 fn begin_power(core: &mut Core, caller: u8, kind: PowerKind, of: u64)
     requires caller { caller < length core.old.callers.items }
     ensures world { (s : from.Setup) (said : Command) → world_of s core.new ≡ rule.after (world_of s core.old) caller (deed.BeginPower said kind of) }
@@ -130,11 +91,10 @@ fn begin_power(core: &mut Core, caller: u8, kind: PowerKind, of: u64)
     ensures aside { SameAside core.old core.new }
 {
     core.turn = Some(caller);
-    begin(&mut core.callers, caller, Activity::Power(kind, of));
+    begin(core, caller, Activity::Power(kind, of));
 }
 
 /// A power command is over, and the power turn is given up.
-#[tactic(auto, unfolding(run_rules::specs::After::after))]
 fn end_power(core: &mut Core, caller: u8)
     requires caller { caller < length core.old.callers.items }
     requires low { (state_at core.old.callers.items caller).over < 2 ^ 32 - 1 }
@@ -143,11 +103,10 @@ fn end_power(core: &mut Core, caller: u8)
     ensures aside { SameAside core.old core.new }
 {
     core.turn = None;
-    finish(&mut core.callers, caller);
+    finish(core, caller);
 }
 
 /// Hardware comes to a spot.
-#[tactic(auto, unfolding(run_rules::specs::After::after))]
 fn plug(core: &mut Core, caller: u8, spot: u16)
     requires caller { caller < length core.old.callers.items }
     requires low { (state_at core.old.callers.items caller).over < 2 ^ 32 - 1 }
@@ -156,11 +115,10 @@ fn plug(core: &mut Core, caller: u8, spot: u16)
     ensures aside { SameAside core.old core.new }
 {
     remove_spot(&mut core.absent, spot);
-    finish(&mut core.callers, caller);
+    finish(core, caller);
 }
 
 /// A device and all that is below it are condemned: the caller frees them from now on.
-#[tactic(auto, unfolding(run_rules::specs::After::after))]
 fn detach(core: &mut Core, caller: u8, of: u64)
     requires caller { caller < length core.old.callers.items }
     requires live { IsTrue (world.is_live core.old.tree.live of) }
@@ -169,7 +127,7 @@ fn detach(core: &mut Core, caller: u8, of: u64)
     ensures aside { SameAside core.old core.new }
 {
     core.tree.condemn(of, caller);
-    begin(&mut core.callers, caller, Activity::Frees(of));
+    begin(core, caller, Activity::Frees(of));
 }
 
 /// A device goes to sleep, or wakes.
@@ -183,7 +141,6 @@ fn rest(core: &mut Core, of: u64, asleep: bool)
 }
 
 /// The hardware of a spot goes, and the caller frees from now on what stands there. At `Memory` all is as before.
-#[tactic(auto, unfolding(run_rules::specs::After::after))]
 fn unplug(core: &mut Core, caller: u8, spot: u16, of: Option<u64>) -> Result<(), Memory>
     requires caller { caller < length core.old.callers.items }
     requires low { (state_at core.old.callers.items caller).over < 2 ^ 32 - 1 }
@@ -197,9 +154,9 @@ fn unplug(core: &mut Core, caller: u8, spot: u16, of: Option<u64>) -> Result<(),
     match of {
         Some(of) => {
             core.tree.condemn(of, caller);
-            begin(&mut core.callers, caller, Activity::Frees(of));
+            begin(core, caller, Activity::Frees(of));
         }
-        None => finish(&mut core.callers, caller),
+        None => finish(core, caller),
     }
     Ok(())
 }
@@ -219,10 +176,10 @@ fn do_plain(setup: &Setup, core: &mut Core, caller: u8, work: Work)
     ensures aside { SameAside core.old core.new }
 {
     match work {
-        Work::Refuse(_) => answer(core, caller),
-        Work::Tell => answer(core, caller),
+        Work::Refuse(_) => finish(core, caller),
+        Work::Tell => finish(core, caller),
         Work::Close { of } => close(core, caller, of),
-        Work::Start(ticket) => start_transfer(core, caller, ticket),
+        Work::Start(ticket) => begin(core, caller, Activity::Transfer(ticket)),
         Work::Detach { of } => detach(core, caller, of),
         Work::BeginPower { kind, of } => begin_power(core, caller, kind, of),
         Work::EndPower { of: _, end: _ } => end_power(core, caller),
@@ -231,7 +188,7 @@ fn do_plain(setup: &Setup, core: &mut Core, caller: u8, work: Work)
         Work::Plug { spot } => plug(core, caller, spot),
         Work::Free { of } => free(setup, core, caller, of),
         Work::Drop { of } => give_back(core, caller, of),
-        Work::End => end_script(core, caller),
+        Work::End => begin(core, caller, Activity::Ended),
         Work::Open { of: _ } => unreachable!(),
         Work::Rescan { of: _, only: _ } => unreachable!(),
         Work::Unplug { spot: _, of: _ } => unreachable!(),
@@ -258,7 +215,7 @@ fn rescan(
 {
     let filter = wanted_by(alloc, setup, said, only)?;
     begin_scan(
-        &mut core.callers,
+        core,
         caller,
         Frame::Scan {
             serial: of,

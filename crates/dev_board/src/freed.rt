@@ -1,35 +1,19 @@
 //! A condemned device goes. See config_detach(9).
-ghost use Rattle.std.specs.Prelude.{◌≡◌, ◌≤◌, ◌<◌, ◌-◌, ◌^◌, [], length, IsTrue};
+ghost use Rattle.std.specs.Prelude.{◌≡◌, ◌<◌, ◌-◌, ◌^◌, [], length, IsTrue};
 ghost use Rattle.run_rules.specs.After as rule;
 ghost use Rattle.run_rules.specs.Deeds as deed;
 ghost use Rattle.run_rules.specs.World as world;
 ghost use Rattle.dev_board.specs.Arrivals.{state_at};
 ghost use Rattle.run_rules.specs.Sound.{HasSoundDevices};
 ghost use Rattle.dev_board.specs.Events.{HaveRows};
-ghost use Rattle.dev_board.specs.Effects.{freed_too};
 ghost use Rattle.dev_board.specs.Input.{Bounded};
 ghost use Rattle.dev_board.specs.View.{world_of, Books, SameAside};
 
 use crate::busy::finish;
-use crate::marks::is_hit;
+use crate::marks::set_rows;
 use crate::parts::Core;
 use crate::spots::driver_of;
-use cf_types::Tables;
-use match_search::LiveRows;
 use run_rules::{Activity, Setup};
-
-/// Marks the rows of a device and a unit that no device has any longer.
-fn mark_freed(tables: &Tables, rows: &mut LiveRows, device: u32, unit: u32)
-    requires length { length rows.old ≡ length tables.now.rows }
-    requires few { length tables.now.rows ≤ 8192 }
-    ensures { rows.new ≡ freed_too tables.now.rows rows.old device unit }
-{
-    for (index, row) in tables.rows.items().iter().enumerate() {
-        if is_hit(row, device, unit) {
-            rows.set(index as u32, true);
-        }
-    }
-}
 
 /// A device without children goes: its unit is given back, and its rows are live again.
 fn free_device(setup: &Setup, core: &mut Core, of: u64)
@@ -49,7 +33,7 @@ fn free_device(setup: &Setup, core: &mut Core, of: u64)
             let driver = driver_of(setup, device.row);
             core.units.give(driver, device.unit);
             core.tree.free(of);
-            mark_freed(&setup.tables, &mut core.rows, driver, device.unit);
+            set_rows(&setup.tables, &mut core.rows, driver, device.unit, true);
         }
         None => unreachable!(),
     }
@@ -83,6 +67,6 @@ pub fn free(setup: &Setup, core: &mut Core, caller: u8, of: u64)
     let is_over = is_target(core.callers[caller as usize].doing, of);
     free_device(setup, core, of);
     if is_over {
-        finish(&mut core.callers, caller);
+        finish(core, caller);
     }
 }

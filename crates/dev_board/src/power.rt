@@ -6,7 +6,7 @@ ghost use Rattle.run_rules.specs.World as world;
 ghost use Rattle.run_rules.specs.declared.world.Activity.TheVariants as activity;
 ghost use Rattle.run_rules.specs.declared.world.Setup as from;
 ghost use Rattle.run_sound.specs.Kept.{Kept};
-ghost use Rattle.dev_board.specs.Choosing.{choice_of, sleeps};
+ghost use Rattle.dev_board.specs.Choosing.{choice_of};
 ghost use Rattle.dev_board.specs.View.{world_of};
 
 use crate::choice::Choice;
@@ -36,10 +36,12 @@ fn sleeper(core: &Core, target: u64) -> Option<Dev>
     }
 }
 
-/// A device is put to sleep, or is waited for, or is in the way.
+/// How a suspension goes on with the device that sleeps next: it is put to sleep, or is waited for, or is in the way.
+#[tactic(auto, unfolding(run_rules::specs::Next::suspending))]
 fn plan_sleep(setup: &Setup, core: &Core, target: u64, device: Dev) -> Choice
     requires there { world.device_at core.now.tree.live device.serial ≡ Some device }
-    ensures { (k : ℕ) → sleeps (world_of setup.now core.now) target device ≡ choice_of (world_of setup.now core.now) k result }
+    requires next { next.next_sleep core.now.tree.live target ≡ Some device }
+    ensures { (k : ℕ) → next.suspending (world_of setup.now core.now) target ≡ choice_of (world_of setup.now core.now) k result }
 {
     if is_pinned(core, device.serial) {
         return Choice::Waits(Wait::Scan(device.serial));

@@ -1,15 +1,14 @@
 //! What a rescan searches, or why it does not begin. See drvctl(8).
-ghost use Rattle.std.specs.Prelude.{◌≡◌, ◌≤◌, Some, length, map, is_some};
+ghost use Rattle.std.specs.Prelude.{◌≡◌, ◌≤◌, ◌∷◌, true, Some, length, map, is_some};
 ghost use Rattle.std.specs.List.{list_any};
-ghost use Rattle.cf_types.specs.Locators.{locators_at};
 ghost use Rattle.cf_types.specs.declared.machine.Command.{Command};
 ghost use Rattle.run_rules.specs.declared.world.Dev.{Dev};
-ghost use Rattle.cf_types.specs.declared.tables.Place.TheVariants.{At};
 ghost use Rattle.attr_graph.specs.Graphs.{IsGraphOf, declared_by};
+ghost use Rattle.run_rules.specs.Next as next;
 ghost use Rattle.run_rules.specs.Next.{has_nothing, rescan_of, rescanning, wanted_of};
 ghost use Rattle.run_rules.specs.World as world;
 ghost use Rattle.run_rules.specs.World.{World, is_number, offered_by};
-ghost use Rattle.dev_board.specs.Choices.{deed_or, is_new_place, place_among, rescan_or, searched_alone};
+ghost use Rattle.dev_board.specs.Choices.{deed_or, rescan_or};
 ghost use Rattle.dev_board.specs.View.{world_of};
 ghost use Rattle.dev_board.specs.Works.{given_by};
 
@@ -17,39 +16,19 @@ use crate::hindered::is_pinned;
 use crate::named::attr_named;
 use crate::parts::Core;
 use crate::spots::{driver_of, has, policy_of};
+use crate::wanted::locator_place;
 use crate::work::{Refusal, Work};
 use attr_graph::Graph;
-use cf_types::{Given, Locator, Name};
+use cf_types::{Given, Locator, Name, Place};
+use match_search::locators_at;
 use run_rules::{Dev, Setup};
 use scan_engine::offered;
 
-/// The locators of an attribute.
-pub fn locators_of(setup: &Setup, attr: u32) -> &[Locator]
-    ensures { result.now ≡ locators_at setup.now.tables.attrs (At attr) }
-{
-    match setup.tables.attrs.items().get(attr as usize) {
-        Some(a) => a.locs.items(),
-        None => &[],
-    }
-}
-
-/// The place of a locator.
-pub fn place_of(locators: &[Locator], name: &[u8]) -> Option<usize>
-    ensures { place_among locators.now name.now ≡ result }
-{
-    for (place, locator) in locators.iter().enumerate() {
-        if locator.name.bytes() == name {
-            return Some(place);
-        }
-    }
-    None
-}
-
 /// Whether a locator that is given has this place.
 fn stands_at(locators: &[Locator], given: &Given, place: usize) -> bool
-    ensures { result ≡ is_number (place_among locators.now given.now.name) place }
+    ensures { result ≡ is_number (next.locator_place (map (λ l. l.name) locators.now) given.now.name) place }
 {
-    match place_of(locators, given.name.bytes()) {
+    match locator_place(locators, given.name.bytes()) {
         Some(found) => found == place,
         None => false,
     }
@@ -57,16 +36,17 @@ fn stands_at(locators: &[Locator], given: &Given, place: usize) -> bool
 
 /// Whether a locator of this place is given.
 fn is_given(locators: &[Locator], place: usize, given: &[Given]) -> bool
-    ensures { result ≡ list_any (λ h. is_number (place_among locators.now h.name) place) given.now }
+    ensures { result ≡ list_any (λ h. is_number (next.locator_place (map (λ l. l.name) locators.now) h.name) place) given.now }
 {
     given.iter().any(|given| stands_at(locators, given, place))
 }
 
-/// Whether a locator is one of these, and not given again.
+/// Whether a locator may be given beside others: it is one of these, and not given again.
 fn is_new(locators: &[Locator], first: &Given, rest: &[Given]) -> bool
-    ensures { is_new_place locators.now first.now rest.now ≡ result }
+    requires { is_some (wanted_of (map (λ l. l.name) locators.now) rest.now) ≡ true }
+    ensures { is_some (wanted_of (map (λ l. l.name) locators.now) (first.now ∷ rest.now)) ≡ result }
 {
-    match place_of(locators, first.name.bytes()) {
+    match locator_place(locators, first.name.bytes()) {
         Some(place) => !is_given(locators, place, rest),
         None => false,
     }
@@ -93,19 +73,24 @@ fn is_nothing(offers: &[u32]) -> bool
 }
 
 /// The attribute of a name, if a rescan with these locator values may search it alone.
-fn attr_of(setup: &Setup, offers: &[u32], name: &[u8], given: &[Given]) -> Result<u32, Refusal>
+fn attr_of(
+    setup: &Setup,
+    offers: &[u32],
+    name: &[u8],
+    given: &[Given],
+) -> Result<Option<u32>, Refusal>
     requires few { length setup.now.tables.attrs ≤ 65536 }
-    ensures { searched_alone setup.now offers.now name.now given.now ≡ result }
+    ensures { (w : World) (said : Command) (d : Dev) → w.setup ≡ setup.now → offered_by w.setup d.row ≡ offers.now → given_by said ≡ given.now → rescan_of w said d (Some name.now) given.now ≡ rescan_or w said d result }
 {
     match attr_named(setup, name) {
         None => Err(Refusal::BadAttribute),
         Some(attr) => {
             if !has(offers, attr) {
                 Err(Refusal::BadAttribute)
-            } else if !are_wanted(locators_of(setup, attr), given) {
+            } else if !are_wanted(locators_at(&setup.tables, Place::At(attr)), given) {
                 Err(Refusal::BadLocator)
             } else {
-                Ok(attr)
+                Ok(Some(attr))
             }
         }
     }
@@ -123,10 +108,7 @@ fn only_of(
 {
     match attr {
         None => Ok(None),
-        Some(name) => match attr_of(setup, offers, name.bytes(), given) {
-            Ok(attr) => Ok(Some(attr)),
-            Err(why) => Err(why),
-        },
+        Some(name) => attr_of(setup, offers, name.bytes(), given),
     }
 }
 

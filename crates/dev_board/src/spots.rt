@@ -2,7 +2,6 @@
 ghost use Rattle.std.specs.Prelude.{◌≡◌, false, slice_get};
 ghost use Rattle.std.specs.Option.{option_map_or};
 ghost use Rattle.run_rules.specs.World as world;
-ghost use Rattle.run_rules.specs.Search as rule;
 ghost use Rattle.dev_board.specs.Late.{place_on};
 
 use cf_types::{Place, Policy};
@@ -78,16 +77,6 @@ pub fn place_of(setup: &Setup, spot: u16) -> Place
     match setup.machine.spots.items().get(spot as usize) {
         Some(s) => s.place,
         None => Place::Root,
-    }
-}
-
-/// The locator values that the bus finds at a spot.
-pub fn found_at(setup: &Setup, spot: u16) -> &[i64]
-    ensures { result.now ≡ rule.found_at setup.now.machine spot }
-{
-    match setup.machine.spots.items().get(spot as usize) {
-        Some(s) => s.found.items(),
-        None => &[],
     }
 }
 

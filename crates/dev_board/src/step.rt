@@ -1,9 +1,7 @@
 //! One step over the parts of a board.
 ghost use Rattle.std.specs.Prelude.{◌≡◌, ◌<◌, ◌≤◌, length, None, IfOk, OnOk, OnErr};
 ghost use Rattle.run_rules.specs.Run.{event_of};
-ghost use Rattle.run_rules.specs.World as world;
 ghost use Rattle.run_rules.specs.World.{opening};
-ghost use Rattle.run_rules.specs.declared.world.Setup as from;
 ghost use Rattle.run_rules.specs.Deeds.{Does};
 ghost use Rattle.run_rules.specs.Next.{next};
 ghost use Rattle.attr_graph.specs.Graphs.{IsGraphOf, declared_by};
@@ -19,6 +17,7 @@ ghost use Rattle.dev_board.specs.Stepping.{StepIs, IsDid, IsOfBoot, DenialsAre};
 ghost use Rattle.dev_board.specs.View.{world_of, shown_of, Books, CoreKept};
 
 use crate::answer::LeaseStep;
+use crate::busy::is_ended;
 use crate::choice::Choice;
 use crate::choose::choose;
 use crate::commit::commit;
@@ -31,7 +30,7 @@ use crate::work_event::frame_event;
 use attr_graph::Graph;
 use cf_types::Memory;
 use ref_ledger::Slots;
-use run_rules::{Activity, Arrival, Key, Setup};
+use run_rules::{Arrival, Key, Setup};
 use std::alloc::Global;
 
 /// How many frames a plan may push.
@@ -109,14 +108,6 @@ fn publish<S: Slots>(slots: &mut S, got: Option<Arrival>)
         Some(arrival) => slots.publish(arrival.spot),
         None => {}
     }
-}
-
-/// Whether a caller has ended.
-fn is_ended(core: &Core, caller: u8) -> bool
-    requires { caller < length core.now.callers.items }
-    ensures { (s : from.Setup) → result ≡ world.has_ended (world_of s core.now) caller }
-{
-    matches!(core.callers[caller as usize].doing, Activity::Ended)
 }
 
 /// Does what a caller plans, and appends its event. At `Memory` all is as before.

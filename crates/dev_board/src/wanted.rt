@@ -1,5 +1,5 @@
 //! The locator values that a rescan wants. See drvctl(8).
-ghost use Rattle.std.specs.Prelude.{ℕ, ◌≡◌, ◌≤◌, true, length, Some, bytes_eq, is_some, map, position, IfOk, IfSome};
+ghost use Rattle.std.specs.Prelude.{ℕ, ◌≡◌, ◌≤◌, ◌<◌, true, length, Some, bytes_eq, is_some, map, position, IfOk, IfSome};
 ghost use Rattle.cf_types.specs.Locators as shared;
 ghost use Rattle.cf_types.specs.declared.tables.Place.TheVariants.{At};
 ghost use Rattle.run_rules.specs.Next as next;
@@ -26,14 +26,14 @@ fn given_by(said: &Command) -> &[Given]
     }
 }
 
-/// The place of a locator among those of an attribute, of which there are at most 16.
-fn locator_place(locators: &[Locator], name: &[u8]) -> Option<u8>
-    requires few { length locators.now ≤ 16 }
-    ensures { position (λ l. bytes_eq l.name name.now) locators.now ≡ result }
+/// The place of the locator of a name.
+pub fn locator_place(locators: &[Locator], name: &[u8]) -> Option<usize>
+    ensures place { position (λ l. bytes_eq l.name name.now) locators.now ≡ result }
+    ensures below { IfSome result (λ place. place < length locators.now) }
 {
     for (place, locator) in locators.iter().enumerate() {
         if locator.name.bytes() == name {
-            return Some(place as u8);
+            return Some(place);
         }
     }
     None
@@ -58,7 +58,7 @@ fn wanted_of(alloc: Global, locators: &[Locator], given: &[Given]) -> Result<Lis
     let mut list = List::make(alloc);
     for value in given {
         match locator_place(locators, value.name.bytes()) {
-            Some(place) => list.push(wanted_at(place, value))?,
+            Some(place) => list.push(wanted_at(place as u8, value))?,
             None => unreachable!(),
         }
     }

@@ -1,5 +1,5 @@
 -- What a device that comes changes, whatever its policies: the parts of the world beside the frames and what was put off.
-use Rattle.std.proofs.Common.{◌≡◌, ◌≤◌, ℕ, ◌+◌, Bool, [], ◌∷◌, ◌++◌, length, refl, ◌∙◌, arith, length-append}
+use Rattle.std.proofs.Common.{◌≡◌, ◌≤◌, ℕ, ◌+◌, Bool, List, [], ◌∷◌, ◌++◌, length, refl, ◌∙◌, arith, length-append}
 use Rattle.cf_types.specs.declared.machine.Policy.{Policy}
 use Rattle.run_rules.specs.declared.world.Arrival.{Arrival}
 use Rattle.run_rules.specs.declared.world.Placing.{Placing}
@@ -23,8 +23,9 @@ pub record Places (w v : World) : Type 0 where
   pub one_more : length v.finalisers ≤ length w.finalisers + 1
   pub callers : length v.callers ≡ length w.callers
 
-same_places : (w : World) → Places w w
-same_places w = record {
+other_places : (w : World) (deferred : List Deferred) (finalisers : List ℕ) (callers : List Caller) → length w.finalisers ≤ length finalisers → length finalisers ≤ length w.finalisers + 1
+    → length callers ≡ length w.callers → Places w (record w { deferred = deferred; finalisers = finalisers; callers = callers })
+other_places w deferred finalisers callers no_less one_more same = record {
   setup = refl;
   live = refl;
   next = refl;
@@ -33,40 +34,24 @@ same_places w = record {
   phase = refl;
   place = refl;
   again = refl;
-  no_less = omega arith;
-  one_more = omega arith;
-  callers = refl;
+  no_less = no_less;
+  one_more = one_more;
+  callers = same;
 }
+
+same_places : (w : World) → Places w w
+same_places w = other_places w w.deferred w.finalisers w.callers (omega arith) (omega arith) refl
 
 called_places : (w : World) (s : ℕ) → Places w (record w { finalisers = w.finalisers ++ s ∷ [] })
-called_places w s = record {
-  setup = refl;
-  live = refl;
-  next = refl;
-  absent = refl;
-  hidden = refl;
-  phase = refl;
-  place = refl;
-  again = refl;
-  no_less = omega (arith, length-append w.finalisers (s ∷ []));
-  one_more = omega (arith, length-append w.finalisers (s ∷ []));
-  callers = refl;
-}
+called_places w s =
+    let more = length-append w.finalisers (s ∷ []) in
+    other_places w w.deferred (w.finalisers ++ s ∷ []) w.callers (omega (arith, more)) (omega (arith, more)) refl
 
 frame_places : (w : World) (k : ℕ) (c : Caller) → Places w (with_caller w k c)
-frame_places w k c = record {
-  setup = refl;
-  live = refl;
-  next = refl;
-  absent = refl;
-  hidden = refl;
-  phase = refl;
-  place = refl;
-  again = refl;
-  no_less = omega arith;
-  one_more = omega arith;
-  callers = callers_kept w k c;
-}
+frame_places w k c = other_places w w.deferred w.finalisers (with_caller w k c).callers (omega arith) (omega arith) (callers_kept w k c)
+
+put_off_places : (w : World) (e : Deferred) → Places w (record w { deferred = w.deferred ++ e ∷ [] })
+put_off_places w e = other_places w (w.deferred ++ e ∷ []) w.finalisers w.callers (omega arith) (omega arith) refl
 
 pub finaliser_places : (c : Placing) (w : World) (k s : ℕ) → Places w (place_finaliser c w k s)
 finaliser_places Nowhere w k s = same_places w
@@ -78,21 +63,6 @@ finaliser_places Pushed w k s = frame_places w k _
 pub record PlacesScan (w v : World) : Type 0 where
   pub places : Places w v
   pub finalisers : v.finalisers ≡ w.finalisers
-
-put_off_places : (w : World) (e : Deferred) → Places w (record w { deferred = w.deferred ++ e ∷ [] })
-put_off_places w e = record {
-  setup = refl;
-  live = refl;
-  next = refl;
-  absent = refl;
-  hidden = refl;
-  phase = refl;
-  place = refl;
-  again = refl;
-  no_less = omega arith;
-  one_more = omega arith;
-  callers = refl;
-}
 
 pub scan_places : (c : Placing) (w : World) (k parent s : ℕ) → PlacesScan w (place_scan c w k parent s)
 scan_places Nowhere w k parent s = record { places = same_places w; finalisers = refl }

@@ -8,6 +8,7 @@ use Rattle.std.proofs.lemmas.Bool.Decides.{nat_tests}
 use Rattle.cf_types.specs.declared.machine.Command.{Command}
 use Rattle.cf_types.specs.declared.machine.Command.TheVariants as command
 use Rattle.cf_types.specs.declared.machine.Given.{Given}
+use Rattle.config_rules.proofs.Parts.{cond_both}
 use Rattle.run_rules.specs.declared.event.PowerKind.{PowerKind}
 use Rattle.run_rules.specs.declared.event.PowerKind.TheVariants as kind
 use Rattle.run_rules.specs.declared.world.Dev.{Dev}
@@ -42,6 +43,11 @@ Why w k d = HasCommandReason w k d
 
 -- ---- choices of choices
 
+-- what is made of an option has the property where both may
+pub option_both : {A B : Type 0} (P : B → Type 0) (f : A → B) (o : Option A) (d : B) → ((a : A) → o ≡ Some a → P (f a)) → (o ≡ None → P d) → P (option_map_or f o d)
+option_both P f None d p q = q refl
+option_both P f (Some a) d p q = p a refl
+
 -- each deed that the choice may come to has the property
 record Each (P : Deed → Type 0) (c : Choice) : Type 0 where
   each : (d : Deed) → c ≡ Does d → P d
@@ -53,20 +59,16 @@ because : {P : Deed → Type 0} (d : Deed) → P d → Each P (Does d)
 because {P} d h = record { each = λ e same. subst P (one_deed d e same) h }
 
 over_if : {P : Deed → Type 0} (b : Bool) (x y : Choice) → (b ≡ true → Each P x) → (b ≡ false → Each P y) → Each P (cond b x y)
-over_if true x y p q = p refl
-over_if false x y p q = q refl
+over_if {P} = cond_both (Each P)
 
 over_option : {P : Deed → Type 0} {A : Type 0} (f : A → Choice) (o : Option A) (c : Choice) → ((a : A) → o ≡ Some a → Each P (f a)) → (o ≡ None → Each P c) → Each P (option_map_or f o c)
-over_option f None c p q = q refl
-over_option f (Some a) c p q = p a refl
+over_option {P} = option_both (Each P)
 
 by_if : {P : Deed → Type 0} (b : Bool) (x y : Deed) → (b ≡ true → Each P (Does x)) → (b ≡ false → Each P (Does y)) → Each P (Does (cond b x y))
-by_if true x y p q = p refl
-by_if false x y p q = q refl
+by_if {P} = cond_both (λ d. Each P (Does d))
 
 by_option : {P : Deed → Type 0} {A : Type 0} (f : A → Deed) (o : Option A) (d : Deed) → ((a : A) → o ≡ Some a → Each P (Does (f a))) → (o ≡ None → Each P (Does d)) → Each P (Does (option_map_or f o d))
-by_option f None d p q = q refl
-by_option f (Some a) d p q = p a refl
+by_option {P} = option_both (λ d. Each P (Does d))
 
 nothing : {P : Deed → Type 0} (c : Choice) → ((d : Deed) → c ≡ Does d → ⊥) → Each P c
 nothing c never = record { each = λ d same. absurd (never d same) }
@@ -298,61 +300,38 @@ next_reason w k =
 why_next : (w : World) (k : ℕ) (d : Deed) → next w k ≡ Does d → Why w k d
 why_next w k d e = (next_reason w k).each d e
 
--- the reason of a frame's deed that comes next
+-- the reason of the deed that comes next: a frame's or a command's
+has_reasons : (w : World) (k : ℕ) (d : Deed) → Why w k d → HasReason w k d × HasCommandReason w k d
+has_reasons w k (Search p to got) h = (h.0, tt)
+has_reasons w k (EndScan p) h = (h.0, tt)
+has_reasons w k BeginInterrupts h = (h.0, tt)
+has_reasons w k (Finalise s shown got listed anew) h = (h.0, tt)
+has_reasons w k EndCaller h = (h.0, tt)
+has_reasons w k (Drop s) h = (tt, h)
+has_reasons w k (Answer said r) h = (tt, h)
+has_reasons w k (Open said s) h = (tt, h)
+has_reasons w k (Close said s) h = (tt, h)
+has_reasons w k (Start said t) h = (tt, h)
+has_reasons w k (Done t) h = (tt, h)
+has_reasons w k (Detach said s) h = (tt, h)
+has_reasons w k (Free s) h = (tt, h)
+has_reasons w k (Rescan said f) h = (tt, h)
+has_reasons w k (BeginPower said kind s) h = (tt, h)
+has_reasons w k (Sleep s) h = (tt, h)
+has_reasons w k (Wake s) h = (tt, h)
+has_reasons w k (EndPower s r) h = (tt, h)
+has_reasons w k (Plug said x) h = (tt, h)
+has_reasons w k (Unplug said x None) h = (tt, h)
+has_reasons w k (Unplug said x (Some s)) h = (tt, h)
+has_reasons w k (Tell said) h = (tt, h)
+
+-- that of a frame's deed
 pub has_reason : (w : World) (k : ℕ) (d : Deed) → next w k ≡ Does d → HasReason w k d
-has_reason w k d e = cases d (why_next w k d e)
-  where
-    cases : (d : Deed) → Why w k d → HasReason w k d
-    cases (Search p to got) h = h.0
-    cases (EndScan p) h = h.0
-    cases BeginInterrupts h = h.0
-    cases (Finalise s shown got listed anew) h = h.0
-    cases EndCaller h = h.0
-    cases (Drop s) h = tt
-    cases (Answer said r) h = tt
-    cases (Open said s) h = tt
-    cases (Close said s) h = tt
-    cases (Start said t) h = tt
-    cases (Done t) h = tt
-    cases (Detach said s) h = tt
-    cases (Free s) h = tt
-    cases (Rescan said f) h = tt
-    cases (BeginPower said kind s) h = tt
-    cases (Sleep s) h = tt
-    cases (Wake s) h = tt
-    cases (EndPower s r) h = tt
-    cases (Plug said x) h = tt
-    cases (Unplug said x None) h = tt
-    cases (Unplug said x (Some s)) h = tt
-    cases (Tell said) h = tt
+has_reason w k d e = (has_reasons w k d (why_next w k d e)).0
 
 -- that of a command's deed
 pub has_command_reason : (w : World) (k : ℕ) (d : Deed) → next w k ≡ Does d → HasCommandReason w k d
-has_command_reason w k d e = cases d (why_next w k d e)
-  where
-    cases : (d : Deed) → Why w k d → HasCommandReason w k d
-    cases (Search p to got) h = tt
-    cases (EndScan p) h = tt
-    cases BeginInterrupts h = tt
-    cases (Finalise s shown got listed anew) h = tt
-    cases EndCaller h = tt
-    cases (Drop s) h = h
-    cases (Answer said r) h = h
-    cases (Open said s) h = h
-    cases (Close said s) h = h
-    cases (Start said t) h = h
-    cases (Done t) h = h
-    cases (Detach said s) h = h
-    cases (Free s) h = h
-    cases (Rescan said f) h = h
-    cases (BeginPower said kind s) h = h
-    cases (Sleep s) h = h
-    cases (Wake s) h = h
-    cases (EndPower s r) h = h
-    cases (Plug said x) h = h
-    cases (Unplug said x None) h = h
-    cases (Unplug said x (Some s)) h = h
-    cases (Tell said) h = h
+has_command_reason w k d e = (has_reasons w k d (why_next w k d e)).1
 
 -- ---- who rests
 

@@ -27,7 +27,7 @@ returns-clause-ok c =
     map_set caller_of c.list.new.core.callers.items k c.place.new.self
     ∙ ap (λ x. slice_set (callers_of c.list.new.core.callers.items) k x) (c.place.ensures ∙ rw (was, serial) refl)
     ∙ ap (λ cs. slice_set (callers_of cs) k (searched_too p (finalised_too f (caller_at w k) w.next) w.next)) listed_callers in
-    attached_is w _ k c.args.arrival c.args.may_defer f p (omega (arith, c.requires.caller, length-map core.callers.items caller_of))
-    (c.finaliser_placing-finaliser.ensures ∙ rw (c.policy_of-policy.ensures, c.is_booted.ensures s) refl)
+    rw c.in-Some.is (attached_is w _ k c.in-Some.arrival c.args.may_defer f p (omega (arith, c.requires.caller, length-map core.callers.items caller_of))
+    (c.finaliser_placing-finaliser.ensures ∙ rw (c.policy_of-policy.ensures, c.is_ended.ensures s) refl)
     (c.scan_placing-scan.ensures ∙ rw (c.policy_of-policy.ensures, c.offered-offers.ensures, c.driver_of.ensures) refl)
-    (rw (called, placed) (ap (λ (v : World). record v { finalisers = called_too f w.finalisers w.next; callers = slice_set w.callers k (searched_too p (finalised_too f (caller_at w k) w.next) w.next) }) c.in_ok-serial.ensures.ok.world))
+    (rw (called, placed) (ap (λ (v : World). record v { finalisers = called_too f w.finalisers w.next; callers = slice_set w.callers k (searched_too p (finalised_too f (caller_at w k) w.next) w.next) }) c.in_ok-serial.ensures.ok.world)))

@@ -34,7 +34,7 @@ returns-in-Ok-clause-books c =
     let core = c.args.core.now in
     let d = new_device (world_of s core) c.args.arrival in
     rw c.in-Ok.ensures.ok (record {
-      marks = more_marks s core.tree.live d core.rows c.mark_taken.new.rows c.requires.books.marks (rw c.driver_of-driver.ensures at c.mark_taken.ensures);
+      marks = more_marks s core.tree.live d core.rows c.set_rows.new.rows c.requires.books.marks (rw c.driver_of-driver.ensures at c.set_rows.ensures);
       units = more_units s core.tree.live d core.units c.take.new.self c.requires.books.units (rw c.driver_of-driver.ensures at c.in_ok-take.ensures.ok);
       drivers = rw (c.requires.books.drivers, c.driver_of-driver.ensures, map-append (λ d. driver_of s d.row) core.tree.live (d ∷ [])) refl;
     })

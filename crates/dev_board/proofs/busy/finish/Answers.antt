@@ -1,13 +1,14 @@
-use Rattle.std.proofs.Common.{◌∙◌, ap, slice_set}
-use Rattle.run_rules.specs.World.{nobody}
-use Rattle.dev_board.specs.Effects.{finished}
-use Rattle.dev_board.specs.View.{callers_of, caller_of}
-use Rattle.dev_board.proofs.CallerLaws.{map_set, at_is}
+use Rattle.std.proofs.Common.{◌+◌, ap, refl}
+use Rattle.run_rules.specs.declared.world.Activity.TheVariants as activity
+use Rattle.run_rules.specs.World.{Caller}
+use Rattle.dev_board.specs.View.{world_of}
+use Rattle.dev_board.proofs.CallerLaws.{caller_set}
+use Rattle.dev_board.proofs.CommitLaws.{with_callers}
 use Rattle.dev_board.proofs.busy.finish.Goals as goal
 
-pub returns : goal.returns
-returns c =
-    let cs = c.args.callers.now.items in
-    let k = c.args.caller in
-    map_set caller_of cs k c.finish.new.self
-    ∙ ap (slice_set (callers_of cs) k) (c.finish.ensures ∙ ap (λ x. finished x) (at_is caller_of cs k c.index_mut.result.now nobody c.requires.caller c.index_mut.ensures.value))
+pub returns-clause-world : goal.returns-clause-world
+returns-clause-world c = λ s.
+    ap (with_callers (world_of s c.args.core.now))
+    (caller_set (λ (x : Caller). record { over = x.over + 1; doing = activity.Idle; stack = x.stack }) c.args.core.now.callers.items c.args.caller c.index_mut-state.result.now
+    (record c.index_mut-state.result.now { over = c.index_mut-state.result.now.over + 1; doing = activity.Idle })
+    c.requires.caller c.index_mut-state.ensures.value refl)

@@ -1,19 +1,27 @@
-use Rattle.std.proofs.Common.{◌≡◌, refl}
+use Rattle.std.proofs.Common.{◌≡◌, ◌∙◌, refl, sym, ap}
 use Rattle.std.proofs.lemmas.Result.{IfOk-weaker}
-use Rattle.run_rules.specs.Next.{next}
+use Rattle.run_rules.specs.Next.{by_activity, next}
 use Rattle.dev_board.specs.Choosing.{choice_of}
 use Rattle.dev_board.specs.View.{world_of}
-use Rattle.dev_board.proofs.ChooseLaws.{next_waits, next_goes}
+use Rattle.dev_board.proofs.ChooseLaws.{doing_is, next_ended, next_goes, next_waits}
 use Rattle.dev_board.proofs.choose.choose.Goals as goal
+
+pub returns-then-is_ended : goal.returns-then-is_ended
+returns-then-is_ended c = next_ended (world_of c.args.setup.now c.args.core.now) c.args.caller (sym (c.is_ended.ensures c.args.setup.now) ∙ c.if-is_ended.true)
 
 pub returns-then-waits_for_boot : goal.returns-then-waits_for_boot
 returns-then-waits_for_boot c =
-    next_waits (world_of c.args.setup.now c.args.core.now) c.args.core.now.callers.items c.args.caller c.index.result.now c.is_over.result c.waits_for_boot.result refl c.requires.caller c.index.ensures
-    c.is_over.ensures c.if-is_over.false (c.waits_for_boot.ensures c.args.setup.now) c.if-waits_for_boot.true
+    let s = c.args.setup.now in
+    next_waits (world_of s c.args.core.now) c.args.caller (sym (c.is_ended.ensures s) ∙ c.if-is_ended.false) (c.waits_for_boot.ensures s ∙ c.if-waits_for_boot.true)
+
+pub plan_activity-requires-clause-goes : goal.plan_activity-requires-clause-goes
+plan_activity-requires-clause-goes c = sym (c.is_ended.ensures c.args.setup.now) ∙ c.if-is_ended.false
 
 pub returns : goal.returns
 returns c =
-    let w = world_of c.args.setup.now c.args.core.now in
-    IfOk-weaker _ _ (λ does. next w c.args.caller ≡ choice_of w c.args.caller does)
-    (λ does is. next_goes w c.args.core.now.callers.items c.args.caller c.index.result.now c.is_over.result c.waits_for_boot.result (choice_of w c.args.caller does) refl c.requires.caller c.index.ensures
-    c.is_over.ensures c.if-is_over.false (c.waits_for_boot.ensures c.args.setup.now) c.if-waits_for_boot.false is) c.plan_activity.ensures
+    let s = c.args.setup.now in
+    let w = world_of s c.args.core.now in
+    let k = c.args.caller in
+    let doing = doing_is w c.args.core.now.callers.items k c.index.result.now refl c.requires.caller c.index.ensures in
+    IfOk-weaker _ _ (λ does. next w k ≡ choice_of w k does)
+    (λ does is. next_goes w k (sym (c.is_ended.ensures s) ∙ c.if-is_ended.false) (c.waits_for_boot.ensures s ∙ c.if-waits_for_boot.false) ∙ ap (by_activity w k) (sym doing) ∙ is) c.plan_activity.ensures

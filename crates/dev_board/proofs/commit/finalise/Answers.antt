@@ -1,16 +1,14 @@
-use Rattle.std.proofs.Common.{◌≡◌, ◌<◌, ◌∙◌, ◌+◌, ◌||◌, ◌&&◌, not, is_some, true, false, sym, ap, subst, arith, length, slice_set, List, Option, Some, None, Bool}
-use Rattle.std.specs.List.{slice_index_or}
-use Rattle.std.proofs.lemmas.List.{length-map}
+use Rattle.std.proofs.Common.{◌≡◌, ◌<◌, ◌∙◌, ◌+◌, ◌||◌, ◌&&◌, not, is_some, true, false, sym, ap, subst, length, slice_set, List, Option, Some, None, Bool}
 use Rattle.run_rules.specs.declared.world.Arrival.{Arrival}
 use Rattle.run_rules.specs.declared.world.Activity.TheVariants.{Scans}
 use Rattle.run_rules.specs.After.{arrived, under_top, finaliser_done}
-use Rattle.run_rules.specs.World.{World, Caller, caller_at, nobody}
+use Rattle.run_rules.specs.World.{World, Caller, caller_at}
 use Rattle.dev_board.specs.Arrivals.{state_at}
 use Rattle.dev_board.specs.Commits.{shown_now}
 use Rattle.dev_board.specs.View.{world_of, callers_of, caller_of}
 use Rattle.dev_board.specs.Callers.{framed}
-use Rattle.dev_board.proofs.CallerLaws.{map_set, at_is, state_is}
-use Rattle.dev_board.proofs.CommitLaws.{finalised, hidden_now, none_is, some_is, frame_over}
+use Rattle.dev_board.proofs.CallerLaws.{map_set, state_is}
+use Rattle.dev_board.proofs.CommitLaws.{caller_same, finalised, hidden_now, none_is, some_is, frame_over}
 use Rattle.dev_board.proofs.commit.finalise.Goals as goal
 
 -- the world once what was found has come and the spot is shown
@@ -20,8 +18,8 @@ returns-in-Some-clause-ok c = λ of.
     let shown = c.args.shown in
     let anew = c.args.anew in
     let place = c.in-Some.place in
-    rw (c.in-Some.is, hidden_now w (world_of c.args.setup.now c.arrive_if.new.core) c.args.caller c.args.got shown _ c.in_ok-arrive_if.ensures.ok c.show.ensures, ← c.goes_again-core.ensures)
-    (ap (λ (v : World). record v { hidden = shown_now w.hidden shown; place = place + 1; again = is_some shown || (not anew && v.again) }) c.in_ok-arrive_if.ensures.ok
+    rw (c.in-Some.is, hidden_now w (world_of c.args.setup.now c.arrive.new.core) c.args.caller c.args.got shown _ c.in_ok-arrive.ensures.ok c.show.ensures, ← c.goes_again-core.ensures)
+    (ap (λ (v : World). record v { hidden = shown_now w.hidden shown; place = place + 1; again = is_some shown || (not anew && v.again) }) c.in_ok-arrive.ensures.ok
     ∙ finalised w c.args.caller of shown c.args.got (Some place) anew))
 
 pub returns-else-is_none-clause-ok : goal.returns-else-is_none-clause-ok
@@ -32,40 +30,30 @@ returns-else-is_none-clause-ok c = λ of.
     let got = c.args.got in
     let answers : is_some shown ≡ true = some_is shown c.is_none.result c.is_none.ensures c.if-is_none.false in
     let came : World = record (arrived w k got false) { hidden = shown_now w.hidden shown } in
-    rw (c.in-None.is, hidden_now w (world_of c.args.setup.now c.arrive_if.new.core) k got shown _ c.in_ok-arrive_if.ensures.ok c.show.ensures)
-    (ap (λ (v : World). record v { hidden = shown_now w.hidden shown }) c.in_ok-arrive_if.ensures.ok
+    rw (c.in-None.is, hidden_now w (world_of c.args.setup.now c.arrive.new.core) k got shown _ c.in_ok-arrive.ensures.ok c.show.ensures)
+    (ap (λ (v : World). record v { hidden = shown_now w.hidden shown }) c.in_ok-arrive.ensures.ok
     ∙ ap (λ (b : Bool). finaliser_done came k None b) (sym answers)
     ∙ finalised w k of shown got None c.args.anew))
 
 pub leave-requires-clause-low : goal.leave-requires-clause-low
 leave-requires-clause-low c =
     let core = c.args.core.now in
-    let w : World = world_of c.args.setup.now core in
     let k = c.args.caller in
-    let cs = c.arrive_if.new.core.callers.items in
-    let quiet : c.args.shown ≡ None = none_is c.args.shown c.is_none.result c.is_none.ensures c.if-is_none.true in
-    let nothing : c.args.got ≡ None = (c.requires.frame c.in-None.is quiet).1 in
-    let same : world_of c.args.setup.now c.arrive_if.new.core ≡ w = c.in_ok-arrive_if.ensures.ok ∙ ap (λ (o : Option Arrival). arrived w k o false) nothing in
-    let here : callers_of cs ≡ w.callers = ap (λ (v : World). v.callers) same in
-    let there : k < length cs = omega (arith, c.requires.caller, ap length here, length-map cs caller_of, length-map core.callers.items caller_of) in
+    let nothing : c.args.got ≡ None = (c.requires.frame c.in-None.is (none_is c.args.shown c.is_none.result c.is_none.ensures c.if-is_none.true)).1 in
+    let same = c.in_ok-arrive.ensures.ok ∙ ap (λ (o : Option Arrival). arrived (world_of c.args.setup.now core) k o false) nothing in
     let was : caller_of c.index_mut.result.now ≡ caller_of (state_at core.callers.items k) =
-    at_is caller_of cs k c.index_mut.result.now nobody there c.index_mut.ensures.value ∙ ap (λ (xs : List Caller). slice_index_or xs k nobody) here ∙ sym (state_is core.callers.items k) in
+    caller_same c.args.setup.now core c.arrive.new.core k c.index_mut.result.now c.requires.caller same c.index_mut.ensures.value ∙ sym (state_is core.callers.items k) in
     subst (λ (x : Caller). x.doing ≡ Scans → x.over < 4294967295) (sym was) c.requires.low
 
 pub leave-requires-clause-top : goal.leave-requires-clause-top
 leave-requires-clause-top c =
     let core = c.args.core.now in
-    let w : World = world_of c.args.setup.now core in
     let k = c.args.caller in
-    let cs = c.arrive_if.new.core.callers.items in
-    let quiet : c.args.shown ≡ None = none_is c.args.shown c.is_none.result c.is_none.ensures c.if-is_none.true in
-    let nothing : c.args.got ≡ None = (c.requires.frame c.in-None.is quiet).1 in
-    let same : world_of c.args.setup.now c.arrive_if.new.core ≡ w = c.in_ok-arrive_if.ensures.ok ∙ ap (λ (o : Option Arrival). arrived w k o false) nothing in
-    let here : callers_of cs ≡ w.callers = ap (λ (v : World). v.callers) same in
-    let there : k < length cs = omega (arith, c.requires.caller, ap length here, length-map cs caller_of, length-map core.callers.items caller_of) in
+    let frame = c.requires.frame c.in-None.is (none_is c.args.shown c.is_none.result c.is_none.ensures c.if-is_none.true) in
+    let same = c.in_ok-arrive.ensures.ok ∙ ap (λ (o : Option Arrival). arrived (world_of c.args.setup.now core) k o false) frame.1 in
     let was : caller_of c.index_mut.result.now ≡ caller_of (state_at core.callers.items k) =
-    at_is caller_of cs k c.index_mut.result.now nobody there c.index_mut.ensures.value ∙ ap (λ (xs : List Caller). slice_index_or xs k nobody) here ∙ sym (state_is core.callers.items k) in
-    subst (λ (x : Caller). 0 < length x.stack) (sym was) (c.requires.frame c.in-None.is quiet).0
+    caller_same c.args.setup.now core c.arrive.new.core k c.index_mut.result.now c.requires.caller same c.index_mut.ensures.value ∙ sym (state_is core.callers.items k) in
+    subst (λ (x : Caller). 0 < length x.stack) (sym was) frame.0
 
 pub returns-then-is_none-clause-ok : goal.returns-then-is_none-clause-ok
 returns-then-is_none-clause-ok c = λ of.
@@ -73,18 +61,16 @@ returns-then-is_none-clause-ok c = λ of.
     let core = c.args.core.now in
     let w : World = world_of s core in
     let k = c.args.caller in
-    let cs = c.arrive_if.new.core.callers.items in
+    let cs = c.arrive.new.core.callers.items in
     let quiet : c.args.shown ≡ None = none_is c.args.shown c.is_none.result c.is_none.ensures c.if-is_none.true in
     let nothing : c.args.got ≡ None = (c.requires.frame c.in-None.is quiet).1 in
-    let same : world_of s c.arrive_if.new.core ≡ w = c.in_ok-arrive_if.ensures.ok ∙ ap (λ (o : Option Arrival). arrived w k o false) nothing in
+    let same : world_of s c.arrive.new.core ≡ w = c.in_ok-arrive.ensures.ok ∙ ap (λ (o : Option Arrival). arrived w k o false) nothing in
     let here : callers_of cs ≡ w.callers = ap (λ (v : World). v.callers) same in
-    let there : k < length cs = omega (arith, c.requires.caller, ap length here, length-map cs caller_of, length-map core.callers.items caller_of) in
-    let was : caller_of c.index_mut.result.now ≡ caller_at w k =
-    at_is caller_of cs k c.index_mut.result.now nobody there c.index_mut.ensures.value ∙ ap (λ (xs : List Caller). slice_index_or xs k nobody) here in
+    let was : caller_of c.index_mut.result.now ≡ caller_at w k = caller_same s core c.arrive.new.core k c.index_mut.result.now c.requires.caller same c.index_mut.ensures.value in
     let set : callers_of (slice_set cs k c.leave.new.self) ≡ slice_set w.callers k (framed (caller_at w k) (under_top (caller_at w k).stack)) =
     map_set caller_of cs k c.leave.new.self ∙ ap (slice_set (callers_of cs) k) (c.leave.ensures.caller ∙ ap (λ (x : Caller). framed x (under_top x.stack)) was)
     ∙ ap (λ (xs : List Caller). slice_set xs k (framed (caller_at w k) (under_top (caller_at w k).stack))) here in
     let hidden : c.show.new.hidden.items ≡ w.hidden =
-    hidden_now w (world_of s c.arrive_if.new.core) k c.args.got c.args.shown _ c.in_ok-arrive_if.ensures.ok c.show.ensures ∙ ap (shown_now w.hidden) quiet in
+    hidden_now w (world_of s c.arrive.new.core) k c.args.got c.args.shown _ c.in_ok-arrive.ensures.ok c.show.ensures ∙ ap (shown_now w.hidden) quiet in
     frame_over w _ k of c.args.shown c.args.got c.args.listed c.args.anew quiet nothing c.in-None.is
     (rw (hidden, set) (ap (λ (v : World). record v { hidden = w.hidden; callers = slice_set w.callers k (framed (caller_at w k) (under_top (caller_at w k).stack)) }) same)))

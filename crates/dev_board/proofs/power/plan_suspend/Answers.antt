@@ -7,4 +7,7 @@ sleeper-requires-clause-later c = serials_rise (world_of c.args.setup.now c.args
 
 pub plan_sleep-requires : goal.plan_sleep-requires
 plan_sleep-requires c =
-    record { there = sleeper_there c.args.core.now.tree.live c.args.target c.in-Some.device (serials_rise (world_of c.args.setup.now c.args.core.now) c.requires.kept) c.in-Some.ensures }
+    record {
+      there = sleeper_there c.args.core.now.tree.live c.args.target c.in-Some.device (serials_rise (world_of c.args.setup.now c.args.core.now) c.requires.kept) c.in-Some.ensures;
+      next = c.in-Some.ensures;
+    }
