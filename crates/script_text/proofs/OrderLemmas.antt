@@ -12,8 +12,8 @@ use Rattle.config_rules.specs.Form.{given}
 use Rattle.config_rules.specs.MachineText.{words_of}
 use Rattle.config_rules.specs.ScriptText.{bad_turns, is_caller, is_number, is_turn, natural_within, order_of, turns_code, turns_of, unless_bad, within}
 use Rattle.config_rules.proofs.ScriptLaws.{bad_turns_from}
-use Rattle.script_text.specs.declared.stop.LineStop.{LineStop}
-use Rattle.script_text.specs.declared.stop.LineStop.TheVariants.{Code, Memory}
+use Rattle.machine_text.specs.declared.stop.LineStop.{LineStop}
+use Rattle.machine_text.specs.declared.stop.LineStop.TheVariants.{Code, Memory}
 use Rattle.script_text.specs.Left.{AddsTurns, AddsWords, Gives, Leaves, stop_at}
 
 -- ---- one word

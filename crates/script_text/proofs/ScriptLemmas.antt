@@ -8,8 +8,8 @@ use Rattle.cf_types.specs.declared.machine.Command.{Command}
 use Rattle.config_rules.specs.ScriptText.{bad_sayings, code_after, commands_in, line_says, unless_bad}
 use Rattle.config_rules.specs.ScriptText as script
 use Rattle.config_rules.proofs.ScriptLaws.{bad_said, commands_said, said_from}
-use Rattle.script_text.specs.declared.stop.LineStop.{LineStop}
-use Rattle.script_text.specs.declared.stop.LineStop.TheVariants.{Code, Memory}
+use Rattle.machine_text.specs.declared.stop.LineStop.{LineStop}
+use Rattle.machine_text.specs.declared.stop.LineStop.TheVariants.{Code, Memory}
 use Rattle.script_text.specs.Left.{Adds, Gives, stop_at}
 
 -- what one more line says
