@@ -1,5 +1,5 @@
 -- What is read from generated files.
-use Rattle.std.proofs.Common.{◌≡◌, ◌≢◌, ℕ, inl, inr, arith, Option, Some, refl, subst}
+use Rattle.std.proofs.Common.{List, ◌≡◌, ◌≢◌, ℕ, inl, inr, arith, Option, Some, refl, subst}
 use Rattle.std.specs.Prelude as std
 use Rattle.std.specs.Prelude.{Result, codes}
 use Rattle.cf_types.specs.declared.machine.Machine.{Machine}
@@ -11,7 +11,7 @@ use Rattle.app_input.specs.declared.inputs.Inputs.{Inputs}
 use Rattle.app_input.specs.declared.inputs.Inputs.TheVariants.{Load}
 use Rattle.app_input.specs.declared.status.Status.{Status}
 use Rattle.app_input.specs.declared.status.Status.TheVariants.{Ok, ConfigRefused, Usage, MachineRefused, ScriptRefused, Absent, TooLong, ReadFault, WriteFault, Memory}
-use Rattle.app_input.specs.Inputs.{Counts, IsDescribed, IsFirstFault, IsLacking, IsLong, IsMeant, Reads, ReadsMachine, ReadsTables, made_files}
+use Rattle.app_input.specs.Inputs.{Boots, Counts, IsDescribed, IsFirstFault, IsLacking, IsLong, IsMeant, Reads, ReadsMachine, ReadsTables, made_files}
 use Rattle.app_input.specs.Words.{load}
 
 never : Rose 0 0 → ⊥
@@ -37,36 +37,28 @@ made_refused n read told (Absent name) is why quiet = elim why [ ]
 made_refused n read told (TooLong name) is why quiet = elim why [ ]
 made_refused n read told WriteFault is why quiet = elim why [ ]
 
+-- the generated configuration means the tables, and P holds of the generated machine file with them
+made_boots : (P : Option Files → List ℕ → Tables → Type 0) (n : ℕ) (read told : Option Files) (tables : Tables) → read ≡ Some (file_named (made_files n)) → IsMeant read (codes "conf") tables
+    → P read (codes "mach") tables → Boots (Some (load n)) told P
+made_boots P n read told tables is meant holds = (
+  load n,
+  codes "mach",
+  tables,
+  refl,
+  refl,
+  subst (λ (files : Option Files). IsMeant files (codes "conf") tables) is meant,
+  subst (λ (files : Option Files). P files (codes "mach") tables) is holds,
+)
+
 -- a refusal of the generated machine file
 pub made_unfit : (n : ℕ) (read told : Option Files) (tables : Tables) (status : Status) → read ≡ Some (file_named (made_files n)) → IsMeant read (codes "conf") tables
     → ReadsMachine read (codes "mach") tables (std.Err status) → status ≢ ReadFault → Reads (Some (load n)) told (std.Err status)
-made_unfit n read told tables (MachineRefused line code) is meant why quiet = (
-  load n,
-  codes "mach",
-  tables,
-  refl,
-  refl,
-  subst (λ (files : Option Files). IsMeant files (codes "conf") tables) is meant,
-  subst (λ (files : Option Files). IsDescribed files (codes "mach") tables (std.Err (line, code))) is why,
-)
-made_unfit n read told tables (Absent absent) is meant why quiet = inl (
-  load n,
-  codes "mach",
-  tables,
-  refl,
-  refl,
-  subst (λ (files : Option Files). IsMeant files (codes "conf") tables) is meant,
-  subst (λ (files : Option Files). (absent ≡ codes "mach") × IsLacking files (codes "mach")) is why,
-)
-made_unfit n read told tables (TooLong long) is meant why quiet = inl (
-  load n,
-  codes "mach",
-  tables,
-  refl,
-  refl,
-  subst (λ (files : Option Files). IsMeant files (codes "conf") tables) is meant,
-  subst (λ (files : Option Files). (long ≡ codes "mach") × IsLong files (codes "mach")) is why,
-)
+made_unfit n read told tables (MachineRefused line code) is meant why quiet =
+    made_boots (λ files name tables. IsDescribed files name tables (std.Err (line, code))) n read told tables is meant why
+made_unfit n read told tables (Absent absent) is meant why quiet =
+    inl (made_boots (λ files name tables. (absent ≡ name) × IsLacking files name) n read told tables is meant why)
+made_unfit n read told tables (TooLong long) is meant why quiet =
+    inl (made_boots (λ files name tables. (long ≡ name) × IsLong files name) n read told tables is meant why)
 made_unfit n read told tables ReadFault is meant why quiet = absurd (quiet refl)
 made_unfit n read told tables Memory is meant why quiet = tt
 made_unfit n read told tables Ok is meant why quiet = elim why [ ]

@@ -1,5 +1,5 @@
 -- What the words and the files call for, and what reading them answers.
-use Rattle.std.specs.Prelude.{◌≡◌, ℕ, ◌<◌, ◌≤◌, ◌⊎◌, nat_le, true, Option, Some, None, IfSome, Result, List, [], ◌∷◌, length, codes, if◌then◌else◌, ⊤}
+use Rattle.std.specs.Prelude.{◌≡◌, ℕ, ◌<◌, ◌≤◌, ◌⊎◌, true, Option, Some, None, IfSome, Result, List, [], ◌∷◌, length, codes, ⊤}
 use Rattle.std.specs.Prelude as std
 use Rattle.cf_types.specs.declared.machine.Machine.{Machine}
 use Rattle.cf_types.specs.declared.tables.Refusal.{Refusal}
@@ -19,7 +19,7 @@ use Rattle.app_input.specs.declared.inputs.Inputs.{Inputs}
 use Rattle.app_input.specs.declared.inputs.Inputs.TheVariants.{Ioconf, Boot, Load, Play}
 use Rattle.app_input.specs.declared.status.Status.{Status}
 use Rattle.app_input.specs.declared.status.Status.TheVariants.{Ok, ConfigRefused, Usage, MachineRefused, ScriptRefused, Absent, TooLong, ReadFault, WriteFault, Memory}
-use Rattle.app_input.specs.Played.{FormedPlay, IsOfPlay, played}
+use Rattle.app_input.specs.Played.{FormedPlay, IsOfPlay, file_gives, played}
 use Rattle.app_input.specs.Words.{Form, ioconf, boot, load, play, config_of, is_from_outside, machine_in}
 
 -- the generated files of a machine with so many spots
@@ -166,9 +166,7 @@ booted next (std.Err fault) = std.Err (MachineRefused fault.0 fault.1)
 
 -- the same of a file that may be absent, or too long
 abbrev pub booted_from : (Machine → Result Inputs Status) → Tables → List ℕ → Option (List ℕ) → Result Inputs Status
-booted_from next tables name None = std.Err (Absent name)
-booted_from next tables name (Some text) =
-    if nat_le (length text) MAX_FILE then booted next (machine_of tables text) else std.Err (TooLong name)
+booted_from next tables name file = file_gives (λ text. booted next (machine_of tables text)) name file
 
 -- what the scripts and the order file give behind a machine
 abbrev pub played_with : Files → List ℕ → List (List ℕ) → Tables → Machine → Result Inputs Status

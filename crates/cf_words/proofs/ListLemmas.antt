@@ -60,25 +60,43 @@ parts_map items f p xs (Ok v) h = map_twice f (items v) ∙ ap (map (map f)) h �
 parts_map items f p xs (Err e) h = tt
 
 -- the part that comes next
-pub part_at : {X Y : Type 0} (f : X → Y) (vs : List (Bor (List X))) (i : ℕ) (d : Bor (List X)) → i < length vs → get_or (map (λ part. map f part.now) vs) i (map f d.now) ≡ map f (get_or vs i d).now
+part_at : {X Y : Type 0} (f : X → Y) (vs : List (Bor (List X))) (i : ℕ) (d : Bor (List X)) → i < length vs → get_or (map (λ part. map f part.now) vs) i (map f d.now) ≡ map f (get_or vs i d).now
 part_at f vs i d h = get_or-map (λ (part : Bor (List _)). map f part.now) vs i d (map f d.now) h
 
 length_parts : {X Y : Type 0} (g : X → Y) (vs : List (Bor (List X))) → length (map (λ part. map g part.now) vs) ≡ length vs
 length_parts g vs = length-map vs (λ (part : Bor (List _)). map g part.now)
 
--- the same over slices
-pub part_more : {X Y B : Type 0} (f : List Y → Option B) (g : X → Y) (vs : List (Bor (List X))) (i : ℕ) (d : Bor (List X)) (front : List B) (y : B) → i < length vs → Some y ≡ f (map g (get_or vs i d).now)
-    → with_front (front ++ y ∷ []) (each f (drop (i + 1) (map (λ part. map g part.now) vs))) ≡ with_front front (each f (drop i (map (λ part. map g part.now) vs)))
-part_more f g vs i d front y h e =
-    each_more f (map (λ part. map g part.now) vs) i (map g d.now) front y (omega (arith, length_parts g vs)) (e ∙ ap f (sym (part_at g vs i d h)))
+-- ---- a loop over the parts of a list, of which each gives something
 
-pub part_none : {X Y B : Type 0} (f : List Y → Option B) (g : X → Y) (vs : List (Bor (List X))) (i : ℕ) (d : Bor (List X)) (front : List B) → i < length vs → None ≡ f (map g (get_or vs i d).now)
-    → with_front front (each f (drop i (map (λ part. map g part.now) vs))) ≡ None
-part_none f g vs i d front h e =
-    each_none f (map (λ part. map g part.now) vs) i (map g d.now) front (omega (arith, length_parts g vs)) (e ∙ ap f (sym (part_at g vs i d h)))
+-- the value that stands for a part where there is none
+abbrev no_part : {X : Type 0} → Bor (List X)
+no_part = record { ref_ptr = (0, 0); now = [] }
 
-pub part_all : {X Y B : Type 0} (f : List Y → Option B) (g : X → Y) (vs : List (Bor (List X))) (i : ℕ) (front : List B) → length vs ≤ i → with_front front (each f (drop i (map (λ part. map g part.now) vs))) ≡ Some front
-part_all f g vs i front h = each_all f (map (λ part. map g part.now) vs) i front (omega (arith, length_parts g vs))
+-- what the first i parts gave and what the others give is what all give
+abbrev pub SoFar : {X Y B : Type 0} → (List Y → Option B) → (X → Y) → List B → ℕ → List (Bor (List X)) → Type 0
+SoFar f g front i vs = with_front front (each f (drop i (map (λ part. map g part.now) vs))) ≡ each f (map (λ part. map g part.now) vs)
+
+module _ {X Y B : Type 0} (f : List Y → Option B) (g : X → Y) (vs : List (Bor (List X))) (i : ℕ) (front : List B) (so_far : SoFar f g front i vs) where
+  -- the next part gives something
+  pub part_more : (new : List B) (y : B) → new ≡ front ++ y ∷ [] → i < length vs → Some y ≡ f (map g (get_or vs i no_part).now) → SoFar f g new (i + 1) vs
+  part_more new y is h e =
+      ap (λ ys. with_front ys (each f (drop (i + 1) (map (λ part. map g part.now) vs)))) is
+      ∙ each_more f (map (λ part. map g part.now) vs) i [] front y (omega (arith, length_parts g vs)) (e ∙ ap f (sym (part_at g vs i no_part h)))
+      ∙ so_far
+
+  module _ (us : List (Bor (List X))) (parts : List (List Y)) (same : vs ≡ us) (are : map (λ part. map g part.now) us ≡ parts) where
+    all_give : each f (map (λ part. map g part.now) vs) ≡ each f parts
+    all_give = ap (each f) (ap (map (λ part. map g part.now)) same ∙ are)
+
+    -- it gives nothing
+    pub part_none : i < length vs → None ≡ f (map g (get_or vs i no_part).now) → None ≡ each f parts
+    part_none h e =
+        sym (each_none f (map (λ part. map g part.now) vs) i [] front (omega (arith, length_parts g vs)) (e ∙ ap f (sym (part_at g vs i no_part h))))
+        ∙ so_far ∙ all_give
+
+    -- there is no other
+    pub part_all : length vs ≤ i → Some front ≡ each f parts
+    part_all h = sym (each_all f (map (λ part. map g part.now) vs) i front (omega (arith, length_parts g vs))) ∙ so_far ∙ all_give
 
 pub prefix_len-map : {X Y : Type 0} (p : Y → Bool) (f : X → Y) (xs : List X) → prefix_len p (map f xs) ≡ prefix_len (λ x. p (f x)) xs
 prefix_len-map p f [] = refl

@@ -1,6 +1,9 @@
 -- The first code of a spot, its values and its depth.
-use Rattle.std.proofs.Common.{◌≡◌, ℕ, zero, suc, ◌+◌, ◌≤◌, length, Bool, true, false, Option, Some, None, List, [], ◌∷◌, refl, ap, sym, ◌∙◌, add-one, arith}
-use Rattle.std.specs.Prelude.{All, option_and_then, slice_get}
+use Rattle.std.proofs.Common.{◌≡◌, ℕ, zero, suc, ◌+◌, ◌<◌, ◌≤◌, length, get_or, drop, map, not, bytes_eq, Bool, true, false, Option, Some, None, List, [], ◌∷◌, refl, ap, sym, ◌∙◌, add-one, arith}
+use Rattle.std.specs.Prelude.{All, is_none, option_and_then, slice_get}
+use Rattle.std.specs.List.{list_any}
+use Rattle.std.proofs.lemmas.List.{drop_more}
+use Rattle.cf_types.specs.declared.tables.Locator.{Locator}
 use Rattle.std.specs.Option.{option_map_or}
 use Rattle.cf_types.specs.declared.machine.Spot.{Spot}
 use Rattle.cf_types.specs.declared.tables.Attr.{Attr}
@@ -10,7 +13,9 @@ use Rattle.cf_types.specs.declared.tables.Place.TheVariants.{Root, At}
 use Rattle.cf_types.specs.Locators.{locators_at}
 use Rattle.config_rules.specs.Form.{given, ◌or◌}
 use Rattle.config_rules.specs.Formed.{CountedTables}
-use Rattle.config_rules.specs.MachineText.{depth_of, spot_locators, spot_place}
+use Rattle.config_rules.specs.MachineText.{depth_of, found_fault, spot_locators, spot_place}
+use Rattle.machine_model.specs.declared.locator.FoundValue.{FoundValue}
+use Rattle.machine_model.specs.Found.{given_of}
 pub use Rattle.config_rules.proofs.MachineLaws.{depth_none}
 
 -- ---- one code after the other
@@ -30,6 +35,15 @@ last false code h = absurd (cc)
 pub none : (b : Bool) (code : ℕ) → b ≡ false → None ≡ given b code
 none true code h = absurd (cc)
 none false code h = refl
+
+-- what is left of the values that were found, by the first of them and by whether there is a locator of its name
+pub found_next : (locs : List Locator) (found : List FoundValue) (i : ℕ) (value : FoundValue) {name : List ℕ} {known : Bool} → i < length found → value ≡ get_or found i value → name ≡ value.name
+    → known ≡ list_any (λ l. bytes_eq l.name name) locs
+    → (given (not known) 5 or (given (is_none value.value) 7 or found_fault locs (map given_of (drop (i + 1) found)))) ≡ found_fault locs (map given_of (drop i found))
+found_next locs found i value h is same there =
+    ap (λ b. given (not b) 5 or (given (is_none value.value) 7 or found_fault locs (map given_of (drop (i + 1) found))))
+    (there ∙ ap (λ n. list_any (λ (l : Locator). bytes_eq l.name n) locs) same)
+    ∙ ap (λ vs. found_fault locs (map given_of vs)) (ap (λ v. v ∷ drop (i + 1) found) is ∙ sym (drop_more found i value h))
 
 -- ---- depths
 

@@ -3,8 +3,8 @@ use Rattle.std.specs.Prelude.{◌≡◌, ℕ, Result, Ok, Err}
 use Rattle.cf_types.specs.declared.machine.Machine.{Machine}
 use Rattle.machine_text.specs.declared.line.MachineStop.{MachineStop}
 use Rattle.machine_text.specs.declared.line.MachineStop.TheVariants as stops
-use Rattle.machine_model.specs.declared.stop.LineStop.{LineStop}
-use Rattle.machine_model.specs.declared.stop.LineStop.TheVariants.{Code, Memory}
+use Rattle.machine_text.specs.declared.stop.LineStop.{LineStop}
+use Rattle.machine_text.specs.declared.stop.LineStop.TheVariants.{Code, Memory}
 
 -- what a call left is what it should be, unless memory ran out
 abbrev pub Leaves : {A : Type 0} → Result Machine ℕ → Result A LineStop → Machine → Type 0

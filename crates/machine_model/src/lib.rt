@@ -9,7 +9,6 @@ mod locator;
 mod lookup;
 mod machine;
 mod spot;
-mod stop;
 mod word;
 
 pub use machine::read_machine;

@@ -11,10 +11,10 @@ use crate::index::Index;
 use crate::locator::{FoundValue, count_located, given_values, names_differ};
 use crate::lookup::{attach_number, interface_number, spot_number};
 use crate::spot::{make_spot, spot_fault};
-use crate::stop::LineStop;
 use crate::word::{are_marks, are_policies, differ, is_free_name, match_value, spells};
 use cf_names::add_name;
 use cf_types::{List, MatchLine, Memory, Spot, StyleLine, Text};
+use machine_text::LineStop;
 use std::alloc::Global;
 use std::mem;
 

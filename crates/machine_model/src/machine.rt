@@ -9,9 +9,8 @@ ghost use Rattle.machine_model.specs.Left.{Gives};
 use crate::draft::Draft;
 use crate::index::{Index, index_of};
 use crate::line::add_line;
-use crate::stop::LineStop;
 use cf_types::{Attach, List, Machine, Memory, Policy, Tables};
-use machine_text::{Line, MachineStop, records};
+use machine_text::{Line, LineStop, MachineStop, records};
 use std::alloc::Global;
 use std::collections::BTreeMap;
 

@@ -1,8 +1,11 @@
 -- One more line of a machine file, and one more word of a line.
-use Rattle.std.proofs.Common.{◌≡◌, ℕ, ◌+◌, ◌<◌, ◌≤◌, Bool, true, false, cond, List, [], ◌∷◌, ◌++◌, length, get_or, drop, map, refl, ap, sym, ◌∙◌, arith, Option, Some, append_assoc}
+use Rattle.std.proofs.Common.{◌≡◌, ℕ, ◌+◌, ◌≤◌, Bool, true, false, cond, List, [], ◌∷◌, ◌++◌, length, drop, map, refl, ap, sym, ◌∙◌, arith, Option, Some, None, append_assoc}
 use Rattle.std.specs.Prelude.{filter, find, nat_lt, option_map, ◌==◌}
 use Rattle.std.specs.List.{enumerate_from}
-use Rattle.std.proofs.lemmas.List.{drop_more, map-append}
+use Rattle.std.proofs.lemmas.List.{drop_all, drop_more, length_push, map-append}
+use Rattle.std.proofs.lemmas.Iterator.{YieldsList}
+use Rattle.std.proofs.lemmas.Iterator.Consumers.{YieldsList-turn, YieldsList-end}
+use Rattle.std.specs.Iterator.{Yields}
 use Rattle.std.proofs.lemmas.Bool.Decides.{nat_tests}
 use Rattle.std.proofs.lemmas.List.Splits.{length-slice_split}
 use Rattle.std.proofs.lemmas.List.Sums.{count_by-le-length}
@@ -11,8 +14,16 @@ use Rattle.config_rules.specs.MachineText.{WordLine, has_bad_byte, words_of}
 use Rattle.machine_text.specs.declared.line.Line.{Line}
 use Rattle.machine_text.specs.Records.{with_line, word_line}
 
-pub next_of : {X : Type 0} (xs : List X) (n : ℕ) (x : X) → (n < length xs) × (x ≡ get_or xs n x) → drop n xs ≡ x ∷ drop (n + 1) xs
-next_of xs n x h = drop_more xs n x h.0 ∙ ap (λ y. y ∷ drop (n + 1) xs) (sym h.1)
+-- ---- what is left in a loop over a list, at its next value and at its end
+
+module _ {S A B : Type 0} {steps : S → Option A → S → Type 0} {v : A → B} {s : S} {all : List B} (road : YieldsList steps v s all) (xs : List A) (t : S) (y : Yields steps s xs t) where
+  pub left_at : (r : Option A) (u : S) (x : A) → r ≡ Some x → steps t r u → drop (length xs) all ≡ v x ∷ drop (length (xs ++ x ∷ [])) all
+  left_at r u x is p =
+      let turn = YieldsList-turn road xs t y r u x is p in
+      drop_more all (length xs) (v x) turn.0 ∙ ap (λ z. z ∷ drop (length xs + 1) all) (sym turn.1) ∙ ap (λ n. v x ∷ drop n all) (sym (length_push xs x))
+
+  pub left_none : (r : Option A) (u : S) → r ≡ None → steps t r u → drop (length xs) all ≡ []
+  left_none r u is p = let ends = (YieldsList-end road xs t y r u is p).1 in drop_all (length xs) all (omega (arith, ends))
 
 -- all lines with their newlines are one byte longer than the text, so there are few of them
 pub lines_few : (text : List ℕ) → length (lines_of text) ≤ length text + 1
@@ -27,11 +38,11 @@ bad_if : (b : Bool) (n : ℕ) (line : List ℕ) (more : Option (ℕ × List ℕ)
 bad_if true n line more h = ap (λ b. option_map (λ e. e.0) (cond b (Some (n, line)) more)) h
 bad_if false n line more h = ap (λ b. option_map (λ e. e.0) (cond b (Some (n, line)) more)) h
 
-pub bad_here : (n : ℕ) (line : List ℕ) (lines : List (List ℕ)) → has_bad_byte line ≡ true → bad_from n (line ∷ lines) ≡ Some n
-bad_here n line lines h = bad_if true n line _ h
+pub bad_here : (n : ℕ) (line : List ℕ) {lines more : List (List ℕ)} → lines ≡ line ∷ more → has_bad_byte line ≡ true → bad_from n lines ≡ Some n
+bad_here n line is h = ap (bad_from n) is ∙ bad_if true n line _ h
 
-pub bad_later : (n : ℕ) (line : List ℕ) (lines : List (List ℕ)) → has_bad_byte line ≡ false → bad_from n (line ∷ lines) ≡ bad_from (n + 1) lines
-bad_later n line lines h = bad_if false n line _ h
+pub bad_later : (n : ℕ) (line : List ℕ) {lines more : List (List ℕ)} → lines ≡ line ∷ more → has_bad_byte line ≡ false → bad_from (n + 1) more ≡ bad_from n lines
+bad_later n line is h = sym (ap (bad_from n) is ∙ bad_if false n line _ h)
 
 -- ---- the lines that have words
 
@@ -63,17 +74,22 @@ line_if true n words line lines front h e = words_here n words line lines front 
 line_if false n words line lines front h e = ap (λ ls. map word_line front ++ ls) (words_later n words line lines h e)
 
 -- one more line
-pub line_more : (n : ℕ) (words : List (List ℕ)) (line : List ℕ) (lines : List (List ℕ)) (front new : List Line) → new ≡ with_line front n words → words ≡ words_of line
-    → map word_line new ++ words_from (n + 1) lines ≡ map word_line front ++ words_from n (line ∷ lines)
-line_more n words line lines front new is e =
-    ap (λ ls. map word_line ls ++ words_from (n + 1) lines) is ∙ line_if (nat_lt 0 (length words)) n words line lines front refl e
+pub line_more : (n : ℕ) (words : List (List ℕ)) (line : List ℕ) {lines more : List (List ℕ)} (front new : List Line) → lines ≡ line ∷ more → new ≡ with_line front n words → words ≡ words_of line
+    → map word_line new ++ words_from (n + 1) more ≡ map word_line front ++ words_from n lines
+line_more n words line {more = more} front new left is e =
+    ap (λ ls. map word_line ls ++ words_from (n + 1) more) is ∙ line_if (nat_lt 0 (length words)) n words line more front refl e
+    ∙ ap (λ ls. map word_line front ++ words_from n ls) (sym left)
 
 -- ---- the words of a line
 
-pub part_here : (parts front : List (List ℕ)) (word : List ℕ) (some : Bool) → nat_lt 0 (length word) ≡ some
+part_if : (parts front : List (List ℕ)) (word : List ℕ) (some : Bool) → nat_lt 0 (length word) ≡ some
     → cond some (front ++ word ∷ []) front ++ filter (λ w. nat_lt 0 (length w)) parts ≡ front ++ filter (λ w. nat_lt 0 (length w)) (word ∷ parts)
-part_here parts front word true h = append_assoc front (word ∷ []) _ ∙ ap (λ b. front ++ cond b (word ∷ filter (λ w. nat_lt 0 (length w)) parts) (filter (λ w. nat_lt 0 (length w)) parts)) (sym h)
-part_here parts front word false h = ap (λ b. front ++ cond b (word ∷ filter (λ w. nat_lt 0 (length w)) parts) (filter (λ w. nat_lt 0 (length w)) parts)) (sym h)
+part_if parts front word true h = append_assoc front (word ∷ []) _ ∙ ap (λ b. front ++ cond b (word ∷ filter (λ w. nat_lt 0 (length w)) parts) (filter (λ w. nat_lt 0 (length w)) parts)) (sym h)
+part_if parts front word false h = ap (λ b. front ++ cond b (word ∷ filter (λ w. nat_lt 0 (length w)) parts) (filter (λ w. nat_lt 0 (length w)) parts)) (sym h)
+
+pub part_here : (front : List (List ℕ)) (word : List ℕ) (some : Bool) {parts more : List (List ℕ)} → parts ≡ word ∷ more → nat_lt 0 (length word) ≡ some
+    → cond some (front ++ word ∷ []) front ++ filter (λ w. nat_lt 0 (length w)) more ≡ front ++ filter (λ w. nat_lt 0 (length w)) parts
+part_here front word some {more = more} left h = part_if more front word some h ∙ ap (λ ps. front ++ filter (λ w. nat_lt 0 (length w)) ps) (sym left)
 
 pub not_empty : (word : List ℕ) → (length word == 0) ≡ false → nat_lt 0 (length word) ≡ true
 not_empty word h = grind (arith, nat_tests)

@@ -2,7 +2,9 @@
 #![tactic(auto)]
 
 mod line;
+mod stop;
 mod text;
 
 pub use line::{Line, MachineStop, has_bad_byte, words_of};
+pub use stop::LineStop;
 pub use text::records;

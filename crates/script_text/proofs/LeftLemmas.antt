@@ -1,7 +1,7 @@
 -- What a call leaves where a call in it stopped.
 use Rattle.std.proofs.Common.{◌≡◌, ℕ, ap, sym, ◌∙◌, Result, Err, subst}
-use Rattle.script_text.specs.declared.stop.LineStop.{LineStop}
-use Rattle.script_text.specs.declared.stop.LineStop.TheVariants.{Code, Memory}
+use Rattle.machine_text.specs.declared.stop.LineStop.{LineStop}
+use Rattle.machine_text.specs.declared.stop.LineStop.TheVariants.{Code, Memory}
 use Rattle.script_text.specs.Left.{Leaves}
 
 stopped : {A B : Type 0} (whole : Result A ℕ) (next : Result B ℕ) (stop : LineStop) → Leaves whole (Err stop) → ((code : ℕ) → whole ≡ Err code → next ≡ Err code) → Leaves next (Err stop)

@@ -1,5 +1,5 @@
 -- The numbers of words, within a range.
-use Rattle.std.proofs.Common.{◌≡◌, ℕ, ◌≤◌, ◌&&◌, arith, Bool, true, false, cond, Option, Some, None, List, refl, ap, sym, ◌∙◌, ℤ, pos, negsuc, Result, Ok, Err}
+use Rattle.std.proofs.Common.{◌≡◌, ℕ, ◌≤◌, ◌&&◌, arith, Bool, true, false, cond, Option, Some, None, List, refl, ap, sym, ◌∙◌, ℤ, pos, negsuc, Result, Ok, Err, SFits, w64, to_z, of_z, to_z-of_z}
 use Rattle.std.specs.Prelude.{is_some, nat_abs, nat_le}
 use Rattle.std.specs.Option.{option_map_or}
 use Rattle.std.proofs.lemmas.Bool.Decides.{nat_tests}
@@ -82,8 +82,15 @@ fit_if true v = refl
 fit_if false v = refl
 
 -- a number that may lie within the range
-pub natural_is : (fits : ℤ → Bool) (word : List ℕ) (v : ℤ) → number_within in_range word ≡ Ok v → natural_within fits word ≡ option_map_or Ok (given (fits v) (nat_abs v)) (Err 3)
+natural_is : (fits : ℤ → Bool) (word : List ℕ) (v : ℤ) → number_within in_range word ≡ Ok v → natural_within fits word ≡ option_map_or Ok (given (fits v) (nat_abs v)) (Err 3)
 natural_is fits word v h = ap (natural fits) (good_of (number word) v h) ∙ fit_if (fits v) v
+
+-- the same of a number of the code, which is what it was before
+pub natural_read : (fits : ℤ → Bool) (word : List ℕ) (v : ℤ) (o : Option ℕ) → SFits w64 v → number_within in_range word ≡ Ok v → o ≡ given (fits (to_z w64 (of_z w64 v))) (nat_abs (to_z w64 (of_z w64 v)))
+    → natural_within fits word ≡ option_map_or Ok o (Err 3)
+natural_read fits word v o range h is =
+    let by : Option ℕ → Result ℕ ℕ = λ o. option_map_or Ok o (Err 3) in
+    natural_is fits word v h ∙ ap (λ z. by (given (fits z) (nat_abs z))) (sym (to_z-of_z range)) ∙ ap by (sym is)
 
 -- ---- the ranges of values and callers
 

@@ -12,8 +12,8 @@ use Rattle.config_rules.specs.Form.{given}
 use Rattle.config_rules.specs.MachineText.{words_of}
 use Rattle.config_rules.specs.ScriptText.{bad_turns, is_caller, is_number, is_turn, natural_within, order_of, turns_code, turns_of, unless_bad, within}
 use Rattle.config_rules.proofs.ScriptLaws.{bad_turns_from}
-use Rattle.script_text.specs.declared.stop.LineStop.{LineStop}
-use Rattle.script_text.specs.declared.stop.LineStop.TheVariants.{Code, Memory}
+use Rattle.machine_text.specs.declared.stop.LineStop.{LineStop}
+use Rattle.machine_text.specs.declared.stop.LineStop.TheVariants.{Code, Memory}
 use Rattle.script_text.specs.Left.{AddsTurns, AddsWords, Gives, Leaves, stop_at}
 
 -- ---- one word
@@ -81,17 +81,19 @@ abbrev pub turns_in : List (List ℕ) → List ℕ
 turns_in lines = turns_of (flat_map words_of lines)
 
 -- a line without a code
-pub fine_line : (callers n : ℕ) (line : List ℕ) (lines : List (List ℕ)) → turns_code callers line ≡ None → bad_turns_from callers (n + 1) lines ≡ bad_turns_from callers n (line ∷ lines)
-fine_line callers n line lines h = sym (ap (λ (o : Option ℕ). cons_option (option_map (λ code. (n, code)) o) (bad_turns_from callers (n + 1) lines)) h)
+pub fine_line : (callers n : ℕ) (line : List ℕ) {lines more : List (List ℕ)} → lines ≡ line ∷ more → turns_code callers line ≡ None → bad_turns_from callers (n + 1) more ≡ bad_turns_from callers n lines
+fine_line callers n line {more = more} left h =
+    sym (ap (bad_turns_from callers n) left ∙ ap (λ (o : Option ℕ). cons_option (option_map (λ code. (n, code)) o) (bad_turns_from callers (n + 1) more)) h)
 
 -- a line with a code
-pub bad_line : (callers n : ℕ) (line : List ℕ) (lines : List (List ℕ)) (code : ℕ) (turns : List ℕ) → turns_code callers line ≡ Some code → unless_bad (bad_turns_from callers n (line ∷ lines)) turns ≡ Err (n, code)
+bad_line : (callers n : ℕ) (line : List ℕ) (lines : List (List ℕ)) (code : ℕ) (turns : List ℕ) → turns_code callers line ≡ Some code → unless_bad (bad_turns_from callers n (line ∷ lines)) turns ≡ Err (n, code)
 bad_line callers n line lines code turns h = ap (λ (o : Option ℕ). unless_bad (cons_option (option_map (λ code. (n, code)) o) (bad_turns_from callers (n + 1) lines)) turns) h
 
-pub line_more : (front new : List ℕ) (line : List ℕ) (lines : List (List ℕ)) → new ≡ front ++ turns_of (words_of line) → new ++ turns_in lines ≡ front ++ turns_in (line ∷ lines)
-line_more front new line lines h =
-    ap (λ ns. ns ++ turns_in lines) h ∙ append_assoc front (turns_of (words_of line)) (turns_in lines)
-    ∙ ap (λ ns. front ++ ns) (sym (filter_map-append (λ word. option_map nat_abs (number word)) (words_of line) (flat_map words_of lines)))
+pub line_more : (front new : List ℕ) (line : List ℕ) {lines more : List (List ℕ)} → lines ≡ line ∷ more → new ≡ front ++ turns_of (words_of line) → new ++ turns_in more ≡ front ++ turns_in lines
+line_more front new line {more = more} left h =
+    ap (λ ns. ns ++ turns_in more) h ∙ append_assoc front (turns_of (words_of line)) (turns_in more)
+    ∙ ap (λ ns. front ++ ns) (sym (filter_map-append (λ word. option_map nat_abs (number word)) (words_of line) (flat_map words_of more)))
+    ∙ ap (λ ls. front ++ turns_in ls) (sym left)
 
 -- ---- the whole text
 
@@ -107,8 +109,8 @@ unfolding order_of
 order_whole callers text turns none all = ap (λ (bad : List (ℕ × ℕ)). unless_bad bad (all_turns text)) (sym none) ∙ ap (λ (ns : List ℕ). Ok ns) (sym all)
 
 -- the stop of a line
-pub order_stops : (callers : ℕ) (text : List ℕ) (n : ℕ) (line : List ℕ) (lines : List (List ℕ)) (old new : List ℕ) (stop : LineStop) → AddsTurns callers line old new (Err stop)
-    → bad_turns_from callers n (line ∷ lines) ≡ bad_turns callers text → Gives (order_of callers text) (Err (stop_at n stop))
-order_stops callers text n line lines old new (Code code) h all =
-    order_bad callers text n code (ap (λ (bad : List (ℕ × ℕ)). unless_bad bad (all_turns text)) (sym all) ∙ bad_line callers n line lines code (all_turns text) h)
-order_stops callers text n line lines old new Memory h all = tt
+pub order_stops : (callers : ℕ) (text : List ℕ) (n : ℕ) (line : List ℕ) {lines more : List (List ℕ)} (old new : List ℕ) (stop : LineStop) → lines ≡ line ∷ more → AddsTurns callers line old new (Err stop)
+    → bad_turns_from callers n lines ≡ bad_turns callers text → Gives (order_of callers text) (Err (stop_at n stop))
+order_stops callers text n line {more = more} old new (Code code) left h all =
+    order_bad callers text n code (ap (λ (bad : List (ℕ × ℕ)). unless_bad bad (all_turns text)) (sym all ∙ ap (bad_turns_from callers n) left) ∙ bad_line callers n line more code (all_turns text) h)
+order_stops callers text n line old new Memory left h all = tt

@@ -8,8 +8,8 @@ use Rattle.cf_types.specs.declared.machine.Command.{Command}
 use Rattle.config_rules.specs.ScriptText.{bad_sayings, code_after, commands_in, line_says, unless_bad}
 use Rattle.config_rules.specs.ScriptText as script
 use Rattle.config_rules.proofs.ScriptLaws.{bad_said, commands_said, said_from}
-use Rattle.script_text.specs.declared.stop.LineStop.{LineStop}
-use Rattle.script_text.specs.declared.stop.LineStop.TheVariants.{Code, Memory}
+use Rattle.machine_text.specs.declared.stop.LineStop.{LineStop}
+use Rattle.machine_text.specs.declared.stop.LineStop.TheVariants.{Code, Memory}
 use Rattle.script_text.specs.Left.{Adds, Gives, stop_at}
 
 -- what one more line says
@@ -36,16 +36,18 @@ bad_with n None more old code all h = absurd (cc)
 bad_with n (Some r) more old code all h = ap (λ (o : Option ℕ). unless_bad (cons_option (option_map (λ code. (n, code)) o) (bad_said (length old + 1) more)) all) h
 
 -- a line that is not bad
-pub fine_line : (n : ℕ) (line : List ℕ) (lines : List (List ℕ)) (old new : List Command) → option_and_then (code_after (length old)) (line_says line) ≡ None → new ≡ old ++ option_to_list (option_and_then result_ok (line_says line))
-    → bad_said (length new) (said_from (n + 1) lines) ≡ bad_said (length old) (said_from n (line ∷ lines))
-fine_line n line lines old new none is = fine_with n (line_says line) (said_from (n + 1) lines) old new none is
+pub fine_line : (n : ℕ) (line : List ℕ) {lines more : List (List ℕ)} (old new : List Command) → lines ≡ line ∷ more → option_and_then (code_after (length old)) (line_says line) ≡ None → new ≡ old ++ option_to_list (option_and_then result_ok (line_says line))
+    → bad_said (length new) (said_from (n + 1) more) ≡ bad_said (length old) (said_from n lines)
+fine_line n line {more = more} old new left none is =
+    fine_with n (line_says line) (said_from (n + 1) more) old new none is ∙ ap (λ ls. bad_said (length old) (said_from n ls)) (sym left)
 
-pub line_more : (n : ℕ) (line : List ℕ) (lines : List (List ℕ)) (old new : List Command) → option_and_then (code_after (length old)) (line_says line) ≡ None → new ≡ old ++ option_to_list (option_and_then result_ok (line_says line))
-    → new ++ commands_said (said_from (n + 1) lines) ≡ old ++ commands_said (said_from n (line ∷ lines))
-line_more n line lines old new none is = commands_with n (line_says line) (said_from (n + 1) lines) old new none is
+pub line_more : (n : ℕ) (line : List ℕ) {lines more : List (List ℕ)} (old new : List Command) → lines ≡ line ∷ more → option_and_then (code_after (length old)) (line_says line) ≡ None → new ≡ old ++ option_to_list (option_and_then result_ok (line_says line))
+    → new ++ commands_said (said_from (n + 1) more) ≡ old ++ commands_said (said_from n lines)
+line_more n line {more = more} old new left none is =
+    commands_with n (line_says line) (said_from (n + 1) more) old new none is ∙ ap (λ ls. old ++ commands_said (said_from n ls)) (sym left)
 
 -- a bad line
-pub bad_line : (n : ℕ) (line : List ℕ) (lines : List (List ℕ)) (old : List Command) (code : ℕ) (all : List Command) → option_and_then (code_after (length old)) (line_says line) ≡ Some code
+bad_line : (n : ℕ) (line : List ℕ) (lines : List (List ℕ)) (old : List Command) (code : ℕ) (all : List Command) → option_and_then (code_after (length old)) (line_says line) ≡ Some code
     → unless_bad (bad_said (length old) (said_from n (line ∷ lines))) all ≡ Err (n, code)
 bad_line n line lines old code all h = bad_with n (line_says line) (said_from (n + 1) lines) old code all h
 
@@ -60,8 +62,8 @@ unfolding script.commands_of
 script_whole text commands none all = ap (λ (bad : List (ℕ × ℕ)). unless_bad bad (commands_in text)) (sym none) ∙ ap (λ (cs : List Command). Ok cs) (sym all)
 
 -- the stop of a line
-pub script_stops : (text : List ℕ) (n : ℕ) (line : List ℕ) (lines : List (List ℕ)) (old new : List Command) (stop : LineStop) → Adds (line_says line) old new (Err stop)
-    → bad_said (length old) (said_from n (line ∷ lines)) ≡ bad_sayings text → Gives (script.commands_of text) (Err (stop_at n stop))
-script_stops text n line lines old new (Code code) h all =
-    script_bad text n code (ap (λ (bad : List (ℕ × ℕ)). unless_bad bad (commands_in text)) (sym all) ∙ bad_line n line lines old code (commands_in text) h)
-script_stops text n line lines old new Memory h all = tt
+pub script_stops : (text : List ℕ) (n : ℕ) (line : List ℕ) {lines more : List (List ℕ)} (old new : List Command) (stop : LineStop) → lines ≡ line ∷ more → Adds (line_says line) old new (Err stop)
+    → bad_said (length old) (said_from n lines) ≡ bad_sayings text → Gives (script.commands_of text) (Err (stop_at n stop))
+script_stops text n line {more = more} old new (Code code) left h all =
+    script_bad text n code (ap (λ (bad : List (ℕ × ℕ)). unless_bad bad (commands_in text)) (sym all ∙ ap (λ ls. bad_said (length old) (said_from n ls)) left) ∙ bad_line n line more old code (commands_in text) h)
+script_stops text n line old new Memory left h all = tt

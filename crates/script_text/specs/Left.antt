@@ -6,8 +6,8 @@ use Rattle.cf_types.specs.declared.machine.Command.{Command}
 use Rattle.config_rules.specs.Form.{given}
 use Rattle.config_rules.specs.MachineText.{words_of}
 use Rattle.config_rules.specs.ScriptText.{code_after, is_turn, turns_code, turns_of}
-use Rattle.script_text.specs.declared.stop.LineStop.{LineStop}
-use Rattle.script_text.specs.declared.stop.LineStop.TheVariants.{Code, Memory}
+use Rattle.machine_text.specs.declared.stop.LineStop.{LineStop}
+use Rattle.machine_text.specs.declared.stop.LineStop.TheVariants.{Code, Memory}
 use Rattle.script_text.specs.declared.stop.ScriptStop.{ScriptStop}
 use Rattle.script_text.specs.declared.stop.ScriptStop.TheVariants as stops
 

@@ -5,9 +5,9 @@ ghost use Rattle.script_text.specs.Verbs.{form_by};
 
 use crate::operand::{WRONG_WORDS, one_operand, operand, operand_or_none, transfer_value};
 use crate::pairs::pairs_of;
-use crate::stop::LineStop;
 use crate::verb::{Verb, verb_of};
 use cf_types::{Command, List, Text};
+use machine_text::LineStop;
 use std::alloc::Global;
 
 /// The code of a word that is no command.

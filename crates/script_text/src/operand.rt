@@ -4,9 +4,9 @@ ghost use Rattle.config_rules.specs.Form.{given};
 ghost use Rattle.config_rules.specs.ScriptText.{is_caller, is_number, is_operand, is_value, natural_within, number_within, one_operand, operand, operand_or_none};
 ghost use Rattle.script_text.specs.Left.{Leaves};
 
-use crate::stop::LineStop;
 use cf_text::{NumberRead, is_name, read_number};
 use cf_types::{Name, Text};
+use machine_text::LineStop;
 use std::alloc::Global;
 
 /// The greatest length of a name in a script.

@@ -4,9 +4,9 @@ ghost use Rattle.config_rules.specs.ScriptText.{is_number, order_of};
 ghost use Rattle.script_text.specs.Left.{AddsTurns, AddsWords, Gives};
 
 use crate::operand::{WRONG_WORDS, caller_number, is_number};
-use crate::stop::{LineStop, ScriptStop};
+use crate::stop::ScriptStop;
 use cf_types::{List, Text};
-use machine_text::{has_bad_byte, words_of};
+use machine_text::{LineStop, has_bad_byte, words_of};
 use std::alloc::Global;
 
 fn are_numbers(words: &[Text]) -> bool
@@ -53,7 +53,7 @@ pub fn read_order(alloc: Global, text: &[u8], callers: u8) -> Result<List<u8>, S
     let mut number = 1;
     for line in text.split(|&byte| byte == b'\n') {
         if let Err(stop) = add_line(alloc, &mut turns, callers, line) {
-            return Err(stop.at(number));
+            return Err(ScriptStop::at(number, stop));
         }
         number += 1;
     }

@@ -3,8 +3,8 @@ ghost use Rattle.config_rules.specs.ScriptText.{are_pairs, given_in, pairs_of};
 ghost use Rattle.script_text.specs.Left.{Leaves};
 
 use crate::operand::{WRONG_WORDS, is_number, is_operand, operand, written_value};
-use crate::stop::LineStop;
 use cf_types::{Given, List, Text};
+use machine_text::LineStop;
 use std::alloc::Global;
 
 /// The most words behind `rescan D A`: 16 pairs.

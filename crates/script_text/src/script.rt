@@ -4,9 +4,9 @@ ghost use Rattle.script_text.specs.Left.{Adds, Gives, Says};
 
 use crate::command::command_of;
 use crate::operand::WRONG_WORDS;
-use crate::stop::{LineStop, ScriptStop};
+use crate::stop::ScriptStop;
 use cf_types::{Command, List, Text};
-use machine_text::{has_bad_byte, words_of};
+use machine_text::{LineStop, has_bad_byte, words_of};
 use std::alloc::Global;
 
 /// The most commands of a script.
@@ -61,7 +61,7 @@ pub fn read_script(alloc: Global, text: &[u8]) -> Result<List<Command>, ScriptSt
     let mut number = 1;
     for line in text.split(|&byte| byte == b'\n') {
         if let Err(stop) = add_line(alloc, &mut commands, line) {
-            return Err(stop.at(number));
+            return Err(ScriptStop::at(number, stop));
         }
         number += 1;
     }

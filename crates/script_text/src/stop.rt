@@ -1,7 +1,7 @@
 ghost use Rattle.std.specs.Prelude.{◌≡◌};
 ghost use Rattle.script_text.specs.Left.{stop_at};
 
-use cf_types::Memory as NoMemory;
+use machine_text::LineStop;
 use thiserror::Error;
 
 /// Why a script or an order file can't be read.
@@ -15,34 +15,14 @@ pub enum ScriptStop {
     Memory,
 }
 
-/// Why a line can't be taken.
-#[derive(Clone, Copy, PartialEq, Eq)]
-pub enum LineStop {
-    /// Its first code, from 1 to 4.
-    Code(u8),
-    /// Memory ran out.
-    Memory,
-}
-
-impl LineStop {
-    /// The same of the line with this number.
-    pub fn at(self, line: u32) -> ScriptStop
-        ensures { result ≡ stop_at line self }
+impl ScriptStop {
+    /// A line's stop, with the line's number.
+    pub fn at(line: u32, stop: LineStop) -> ScriptStop
+        ensures { result ≡ stop_at line stop }
     {
-        match self {
+        match stop {
             LineStop::Code(code) => ScriptStop::Fault { line, code },
             LineStop::Memory => ScriptStop::Memory,
         }
-    }
-}
-
-impl From<NoMemory> for LineStop {
-    ghost use Rattle.std.specs.Prelude.{◌≡◌};
-    ghost use Rattle.script_text.specs.declared.stop.LineStop.TheVariants.{Memory};
-
-    ghost from_gives = { λ _ e. e ≡ Memory };
-
-    fn from(_error: NoMemory) -> LineStop {
-        LineStop::Memory
     }
 }

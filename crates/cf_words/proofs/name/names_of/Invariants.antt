@@ -1,9 +1,7 @@
-use Rattle.std.proofs.Common.{◌≡◌, drop, map}
-use Rattle.config_rules.specs.Form.{each, alone, name_of}
+use Rattle.config_rules.specs.Form.{alone, name_of}
 use Rattle.cf_words.specs.Words.{piece_of}
-use Rattle.cf_words.proofs.ListLemmas.{with_front}
+use Rattle.cf_words.proofs.ListLemmas.{SoFar}
 use Rattle.cf_words.proofs.name.names_of.Given as goal
 
 abbrev pub invariant-loop-part : goal.invariant-loop-part
-invariant-loop-part l =
-    with_front l.names (each (alone name_of) (drop l.part-index (map (λ part. map piece_of part.now) l.part-items))) ≡ each (alone name_of) (map (λ part. map piece_of part.now) l.part-items)
+invariant-loop-part l = SoFar (alone name_of) piece_of l.names l.part-index l.part-items

@@ -1,12 +1,11 @@
-use Rattle.std.proofs.Common.{rules, tests, ◌≡◌, ◌∙◌, ◌+◌, ◌++◌, [], ◌∷◌, List, ℕ, length, drop, sym, ap, subst, append-nil, arith, Err, Ok}
-use Rattle.std.proofs.lemmas.List.{length_push, drop_all}
-use Rattle.std.proofs.lemmas.Iterator.Consumers.{YieldsList-turn, YieldsList-end}
+use Rattle.std.proofs.Common.{rules, tests, ◌≡◌, ◌∙◌, ◌++◌, List, ℕ, sym, ap, subst, append-nil, arith, Err, Ok}
+use Rattle.std.proofs.lemmas.List.{length_push}
+use Rattle.std.proofs.lemmas.Iterator.Consumers.{YieldsList-turn}
 use Rattle.std.proofs.lemmas.Iterator.Splits.{YieldsList-from_slice_split}
 use Rattle.std.specs.Prelude.{◌==◌}
-use Rattle.config_rules.specs.Cut.{lines_of}
 use Rattle.config_rules.specs.ScriptText.{order_of}
 use Rattle.config_rules.proofs.ScriptLaws.{bad_turns_from, turns_within}
-use Rattle.machine_text.proofs.TextLemmas.{next_of, lines_few}
+use Rattle.machine_text.proofs.TextLemmas.{left_at, left_none, lines_few}
 use Rattle.script_text.specs.declared.stop.ScriptStop.{ScriptStop}
 use Rattle.script_text.specs.Left.{Gives}
 use Rattle.script_text.proofs.OrderLemmas.{fine_line, line_more, order_stops, order_whole, turns_in}
@@ -19,38 +18,24 @@ overflow_add-number c =
 
 pub returns-in-Err-clause-gives : goal.returns-in-Err-clause-gives
 returns-in-Err-clause-gives c =
-    let lines : List (List ℕ) = lines_of c.args.text.now in
-    let n = length c.loop-line.yielded in
-    let left : drop n lines ≡ c.in-Some.line.now ∷ drop (n + 1) lines =
-    next_of lines n c.in-Some.line.now (YieldsList-turn (YieldsList-from_slice_split _ (λ b. b == 10) c.args.text.now (cc) (cc) (cc) (λ x r q k. search (rules, tests))) c.loop-line.yielded _ c.loop-line.yielded_by _ _ c.in-Some.line c.in-Some.is c.next.ensures.steps) in
+    let left = left_at (YieldsList-from_slice_split _ (λ b. b == 10) c.args.text.now (cc) (cc) (cc) (λ x r q k. search (rules, tests))) c.loop-line.yielded _ c.loop-line.yielded_by _ _ c.in-Some.line c.in-Some.is c.next.ensures.steps in
     let P : ScriptStop → Type 0 = λ stop. Gives (order_of c.args.callers c.args.text.now) (Err stop) in
     subst P (sym c.at.ensures)
-    (order_stops c.args.callers c.args.text.now c.loop-line.number c.in-Some.line.now (drop (n + 1) lines) c.loop-line.turns c.add_line.new.turns c.in-Err.stop c.in-Err.ensures
-    (ap (λ (ls : List (List ℕ)). bad_turns_from c.args.callers c.loop-line.number ls) (sym left) ∙ c.loop-line.invariant.bad))
+    (order_stops c.args.callers c.args.text.now c.loop-line.number c.in-Some.line.now c.loop-line.turns c.add_line.new.turns c.in-Err.stop left c.in-Err.ensures c.loop-line.invariant.bad)
 
 pub loop-line-preserved : goal.loop-line-preserved
 loop-line-preserved c =
-    let lines : List (List ℕ) = lines_of c.args.text.now in
-    let n = length c.loop-line.yielded in
-    let left : drop n lines ≡ c.in-Some.line.now ∷ drop (n + 1) lines =
-    next_of lines n c.in-Some.line.now (YieldsList-turn (YieldsList-from_slice_split _ (λ b. b == 10) c.args.text.now (cc) (cc) (cc) (λ x r q k. search (rules, tests))) c.loop-line.yielded _ c.loop-line.yielded_by _ _ c.in-Some.line c.in-Some.is c.next.ensures.steps) in
-    let more : length (c.loop-line.yielded ++ c.in-Some.line ∷ []) ≡ n + 1 = length_push c.loop-line.yielded c.in-Some.line in
+    let left = left_at (YieldsList-from_slice_split _ (λ b. b == 10) c.args.text.now (cc) (cc) (cc) (λ x r q k. search (rules, tests))) c.loop-line.yielded _ c.loop-line.yielded_by _ _ c.in-Some.line c.in-Some.is c.next.ensures.steps in
     record {
       iterator = search rules;
-      bad = rw more
-          (fine_line c.args.callers c.loop-line.number c.in-Some.line.now (drop (n + 1) lines) c.in_default.ensures.0
-          ∙ ap (λ (ls : List (List ℕ)). bad_turns_from c.args.callers c.loop-line.number ls) (sym left) ∙ c.loop-line.invariant.bad);
-      so_far = rw more
-          (line_more c.loop-line.turns _ c.in-Some.line.now (drop (n + 1) lines) c.in_default.ensures.1
-          ∙ ap (λ (ls : List (List ℕ)). c.loop-line.turns ++ turns_in ls) (sym left) ∙ c.loop-line.invariant.so_far);
-      count = rw more (ap (λ (k : ℕ). k + 1) c.loop-line.invariant.count);
+      bad = fine_line c.args.callers c.loop-line.number c.in-Some.line.now left c.in_default.ensures.0 ∙ c.loop-line.invariant.bad;
+      so_far = line_more c.loop-line.turns _ c.in-Some.line.now left c.in_default.ensures.1 ∙ c.loop-line.invariant.so_far;
+      count = omega (arith, c.loop-line.invariant.count, length_push c.loop-line.yielded c.in-Some.line);
     }
 
 pub returns : goal.returns
 returns c =
-    let lines : List (List ℕ) = lines_of c.args.text.now in
-    let all = (YieldsList-end (YieldsList-from_slice_split _ (λ b. b == 10) c.args.text.now (cc) (cc) (cc) (λ x r q k. search (rules, tests))) c.loop-line.yielded _ c.loop-line.yielded_by _ _ c.in-None.is c.next.ensures.steps).1 in
-    let none : drop (length c.loop-line.yielded) lines ≡ [] = drop_all (length c.loop-line.yielded) lines (omega (arith, all)) in
+    let none = left_none (YieldsList-from_slice_split _ (λ b. b == 10) c.args.text.now (cc) (cc) (cc) (λ x r q k. search (rules, tests))) c.loop-line.yielded _ c.loop-line.yielded_by _ _ c.in-None.is c.next.ensures.steps in
     let whole : order_of c.args.callers c.args.text.now ≡ Ok c.loop-line.turns =
     order_whole c.args.callers c.args.text.now c.loop-line.turns
     (ap (λ (ls : List (List ℕ)). bad_turns_from c.args.callers c.loop-line.number ls) (sym none) ∙ c.loop-line.invariant.bad)

@@ -1,10 +1,10 @@
 use cf_types::Memory as NoMemory;
 use std::alloc::AllocError;
 
-/// Why a line of a machine file can't be taken.
+/// Why a line can't be taken.
 #[derive(Clone, Copy, PartialEq, Eq)]
 pub enum LineStop {
-    /// Its first code, from 1 to 9.
+    /// Its first code.
     Code(u8),
     /// Memory ran out.
     Memory,
@@ -12,7 +12,7 @@ pub enum LineStop {
 
 impl From<NoMemory> for LineStop {
     ghost use Rattle.std.specs.Prelude.{◌≡◌};
-    ghost use Rattle.machine_model.specs.declared.stop.LineStop.TheVariants.{Memory};
+    ghost use Rattle.machine_text.specs.declared.stop.LineStop.TheVariants.{Memory};
 
     ghost from_gives = { λ _ e. e ≡ Memory };
 
@@ -23,7 +23,7 @@ impl From<NoMemory> for LineStop {
 
 impl From<AllocError> for LineStop {
     ghost use Rattle.std.specs.Prelude.{◌≡◌};
-    ghost use Rattle.machine_model.specs.declared.stop.LineStop.TheVariants.{Memory};
+    ghost use Rattle.machine_text.specs.declared.stop.LineStop.TheVariants.{Memory};
 
     ghost from_gives = { λ _ e. e ≡ Memory };
 
