@@ -1,9 +1,11 @@
 //! Scripts that are played, with what they read and what they answer.
 
+use super::cases::SMALL;
+
 /// The text of this name: a configuration, a machine file, the listing of its tables, or the events of its boot.
 pub fn text_of(name: &[u8]) -> &'static [u8] {
     match name {
-        b"small.conf" => SMALL_CONF,
+        b"small.conf" => SMALL,
         b"small.machine" => SMALL_MACHINE,
         b"small.tables" => SMALL_TABLES,
         b"small.boot" => SMALL_BOOT,
@@ -22,19 +24,7 @@ pub fn text_of(name: &[u8]) -> &'static [u8] {
     }
 }
 
-/// A small PC with two serial ports.
-const SMALL_CONF: &[u8] = b"device mainbus {}
-attach mainbus at root
-device isa {[port = -1], [irq = -1]}
-attach isa at mainbus
-device com
-attach com at isa with com_isa
-mainbus0 at root
-isa0 at mainbus0
-com0 at isa? port 0x3f8 irq 4
-com* at isa?
-";
-
+/// The small PC has two serial ports.
 const SMALL_MACHINE: &[u8] = b"spot mb root root
 spot isa mb mainbus
 spot u0 isa isa port=0x3f8 irq=4
