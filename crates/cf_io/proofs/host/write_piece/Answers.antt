@@ -1,0 +1,16 @@
+use Rattle.std.proofs.Common.{rules, ◌++◌, take, ap, ◌∙◌, sym, subst}
+use Rattle.std.specs.Io.KnownBytes.{Appends}
+use Rattle.std.proofs.KnownBytes.{Appends-trans}
+use Rattle.std.proofs.Math.Seq.{take-add}
+use Rattle.std.proofs.lemmas.List.{take_rest}
+use Rattle.cf_io.proofs.host.write_piece.Goals as goal
+
+pub loop-taken-preserved : goal.loop-taken-preserved
+loop-taken-preserved g c =
+    let piece = c.args.piece.now in
+    let n = c.loop-taken.taken in
+    let more = c.in-Ok.count in (
+      search rules,
+      subst (Appends _ _) (ap (λ rest. take n piece ++ take more rest) (take_rest piece n) ∙ sym (take-add n more piece))
+          (Appends-trans _ _ _ _ _ c.loop-taken.invariant.1 c.in-Ok.ensures.bytes),
+    )
