@@ -1,23 +1,27 @@
 ghost use Rattle.std.specs.Prelude.{◌≡◌, ◌≤◌, length, IfOk};
+ghost use Rattle.std.specs.Arc.{arc_slice_items};
 
 use crate::Memory;
 use std::alloc::{AllocError, Global};
 use std::marker::Model;
+use std::sync::ArcSlice;
 
 /// A name of 1 to 80 bytes, as that of a device, an attribute or a spot. Contracts see its bytes.
+/// It is shared: a clone is a further owner of the same bytes and takes no memory.
 #[derive(Debug, Drop)]
 pub struct Name {
-    bytes: Vec<u8>,
+    bytes: ArcSlice<u8>,
 }
 
 impl Model for Name {
     ghost use Rattle.std.specs.Prelude.{List, ℕ, ◌≤◌, length};
+    ghost use Rattle.std.specs.Arc.{arc_slice_items};
 
     ghost Value = { List ℕ };
 
-    ghost view = { λ name. name.bytes.items };
+    ghost view = { λ name. arc_slice_items name.bytes };
 
-    ghost invariant = { λ name. (1 ≤ length name.bytes.items) × (length name.bytes.items ≤ 80) };
+    ghost invariant = { λ name. (1 ≤ length (arc_slice_items name.bytes)) × (length (arc_slice_items name.bytes) ≤ 80) };
 }
 
 impl Name {
@@ -28,7 +32,7 @@ impl Name {
         ensures { IfOk result (λ name. name ≡ bytes.now) }
     {
         Ok(Name {
-            bytes: Vec::from_slice(alloc, bytes)?,
+            bytes: ArcSlice::from_slice(alloc, bytes)?,
         })
     }
 
@@ -38,7 +42,7 @@ impl Name {
         ensures not_empty { 1 ≤ length self.now }
         ensures not_long { length self.now ≤ 80 }
     {
-        &self.bytes
+        self.bytes.as_slice()
     }
 }
 
@@ -51,7 +55,7 @@ impl PartialEq for Name {
     ghost laws = { Prim.search rules };
 
     fn eq(&self, other: &Name) -> bool {
-        self.bytes.as_slice() == other.bytes.as_slice()
+        self.bytes() == other.bytes()
     }
 }
 
