@@ -1,0 +1,51 @@
+//! A case of the program.
+
+use cf_io::MemFile;
+use cf_types::List;
+use std::alloc::Global;
+
+/// Numbers of calls that have to fail, counted from 1.
+pub type Calls = List<u64>;
+
+/// What the program is called with, and what it has to answer.
+#[derive(Drop)]
+pub struct Case {
+    /// What the case shows.
+    pub name: String,
+    /// The words behind the program's name.
+    pub words: Vec<String>,
+    pub files: List<MemFile>,
+    pub failing_loads: Calls,
+    /// Calls of the output that have to fail.
+    pub failing_puts: Calls,
+    /// Calls of standard error that have to fail.
+    pub failing_errors: Calls,
+    pub answer: Answer,
+}
+
+/// What the program writes to its output and to standard error, and its status.
+#[derive(Drop)]
+pub struct Answer {
+    pub output: Vec<u8>,
+    pub errors: Vec<u8>,
+    pub status: u64,
+}
+
+impl Case {
+    /// A case without words and files that is to write nothing and to end well.
+    pub fn make(alloc: Global, name: String) -> Case {
+        Case {
+            name,
+            words: Vec::new(alloc),
+            files: List::make(alloc),
+            failing_loads: List::make(alloc),
+            failing_puts: List::make(alloc),
+            failing_errors: List::make(alloc),
+            answer: Answer {
+                output: Vec::new(alloc),
+                errors: Vec::new(alloc),
+                status: 0,
+            },
+        }
+    }
+}
