@@ -1,0 +1,179 @@
+# What the launchers of this repository share; each of them is a script that reads this file. `launch NAME WORD..` runs the
+# proved program NAME on these words. Where it is not built yet, or a source is newer, it is proved and built first: as many
+# crates at once as there are processors and memory for, those first on which the longest chain of work stands. Ctrl-C ends
+# that, and what was proved until then stays.
+
+# Is the program there, and no source newer?
+is_current() {
+    [ -x "$program" ] && [ -z "$(find "$top/crates" "$top/crates.txt" -name out -prune -o -type f \
+        \( -name '*.rt' -o -name '*.antt' -o -name crates.txt \) -newer "$program" -print -quit)" ]
+}
+
+# The crates of this repository that the crate $1 stands on, and itself, lowest first.
+crates_of() {
+    awk -v top="$1" '
+    function visit(crate, part, parts, i) {
+        if (crate in seen) return
+        seen[crate] = 1
+        parts = split(below[crate], part, " ")
+        for (i = 1; i <= parts; i++) if (part[i] in below) visit(part[i])
+        print crate
+    }
+    { sub(/#.*/, "") }
+    /:/ { crate = $1; sub(/:$/, "", crate); sub(/^[^:]*:/, ""); below[crate] = $0 }
+    END { visit(top) }' "$top/crates.txt"
+}
+
+# These crates, on which the longest chain of lines stands first. The input tells them lowest first, each with its lines.
+longest_first() {
+    awk '
+    NR == FNR { lines[$1] = $2; order[++count] = $1; next }
+    { sub(/#.*/, "") }
+    /:/ { crate = $1; sub(/:$/, "", crate); sub(/^[^:]*:/, ""); below[crate] = $0 }
+    END {
+        for (n = count; n; n--) {
+            chain[order[n]] += lines[order[n]]
+            parts = split(below[order[n]], part, " ")
+            for (i = 1; i <= parts; i++)
+                if (chain[part[i]] < chain[order[n]]) chain[part[i]] = chain[order[n]]
+        }
+        for (n = 1; n <= count; n++) print chain[order[n]], order[n]
+    }' - "$top/crates.txt" | sort -rn | cut -d ' ' -f 2
+}
+
+# How many crates are proved at once: one a processor, and no more than have 2.5 GB of memory each.
+places() {
+    processors=$(getconf _NPROCESSORS_ONLN 2>/dev/null || echo 1)
+    free=$(awk '/^MemAvailable:/ { print int($2 / 2500000) }' /proc/meminfo 2>/dev/null)
+    [ "${free:-1}" -ge 1 ] || free=1
+    if [ "${free:-1}" -lt "$processors" ]; then echo "${free:-1}"; else echo "$processors"; fi
+}
+
+# Proves the crate $1 with so many jobs, in a room of its own, since two checks that share a lower crate's folder wait for
+# one another. The room has the sources, and of the lower crates what was made of them.
+prove() {
+    room=$work/$1
+    mkdir -p "$room/crates"
+    for crate in $(crates_of "$1"); do
+        mkdir "$room/crates/$crate"
+        for part in src specs proofs; do
+            [ ! -d "$top/crates/$crate/$part" ] || cp -pR "$top/crates/$crate/$part" "$room/crates/$crate/"
+        done
+        grep "^$crate[ :]" "$top/crates.txt" >>"$room/crates.txt"
+        [ "$crate" != "$1" ] || continue
+        mkdir "$room/crates/$crate/out"
+        cp -pRl "$top/crates/$crate/out/rlib" "$room/crates/$crate/out/" 2>/dev/null \
+            || cp -pR "$top/crates/$crate/out/rlib" "$room/crates/$crate/out/"
+    done
+    cp "$top/HANDLES" "$room/"
+    [ ! -d "$top/crates/$1/out" ] || mv "$top/crates/$1/out" "$room/crates/$1/out"
+    verb=lib
+    [ "$1" != "$name" ] || verb=run
+    (cd "$room/crates/$1" && exec rt "$verb" --jobs "$2") >"$work/$1.log" 2>&1 </dev/null &
+    echo $! >"$work/$1.at"
+    wait $!
+    status=$?
+    [ "$1" != "$name" ] || { [ -x "$room/crates/$1/out/$name" ] && status=0; }
+    [ ! -d "$room/crates/$1/out" ] || mv "$room/crates/$1/out" "$top/crates/$1/out"
+    rm -rf "$room"
+    echo "$status" >"$work/$1.ended"
+}
+
+# How far it is: on a terminal one line that is written anew, else a line a minute.
+tell() {
+    minutes=$((($(date +%s) - began) / 60))
+    line="$name: $(wc -l <"$work/done") of $all crates proved, $minutes min; at work:$(ls "$work" | sed -n 's/\.at$//p' | tr '\n' ' ' | sed 's/^/ /')"
+    if [ -t 2 ]; then
+        printf '\r\033[K%.*s' "$(($(tput cols 2>/dev/null || echo 80) - 1))" "$line" >&2
+    elif [ "$minutes" != "$told" ]; then
+        echo "$line" >&2
+        told=$minutes
+    fi
+}
+
+# Takes note of the crates that ended. Where one was refused, its last lines are shown.
+collect() {
+    for ended in "$work"/*.ended; do
+        [ -e "$ended" ] || continue
+        crate=$(basename "$ended" .ended)
+        if [ "$(cat "$ended")" != 0 ]; then
+            [ ! -t 2 ] || echo >&2
+            echo "$name: the crate $crate was not proved:" >&2
+            tail -n 20 "$work/$crate.log" >&2
+            leave 125
+        fi
+        rm "$work/$crate.ended" "$work/$crate.at"
+        echo "$crate" >>"$work/done"
+    done
+}
+
+# Begins the next crates whose lower ones are all proved.
+begin() {
+    while read -r crate; do
+        [ "$(ls "$work" | grep -c '\.at$')" -lt "$places" ] || return 0
+        ! grep -qx "$crate" "$work/done" && [ ! -e "$work/$crate.at" ] || continue
+        for lower in $(crates_of "$crate"); do
+            [ "$lower" = "$crate" ] || grep -qx "$lower" "$work/done" || continue 2
+        done
+        jobs=$((places / ($(ls "$work" | grep -c '\.at$') + 1)))
+        [ "$jobs" -ge 2 ] || jobs=$((places < 4 ? 1 : 2))
+        : >"$work/$crate.at"
+        prove "$crate" "$jobs" &
+    done <"$work/todo"
+}
+
+# Ends what is at work, and leaves what was proved.
+leave() {
+    trap '' INT TERM HUP
+    for at in "$work"/*.at; do
+        [ ! -s "$at" ] || kill "$(cat "$at")" 2>/dev/null
+    done
+    wait
+    rm -rf "$work"
+    exit "$1"
+}
+
+build() {
+    command -v rt >/dev/null || { echo "$name: the command rt of the Rattle kit is needed to build the program" >&2; exit 125; }
+    work=$top/out/building
+    mkdir -p "$top/out"
+    until mkdir "$work" 2>/dev/null; do
+        if kill -0 "$(cat "$work/launcher" 2>/dev/null)" 2>/dev/null; then
+            echo "$name: waiting for another call that builds the programs" >&2
+            while kill -0 "$(cat "$work/launcher" 2>/dev/null)" 2>/dev/null; do sleep 1; done
+        else
+            rm -rf "$work"
+        fi
+    done
+    echo $$ >"$work/launcher"
+    trap '[ ! -t 2 ] || echo >&2; leave 130' INT TERM HUP
+    is_current && { rm -rf "$work"; trap - INT TERM HUP; return; }
+    places=$(places)
+    began=$(date +%s)
+    told=
+    : >"$work/done"
+    for crate in $(crates_of "$name"); do
+        echo "$crate $(find "$top/crates/$crate" -name out -prune -o -name '*.rt' -print -o -name '*.antt' -print | xargs cat | wc -l)"
+    done | longest_first >"$work/todo"
+    all=$(wc -l <"$work/todo")
+    echo "$name: proving and building the program, $places crates at a time; README.md says how long the first time takes" >&2
+    rm -f "$program"
+    while [ "$(wc -l <"$work/done")" -lt "$all" ]; do
+        collect
+        begin
+        tell
+        sleep 1
+    done
+    [ ! -t 2 ] || echo >&2
+    touch "$program"
+    rm -rf "$work"
+    trap - INT TERM HUP
+}
+
+launch() {
+    name=$1
+    shift
+    program=$top/crates/$name/out/$name
+    is_current || build
+    exec "$program" "$@"
+}
