@@ -122,6 +122,31 @@ scripts_by_number() {
     expect 7 's: too long' play conf mach s o
 }
 
+# A name of the program that is not UTF-8 spoils no words; a word that is not is in no form.
+odd_bytes() {
+    odd=$(printf '\377')
+    usage=$("$program" 2>&1) || true
+    expect 2 "$usage" ioconf "$odd"
+    plain=$program
+    program=$folder/$odd
+    ln -s "$plain" "$program"
+    expect 0 '' load 5
+    program=$plain
+}
+
+# A device that takes no byte is a fault of writing.
+full_output() {
+    [ -w /dev/full ] || return 0
+    got=0
+    said=$("$program" load 5 2>&1 >/dev/full) || got=$?
+    tried=$((tried + 1))
+    [ "$got $said" = '9 write fault' ] && return 0
+    wrong=$((wrong + 1))
+    echo "devconf load 5 to a full device: status $got, '$said', where status 9, 'write fault' is wanted"
+}
+
+odd_bytes
+full_output
 rows 'config ' >"$folder/rows"
 while IFS=$tab read -r said wrongly rightly; do try_config "$said" "$wrongly" "$rightly"; done <"$folder/rows"
 by_number
