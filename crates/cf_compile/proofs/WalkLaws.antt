@@ -3,6 +3,7 @@ use Rattle.std.proofs.Common.{◌≡◌, ◌≢◌, ℕ, suc, ◌∷◌, ◌+◌
 use Rattle.std.specs.Prelude.{slice_index_or, false, if◌then◌else◌, Bool, true, nat_le, Option}
 use Rattle.std.specs.Option.{option_to_list}
 use Rattle.std.proofs.lemmas.List.{length-map, length-take}
+use Rattle.cf_types.specs.declared.code.configuration.TheConstants.{TOO_MANY_INSTANCES}
 use Rattle.cf_types.specs.declared.instance.Instance.{Instance}
 use Rattle.cf_types.specs.declared.stmt.Placed.{Placed}
 use Rattle.cf_types.specs.declared.stmt.Stmt.{Stmt}
@@ -34,7 +35,7 @@ as_many placed i h = omega (arith, length-map (take i placed) (λ (q : Placed). 
 
 -- a statement without a code has none behind any fewer instances
 pub accepted_alone : (d : Declared) (n : ℕ) (s : Stmt) → code_of d n s ≡ None → code_of d 0 s ≡ None
-accepted_alone d n (stmt.Inst base mark at pairs flags) h = (no_code (nat_le 8192 n) 24 (err_of (join d base at pairs)) h).1
+accepted_alone d n (stmt.Inst base mark at pairs flags) h = (no_code (nat_le 8192 n) TOO_MANY_INSTANCES (err_of (join d base at pairs)) h).1
 accepted_alone d n _ h = h
 
 -- nothing was walked over

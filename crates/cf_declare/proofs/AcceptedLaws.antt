@@ -5,6 +5,7 @@ use Rattle.std.proofs.lemmas.Bool.{leb-false}
 use Rattle.std.proofs.lemmas.List.{take_all}
 use Rattle.std.proofs.lemmas.List.Sums.{sum_by_push}
 use Rattle.std.proofs.lemmas.Option.{get_or_from_slice_get}
+use Rattle.cf_types.specs.declared.code.configuration.TheConstants.{TOO_MANY_INSTANCES}
 use Rattle.cf_types.specs.declared.stmt.Placed.{Placed}
 use Rattle.cf_types.specs.declared.stmt.Stmt.{Stmt}
 use Rattle.cf_types.specs.declared.stmt.Stmt.TheVariants as stmt
@@ -89,7 +90,7 @@ pub accepted_joins : (before : List Stmt) (base : List ℕ) (mark : UnitMark) (a
     → (count_by is_instance before < 8192) × ((j : Joined) × (join (declared before) base at pairs ≡ Ok j))
 unfolding fault_of
 accepted_joins before base mark at pairs flags h =
-    let parts = no_code (nat_le 8192 (count_by is_instance before)) 24 (err_of (join (declared before) base at pairs)) h in
+    let parts = no_code (nat_le 8192 (count_by is_instance before)) TOO_MANY_INSTANCES (err_of (join (declared before) base at pairs)) h in
     (leb-false 8192 (count_by is_instance before) parts.0, value_of (join (declared before) base at pairs) parts.1)
 
 -- so it is an instance

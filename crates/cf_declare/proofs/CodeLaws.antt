@@ -4,6 +4,7 @@ use Rattle.std.specs.Prelude.{not, bytes_eq, is_some, if◌then◌else◌}
 use Rattle.std.specs.List.{list_all}
 use Rattle.std.specs.Option.{option_map_or}
 use Rattle.std.proofs.lemmas.Bool.{and_from, or_parts, not-false}
+use Rattle.cf_types.specs.declared.code.configuration.TheConstants.{LOCATOR_TWICE, NAME_TAKEN, NO_INTERFACE, UNKNOWN_ATTRIBUTE, UNKNOWN_DEVICE}
 use Rattle.cf_types.specs.declared.stmt.Stmt.{Stmt}
 use Rattle.cf_types.specs.declared.stmt.Stmt.TheVariants as stmt
 use Rattle.cf_types.specs.declared.tables.Attr.{Attr}
@@ -37,10 +38,10 @@ names_declared d (stmt.Attach device places name needs) =
 names_declared d _ = true
 
 -- one place without a code is the root or an attribute, and the rest has none
-place_if : (root : Bool) (a : Option Attr) (rest : Option ℕ) → ((if root then None else option_map_or (λ x. given (not x.iface) 9) a (Some 8)) or rest) ≡ None → ((root || is_some a) ≡ true) × (rest ≡ None)
+place_if : (root : Bool) (a : Option Attr) (rest : Option ℕ) → ((if root then None else option_map_or (λ x. given (not x.iface) NO_INTERFACE) a (Some UNKNOWN_ATTRIBUTE)) or rest) ≡ None → ((root || is_some a) ≡ true) × (rest ≡ None)
 place_if true a rest h = (refl, h)
 place_if false None rest h = absurd (cc)
-place_if false (Some x) rest h = (refl, (no_code (not x.iface) 9 rest h).1)
+place_if false (Some x) rest h = (refl, (no_code (not x.iface) NO_INTERFACE rest h).1)
 
 -- an attribute of this name is found by its number or as it is
 pub found_either : (d : Declared) (name : List ℕ) → is_some (attr_named d name) ≡ has_attr d name
@@ -56,32 +57,32 @@ places_known d (place ∷ places) h =
 -- a statement without a code names what is declared
 pub accepted_names : (d : Declared) (n : ℕ) (s : Stmt) → code_of d n s ≡ None → names_declared d s ≡ true
 accepted_names d n (stmt.Define name locs needs) h =
-    all_from_none (has_attr d) needs (no_code (lacks_attr d needs) 8 _ (no_code _ 15 _ (no_code _ 18 _ h).1).1).0
+    all_from_none (has_attr d) needs (no_code (lacks_attr d needs) UNKNOWN_ATTRIBUTE _ (no_code _ LOCATOR_TWICE _ (no_code _ NAME_TAKEN _ h).1).1).0
 accepted_names d n (stmt.DefPseudo name locs needs) h =
-    all_from_none (has_attr d) needs (no_code (lacks_attr d needs) 8 _ (no_code _ 15 _ (no_code _ 18 _ h).1).1).0
+    all_from_none (has_attr d) needs (no_code (lacks_attr d needs) UNKNOWN_ATTRIBUTE _ (no_code _ LOCATOR_TWICE _ (no_code _ NAME_TAKEN _ h).1).1).0
 accepted_names d n (stmt.Device name locs needs) h =
-    all_from_none (has_attr d) needs (no_code (lacks_attr d needs) 8 _ (no_code _ 15 _ (no_code _ 18 _ h).1).1).0
+    all_from_none (has_attr d) needs (no_code (lacks_attr d needs) UNKNOWN_ATTRIBUTE _ (no_code _ LOCATOR_TWICE _ (no_code _ NAME_TAKEN _ h).1).1).0
 accepted_names d n (stmt.Attach device places name needs) h =
-    let first = no_code (not (has_device d device)) 10 _ h in
+    let first = no_code (not (has_device d device)) UNKNOWN_DEVICE _ h in
     let second = no_first (places_fault d places) _ first.1 in
     and_from (has_device d device) _ (not-false (has_device d device) first.0)
     (and_from (list_all (λ place. is_root place || has_attr d place) places) _ (places_known d places second.0)
-    (all_from_none (has_attr d) needs (no_last (lacks_attr d needs) 8 (no_code _ 18 _ second.1).1)))
+    (all_from_none (has_attr d) needs (no_last (lacks_attr d needs) UNKNOWN_ATTRIBUTE (no_code _ NAME_TAKEN _ second.1).1)))
 accepted_names d n _ h = refl
 
 -- the attribute that it adds has a name that none has
 pub accepted_new : (d : Declared) (n : ℕ) (s : Stmt) (name : List ℕ) → code_of d n s ≡ None → attr_name s ≡ Some name → has_attr d name ≡ false
 accepted_new d n (stmt.Define own locs needs) name h e =
     let same : own ≡ name = cc in
-    ap (has_attr d) (sym same) ∙ (or_parts (is_root own) (has_attr d own) (no_code _ 18 _ h).0).1
+    ap (has_attr d) (sym same) ∙ (or_parts (is_root own) (has_attr d own) (no_code _ NAME_TAKEN _ h).0).1
 accepted_new d n (stmt.Class own) name h e =
     let same : own ≡ name = cc in
-    ap (has_attr d) (sym same) ∙ (or_parts (is_root own) (has_attr d own) (no_last _ 18 h)).1
+    ap (has_attr d) (sym same) ∙ (or_parts (is_root own) (has_attr d own) (no_last _ NAME_TAKEN h)).1
 accepted_new d n (stmt.DefPseudo own locs needs) name h e =
     let same : own ≡ name = cc in
-    ap (has_attr d) (sym same) ∙ (or_parts (is_root own) (has_attr d own) (no_code _ 18 _ h).0).1
+    ap (has_attr d) (sym same) ∙ (or_parts (is_root own) (has_attr d own) (no_code _ NAME_TAKEN _ h).0).1
 accepted_new d n (stmt.Device own None needs) name h e = absurd (cc)
 accepted_new d n (stmt.Device own (Some locs) needs) name h e =
     let same : own ≡ name = cc in
-    ap (has_attr d) (sym same) ∙ (or_parts (is_root own || has_device d own) (has_attr d own) (no_code _ 18 _ h).0).1
+    ap (has_attr d) (sym same) ∙ (or_parts (is_root own || has_device d own) (has_attr d own) (no_code _ NAME_TAKEN _ h).0).1
 accepted_new d n _ name h e = absurd (cc)

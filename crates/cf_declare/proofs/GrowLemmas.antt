@@ -4,6 +4,7 @@ use Rattle.std.specs.Prelude.{unwrap_or, IfSome}
 use Rattle.std.specs.Option.{option_map_or, option_to_list}
 use Rattle.std.proofs.lemmas.List.{length-map}
 use Rattle.std.proofs.lemmas.List.Elements.{All-cons, All-nil, All-append}
+use Rattle.cf_types.specs.declared.code.configuration.TheConstants.{LOCATOR_TWICE, NAME_TAKEN, UNKNOWN_ATTRIBUTE}
 use Rattle.cf_types.specs.declared.stmt.Stmt.{Stmt}
 use Rattle.cf_types.specs.declared.stmt.Stmt.TheVariants as stmt
 use Rattle.cf_types.specs.declared.tables.Attr.{Attr}
@@ -30,13 +31,13 @@ single a h = All-cons Differ a [] h (All-nil Differ)
 -- the locators of a new attribute differ
 new_differ : (d : Declared) (n : ℕ) (s : Stmt) → code_of d n s ≡ None → All Differ (option_to_list (new_attr d s))
 new_differ d n (stmt.Define name locs needs) h =
-    single (attr name _ false false (unwrap_or locs []) (attr_numbers d needs)) (no_code (repeats_locator locs) 15 _ (no_code _ 18 _ h).1).0
+    single (attr name _ false false (unwrap_or locs []) (attr_numbers d needs)) (no_code (repeats_locator locs) LOCATOR_TWICE _ (no_code _ NAME_TAKEN _ h).1).0
 new_differ d n (stmt.Class name) h = single (attr name false true false [] []) refl
 new_differ d n (stmt.DefPseudo name locs needs) h =
-    single (attr name _ false true (unwrap_or locs []) (attr_numbers d needs)) (no_code (repeats_locator locs) 15 _ (no_code _ 18 _ h).1).0
+    single (attr name _ false true (unwrap_or locs []) (attr_numbers d needs)) (no_code (repeats_locator locs) LOCATOR_TWICE _ (no_code _ NAME_TAKEN _ h).1).0
 new_differ d n (stmt.Device name None needs) h = All-nil Differ
 new_differ d n (stmt.Device name (Some locs) needs) h =
-    single (attr name true false false locs []) (no_code (repeats_locator (Some locs)) 15 _ (no_code _ 18 _ h).1).0
+    single (attr name true false false locs []) (no_code (repeats_locator (Some locs)) LOCATOR_TWICE _ (no_code _ NAME_TAKEN _ h).1).0
 new_differ d n _ h = All-nil Differ
 
 -- the locators of each attribute still fit
@@ -48,9 +49,9 @@ locators_more d n s fit h few = record {
 
 -- a new attribute names attributes that are there
 pub new_needs : (d : Declared) (n : ℕ) (s : Stmt) → code_of d n s ≡ None → IfSome (new_attr d s) (λ a. All (λ b. b < length d.attrs) a.needs)
-new_needs d n (stmt.Define name locs needs) h = numbers_within d needs (no_code (lacks_attr d needs) 8 _ (no_code _ 15 _ (no_code _ 18 _ h).1).1).0
+new_needs d n (stmt.Define name locs needs) h = numbers_within d needs (no_code (lacks_attr d needs) UNKNOWN_ATTRIBUTE _ (no_code _ LOCATOR_TWICE _ (no_code _ NAME_TAKEN _ h).1).1).0
 new_needs d n (stmt.Class name) h = All-nil (λ b. b < length d.attrs)
-new_needs d n (stmt.DefPseudo name locs needs) h = numbers_within d needs (no_code (lacks_attr d needs) 8 _ (no_code _ 15 _ (no_code _ 18 _ h).1).1).0
+new_needs d n (stmt.DefPseudo name locs needs) h = numbers_within d needs (no_code (lacks_attr d needs) UNKNOWN_ATTRIBUTE _ (no_code _ LOCATOR_TWICE _ (no_code _ NAME_TAKEN _ h).1).1).0
 new_needs d n (stmt.Device name None needs) h = tt
 new_needs d n (stmt.Device name (Some locs) needs) h = All-nil (λ b. b < length d.attrs)
 new_needs d n _ h = tt
@@ -59,7 +60,7 @@ below_more : (xs : List ℕ) (n m : ℕ) → n ≤ m → All (λ b. b < n) xs �
 below_more xs n m h below k x p = let q : get_or xs k x < n = below k x p in omega arith
 
 device_needs : (d : Declared) (n : ℕ) (name : List ℕ) (locs : Option (List Locator)) (needs : List (List ℕ)) → code_of d n (stmt.Device name locs needs) ≡ None → All (λ b. b < length d.attrs) (attr_numbers d needs)
-device_needs d n name locs needs h = numbers_within d needs (no_code (lacks_attr d needs) 8 _ (no_code (repeats_locator locs) 15 _ (no_code _ 18 _ h).1).1).0
+device_needs d n name locs needs h = numbers_within d needs (no_code (lacks_attr d needs) UNKNOWN_ATTRIBUTE _ (no_code (repeats_locator locs) LOCATOR_TWICE _ (no_code _ NAME_TAKEN _ h).1).1).0
 
 -- a new device names its own attribute and attributes that are there
 pub new_names : (d : Declared) (n : ℕ) (s : Stmt) → code_of d n s ≡ None → IfSome (new_device d s) (λ x. All (λ b. b < length (d.attrs ++ option_to_list (new_attr d s))) (named_by x))
@@ -71,7 +72,7 @@ new_names d n (stmt.Device name (Some locs) needs) h =
     let size : m ≡ length d.attrs + 1 = length-append d.attrs (option_to_list (new_attr d (stmt.Device name (Some locs) needs))) in
     All-cons (λ b. b < m) (length d.attrs) (attr_numbers d needs) (omega (arith, size))
     (below_more (attr_numbers d needs) (length d.attrs) m (omega (arith, size))
-    (numbers_within d needs (no_code (lacks_attr d needs) 8 _ (no_code _ 15 _ (no_code _ 18 _ h).1).1).0))
+    (numbers_within d needs (no_code (lacks_attr d needs) UNKNOWN_ATTRIBUTE _ (no_code _ LOCATOR_TWICE _ (no_code _ NAME_TAKEN _ h).1).1).0))
 new_names d n _ h = tt
 
 own_names : (own : Option ℕ) → option_map_or (λ a. a ∷ []) own [] ≡ option_to_list own

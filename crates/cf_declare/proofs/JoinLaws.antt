@@ -7,6 +7,7 @@ use Rattle.std.proofs.lemmas.Bool.{eqb-true}
 use Rattle.std.proofs.lemmas.List.{length-map}
 use Rattle.std.proofs.lemmas.List.Elements.{All-map, All-weaker, All-contains, All-contains_itself}
 use Rattle.std.proofs.lemmas.Option.{slice_get_within}
+use Rattle.cf_types.specs.declared.code.configuration.TheConstants.{NO_INTERFACE, UNIT_ON_ATTRIBUTE}
 use Rattle.cf_types.specs.declared.stmt.Stmt.{Stmt}
 use Rattle.cf_types.specs.declared.stmt.AtSpec.{AtSpec}
 use Rattle.cf_types.specs.declared.stmt.AtSpec.TheVariants as written
@@ -64,7 +65,7 @@ on_attr : (d : Declared) (unit a : Option ℕ) → IfOk (attr_target d unit a) (
 on_attr d unit None = tt
 on_attr d unit (Some a) = by_tests (is_interface d.attrs a) (is_some unit)
   where
-    by_tests : (open_one with_unit : Bool) → IfOk {E = ℕ} (if not open_one then Err 9 else (if with_unit then Err 17 else Ok (On a))) (λ t. IfSome (parent_of t) (λ p. p.device < length d.devices))
+    by_tests : (open_one with_unit : Bool) → IfOk {E = ℕ} (if not open_one then Err NO_INTERFACE else (if with_unit then Err UNIT_ON_ATTRIBUTE else Ok (On a))) (λ t. IfSome (parent_of t) (λ p. p.device < length d.devices))
     by_tests true true = tt
     by_tests true false = tt
     by_tests false with_unit = tt

@@ -7,6 +7,7 @@ use Rattle.std.proofs.lemmas.Bool.{ne_eqb}
 use Rattle.std.proofs.lemmas.List.{drop_more}
 use Rattle.std.proofs.lemmas.List.Elements.{All-head, All-tail}
 use Rattle.std.proofs.lemmas.Option.{slice_get_past}
+use Rattle.cf_types.specs.declared.code.configuration.TheConstants.{UNKNOWN_LOCATOR}
 use Rattle.cf_types.specs.declared.instance.AttachPlace.{AttachPlace}
 use Rattle.cf_types.specs.declared.instance.Target.{Target}
 use Rattle.cf_types.specs.declared.tables.Attach.{Attach}
@@ -119,7 +120,7 @@ nothing_given [] h = refl
 nothing_given (g ∷ pairs) h = absurd (omega arith)
 
 -- whatever is given where there is no locator is unknown
-pub something_given : (pairs : List GivenLoc) → ¬ (length pairs ≡ 0) → Err 14 ≡ fill [] pairs
+pub something_given : (pairs : List GivenLoc) → ¬ (length pairs ≡ 0) → Err UNKNOWN_LOCATOR ≡ fill [] pairs
 unfolding fill fill_fault
 something_given [] h = absurd (h refl)
 something_given (g ∷ pairs) h = refl

@@ -6,6 +6,7 @@ use Rattle.std.specs.Option.{option_map_or}
 use Rattle.std.proofs.lemmas.Bool.{or_parts, and_parts, not-false, ltb-false}
 use Rattle.std.proofs.lemmas.List.{map_push, length-map}
 use Rattle.std.proofs.lemmas.List.Elements.{All-cons}
+use Rattle.cf_types.specs.declared.code.configuration.TheConstants.{LOCATOR_TWICE, NAME_TAKEN, NO_INTERFACE, SECOND_CLASS, TOO_MANY_INTERFACES, UNKNOWN_ATTRIBUTE, UNKNOWN_DEVICE}
 use Rattle.cf_types.specs.declared.stmt.Placed.{Placed}
 use Rattle.cf_types.specs.declared.stmt.Stmt.{Stmt}
 use Rattle.cf_types.specs.declared.stmt.Stmt.TheVariants as stmt
@@ -45,13 +46,13 @@ needs_known d needs h = numbers_known d needs (all_from_none (has_attr d) needs 
 
 -- one place without a code is open, and the rest has none
 place_open : (attrs : List Attr) (root : Bool) (a : Option Attr) (rest : Option ℕ) (number : ℕ)
-    → ((if root then None else option_map_or (λ x. given (not x.iface) 9) a (Some 8)) or rest) ≡ None
+    → ((if root then None else option_map_or (λ x. given (not x.iface) NO_INTERFACE) a (Some UNKNOWN_ATTRIBUTE)) or rest) ≡ None
     → ((x : Attr) → a ≡ Some x → slice_get attrs number ≡ Some x)
     → IsOpen attrs (if root then Root else At number) × (rest ≡ None)
 place_open attrs true a rest number h at = (tt, h)
 place_open attrs false None rest number h at = absurd (cc)
 place_open attrs false (Some x) rest number h at =
-    let parts = no_code (not x.iface) 9 rest h in
+    let parts = no_code (not x.iface) NO_INTERFACE rest h in
     (ap (λ o. option_map_or (λ y. y.iface) o false) (at x refl) ∙ not-false x.iface parts.0, parts.1)
 
 -- places without a code are open
@@ -82,10 +83,10 @@ with_attr d x s = unchanged (d.attrs ++ x ∷ []) (d.attrs ++ x ∷ []) d.device
 define_sound : (d : Declared) (name : List ℕ) (pseudo : Bool) (locs : Option (List Locator)) (needs : List (List ℕ)) → SoundDeclared d → define_fault d name locs needs ≡ None
     → SoundDeclared (record { attrs = d.attrs ++ attr name (is_some locs) false pseudo (unwrap_or locs []) (attr_numbers d needs) ∷ []; devices = d.devices; attaches = d.attaches })
 define_sound d name pseudo locs needs s h =
-    let first = no_code (is_root name || has_attr d name) 18 _ h in
-    let second = no_code (repeats_locator locs) 15 _ first.1 in
-    let third = no_code (lacks_attr d needs) 8 _ second.1 in
-    let short : option_map_or (λ l. 1) locs 0 + length (interfaces_of (nodes_of d.attrs) (attr_numbers d needs)) ≤ 64 = ltb-false 64 _ (no_last (offers_too_much d locs needs) 25 third.1) in
+    let first = no_code (is_root name || has_attr d name) NAME_TAKEN _ h in
+    let second = no_code (repeats_locator locs) LOCATOR_TWICE _ first.1 in
+    let third = no_code (lacks_attr d needs) UNKNOWN_ATTRIBUTE _ second.1 in
+    let short : option_map_or (λ l. 1) locs 0 + length (interfaces_of (nodes_of d.attrs) (attr_numbers d needs)) ≤ 64 = ltb-false 64 _ (no_last (offers_too_much d locs needs) TOO_MANY_INTERFACES third.1) in
     sound_attr d (attr name (is_some locs) false pseudo (unwrap_or locs []) (attr_numbers d needs)) s
     (needs_known d needs third.0)
     (differ_all (λ l. l.name) (unwrap_or locs []) second.0)
@@ -127,20 +128,20 @@ own_offers_few attrs x needs e iface alone known short =
 -- a device, with an attribute of its own where it has braces
 device_sound : (d : Declared) (name : List ℕ) (locs : Option (List Locator)) (needs : List (List ℕ)) → SoundDeclared d → device_fault d name locs needs ≡ None → SoundDeclared (declare d (stmt.Device name locs needs))
 device_sound d name None needs s h =
-    let first = no_code (is_root name || has_device d name || (false && has_attr d name)) 18 _ h in
-    let third = no_code (lacks_attr d needs) 8 _ (no_code (repeats_locator None) 15 _ first.1).1 in
-    let fourth = no_code (has_classes d needs) 19 _ third.1 in
-    let short : 0 + length (interfaces_of (nodes_of d.attrs) (attr_numbers d needs)) ≤ 64 = ltb-false 64 _ (no_last (offers_too_much d None needs) 25 fourth.1) in
+    let first = no_code (is_root name || has_device d name || (false && has_attr d name)) NAME_TAKEN _ h in
+    let third = no_code (lacks_attr d needs) UNKNOWN_ATTRIBUTE _ (no_code (repeats_locator None) LOCATOR_TWICE _ first.1).1 in
+    let fourth = no_code (has_classes d needs) SECOND_CLASS _ third.1 in
+    let short : 0 + length (interfaces_of (nodes_of d.attrs) (attr_numbers d needs)) ≤ 64 = ltb-false 64 _ (no_last (offers_too_much d None needs) TOO_MANY_INTERFACES fourth.1) in
     let new = (or_parts (is_root name) (has_device d name) (or_parts (is_root name || has_device d name) _ first.0).0).1 in
     let x : Device = record { name = name; own = None; needs = attr_numbers d needs } in
     unchanged d.attrs (d.attrs ++ []) (d.devices ++ x ∷ []) (d.devices ++ x ∷ []) d.attaches (d.attaches ++ []) (with_nothing d.attrs) refl (with_nothing d.attaches)
     (sound_device d x s (record { names_attrs = needs_known d needs third.0; own_is_open = tt; offers_few = omega arith }) new)
 device_sound d name (Some locs) needs s h =
-    let first = no_code (is_root name || has_device d name || (true && has_attr d name)) 18 _ h in
-    let second = no_code (repeats_locator (Some locs)) 15 _ first.1 in
-    let third = no_code (lacks_attr d needs) 8 _ second.1 in
-    let fourth = no_code (has_classes d needs) 19 _ third.1 in
-    let short : 1 + length (interfaces_of (nodes_of d.attrs) (attr_numbers d needs)) ≤ 64 = ltb-false 64 _ (no_last (offers_too_much d (Some locs) needs) 25 fourth.1) in
+    let first = no_code (is_root name || has_device d name || (true && has_attr d name)) NAME_TAKEN _ h in
+    let second = no_code (repeats_locator (Some locs)) LOCATOR_TWICE _ first.1 in
+    let third = no_code (lacks_attr d needs) UNKNOWN_ATTRIBUTE _ second.1 in
+    let fourth = no_code (has_classes d needs) SECOND_CLASS _ third.1 in
+    let short : 1 + length (interfaces_of (nodes_of d.attrs) (attr_numbers d needs)) ≤ 64 = ltb-false 64 _ (no_last (offers_too_much d (Some locs) needs) TOO_MANY_INTERFACES fourth.1) in
     let names = or_parts (is_root name || has_device d name) (has_attr d name) first.0 in
     let own : Attr = attr name true false false locs [] in
     let x : Device = record { name = name; own = Some (length d.attrs); needs = attr_numbers d needs } in
@@ -160,16 +161,16 @@ attach_sound : (d : Declared) (device : List ℕ) (places : List (List ℕ)) (na
     → SoundDeclared (declare d (stmt.Attach device places name needs))
 attach_sound d device places name needs s h =
     let own = unwrap_or name device in
-    let first = no_code (not (has_device d device)) 10 _ h in
+    let first = no_code (not (has_device d device)) UNKNOWN_DEVICE _ h in
     let second = no_first (places_fault d places) _ first.1 in
-    let third = no_code (is_root own || has_attach d own) 18 _ second.1 in
+    let third = no_code (is_root own || has_attach d own) NAME_TAKEN _ second.1 in
     let x : Attach = record { name = own; device = unwrap_or (device_number d device) 0; places = map (place_named d) places; needs = attr_numbers d needs } in
     unchanged d.attrs (d.attrs ++ []) d.devices (d.devices ++ []) (d.attaches ++ x ∷ []) (d.attaches ++ x ∷ []) (with_nothing d.attrs) (with_nothing d.devices) refl
     (sound_attach d x s
     (record {
       has_device = position_within (λ y. bytes_eq y.name device) d.devices (not-false (has_device d device) first.0);
       places_are_open = places_open d places second.0;
-      names_attrs = needs_known d needs (no_last (lacks_attr d needs) 8 third.1);
+      names_attrs = needs_known d needs (no_last (lacks_attr d needs) UNKNOWN_ATTRIBUTE third.1);
     })
     (or_parts (is_root own) (has_attach d own) third.0).1)
 
@@ -177,7 +178,7 @@ attach_sound d device places name needs s h =
 pub sound_more : (d : Declared) (n : ℕ) (s : Stmt) → SoundDeclared d → code_of d n s ≡ None → SoundDeclared (declare d s)
 sound_more d n (stmt.Define name locs needs) s h = with_attr d _ (define_sound d name false locs needs s h)
 sound_more d n (stmt.Class name) s h =
-    with_attr d _ (alone_sound d name false true [] s (λ i j x p q. absurd (omega arith)) (or_parts (is_root name) (has_attr d name) (no_last (is_root name || has_attr d name) 18 h)).1)
+    with_attr d _ (alone_sound d name false true [] s (λ i j x p q. absurd (omega arith)) (or_parts (is_root name) (has_attr d name) (no_last (is_root name || has_attr d name) NAME_TAKEN h)).1)
 sound_more d n (stmt.DefPseudo name locs needs) s h = with_attr d _ (define_sound d name true locs needs s h)
 sound_more d n (stmt.Device name locs needs) s h = device_sound d name locs needs s h
 sound_more d n (stmt.Attach device places name needs) s h = attach_sound d device places name needs s h

@@ -46,7 +46,7 @@ impl Declarations {
         }
     }
 
-    /// The first code, 8 to 19, 24 or 25, of a statement behind what is declared and so many instances; `None` where it
+    /// The first code of a statement behind what is declared and so many instances; `None` where it
     /// is accepted.
     pub fn code_of(
         &mut self,
@@ -61,7 +61,7 @@ impl Declarations {
         code_of(alloc, &self.lists, &mut self.graph, instances, stmt)
     }
 
-    /// What an instance joins, or its first code, 8 to 17.
+    /// What an instance joins, or its first code.
     pub fn join(&self, base: &[u8], at: &AtSpec, pairs: &[GivenLoc]) -> Result<Joined, u8>
         requires { FitsDeclared self.now }
         ensures { result ≡ join self.now base.now at.now pairs.now }

@@ -7,6 +7,7 @@ use crate::fault::{attr_numbers, has_attr, has_device, lacks_attr, repeats_locat
 use crate::lookup::is_root;
 use attr_graph::Graph;
 use cf_names::Catalog;
+use cf_types::code::configuration as code;
 use cf_types::{List, Locator, Memory, Name};
 use std::alloc::Global;
 
@@ -55,16 +56,16 @@ pub fn define_fault(
     ensures same { graph.new ≡ graph.old }
 {
     if is_root(name) || has_attr(declared, name) {
-        return Ok(Some(18));
+        return Ok(Some(code::NAME_TAKEN));
     }
     if repeats_locator(locators) {
-        return Ok(Some(15));
+        return Ok(Some(code::LOCATOR_TWICE));
     }
     if lacks_attr(declared, needs) {
-        return Ok(Some(8));
+        return Ok(Some(code::UNKNOWN_ATTRIBUTE));
     }
     if offers_too_much(alloc, declared, graph, locators, needs)? {
-        return Ok(Some(25));
+        return Ok(Some(code::TOO_MANY_INTERFACES));
     }
     Ok(None)
 }
@@ -133,19 +134,19 @@ pub fn device_fault(
         || has_device(declared, name)
         || (locators.is_some() && has_attr(declared, name))
     {
-        return Ok(Some(18));
+        return Ok(Some(code::NAME_TAKEN));
     }
     if repeats_locator(locators) {
-        return Ok(Some(15));
+        return Ok(Some(code::LOCATOR_TWICE));
     }
     if lacks_attr(declared, needs) {
-        return Ok(Some(8));
+        return Ok(Some(code::UNKNOWN_ATTRIBUTE));
     }
     if names_classes(alloc, declared, needs)? {
-        return Ok(Some(19));
+        return Ok(Some(code::SECOND_CLASS));
     }
     if offers_too_much(alloc, declared, graph, locators, needs)? {
-        return Ok(Some(25));
+        return Ok(Some(code::TOO_MANY_INTERFACES));
     }
     Ok(None)
 }

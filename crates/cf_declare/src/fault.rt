@@ -5,6 +5,7 @@ ghost use Rattle.config_rules.specs.Fault.{repeats, repeats_locator, place_fault
 
 use crate::lookup::{attr_named, is_root};
 use cf_names::Catalog;
+use cf_types::code::configuration as code;
 use cf_types::{List, Locator, Memory, Name};
 use std::alloc::Global;
 
@@ -85,8 +86,8 @@ fn place_fault(declared: &Catalog, place: &[u8]) -> Option<u8>
         return None;
     }
     match attr_named(declared, place) {
-        Some(attr) => { if attr.iface { None } else { Some(9) } }
-        None => Some(8),
+        Some(attr) => { if attr.iface { None } else { Some(code::NO_INTERFACE) } }
+        None => Some(code::UNKNOWN_ATTRIBUTE),
     }
 }
 
@@ -113,16 +114,16 @@ pub fn attach_fault(
     ensures { result ≡ attach_fault declared.now device.now places.now name.now needs.now }
 {
     if !has_device(declared, device) {
-        return Some(10);
+        return Some(code::UNKNOWN_DEVICE);
     }
     if let Some(code) = places_fault(declared, places) {
         return Some(code);
     }
     if is_root(name) || declared.has_attach(name) {
-        return Some(18);
+        return Some(code::NAME_TAKEN);
     }
     if lacks_attr(declared, needs) {
-        return Some(8);
+        return Some(code::UNKNOWN_ATTRIBUTE);
     }
     None
 }

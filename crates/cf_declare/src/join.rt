@@ -9,6 +9,7 @@ ghost use Rattle.cf_declare.specs.Graphs.{LocatorsFit, placed_at};
 
 use attr_graph::Graph;
 use cf_names::Catalog;
+use cf_types::code::configuration as code;
 use cf_types::{AtSpec, AttachPlace, GivenLoc, Joined, Locs, ParentSpec, Place, Target};
 use locator_rules::fill;
 
@@ -18,13 +19,13 @@ fn attr_target(declared: &Catalog, name: &[u8], unit: Option<u32>) -> Result<Tar
     ensures { result ≡ attr_target declared.now unit (attr_number declared.now name.now) }
 {
     let Some(number) = declared.attr_number(name) else {
-        return Err(8);
+        return Err(code::UNKNOWN_ATTRIBUTE);
     };
     if !declared.attrs()[number].iface {
-        return Err(9);
+        return Err(code::NO_INTERFACE);
     }
     if unit.is_some() {
-        return Err(17);
+        return Err(code::UNIT_ON_ATTRIBUTE);
     }
     Ok(Target::On(number as u32))
 }
@@ -149,7 +150,7 @@ fn fill_nothing(pairs: &[GivenLoc]) -> Result<Locs, u8>
     if pairs.is_empty() {
         return Ok(Locs::make());
     }
-    Err(14)
+    Err(code::UNKNOWN_LOCATOR)
 }
 
 /// What an instance joins, or its first code.
@@ -169,15 +170,15 @@ pub fn join(
     ensures { result ≡ join declared.now base.now at.now pairs.now }
 {
     let Some(device) = declared.device_number(base) else {
-        return Err(10);
+        return Err(code::UNKNOWN_DEVICE);
     };
     let device = device as u32;
     if !is_attached(declared, device) {
-        return Err(11);
+        return Err(code::NO_ATTACHMENT);
     }
     let target = target_of(declared, at)?;
     let Some(spot) = attach_place(declared, graph, target, device) else {
-        return Err(12);
+        return Err(code::NO_FITTING_ATTACHMENT);
     };
     let locs = fill_at(declared, spot.place, pairs)?;
     Ok(Joined {

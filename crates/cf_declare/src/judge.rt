@@ -9,6 +9,7 @@ use crate::join::join;
 use crate::lookup::is_root;
 use attr_graph::Graph;
 use cf_names::Catalog;
+use cf_types::code::configuration as code;
 use cf_types::{AtSpec, GivenLoc, Memory, Stmt};
 use std::alloc::Global;
 
@@ -20,7 +21,7 @@ fn class_fault(declared: &Catalog, name: &[u8]) -> Option<u8>
     ensures { result ≡ class_fault declared.now name.now }
 {
     if is_root(name) || has_attr(declared, name) {
-        return Some(18);
+        return Some(code::NAME_TAKEN);
     }
     None
 }
@@ -40,7 +41,7 @@ fn instance_fault(
     ensures { result ≡ instance_fault declared.now instances base.now at.now pairs.now }
 {
     if instances >= MAX_INSTANCES {
-        return Some(24);
+        return Some(code::TOO_MANY_INSTANCES);
     }
     match join(declared, graph, base, at, pairs) {
         Ok(_) => None,
@@ -55,7 +56,7 @@ fn pseudo_fault(declared: &Catalog, name: &[u8]) -> Option<u8>
     if is_pseudo(declared, name) {
         return None;
     }
-    Some(10)
+    Some(code::UNKNOWN_DEVICE)
 }
 
 /// The first code of a statement behind what is declared and so many instances.

@@ -10,6 +10,7 @@ use crate::source::{Include, Source};
 use crate::stop::ExpandStop;
 use cf_io::{Files, Load};
 use cf_lexer::{LexStop, cut};
+use cf_types::code::configuration as code;
 use cf_types::{List, Memory, Stmt, Text};
 use std::alloc::Global;
 
@@ -21,15 +22,6 @@ const MAX_LEVELS: u32 = 16;
 
 /// The most conditions that are open at once, over all files.
 const MAX_CONDITIONS: usize = 16;
-
-/// The code of a file that is absent.
-const ABSENT_CODE: u8 = 1;
-
-/// The code of a file that is too long.
-const LENGTH_CODE: u8 = 2;
-
-/// The code of an include that is too deep, or whose file is one too many.
-const DEPTH_CODE: u8 = 20;
 
 /// A file that was asked for.
 #[derive(Drop)]
@@ -108,11 +100,11 @@ pub fn open_first<F: Files>(
             Ok(open(alloc, progress, name, text, MAX_CONDITIONS, MAX_LEVELS)?)
         }
         Loaded::Absent => {
-            progress.refuse(alloc, name, 0, ABSENT_CODE)?;
+            progress.refuse(alloc, name, 0, code::FILE_ABSENT)?;
             Ok(None)
         }
         Loaded::TooLong => {
-            progress.refuse(alloc, name, 0, LENGTH_CODE)?;
+            progress.refuse(alloc, name, 0, code::FILE_TOO_LONG)?;
             Ok(None)
         }
     }
@@ -133,7 +125,7 @@ fn absent(
         let Include { path, optional } = wanted;
         return progress.place(source.number, line, Stmt::Include { path, optional });
     }
-    progress.refuse(alloc, source.name.items(), line, ABSENT_CODE)
+    progress.refuse(alloc, source.name.items(), line, code::FILE_ABSENT)
 }
 
 /// Loads and opens the file of an include, unless that is too deep, one too many, absent or too long.
@@ -155,7 +147,7 @@ pub fn open_include<F: Files>(
         ≡ include named (reader source.now.levels named) (here_of around source.now) conditions.now s wanted.path wanted.optional progress.old)) }
 {
     if source.levels == 0 || progress.files_len() >= MAX_FILES {
-        progress.refuse(alloc, source.name.items(), line, DEPTH_CODE)?;
+        progress.refuse(alloc, source.name.items(), line, code::TOO_MANY_FILES)?;
         return Ok(None);
     }
     let path = progress.under_prefix(alloc, wanted.path.items())?;
@@ -181,7 +173,7 @@ pub fn open_include<F: Files>(
             Ok(None)
         }
         Loaded::TooLong => {
-            progress.refuse(alloc, source.name.items(), line, LENGTH_CODE)?;
+            progress.refuse(alloc, source.name.items(), line, code::FILE_TOO_LONG)?;
             Ok(None)
         }
     }

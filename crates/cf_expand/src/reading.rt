@@ -11,9 +11,10 @@ use crate::lines::{condition_word, first_statement, line_number};
 use crate::open::{open_first, open_include};
 use crate::progress::Progress;
 use crate::source::Source;
-use crate::steps::{NESTING_CODE, holds, read_statement};
+use crate::steps::{holds, read_statement};
 use crate::stop::ExpandStop;
 use cf_io::Files;
+use cf_types::code::configuration as code;
 use cf_types::{Expanded, Memory, Token};
 use std::alloc::Global;
 
@@ -27,7 +28,7 @@ fn read_end(
     ensures { OnOk result ((around : ℕ) → progress.new ≡ read_end (here_of around source.now) conditions.now progress.old) }
 {
     match conditions.innermost() {
-        Some(line) => progress.refuse(alloc, source.name.items(), line, NESTING_CODE),
+        Some(line) => progress.refuse(alloc, source.name.items(), line, code::BAD_NESTING),
         None => Ok(()),
     }
 }

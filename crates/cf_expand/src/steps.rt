@@ -11,20 +11,12 @@ use crate::lines::{condition_word, line_number, word_of};
 use crate::progress::Progress;
 use crate::source::{Include, Source};
 use cf_grammar::{GrammarStop, statement};
+use cf_types::code::configuration as code;
 use cf_types::{CondWord, Memory, Stmt, Text, Token};
 use std::alloc::Global;
 
 /// The most statements that are placed.
 const MAX_PLACED: usize = 65_536;
-
-/// The code of a condition word that may not stand where it does, and of a condition that is not ended.
-pub const NESTING_CODE: u8 = 21;
-
-/// The code of a `prefix` that has nothing to take away.
-const PREFIX_CODE: u8 = 22;
-
-/// The code of a statement too many.
-const PLACED_CODE: u8 = 23;
 
 fn names_declared(progress: &Progress, text: &[u8], tokens: &[Token]) -> bool
     requires { AreWithin text.now tokens.now }
@@ -82,7 +74,7 @@ fn turn_prefix(
         None => if progress.pop_prefix() {
             progress.place(source.number, line, Stmt::Prefix { path: None })
         } else {
-            progress.refuse(alloc, source.name.items(), line, PREFIX_CODE)
+            progress.refuse(alloc, source.name.items(), line, code::NO_PREFIX)
         },
     }
 }
@@ -107,7 +99,7 @@ fn treat(
         Stmt::Include { path, optional } => return Ok(Some(Include { path, optional })),
         Stmt::Prefix { path } => turn_prefix(alloc, progress, source, tokens, path)?,
         Stmt::Cond { word, name } => if is_misplaced(source, conditions, tokens) {
-            progress.refuse(alloc, source.name.items(), line, NESTING_CODE)?
+            progress.refuse(alloc, source.name.items(), line, code::BAD_NESTING)?
         } else {
             progress.place(source.number, line, Stmt::Cond { word, name })?
         },
@@ -129,7 +121,7 @@ fn read_placed(
     ensures steps { Steps source.now conditions.now (line_of source.now.text tokens.now) (λ files below here. read_placed files below here conditions.now (line_of source.now.text tokens.now) progress.old) result progress.new }
 {
     if progress.placed_len() >= MAX_PLACED {
-        progress.refuse(alloc, source.name.items(), line_number(tokens), PLACED_CODE)?;
+        progress.refuse(alloc, source.name.items(), line_number(tokens), code::TOO_MANY_STATEMENTS)?;
         return Ok(None);
     }
     match statement(alloc, source.text.items(), tokens) {
@@ -162,7 +154,7 @@ pub fn read_statement(
             alloc,
             source.name.items(),
             line_number(tokens),
-            NESTING_CODE,
+            code::BAD_NESTING,
         )?;
     }
     Ok(None)

@@ -1,27 +1,28 @@
 -- The first fault of a statement's form, or the statement.
 use Rattle.std.proofs.Common.{◌≡◌, ℕ, true, false, Option, Some, None, List, refl, sym}
 use Rattle.std.specs.Prelude.{is_some, is_none}
+use Rattle.cf_types.specs.declared.code.configuration.TheConstants.{LEFT_OUT, NO_FORM, OUT_OF_RANGE}
 use Rattle.cf_types.specs.declared.stmt.Piece.{Piece}
 use Rattle.cf_types.specs.declared.stmt.Stmt.{Stmt}
 use Rattle.config_rules.specs.Form.{◌or◌, Form, form_fault, form_of, given, is_left_out}
 
-pub fault_left_out : (ps : List Piece) → true ≡ is_left_out ps → form_fault ps ≡ Some 7
+pub fault_left_out : (ps : List Piece) → true ≡ is_left_out ps → form_fault ps ≡ Some LEFT_OUT
 unfolding form_fault
 fault_left_out ps h = rw (← h) refl
 
-by_form : {A : Type 0} (o : Option A) (rest : Option ℕ) → false ≡ is_some o → (given (is_none o) 6 or rest) ≡ Some 6
+by_form : {A : Type 0} (o : Option A) (rest : Option ℕ) → false ≡ is_some o → (given (is_none o) NO_FORM or rest) ≡ Some NO_FORM
 by_form None rest h = refl
 by_form (Some s) rest h = cc
 
-pub fault_form : (ps : List Piece) → false ≡ is_left_out ps → false ≡ is_some (form_of false ps) → form_fault ps ≡ Some 6
+pub fault_form : (ps : List Piece) → false ≡ is_left_out ps → false ≡ is_some (form_of false ps) → form_fault ps ≡ Some NO_FORM
 unfolding form_fault
 fault_form ps kept h = rw (← kept) (by_form (form_of false ps) _ h)
 
-past_form : {A : Type 0} (o : Option A) (rest : Option ℕ) → true ≡ is_some o → (given (is_none o) 6 or rest) ≡ rest
+past_form : {A : Type 0} (o : Option A) (rest : Option ℕ) → true ≡ is_some o → (given (is_none o) NO_FORM or rest) ≡ rest
 past_form None rest h = cc
 past_form (Some s) rest h = refl
 
-pub fault_range : (ps : List Piece) → false ≡ is_left_out ps → true ≡ is_some (form_of false ps) → None ≡ form_of true ps → form_fault ps ≡ Some 5
+pub fault_range : (ps : List Piece) → false ≡ is_left_out ps → true ≡ is_some (form_of false ps) → None ≡ form_of true ps → form_fault ps ≡ Some OUT_OF_RANGE
 unfolding form_fault
 fault_range ps kept h e = rw (← kept, past_form (form_of false ps) _ h, ← e) refl
 

@@ -6,24 +6,16 @@ ghost use Rattle.cf_grammar.specs.Statement.{AreWithin, IsFaultOf, IsWithin};
 
 use crate::fault::is_left_out;
 use crate::form::form_of;
+use cf_types::code::configuration as code;
 use cf_types::{Memory, Stmt, Token};
 use cf_words::Word;
 use std::alloc::{AllocError, Global};
 
-/// The code of a statement or a locator that is left out.
-const LEFT_OUT_CODE: u8 = 7;
-
-/// The code of tokens that have none of the forms.
-const FORM_CODE: u8 = 6;
-
-/// The code of a number, a unit or a count that is out of its range.
-const RANGE_CODE: u8 = 5;
-
 /// Why tokens gave no statement.
 #[derive(Clone, Copy, Debug, PartialEq, Eq)]
 pub enum GrammarStop {
-    /// The tokens have none of the forms of config(5), with the code of the fault: 5 for a number, unit or count out of
-    /// its range, 6 for any other form, 7 for a statement or a locator that is left out.
+    /// The tokens have none of the forms of config(5), with the code of the fault: `OUT_OF_RANGE` for a number, unit or
+    /// count, `NO_FORM` for any other form, `LEFT_OUT` for a statement or a locator that is left out.
     Fault { code: u8 },
     /// Want of memory.
     Memory,
@@ -91,21 +83,25 @@ fn read(alloc: Global, words: &[Word]) -> Result<Stmt, GrammarStop>
 {
     if is_left_out(words) {
         return Err(GrammarStop::Fault {
-            code: LEFT_OUT_CODE,
+            code: code::LEFT_OUT,
         });
     }
     if !has_form(alloc, words)? {
-        return Err(GrammarStop::Fault { code: FORM_CODE });
+        return Err(GrammarStop::Fault {
+            code: code::NO_FORM,
+        });
     }
     match form_of(alloc, true, words)? {
         Some(stmt) => Ok(stmt),
-        None => Err(GrammarStop::Fault { code: RANGE_CODE }),
+        None => Err(GrammarStop::Fault {
+            code: code::OUT_OF_RANGE,
+        }),
     }
 }
 
 /// Reads the tokens of one statement, without its `Stop`, as the statement that they are. Their spans lie within the
-/// text, as those that `cut` gives do. The error is the first of the codes 7, 6 and 5 that the tokens have, as the grammar
-/// of config(5) is read here, or want of memory.
+/// text, as those that `cut` gives do. The error is the first of the codes `LEFT_OUT`, `NO_FORM` and `OUT_OF_RANGE`
+/// that the tokens have, as the grammar of config(5) is read here, or want of memory.
 pub fn statement(alloc: Global, text: &[u8], tokens: &[Token]) -> Result<Stmt, GrammarStop>
     requires { AreWithin text.now tokens.now }
     ensures form { IfOk result (λ s. Form (pieces text.now tokens.now) s) }

@@ -4,12 +4,7 @@ ghost use Rattle.config_rules.specs.Cut.{is_space, is_chunk_byte, is_text_byte, 
 ghost use Rattle.cf_lexer.specs.Front.{IsWithin, front, front_at, front_result, span};
 
 use cf_types::TokenKind;
-
-/// The code of a byte that is not allowed.
-pub const BAD_BYTE: u8 = 3;
-
-/// The code of a string that is open at the end of its line.
-pub const OPEN_STRING: u8 = 4;
+use cf_types::code::configuration as code;
 
 /// A token by its place in the part of the line that it is.
 #[derive(Clone, Copy)]
@@ -78,7 +73,7 @@ fn quoted(bytes: &[u8]) -> Result<Front, u8>
 {
     let len = text_len(bytes);
     match bytes.get(len) {
-        None => Err(OPEN_STRING),
+        None => Err(code::OPEN_STRING),
         Some(b'"') => Ok(Front {
             len: len + 2,
             token: Some(Span {
@@ -87,7 +82,7 @@ fn quoted(bytes: &[u8]) -> Result<Front, u8>
                 end: len + 1,
             }),
         }),
-        Some(_) => Err(BAD_BYTE),
+        Some(_) => Err(code::BAD_BYTE),
     }
 }
 
@@ -142,5 +137,5 @@ pub fn front_part(first: u8, more: &[u8]) -> Result<Front, u8>
     if is_plus_equals(first, more) {
         return Ok(token(TokenKind::Mark, 2));
     }
-    Err(BAD_BYTE)
+    Err(code::BAD_BYTE)
 }

@@ -8,8 +8,8 @@ use cf_types::{List, Memory as NoMemory, Token};
 /// Why a text can't be cut into tokens.
 #[derive(Clone, Copy, Debug, PartialEq, Eq)]
 pub enum LexStop {
-    /// The line of the first faulty byte, counted from 1, and its code: 3 for a byte that is not allowed, 4 for the end
-    /// of the line within a string.
+    /// The line of the first faulty byte, counted from 1, and its code: `BAD_BYTE` for a byte that is not allowed,
+    /// `OPEN_STRING` for the end of the line within a string.
     Fault { line: u32, code: u8 },
     /// Memory ran out.
     Memory,

@@ -1,6 +1,8 @@
-//! The plain types that the other crates share: lists and names, statements and tokens, tables, machines and scripts.
+//! The plain types that the other crates share: lists and names, statements and tokens, tables, machines and scripts, and
+//! the codes of their faults.
 #![tactic(auto)]
 
+pub mod code;
 mod declared;
 mod instance;
 mod list;

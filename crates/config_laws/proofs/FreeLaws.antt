@@ -5,6 +5,7 @@ use Rattle.std.specs.List.{All}
 use Rattle.std.proofs.lemmas.Bool.{and_from, or_parts}
 use Rattle.std.proofs.lemmas.List.Elements.{All-head, All-tail}
 use Rattle.std.proofs.lemmas.Slice.Eq.{bytes_eq-Decides}
+use Rattle.cf_types.specs.declared.code.configuration.TheConstants.{NAME_TAKEN, UNKNOWN_DEVICE}
 use Rattle.cf_types.specs.declared.stmt.Placed.{Placed}
 use Rattle.cf_types.specs.declared.stmt.Stmt.{Stmt}
 use Rattle.cf_types.specs.declared.stmt.Stmt.TheVariants as stmt
@@ -23,16 +24,16 @@ use Rattle.config_laws.specs.Free.{IsFree}
 
 -- a statement without a code defines nothing of this name
 free_code : (d : Declared) (n : ℕ) (s : Stmt) → code_of d n s ≡ None → IsFree s
-free_code d n (stmt.Define name locs needs) h = (or_parts (is_root name) (has_attr d name) (no_code _ 18 _ h).0).0
-free_code d n (stmt.Class name) h = (or_parts (is_root name) (has_attr d name) (no_last _ 18 h)).0
-free_code d n (stmt.DefPseudo name locs needs) h = (or_parts (is_root name) (has_attr d name) (no_code _ 18 _ h).0).0
+free_code d n (stmt.Define name locs needs) h = (or_parts (is_root name) (has_attr d name) (no_code _ NAME_TAKEN _ h).0).0
+free_code d n (stmt.Class name) h = (or_parts (is_root name) (has_attr d name) (no_last _ NAME_TAKEN h)).0
+free_code d n (stmt.DefPseudo name locs needs) h = (or_parts (is_root name) (has_attr d name) (no_code _ NAME_TAKEN _ h).0).0
 free_code d n (stmt.Device name locs needs) h =
-    let first = or_parts (is_root name || has_device d name) (is_some locs && has_attr d name) (no_code _ 18 _ h).0 in
+    let first = or_parts (is_root name || has_device d name) (is_some locs && has_attr d name) (no_code _ NAME_TAKEN _ h).0 in
     (or_parts (is_root name) (has_device d name) first.0).0
 free_code d n (stmt.Attach device places name needs) h =
-    let first = no_code (not (has_device d device)) 10 _ h in
+    let first = no_code (not (has_device d device)) UNKNOWN_DEVICE _ h in
     let second = no_first (places_fault d places) _ first.1 in
-    (or_parts (is_root (unwrap_or name device)) (has_attach d (unwrap_or name device)) (no_code _ 18 _ second.1).0).0
+    (or_parts (is_root (unwrap_or name device)) (has_attach d (unwrap_or name device)) (no_code _ NAME_TAKEN _ second.1).0).0
 free_code d n _ h = tt
 
 free_fault : (before : List Stmt) (s : Stmt) → fault_of before s ≡ None → IsFree s

@@ -5,6 +5,7 @@ use Rattle.std.specs.List.{prefix_len, list_all, list_any}
 use Rattle.std.proofs.lemmas.Bool.{eqb-true}
 use Rattle.std.proofs.lemmas.List.{take-append-drop}
 use Rattle.std.proofs.Math.Seq.{drop-append_seam}
+use Rattle.cf_types.specs.declared.code.configuration.TheConstants.{BAD_BYTE}
 use Rattle.config_rules.specs.Cut.{Part, Space, Comment, Quoted, Chunk, Mark, spelling, spellings, is_part, may_precede, are_parts, is_space, is_chunk_byte, is_text_byte, is_mark_byte, quoted_part, first_part, parts_within, parts_of, ◌>>=◌, LineCut}
 use Rattle.config_rules.proofs.Parts.{cond_both, first_cases, first_len, ok_is}
 
@@ -107,7 +108,7 @@ all_taken p (x ∷ xs) = by_test (p x) refl (all_taken p xs)
 quoted_begins : (bytes rest : List ℕ) → list_all is_text_byte bytes ≡ true → IfOk (quoted_part bytes rest) (λ p. Begins (34 ∷ (bytes ++ rest)) p)
 quoted_begins bytes [] h = tt
 quoted_begins bytes (c ∷ rest) h =
-    cond_both (λ r. IfOk r (λ p. Begins (34 ∷ (bytes ++ c ∷ rest)) p)) (c == 34) (Ok (Quoted bytes)) (Err 3)
+    cond_both (λ r. IfOk r (λ p. Begins (34 ∷ (bytes ++ c ∷ rest)) p)) (c == 34) (Ok (Quoted bytes)) (Err BAD_BYTE)
     (λ e. record {
       more = rest;
       whole = ap (λ d. 34 ∷ (bytes ++ d ∷ rest)) (eqb-true c 34 e) ∙ ap (λ xs. 34 ∷ xs) (sym (append_assoc bytes (34 ∷ []) rest));

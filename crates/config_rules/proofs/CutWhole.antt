@@ -5,6 +5,7 @@ use Rattle.std.specs.List.{prefix_len, list_all, list_any}
 use Rattle.std.proofs.lemmas.Bool.{eqb-true}
 use Rattle.std.proofs.lemmas.List.{take-append-drop}
 use Rattle.std.proofs.Math.Seq.{take-append_seam, drop-append_seam}
+use Rattle.cf_types.specs.declared.code.configuration.TheConstants.{BAD_BYTE}
 use Rattle.config_rules.specs.Cut.{Part, Space, Comment, Quoted, Chunk, Mark, spelling, spellings, is_part, may_precede, are_parts, is_space, is_chunk_byte, is_text_byte, is_mark_byte, is_comment, begins_part, quoted_part, first_part, parts_within, parts_of, ◌>>=◌, LineCut, LineFault, Stuck, NoQuote}
 use Rattle.config_rules.proofs.Parts.{cond_both, first_cases, first_len, ok_is, parts_step}
 use Rattle.config_rules.proofs.CutLaws.{both_left, both_right, space_no_chunk, chunk_no_space, chunk_is_not, mark_is, run_all, MayFollow, Begins, first_begins, all_taken, run_end, may_precede_is}
@@ -133,7 +134,7 @@ or_false : (a b : Bool) → (a || b) ≡ false → (a ≡ false) × (b ≡ false
 or_false true b h = absurd (cc)
 or_false false b h = (refl, h)
 
-none_first : (c : ℕ) (more : List ℕ) → begins_part c more ≡ false → first_part c more ≡ Err 3
+none_first : (c : ℕ) (more : List ℕ) → begins_part c more ≡ false → first_part c more ≡ Err BAD_BYTE
 none_first c more h =
     let a = or_false ((((is_space c || c == 35) || c == 34) || is_chunk_byte c) || is_mark_byte c) (c == 43 && slice_index more 0 == 61) h in
     let b = or_false (((is_space c || c == 35) || c == 34) || is_chunk_byte c) (is_mark_byte c) a.0 in
@@ -190,7 +191,7 @@ fault_only line code f =
 quoted_stuck : (bytes rest : List ℕ) → list_all is_text_byte bytes ≡ true → is_text_byte (slice_index rest 0) ≡ false → IfErr (quoted_part bytes rest) (λ code. Stuck (34 ∷ (bytes ++ rest)) code)
 quoted_stuck bytes [] h k = inr (bytes, [], refl, h, refl)
 quoted_stuck bytes (c ∷ rest) h k =
-    cond_both (λ r. IfErr r (λ code. Stuck (34 ∷ (bytes ++ c ∷ rest)) code)) (c == 34) (Ok (Quoted bytes)) (Err 3)
+    cond_both (λ r. IfErr r (λ code. Stuck (34 ∷ (bytes ++ c ∷ rest)) code)) (c == 34) (Ok (Quoted bytes)) (Err BAD_BYTE)
     (λ _. tt) (λ e. inr (bytes, c ∷ rest, refl, h, (e, k, refl)))
 
 first_stuck : (c : ℕ) (cs : List ℕ) → IfErr (first_part c cs) (λ code. Stuck (c ∷ cs) code)

@@ -9,6 +9,7 @@ use Rattle.std.proofs.lemmas.List.{length-map, length_push, map-append}
 use Rattle.std.proofs.lemmas.List.FromFn.{length-enumerate_from}
 use Rattle.std.proofs.lemmas.List.Elements.{All-nil, All-push, All-weaker}
 use Rattle.std.proofs.lemmas.List.Folds.{list_any-append}
+use Rattle.cf_types.specs.declared.code.machine.TheConstants.{NO_INTERFACE, OUT_OF_RANGE, UNKNOWN_ATTACHMENT, UNKNOWN_SPOT}
 use Rattle.cf_types.proofs.ListLemmas.{slice_get-append_front, slice_get-append_back}
 use Rattle.cf_types.proofs.PlaceLemmas.{position_found}
 use Rattle.cf_types.specs.declared.machine.Machine.{Machine}
@@ -335,7 +336,7 @@ matched_below spots (Some name) = position_below (λ s. bytes_eq s.name name) sp
 match_line_fits : (t : Tables) (m : Machine) (attach : List ℕ) (spot : Option (List ℕ)) (value : Option ℕ) → FittingMachine t m → IfSome value (λ v. v ≤ 65535) → IfOk (after_line t m (Some (MatchOf attach spot value))) (FittingMachine t)
 match_line_fits t m attach spot value f within =
     let no_spot : Bool = option_map_or (λ name. is_none (spot_number m.spots name)) spot false in
-    unless (FittingMachine t) (given (is_none (attach_number t attach)) 6 or (given no_spot 3 or given (is_none value) 7))
+    unless (FittingMachine t) (given (is_none (attach_number t attach)) UNKNOWN_ATTACHMENT or (given no_spot UNKNOWN_SPOT or given (is_none value) OUT_OF_RANGE))
     (record { attach = unwrap_or (attach_number t attach) 0; spot = option_and_then (spot_number m.spots) spot; value = unwrap_or value 0 })
     (λ l. Ok (record m { matches = m.matches ++ l ∷ [] })) (λ none.
     let line : MatchLine = record { attach = unwrap_or (attach_number t attach) 0; spot = option_and_then (spot_number m.spots) spot; value = unwrap_or value 0 } in
@@ -357,7 +358,7 @@ match_line_fits t m attach spot value f within =
 
 style_line_fits : (t : Tables) (m : Machine) (attach attr : List ℕ) (indirect : Bool) → FittingMachine t m → IfOk (after_line t m (Some (StyleOf attach attr indirect))) (FittingMachine t)
 style_line_fits t m attach attr indirect f =
-    unless (FittingMachine t) (given (is_none (attach_number t attach)) 6 or given (is_none (interface_number t attr)) 4)
+    unless (FittingMachine t) (given (is_none (attach_number t attach)) UNKNOWN_ATTACHMENT or given (is_none (interface_number t attr)) NO_INTERFACE)
     (record { attach = unwrap_or (attach_number t attach) 0; attr = unwrap_or (interface_number t attr) 0; indirect = indirect })
     (λ l. Ok (record m { styles = m.styles ++ l ∷ [] })) (λ none.
     let line : StyleLine = record { attach = unwrap_or (attach_number t attach) 0; attr = unwrap_or (interface_number t attr) 0; indirect = indirect } in
@@ -376,7 +377,7 @@ style_line_fits t m attach attr indirect f =
     })
 
 driver_line_fits : (t : Tables) (m : Machine) (words : List (List ℕ)) (o : Option ℕ) → FittingMachine t m
-    → IfOk {E = ℕ} (option_map_or (λ a. Ok (map (λ e. if e.0 == a then with_policies words e.1 else e.1) (enumerate_from 0 m.policies))) o (Err 6) >>= λ ps. Ok (record m { policies = ps })) (FittingMachine t)
+    → IfOk {E = ℕ} (option_map_or (λ a. Ok (map (λ e. if e.0 == a then with_policies words e.1 else e.1) (enumerate_from 0 m.policies))) o (Err UNKNOWN_ATTACHMENT) >>= λ ps. Ok (record m { policies = ps })) (FittingMachine t)
 driver_line_fits t m words None f = tt
 driver_line_fits t m words (Some a) f = record {
   few_spots = f.few_spots;

@@ -2,6 +2,7 @@
 use Rattle.std.proofs.Common.{◌≡◌, ℕ, zero, suc, ◌≤◌, Bool, true, false, cond, ◌&&◌, ◌||◌, List, [], ◌∷◌, length, drop, refl, ap, subst, arith, Result, Ok, Err, length-drop}
 use Rattle.std.specs.Prelude.{IfOk, ◌==◌, take_while, slice_index}
 use Rattle.std.specs.List.{prefix_len}
+use Rattle.cf_types.specs.declared.code.configuration.TheConstants.{BAD_BYTE}
 use Rattle.config_rules.specs.Cut.{Part, Space, Comment, Quoted, Chunk, Mark, spelling, is_space, is_chunk_byte, is_text_byte, is_mark_byte, begins_part, quoted_part, first_part, parts_within, parts_of, ◌>>=◌}
 
 pub cond_both : {A : Type 0} (Q : A → Type 0) (b : Bool) (x y : A) → (b ≡ true → Q x) → (b ≡ false → Q y) → Q (cond b x y)
@@ -19,7 +20,7 @@ pub first_cases : (Q : Result Part ℕ → Type 0) (c : ℕ) (cs : List ℕ)
     → (is_chunk_byte c ≡ true → Q (Ok (Chunk (c ∷ take_while is_chunk_byte cs))))
     → (is_mark_byte c ≡ true → Q (Ok (Mark (c ∷ []))))
     → ((c == 43 && slice_index cs 0 == 61) ≡ true → Q (Ok (Mark (43 ∷ 61 ∷ []))))
-    → (begins_part c cs ≡ false → Q (Err 3))
+    → (begins_part c cs ≡ false → Q (Err BAD_BYTE))
     → Q (first_part c cs)
 first_cases Q c cs space comment quote chunk mark plus none =
     cond_both Q (is_space c) _ _ space (λ a.
@@ -41,7 +42,7 @@ ok_is {A} {E} P r x h e = let Q : Result A E → Type 0 = λ s. IfOk s P in subs
 quoted_len : (bytes rest : List ℕ) → IfOk (quoted_part bytes rest) (λ p. 1 ≤ length (spelling p))
 quoted_len bytes [] = tt
 quoted_len bytes (c ∷ rest) =
-    cond_both (λ r. IfOk r (λ p. 1 ≤ length (spelling p))) (c == 34) (Ok (Quoted bytes)) (Err 3) (λ _. omega arith) (λ _. tt)
+    cond_both (λ r. IfOk r (λ p. 1 ≤ length (spelling p))) (c == 34) (Ok (Quoted bytes)) (Err BAD_BYTE) (λ _. omega arith) (λ _. tt)
 
 -- no part is empty
 pub first_len : (c : ℕ) (cs : List ℕ) → IfOk (first_part c cs) (λ p. 1 ≤ length (spelling p))

@@ -6,6 +6,7 @@ use Rattle.std.specs.Option.{option_map_or}
 use Rattle.std.specs.Result.{result_ok}
 use Rattle.std.proofs.lemmas.Bool.Decides.{nat_tests}
 use Rattle.std.proofs.lemmas.List.Elements.{All-append, All-cons, All-nil, filter_map-append}
+use Rattle.cf_types.specs.declared.code.script.TheConstants.{NO_COMMAND, OUT_OF_RANGE, TOO_MANY_COMMANDS, WRONG_WORDS}
 use Rattle.cf_types.specs.declared.machine.Command.{Command}
 use Rattle.cf_types.specs.declared.machine.Command.TheVariants as command
 use Rattle.cf_types.specs.declared.machine.Given.{Given}
@@ -32,7 +33,7 @@ any_if Q (Err code) f step = tt
 
 operand_is : (word : List ℕ) → IfOk (operand word) (λ name. is_operand name ≡ true)
 operand_is word =
-    cond_both (λ r. IfOk r (λ name. is_operand name ≡ true)) (is_operand word) (Ok word) (Err 2) (λ h. h) (λ h. tt)
+    cond_both (λ r. IfOk r (λ name. is_operand name ≡ true)) (is_operand word) (Ok word) (Err WRONG_WORDS) (λ h. h) (λ h. tt)
 
 one_is : (words : List (List ℕ)) → IfOk (one_operand words) (λ name. is_operand name ≡ true)
 one_is [] = tt
@@ -107,7 +108,7 @@ few_of words (Err code) few h = tt
 
 pairs_formed : (words : List (List ℕ)) → IfOk (pairs_of words) AreFew
 pairs_formed words =
-    cond_both (λ r. IfOk r AreFew) (nat_le (length words) 32 && are_pairs words) (given_in words) (Err 2)
+    cond_both (λ r. IfOk r AreFew) (nat_le (length words) 32 && are_pairs words) (given_in words) (Err WRONG_WORDS)
     (λ h. few_of words (given_in words) (few_words (length words) (both_left (nat_le (length words) 32) (are_pairs words) h)) (given_formed words (both_right (nat_le (length words) 32) (are_pairs words) h))) (λ h. tt)
 
 rescan_on_formed : (device attr : List ℕ) (words : List (List ℕ)) → IfOk (rescan_on device attr words) FormedCommand
@@ -183,7 +184,7 @@ rows_formed = (
   ),
 )
 
-by_row : (o : Option CommandRow) (words : List (List ℕ)) → IfSome o IsFormedRow → IfOk (option_map_or (λ r. r.form words) o (Err 1)) FormedCommand
+by_row : (o : Option CommandRow) (words : List (List ℕ)) → IfSome o IsFormedRow → IfOk (option_map_or (λ r. r.form words) o (Err NO_COMMAND)) FormedCommand
 by_row None words h = tt
 by_row (Some r) words h = h words
 
@@ -201,7 +202,7 @@ words_formed (word ∷ words) = command_formed word words
 
 line_formed : (line : List ℕ) → IsFormedSaying (line_says line)
 line_formed line =
-    cond_both IsFormedSaying (has_bad_byte line) (Some (Err 2)) (words_say (words_of line)) (λ h. tt) (λ h. words_formed (words_of line))
+    cond_both IsFormedSaying (has_bad_byte line) (Some (Err WRONG_WORDS)) (words_say (words_of line)) (λ h. tt) (λ h. words_formed (words_of line))
 
 -- what these lines say, from the number n on
 abbrev pub said_from : ℕ → List (List ℕ) → List (ℕ × Result Command ℕ)
@@ -227,7 +228,7 @@ all_formed n (line ∷ lines) = one_formed n (line_says line) (said_from (n + 1)
 abbrev pub bad_said : ℕ → List (ℕ × Result Command ℕ) → List (ℕ × ℕ)
 bad_said i said = filter_map (λ s. option_map (λ code. (s.1.0, code)) (code_after s.0 s.1.1)) (enumerate_from i said)
 
-more_than : (b : Bool) (i : ℕ) → nat_le 500 i ≡ b → given {A = ℕ} b 4 ≡ None → i + 1 ≤ 500
+more_than : (b : Bool) (i : ℕ) → nat_le 500 i ≡ b → given {A = ℕ} b TOO_MANY_COMMANDS ≡ None → i + 1 ≤ 500
 more_than true i e h = absurd (cc)
 more_than false i e h = grind (arith, nat_tests)
 
@@ -289,7 +290,7 @@ turns_are callers (word ∷ words) h =
     turn_is callers (number word) (turns_of words) (both_left (is_turn callers word) (list_all (is_turn callers) words) h)
     (turns_are callers words (both_right (is_turn callers word) (list_all (is_turn callers) words) h))
 
-fine : (a b : Bool) → ◌or◌ {A = ℕ} (given a 2) (given (not b) 3) ≡ None → b ≡ true
+fine : (a b : Bool) → ◌or◌ {A = ℕ} (given a WRONG_WORDS) (given (not b) OUT_OF_RANGE) ≡ None → b ≡ true
 fine true b h = absurd (cc)
 fine false true h = refl
 fine false false h = absurd (cc)

@@ -3,6 +3,7 @@
 use Rattle.std.specs.Prelude.{◌≡◌, ℕ, ◌+◌, Bool, true, false, not, ◌&&◌, ◌||◌, nat_lt, nat_le, if◌then◌else◌, List, [], ◌∷◌, ◌++◌, length, map, filter, count_by, slice_index_or, slice_get, bytes_eq, Option, Some, None, is_some, option_map, unwrap_or, Result, Ok, Err}
 use Rattle.std.specs.List.{list_any}
 use Rattle.std.specs.Option.{option_map_or}
+use Rattle.cf_types.specs.declared.code.configuration.TheConstants.{UNKNOWN_ATTRIBUTE, NO_INTERFACE, UNKNOWN_DEVICE, LOCATOR_TWICE, NAME_TAKEN, SECOND_CLASS, TOO_MANY_INSTANCES, TOO_MANY_INTERFACES}
 use Rattle.cf_types.specs.declared.stmt.AtSpec.{AtSpec}
 use Rattle.cf_types.specs.declared.stmt.GivenLoc.{GivenLoc}
 use Rattle.cf_types.specs.declared.stmt.Placed.{Placed}
@@ -69,23 +70,24 @@ is_pseudo d name = option_map_or (λ x. x.pseudo) (attr_named d name) false
 -- an attribute with locators and needs
 abbrev pub define_fault : Declared → List ℕ → Option (List Locator) → List (List ℕ) → Option ℕ
 define_fault d name locs needs =
-    given (is_root name || has_attr d name) 18
-    or (given (repeats_locator locs) 15
-    or (given (lacks_attr d needs) 8
-    or given (offers_too_much d locs needs) 25))
+    given (is_root name || has_attr d name) NAME_TAKEN
+    or (given (repeats_locator locs) LOCATOR_TWICE
+    or (given (lacks_attr d needs) UNKNOWN_ATTRIBUTE
+    or given (offers_too_much d locs needs) TOO_MANY_INTERFACES))
 
 -- a device; only one with braces needs its name to be free among the attributes
 abbrev pub device_fault : Declared → List ℕ → Option (List Locator) → List (List ℕ) → Option ℕ
 device_fault d name locs needs =
-    given (is_root name || has_device d name || (is_some locs && has_attr d name)) 18
-    or (given (repeats_locator locs) 15
-    or (given (lacks_attr d needs) 8
-    or (given (has_classes d needs) 19
-    or given (offers_too_much d locs needs) 25)))
+    given (is_root name || has_device d name || (is_some locs && has_attr d name)) NAME_TAKEN
+    or (given (repeats_locator locs) LOCATOR_TWICE
+    or (given (lacks_attr d needs) UNKNOWN_ATTRIBUTE
+    or (given (has_classes d needs) SECOND_CLASS
+    or given (offers_too_much d locs needs) TOO_MANY_INTERFACES)))
 
 -- a place that is unknown, or no interface attribute
 abbrev pub place_fault : Declared → List ℕ → Option ℕ
-place_fault d place = if is_root place then None else option_map_or (λ a. given (not a.iface) 9) (attr_named d place) (Some 8)
+place_fault d place =
+    if is_root place then None else option_map_or (λ a. given (not a.iface) NO_INTERFACE) (attr_named d place) (Some UNKNOWN_ATTRIBUTE)
 
 -- the places in order
 abbrev pub places_fault : Declared → List (List ℕ) → Option ℕ
@@ -95,10 +97,10 @@ places_fault d (place ∷ places) = place_fault d place or places_fault d places
 -- an attachment: its device, its places, its name, its attributes
 abbrev pub attach_fault : Declared → List ℕ → List (List ℕ) → List ℕ → List (List ℕ) → Option ℕ
 attach_fault d device places name needs =
-    given (not (has_device d device)) 10
+    given (not (has_device d device)) UNKNOWN_DEVICE
     or (places_fault d places
-    or (given (is_root name || has_attach d name) 18
-    or given (lacks_attr d needs) 8))
+    or (given (is_root name || has_attach d name) NAME_TAKEN
+    or given (lacks_attr d needs) UNKNOWN_ATTRIBUTE))
 
 -- the code of a result
 abbrev pub err_of : {A : Type 0} → Result A ℕ → Option ℕ
@@ -107,15 +109,15 @@ err_of (Err code) = Some code
 
 -- a device class
 abbrev pub class_fault : Declared → List ℕ → Option ℕ
-class_fault d name = given (is_root name || has_attr d name) 18
+class_fault d name = given (is_root name || has_attr d name) NAME_TAKEN
 
 -- an instance behind so many others
 abbrev pub instance_fault : Declared → ℕ → List ℕ → AtSpec → List GivenLoc → Option ℕ
-instance_fault d instances base at pairs = given (nat_le 8192 instances) 24 or err_of (join d base at pairs)
+instance_fault d instances base at pairs = given (nat_le 8192 instances) TOO_MANY_INSTANCES or err_of (join d base at pairs)
 
 -- a pseudo-device
 abbrev pub pseudo_fault : Declared → List ℕ → Option ℕ
-pseudo_fault d name = given (not (is_pseudo d name)) 10
+pseudo_fault d name = given (not (is_pseudo d name)) UNKNOWN_DEVICE
 
 -- the first code of a statement after what was declared and so many instances
 abbrev pub code_of : Declared → ℕ → Stmt → Option ℕ

@@ -2,6 +2,7 @@
 -- of config(5). Their exact forms, the limits on lengths and numbers, and the codes are this project's profile.
 use Rattle.std.specs.Prelude.{◌≡◌, ℕ, ◌-◌, Bool, true, false, not, ◌&&◌, ◌||◌, ◌==◌, nat_lt, nat_le, if◌then◌else◌, List, [], ◌∷◌, length, take, drop, map, bytes_eq, codes, Option, Some, None, is_some, is_none, option_map, option_and_then, ℤ, pos, nat_abs, int_le}
 use Rattle.std.specs.List.{list_all, list_any, slice_split, before_first, after_first}
+use Rattle.cf_types.specs.declared.code.configuration.TheConstants.{OUT_OF_RANGE, NO_FORM, LEFT_OUT}
 use Rattle.cf_types.specs.declared.stmt.TokenKind.{TokenKind}
 use Rattle.cf_types.specs.declared.stmt.TokenKind.TheVariants as kind
 use Rattle.cf_types.specs.declared.stmt.Piece.{Piece}
@@ -422,12 +423,12 @@ is_left_out (p ∷ ps) =
     || (is_chunk p && is_none (row_of table p) && has_named_text (drop 2 ps))
     || (is_defining p && has_text_or_size (braced ps))
 
--- 7, else 6, else 5, else none
+-- what is left out, else what has no form, else what is out of its range, else none
 unfoldable pub form_fault : List Piece → Option ℕ
 form_fault ps =
-    given (is_left_out ps) 7
-    or (given (is_none (form_of false ps)) 6
-    or given (is_none (form_of true ps)) 5)
+    given (is_left_out ps) LEFT_OUT
+    or (given (is_none (form_of false ps)) NO_FORM
+    or given (is_none (form_of true ps)) OUT_OF_RANGE)
 
 -- the tokens are the statement
 abbrev pub Form : List Piece → Stmt → Type 0

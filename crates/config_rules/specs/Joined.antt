@@ -3,6 +3,7 @@
 use Rattle.std.specs.Prelude.{ℕ, Bool, true, false, not, ◌&&◌, ◌==◌, if◌then◌else◌, List, [], ◌∷◌, ◌++◌, map, flat_map, find, bytes_eq, Option, Some, None, is_some, is_none, option_and_then, unwrap_or, ok_or, Result, Ok, Err, ℤ, pos}
 use Rattle.std.specs.List.{list_any, enumerate_from}
 use Rattle.std.specs.Option.{option_map_or}
+use Rattle.cf_types.specs.declared.code.configuration.TheConstants.{UNKNOWN_ATTRIBUTE, NO_INTERFACE, UNKNOWN_DEVICE, NO_ATTACHMENT, NO_FITTING_ATTACHMENT, MISSING_LOCATOR, UNKNOWN_LOCATOR, LOCATOR_TWICE, NO_DEFAULT, UNIT_ON_ATTRIBUTE}
 use Rattle.cf_types.specs.declared.stmt.AtSpec.{AtSpec}
 use Rattle.cf_types.specs.declared.stmt.AtSpec.TheVariants as written
 use Rattle.cf_types.specs.declared.instance.AttachPlace.{AttachPlace}
@@ -33,9 +34,9 @@ given_named pairs name = find (λ g. bytes_eq g.name name) pairs
 -- no such locator; written before; `?` without a default
 abbrev pub pair_fault : List Locator → List GivenLoc → GivenLoc → Option ℕ
 pair_fault locs before g =
-    given (is_none (locator_named locs g.name)) 14
-    or (given (is_some (given_named before g.name)) 15
-    or given (is_none g.value && is_none (option_and_then (λ l. l.default) (locator_named locs g.name))) 16)
+    given (is_none (locator_named locs g.name)) UNKNOWN_LOCATOR
+    or (given (is_some (given_named before g.name)) LOCATOR_TWICE
+    or given (is_none g.value && is_none (option_and_then (λ l. l.default) (locator_named locs g.name))) NO_DEFAULT)
 
 -- the first code of these pairs, behind those before
 abbrev pub pairs_fault : List Locator → List GivenLoc → List GivenLoc → Option ℕ
@@ -48,7 +49,7 @@ is_wanting pairs l = not l.optional && is_none (given_named pairs l.name)
 
 -- the pairs first, then the locators that are not written
 unfoldable pub fill_fault : List Locator → List GivenLoc → Option ℕ
-fill_fault locs pairs = pairs_fault locs [] pairs or given (list_any (is_wanting pairs) locs) 13
+fill_fault locs pairs = pairs_fault locs [] pairs or given (list_any (is_wanting pairs) locs) MISSING_LOCATOR
 
 -- the value written, or the default
 abbrev pub filled : List GivenLoc → Locator → ℤ
@@ -77,9 +78,9 @@ suits d (On b) (At a) = a == b
 
 -- an attribute: unknown, no interface attribute, or written with a unit
 abbrev pub attr_target : Declared → Option ℕ → Option ℕ → Result Target ℕ
-attr_target d unit None = Err 8
+attr_target d unit None = Err UNKNOWN_ATTRIBUTE
 attr_target d unit (Some a) =
-    if not (is_interface d.attrs a) then Err 9 else (if is_some unit then Err 17 else Ok (On a))
+    if not (is_interface d.attrs a) then Err NO_INTERFACE else (if is_some unit then Err UNIT_ON_ATTRIBUTE else Ok (On a))
 
 -- a name that is a device and an attribute is read as the device
 abbrev pub target_of : Declared → AtSpec → Result Target ℕ
@@ -96,11 +97,11 @@ parent_of (On a) = None
 
 -- the device of an instance
 abbrev pub device_or : Declared → List ℕ → Result ℕ ℕ
-device_or d name = ok_or (device_number d name) 10
+device_or d name = ok_or (device_number d name) UNKNOWN_DEVICE
 
 -- a device without any attachment
 abbrev pub attached : Declared → ℕ → Result ℕ ℕ
-attached d device = if list_any (λ a. a.device == device) d.attaches then Ok device else Err 11
+attached d device = if list_any (λ a. a.device == device) d.attaches then Ok device else Err NO_ATTACHMENT
 
 -- what an instance joins, or its first code
 unfoldable pub join : Declared → List ℕ → AtSpec → List GivenLoc → Result Joined ℕ
@@ -108,6 +109,6 @@ join d base at pairs =
     device_or d base >>= λ device.
     attached d device >>= λ one.
     target_of d at >>= λ target.
-    ok_or (find (λ s. suits d target s.place) (spots_of d device)) 12 >>= λ s.
+    ok_or (find (λ s. suits d target s.place) (spots_of d device)) NO_FITTING_ATTACHMENT >>= λ s.
     fill (locators_at d.attrs s.place) pairs >>= λ locs.
     Ok (record { device = device; attach = s.attach; place = s.place; parent = parent_of target; locs = locs })

@@ -3,6 +3,7 @@ use Rattle.std.specs.Prelude.{ℕ, zero, suc, Bool, true, false, not, ◌&&◌, 
 use Rattle.std.specs.List.{list_all, list_any, slice_split, before_first, after_first, enumerate_from}
 use Rattle.std.specs.Option.{option_map_or}
 use Rattle.cf_types.specs.Policies.{no_policy}
+use Rattle.cf_types.specs.declared.code.machine.TheConstants.{BAD_LINE, SPOT_TWICE, UNKNOWN_SPOT, NO_INTERFACE, UNKNOWN_LOCATOR, UNKNOWN_ATTACHMENT, OUT_OF_RANGE, TOO_MANY_SPOTS, TOO_DEEP}
 use Rattle.cf_types.specs.declared.machine.Machine.{Machine}
 use Rattle.cf_types.specs.declared.machine.Spot.{Spot}
 use Rattle.cf_types.specs.declared.machine.MatchLine.{MatchLine}
@@ -51,7 +52,7 @@ bad_line text = option_map (λ e. e.0) (find (λ e. has_bad_byte e.1) (enumerate
 
 -- the lines that have words, unless some line has a byte that is not allowed
 abbrev pub records_of : List ℕ → Result (List WordLine) (ℕ × ℕ)
-records_of text = option_map_or (λ line. Err (line, 1)) (bad_line text) (Ok (word_lines text))
+records_of text = option_map_or (λ line. Err (line, BAD_LINE)) (bad_line text) (Ok (word_lines text))
 
 -- ---- the forms of the lines
 
@@ -200,7 +201,9 @@ spot_place t parent attr =
 abbrev pub found_fault : List Locator → List GivenValue → Option ℕ
 found_fault locs [] = None
 found_fault locs (g ∷ gs) =
-    given (not (list_any (λ l. bytes_eq l.name g.name) locs)) 5 or (given (is_none g.value) 7 or found_fault locs gs)
+    given (not (list_any (λ l. bytes_eq l.name g.name) locs)) UNKNOWN_LOCATOR
+    or (given (is_none g.value) OUT_OF_RANGE
+    or found_fault locs gs)
 
 -- the value given, else the default, else -1
 abbrev pub found_value : List GivenValue → Locator → ℤ
@@ -223,12 +226,12 @@ spot_locators t parent attr = option_map_or (locators_at t.attrs) (spot_place t 
 -- the first code of a spot after these
 abbrev pub spot_fault : Tables → List Spot → List ℕ → List ℕ → List ℕ → List GivenValue → Option ℕ
 spot_fault t spots name parent attr found =
-    given (is_some (spot_number spots name)) 2
-    or (given (not (bytes_eq parent (codes "root")) && is_none (spot_above spots parent)) 3
-    or (given (is_none (spot_place t parent attr)) 4
+    given (is_some (spot_number spots name)) SPOT_TWICE
+    or (given (not (bytes_eq parent (codes "root")) && is_none (spot_above spots parent)) UNKNOWN_SPOT
+    or (given (is_none (spot_place t parent attr)) NO_INTERFACE
     or (found_fault (spot_locators t parent attr) found
-    or (given (nat_le 1024 (length spots)) 8
-    or given (nat_lt 64 (depth_of (length spots) spots (spot_above spots parent))) 9))))
+    or (given (nat_le 1024 (length spots)) TOO_MANY_SPOTS
+    or given (nat_lt 64 (depth_of (length spots) spots (spot_above spots parent))) TOO_DEEP))))
 
 -- the spot of a line after these
 abbrev pub spot_of : Tables → List Spot → List ℕ → List ℕ → List ℕ → List GivenValue → List (List ℕ) → Spot
@@ -251,16 +254,16 @@ new_spot t spots name parent attr found marks =
 abbrev pub new_match : Tables → List Spot → List ℕ → Option (List ℕ) → Option ℕ → Result MatchLine ℕ
 new_match t spots attach spot value =
     option_map_or (λ code. Err code)
-    (given (is_none (attach_number t attach)) 6
-    or (given (option_map_or (λ name. is_none (spot_number spots name)) spot false) 3
-    or given (is_none value) 7))
+    (given (is_none (attach_number t attach)) UNKNOWN_ATTACHMENT
+    or (given (option_map_or (λ name. is_none (spot_number spots name)) spot false) UNKNOWN_SPOT
+    or given (is_none value) OUT_OF_RANGE))
     (Ok (record { attach = unwrap_or (attach_number t attach) 0; spot = option_and_then (spot_number spots) spot; value = unwrap_or value 0 }))
 
 -- the style line, or its first code
 abbrev pub new_style : Tables → List ℕ → List ℕ → Bool → Result StyleLine ℕ
 new_style t attach attr indirect =
     option_map_or (λ code. Err code)
-    (given (is_none (attach_number t attach)) 6 or given (is_none (interface_number t attr)) 4)
+    (given (is_none (attach_number t attach)) UNKNOWN_ATTACHMENT or given (is_none (interface_number t attr)) NO_INTERFACE)
     (Ok (record { attach = unwrap_or (attach_number t attach) 0; attr = unwrap_or (interface_number t attr) 0; indirect = indirect }))
 
 -- a policy with those of the words added
@@ -279,11 +282,11 @@ with_policies words p = record {
 abbrev pub new_policies : Tables → List ℕ → List (List ℕ) → List Policy → Result (List Policy) ℕ
 new_policies t attach words policies =
     option_map_or (λ a. Ok (map (λ e. if e.0 == a then with_policies words e.1 else e.1) (enumerate_from 0 policies)))
-    (attach_number t attach) (Err 6)
+    (attach_number t attach) (Err UNKNOWN_ATTACHMENT)
 
 -- the machine after a line of this form, or its first code
 abbrev pub after_line : Tables → Machine → Option LineForm → Result Machine ℕ
-after_line t m None = Err 1
+after_line t m None = Err BAD_LINE
 after_line t m (Some (SpotLine name parent attr found marks)) =
     new_spot t m.spots name parent attr found marks >>= λ s. Ok (record m { spots = m.spots ++ s ∷ [] })
 after_line t m (Some (MatchOf attach spot value)) = new_match t m.spots attach spot value >>= λ l. Ok (record m { matches = m.matches ++ l ∷ [] })

@@ -4,6 +4,7 @@
 use Rattle.std.specs.Prelude.{ℕ, zero, suc, ◌+◌, Bool, true, false, not, ◌&&◌, ◌||◌, ◌==◌, nat_le, if◌then◌else◌, List, [], ◌∷◌, ◌++◌, length, take, drop, map, slice_index, bytes_eq, codes, Option, Some, None, is_some, Result, Ok, Err}
 use Rattle.std.specs.List.{list_any}
 use Rattle.std.specs.Option.{option_map_or}
+use Rattle.cf_types.specs.declared.code.configuration.TheConstants.{FILE_ABSENT, FILE_TOO_LONG, TOO_MANY_FILES, BAD_NESTING, NO_PREFIX, TOO_MANY_STATEMENTS}
 use Rattle.cf_types.specs.declared.stmt.Piece.{Piece}
 use Rattle.cf_types.specs.declared.stmt.Placed.{Placed}
 use Rattle.cf_types.specs.declared.stmt.Token.{Token}
@@ -160,19 +161,19 @@ place here s form r = record r { placed = r.placed ++ record { stmt = form; file
 
 -- an include of a file that is absent, or of this text
 abbrev pub by_load : Reader → Here → Line → Stmt → ℕ → List ℕ → Bool → Option (List ℕ) → Reading → Reading
-by_load below here s form around path optional None r = if optional then place here s form r else refused here.file s.number 1 r
+by_load below here s form around path optional None r = if optional then place here s form r else refused here.file s.number FILE_ABSENT r
 by_load below here s form around path optional (Some text) r =
-    if nat_le (length text) 1048576 then below around path text (place here s form r) else refused here.file s.number 2 r
+    if nat_le (length text) 1048576 then below around path text (place here s form r) else refused here.file s.number FILE_TOO_LONG r
 
 -- a file too deep or too many is not asked for
 abbrev pub include : Files → Reader → Here → List Level → Line → List ℕ → Bool → Reading → Reading
 include files below here levels s path optional r =
-    if here.deepest || nat_le 4096 (length r.files) then refused here.file s.number 20 r
+    if here.deepest || nat_le 4096 (length r.files) then refused here.file s.number TOO_MANY_FILES r
     else by_load below here s (stmt.Include path optional) (here.around + length levels) (under_prefix r.prefixes path) optional (files (under_prefix r.prefixes path)) r
 
 -- the top prefix goes, where there is one
 abbrev pub pop_prefix : Here → Line → List (List ℕ) → Reading → Reading
-pop_prefix here s [] r = refused here.file s.number 22 r
+pop_prefix here s [] r = refused here.file s.number NO_PREFIX r
 pop_prefix here s (top ∷ prefixes) r = place here s (stmt.Prefix None) (record r { prefixes = prefixes })
 
 -- a statement that has a form
@@ -182,13 +183,13 @@ treat files below here levels s (stmt.Prefix None) r = pop_prefix here s r.prefi
 treat files below here levels s (stmt.Prefix (Some path)) r =
     place here s (stmt.Prefix (Some path)) (record r { prefixes = under_prefix r.prefixes path ∷ r.prefixes })
 treat files below here levels s (stmt.Cond word name) r =
-    if is_misplaced here.around levels s then refused here.file s.number 21 r else place here s (stmt.Cond word name) r
+    if is_misplaced here.around levels s then refused here.file s.number BAD_NESTING r else place here s (stmt.Cond word name) r
 treat files below here levels s form r = place here s form r
 
 -- a statement of a part that is not left out
 abbrev pub read_placed : Files → Reader → Here → List Level → Line → Reading → Reading
 read_placed files below here levels s r =
-    if nat_le 65536 (length r.placed) then refused here.file s.number 23 r
+    if nat_le 65536 (length r.placed) then refused here.file s.number TOO_MANY_STATEMENTS r
     else option_map_or (λ code. refused here.file s.number code r) (form_fault s.pieces)
     (option_map_or (λ form. treat files below here levels s form r) (form_of true s.pieces) r)
 
@@ -196,12 +197,12 @@ read_placed files below here levels s r =
 abbrev pub read_line : Files → Reader → Here → List Level → Line → Reading → Reading
 read_line files below here levels s r =
     if is_placed levels s then read_placed files below here levels s r
-    else (if is_misplaced here.around levels s then refused here.file s.number 21 r else r)
+    else (if is_misplaced here.around levels s then refused here.file s.number BAD_NESTING r else r)
 
 -- at the end of a file no condition may be open; the innermost is named
 abbrev pub read_end : Here → List Level → Reading → Reading
 read_end here [] r = r
-read_end here (l ∷ levels) r = refused here.file l.line 21 r
+read_end here (l ∷ levels) r = refused here.file l.line BAD_NESTING r
 
 -- the statements of a file, up to the first fault
 abbrev pub read_lines : Files → Reader → Here → List Level → List Line → Reading → Reading
@@ -225,9 +226,9 @@ reader (suc n) files around name text r =
 
 -- the named file, which takes no prefix
 abbrev pub read_first : Files → List ℕ → Option (List ℕ) → Reading
-read_first files name None = refused name 0 1 nothing_read
+read_first files name None = refused name 0 FILE_ABSENT nothing_read
 read_first files name (Some text) =
-    if nat_le (length text) 1048576 then reader 17 files 0 name text nothing_read else refused name 0 2 nothing_read
+    if nat_le (length text) 1048576 then reader 17 files 0 name text nothing_read else refused name 0 FILE_TOO_LONG nothing_read
 
 -- what the named file reads as: its placed statements, its files and its first fault
 unfoldable pub reading : Files → List ℕ → Reading

@@ -4,6 +4,7 @@ use Rattle.std.specs.Prelude.{◌≡◌, ℕ, ◌≤◌, Bool, true, false, not,
 use Rattle.std.specs.List.{list_all, enumerate_from}
 use Rattle.std.specs.Option.{option_map_or}
 use Rattle.std.specs.Result.{result_ok}
+use Rattle.cf_types.specs.declared.code.script.TheConstants.{NO_COMMAND, WRONG_WORDS, OUT_OF_RANGE, TOO_MANY_COMMANDS}
 use Rattle.cf_types.specs.declared.machine.Command.{Command}
 use Rattle.cf_types.specs.declared.machine.Command.TheVariants as command
 use Rattle.cf_types.specs.declared.machine.Given.{Given}
@@ -18,14 +19,14 @@ use Rattle.config_rules.specs.MachineText.{words_of, has_bad_byte}
 abbrev pub is_operand : List ℕ → Bool
 is_operand word = is_name word && nat_le (length word) 80
 
--- an operand; code 2 where the word is none
+-- an operand, where the word is one
 abbrev pub operand : List ℕ → Result (List ℕ) ℕ
-operand word = if is_operand word then Ok word else Err 2
+operand word = if is_operand word then Ok word else Err WRONG_WORDS
 
--- a number within a range: code 2 where there is no number, code 3 where it is out of the range
+-- a number within a range
 abbrev pub within : (ℤ → Bool) → Option ℤ → Result ℤ ℕ
-within fits None = Err 2
-within fits (Some v) = if fits v then Ok v else Err 3
+within fits None = Err WRONG_WORDS
+within fits (Some v) = if fits v then Ok v else Err OUT_OF_RANGE
 
 -- the number that a word spells, within a range
 abbrev pub number_within : (ℤ → Bool) → List ℕ → Result ℤ ℕ
@@ -44,7 +45,7 @@ is_value v = int_le (pos 0) v && int_le v (pos 4294967295)
 -- exactly one operand
 abbrev pub one_operand : List (List ℕ) → Result (List ℕ) ℕ
 one_operand (word ∷ []) = operand word
-one_operand _ = Err 2
+one_operand _ = Err WRONG_WORDS
 
 -- no operand or one
 abbrev pub operand_or_none : List (List ℕ) → Result (Option (List ℕ)) ℕ
@@ -66,12 +67,12 @@ given_in (name ∷ value ∷ words) =
 
 -- up to 16 pairs `loc V`; the words of all pairs come before the range of any value
 abbrev pub pairs_of : List (List ℕ) → Result (List Given) ℕ
-pairs_of words = if nat_le (length words) 32 && are_pairs words then given_in words else Err 2
+pairs_of words = if nat_le (length words) 32 && are_pairs words then given_in words else Err WRONG_WORDS
 
 -- `io D V`
 abbrev pub io_form : List (List ℕ) → Result Command ℕ
 io_form (device ∷ value ∷ []) = operand device >>= λ name. natural_within is_value value >>= λ v. Ok (command.Io name v)
-io_form _ = Err 2
+io_form _ = Err WRONG_WORDS
 
 -- `rescan D A`, with the words behind it
 abbrev pub rescan_on : List ℕ → List ℕ → List (List ℕ) → Result Command ℕ
@@ -80,7 +81,7 @@ rescan_on device attr words =
 
 -- `rescan D`, `rescan D A`, or the latter with up to 16 pairs `loc V`
 abbrev pub rescan_form : List (List ℕ) → Result Command ℕ
-rescan_form [] = Err 2
+rescan_form [] = Err WRONG_WORDS
 rescan_form (device ∷ []) = operand device >>= λ name. Ok (command.Rescan name None [])
 rescan_form (device ∷ attr ∷ words) = rescan_on device attr words
 
@@ -122,20 +123,20 @@ commands =
 abbrev pub row_of : List ℕ → Option CommandRow
 row_of word = find (λ r. bytes_eq r.word word) commands
 
--- the command of a word with others behind it; code 1 where the word is that of no command
+-- the command of a word with others behind it, where the word is that of one
 abbrev pub command_of : List ℕ → List (List ℕ) → Result Command ℕ
-command_of word words = option_map_or (λ r. r.form words) (row_of word) (Err 1)
+command_of word words = option_map_or (λ r. r.form words) (row_of word) (Err NO_COMMAND)
 
 -- ---- scripts
 
--- what the words of a line say: nothing where there are none, else a command, or a code from 1 to 3
+-- what the words of a line say: nothing where there are none, else a command or its code
 abbrev pub words_say : List (List ℕ) → Option (Result Command ℕ)
 words_say [] = None
 words_say (word ∷ words) = Some (command_of word words)
 
 -- what a line says; a byte that is not allowed comes before the other codes of its line
 abbrev pub line_says : List ℕ → Option (Result Command ℕ)
-line_says line = if has_bad_byte line then Some (Err 2) else words_say (words_of line)
+line_says line = if has_bad_byte line then Some (Err WRONG_WORDS) else words_say (words_of line)
 
 -- what a script says, with the numbers of the lines
 abbrev pub sayings : List ℕ → List (ℕ × Result Command ℕ)
@@ -143,7 +144,7 @@ sayings text = filter_map (λ l. option_map (λ said. (l.0, said)) (line_says l.
 
 -- the code of what is said after so many others: a script has at most 500 commands
 abbrev pub code_after : ℕ → Result Command ℕ → Option ℕ
-code_after before (Ok c) = given (nat_le 500 before) 4
+code_after before (Ok c) = given (nat_le 500 before) TOO_MANY_COMMANDS
 code_after before (Err code) = Some code
 
 -- the bad lines of a script with their codes
@@ -177,12 +178,11 @@ is_number word = is_some (number word)
 abbrev pub is_turn : ℕ → List ℕ → Bool
 is_turn callers word = option_map_or (is_caller callers) (number word) false
 
--- the code of a line: 2 where a byte is not allowed or a word spells no number, else 3 where one is not the number of a
--- caller
+-- the code of a line: a byte is not allowed or a word spells no number, or else one is not the number of a caller
 abbrev pub turns_code : ℕ → List ℕ → Option ℕ
 turns_code callers line =
-    given (has_bad_byte line || not (list_all is_number (words_of line))) 2
-    or given (not (list_all (is_turn callers) (words_of line))) 3
+    given (has_bad_byte line || not (list_all is_number (words_of line))) WRONG_WORDS
+    or given (not (list_all (is_turn callers) (words_of line))) OUT_OF_RANGE
 
 -- the bad lines of an order file with their codes
 abbrev pub bad_turns : ℕ → List ℕ → List (ℕ × ℕ)

@@ -3,16 +3,8 @@ ghost use Rattle.std.specs.List.{list_any};
 ghost use Rattle.config_rules.specs.Fault.{repeats};
 ghost use Rattle.config_rules.specs.Joined.{fill, fill_fault, filled, given_named, is_wanting, locator_named, pair_fault, pairs_fault};
 
+use cf_types::code::configuration as code;
 use cf_types::{Attr, GivenLoc, Locator, Locs, Name};
-
-/// A locator that must be written is not.
-const MISSING: u8 = 13;
-/// The attribute has no locator of this name.
-const UNKNOWN: u8 = 14;
-/// A locator is written twice.
-const TWICE: u8 = 15;
-/// A locator without a default is written with `?`.
-const NO_DEFAULT: u8 = 16;
 
 /// The locator of this name.
 fn locator_named<'a>(locs: &'a [Locator], name: &Name) -> Option<&'a Locator>
@@ -40,13 +32,13 @@ fn pair_fault(locs: &[Locator], before: &[GivenLoc], pair: &GivenLoc) -> Option<
     ensures { result ≡ pair_fault locs.now before.now pair.now }
 {
     let Some(locator) = locator_named(locs, &pair.name) else {
-        return Some(UNKNOWN);
+        return Some(code::UNKNOWN_LOCATOR);
     };
     if is_given(before, &pair.name) {
-        return Some(TWICE);
+        return Some(code::LOCATOR_TWICE);
     }
     if pair.value.is_none() && locator.default.is_none() {
-        return Some(NO_DEFAULT);
+        return Some(code::NO_DEFAULT);
     }
     None
 }
@@ -86,7 +78,7 @@ fn fill_fault(locs: &[Locator], given: &[GivenLoc]) -> Option<u8>
         return Some(code);
     }
     if has_wanting(locs, given) {
-        return Some(MISSING);
+        return Some(code::MISSING_LOCATOR);
     }
     None
 }
@@ -103,9 +95,8 @@ fn filled(given: &[GivenLoc], locator: &Locator) -> i64
 }
 
 /// The values of the locators of an attribute, in order, where an instance writes these pairs. The error is the first
-/// code, pair by pair: 14 for an unknown locator, 15 for one that is written twice, 16 for `?` where there is no
-/// default; and then 13 for one without brackets that is not written. The attribute has at most 16 locators, whose
-/// names differ. See config(5).
+/// code, pair by pair `UNKNOWN_LOCATOR`, `LOCATOR_TWICE`, or `NO_DEFAULT` for `?`, and then `MISSING_LOCATOR` for one
+/// without brackets that is not written. The attribute has at most 16 locators, whose names differ. See config(5).
 #[tactic(auto, unfolding(config_rules::specs::Joined::fill))]
 pub fn fill(attr: &Attr, given: &[GivenLoc]) -> Result<Locs, u8>
     requires few { length attr.now.locs ≤ 16 }

@@ -3,6 +3,7 @@ use Rattle.std.proofs.Common.{◌≡◌, ℕ, zero, suc, ◌+◌, ◌<◌, ◌�
 use Rattle.std.specs.Prelude.{All, is_none, option_and_then, slice_get}
 use Rattle.std.specs.List.{list_any}
 use Rattle.std.proofs.lemmas.List.{drop_more}
+use Rattle.cf_types.specs.declared.code.machine.TheConstants.{OUT_OF_RANGE, UNKNOWN_LOCATOR}
 use Rattle.cf_types.specs.declared.tables.Locator.{Locator}
 use Rattle.std.specs.Option.{option_map_or}
 use Rattle.cf_types.specs.declared.machine.Spot.{Spot}
@@ -39,9 +40,9 @@ none false code h = refl
 -- what is left of the values that were found, by the first of them and by whether there is a locator of its name
 pub found_next : (locs : List Locator) (found : List FoundValue) (i : ℕ) (value : FoundValue) {name : List ℕ} {known : Bool} → i < length found → value ≡ get_or found i value → name ≡ value.name
     → known ≡ list_any (λ l. bytes_eq l.name name) locs
-    → (given (not known) 5 or (given (is_none value.value) 7 or found_fault locs (map given_of (drop (i + 1) found)))) ≡ found_fault locs (map given_of (drop i found))
+    → (given (not known) UNKNOWN_LOCATOR or (given (is_none value.value) OUT_OF_RANGE or found_fault locs (map given_of (drop (i + 1) found)))) ≡ found_fault locs (map given_of (drop i found))
 found_next locs found i value h is same there =
-    ap (λ b. given (not b) 5 or (given (is_none value.value) 7 or found_fault locs (map given_of (drop (i + 1) found))))
+    ap (λ b. given (not b) UNKNOWN_LOCATOR or (given (is_none value.value) OUT_OF_RANGE or found_fault locs (map given_of (drop (i + 1) found))))
     (there ∙ ap (λ n. list_any (λ (l : Locator). bytes_eq l.name n) locs) same)
     ∙ ap (λ vs. found_fault locs (map given_of vs)) (ap (λ v. v ∷ drop (i + 1) found) is ∙ sym (drop_more found i value h))
 

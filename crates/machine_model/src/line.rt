@@ -13,6 +13,7 @@ use crate::lookup::{attach_number, interface_number, spot_number};
 use crate::spot::{make_spot, spot_fault};
 use crate::word::{are_marks, are_policies, differ, is_free_name, match_value, spells};
 use cf_names::add_name;
+use cf_types::code::machine as code;
 use cf_types::{List, MatchLine, Memory, Spot, StyleLine, Text};
 use machine_text::LineStop;
 use std::alloc::Global;
@@ -58,10 +59,10 @@ fn add_spot(
     let (located, marks) = rest.split_at(count_located(rest));
     let found = match given_values(alloc, located)? {
         Some(found) => found,
-        None => return Err(LineStop::Code(1)),
+        None => return Err(LineStop::Code(code::BAD_LINE)),
     };
     if !is_spot(alloc, name, found.items(), marks)? {
-        return Err(LineStop::Code(1));
+        return Err(LineStop::Code(code::BAD_LINE));
     }
     if let Some(code) = spot_fault(index, draft, name, parent, attr, found.items()) {
         return Err(LineStop::Code(code));
@@ -109,15 +110,15 @@ fn add_match(
 {
     let value = match match_value(value) {
         Some(value) => value,
-        None => return Err(LineStop::Code(1)),
+        None => return Err(LineStop::Code(code::BAD_LINE)),
     };
     let attach = match attach_number(index, attach) {
         Some(attach) => attach,
-        None => return Err(LineStop::Code(6)),
+        None => return Err(LineStop::Code(code::UNKNOWN_ATTACHMENT)),
     };
     let spot = match matched_spot(draft, spot) {
         Some(spot) => spot,
-        None => return Err(LineStop::Code(3)),
+        None => return Err(LineStop::Code(code::UNKNOWN_SPOT)),
     };
     match value {
         Some(value) => {
@@ -128,7 +129,7 @@ fn add_match(
             })?;
             Ok(())
         }
-        None => Err(LineStop::Code(7)),
+        None => Err(LineStop::Code(code::OUT_OF_RANGE)),
     }
 }
 
@@ -152,15 +153,15 @@ fn add_style(
     ensures draft { OnOk result (IsDraft draft.new) }
 {
     if !is_style(style) {
-        return Err(LineStop::Code(1));
+        return Err(LineStop::Code(code::BAD_LINE));
     }
     let attach = match attach_number(index, attach) {
         Some(attach) => attach,
-        None => return Err(LineStop::Code(6)),
+        None => return Err(LineStop::Code(code::UNKNOWN_ATTACHMENT)),
     };
     let attr = match interface_number(index, attr) {
         Some(attr) => attr,
-        None => return Err(LineStop::Code(4)),
+        None => return Err(LineStop::Code(code::NO_INTERFACE)),
     };
     let indirect = spells(style, b"indirect");
     draft.machine.styles.push(StyleLine {
@@ -192,11 +193,11 @@ fn add_driver(
     ensures draft { OnOk result (IsDraft draft.new) }
 {
     if !is_driver(policies) {
-        return Err(LineStop::Code(1));
+        return Err(LineStop::Code(code::BAD_LINE));
     }
     let attach = match attach_number(index, attach) {
         Some(attach) => attach,
-        None => return Err(LineStop::Code(6)),
+        None => return Err(LineStop::Code(code::UNKNOWN_ATTACHMENT)),
     };
     let mut changed = mem::replace(&mut draft.machine.policies, List::make(alloc)).into_vec();
     add_policies(&mut changed, attach as usize, policies);
@@ -226,7 +227,7 @@ fn add_spot_line(
             attr.items(),
             rest,
         ),
-        _ => Err(LineStop::Code(1)),
+        _ => Err(LineStop::Code(code::BAD_LINE)),
     }
 }
 
@@ -241,7 +242,7 @@ fn add_match_line(index: &Index, draft: &mut Draft, words: &[Text]) -> Result<()
         [attach, spot, value] => {
             add_match(index, draft, attach.items(), spot.items(), value.items())
         }
-        _ => Err(LineStop::Code(1)),
+        _ => Err(LineStop::Code(code::BAD_LINE)),
     }
 }
 
@@ -256,7 +257,7 @@ fn add_style_line(index: &Index, draft: &mut Draft, words: &[Text]) -> Result<()
         [attach, attr, style] => {
             add_style(index, draft, attach.items(), attr.items(), style.items())
         }
-        _ => Err(LineStop::Code(1)),
+        _ => Err(LineStop::Code(code::BAD_LINE)),
     }
 }
 
@@ -274,7 +275,7 @@ fn add_driver_line(
 {
     match words.split_first() {
         Some((attach, policies)) => { add_driver(alloc, index, draft, attach.items(), policies) }
-        None => Err(LineStop::Code(1)),
+        None => Err(LineStop::Code(code::BAD_LINE)),
     }
 }
 
@@ -303,7 +304,7 @@ fn add_rest(
     if spells(word, b"driver") {
         return add_driver_line(alloc, index, draft, rest);
     }
-    Err(LineStop::Code(1))
+    Err(LineStop::Code(code::BAD_LINE))
 }
 
 /// Adds what a line of these words says.
@@ -320,6 +321,6 @@ pub fn add_line(
 {
     match words.split_first() {
         Some((word, rest)) => add_rest(alloc, index, draft, word.items(), rest),
-        None => Err(LineStop::Code(1)),
+        None => Err(LineStop::Code(code::BAD_LINE)),
     }
 }

@@ -87,7 +87,7 @@ fn read_lines(alloc: Global, tables: &Tables, lines: &[Line]) -> Result<Machine,
 }
 
 /// Reads a machine file of at most 1,048,576 bytes, for tables of at most 65,536 attributes and attachments and 16
-/// locators an attribute: the machine, which fits the tables, or the first bad line and its code, 1 to 9. The format is
+/// locators an attribute: the machine, which fits the tables, or the first bad line and its code. The format is
 /// this project's own.
 pub fn read_machine(alloc: Global, text: &[u8], tables: &Tables) -> Result<Machine, MachineStop>
     requires short { length text.now ≤ 1048576 }

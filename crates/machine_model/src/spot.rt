@@ -9,6 +9,7 @@ use crate::index::Index;
 use crate::locator::FoundValue;
 use crate::lookup::{spot_above, spot_locators, spot_number, spot_place};
 use crate::word::{is_one, spells};
+use cf_types::code::machine as code;
 use cf_types::{Locator, Locs, Memory, Name, Place, Spot, Text};
 use std::alloc::Global;
 
@@ -43,10 +44,10 @@ fn found_fault(locs: &[Locator], found: &[FoundValue]) -> Option<u8>
 {
     for value in found {
         if !has_locator(locs, value.name.items()) {
-            return Some(5);
+            return Some(code::UNKNOWN_LOCATOR);
         }
         if is_far(value.value) {
-            return Some(7);
+            return Some(code::OUT_OF_RANGE);
         }
     }
     None
@@ -124,7 +125,7 @@ fn is_orphan(draft: &Draft, parent: &[u8]) -> bool
     !spells(parent, b"root") && spot_above(draft, parent).is_none()
 }
 
-/// The first code of a spot after these, from 2 to 9.
+/// The first code of a spot after these.
 pub fn spot_fault(
     index: &Index,
     draft: &Draft,
@@ -139,23 +140,23 @@ pub fn spot_fault(
     ensures not_full { result ≡ None → length draft.now.machine.spots < 1024 }
 {
     if spot_number(draft, name).is_some() {
-        return Some(2);
+        return Some(code::SPOT_TWICE);
     }
     if is_orphan(draft, parent) {
-        return Some(3);
+        return Some(code::UNKNOWN_SPOT);
     }
     if spot_place(index, parent, attr).is_none() {
-        return Some(4);
+        return Some(code::NO_INTERFACE);
     }
     if let Some(code) = found_fault(spot_locators(index, parent, attr), found) {
         return Some(code);
     }
     let spots = draft.machine.spots.items();
     if MAX_SPOTS <= spots.len() {
-        return Some(8);
+        return Some(code::TOO_MANY_SPOTS);
     }
     if MAX_DEPTH < depth_below(spots, spot_above(draft, parent)) {
-        return Some(9);
+        return Some(code::TOO_DEEP);
     }
     None
 }

@@ -16,7 +16,7 @@ pub struct Line {
 /// Why a machine file can't be read.
 #[derive(Clone, Copy, Debug, PartialEq, Eq)]
 pub enum MachineStop {
-    /// The first bad line, counted from 1, and its code, from 1 to 9.
+    /// The first bad line, counted from 1, and its code, of those of machine files.
     Fault { line: u32, code: u8 },
     /// Memory ran out.
     Memory,

@@ -3,11 +3,9 @@ ghost use Rattle.config_rules.specs.MachineText.{bad_line, records_of, word_line
 ghost use Rattle.machine_text.specs.Records.{Gives, with_line, word_line};
 
 use crate::line::{Line, MachineStop, has_bad_byte, words_of};
+use cf_types::code::machine as code;
 use cf_types::{List, Memory, Text};
 use std::alloc::Global;
-
-/// The code of a byte that is not allowed.
-const BAD_BYTE: u8 = 1;
 
 /// The number of the first line with a byte that is not allowed.
 fn bad_line(text: &[u8]) -> Option<u32>
@@ -49,7 +47,7 @@ fn word_lines(alloc: Global, text: &[u8]) -> Result<List<Line>, Memory>
 }
 
 /// The lines of a machine file of at most 1,048,576 bytes that have words, or the first line with a byte that is not
-/// allowed, code 1: outside comments a tab, a newline and space to `~` are allowed. A comment goes from `#` to the end
+/// allowed, code `BAD_LINE`: outside comments a tab, a newline and space to `~` are allowed. A comment goes from `#` to the end
 /// of its line. The format is this project's own.
 pub fn records(alloc: Global, text: &[u8]) -> Result<List<Line>, MachineStop>
     requires { length text.now ≤ 1048576 }
@@ -58,7 +56,7 @@ pub fn records(alloc: Global, text: &[u8]) -> Result<List<Line>, MachineStop>
     if let Some(line) = bad_line(text) {
         return Err(MachineStop::Fault {
             line,
-            code: BAD_BYTE,
+            code: code::BAD_LINE,
         });
     }
     Ok(word_lines(alloc, text)?)

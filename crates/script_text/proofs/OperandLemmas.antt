@@ -7,6 +7,7 @@ use Rattle.cf_text.specs.declared.number.NumberRead.{NumberRead}
 use Rattle.cf_text.specs.declared.number.NumberRead.TheVariants.{Not, OutOfRange, Value}
 use Rattle.cf_text.specs.NumberRead.{read_of}
 use Rattle.cf_text.specs.Shapes.{in_range, number}
+use Rattle.cf_types.specs.declared.code.script.TheConstants.{OUT_OF_RANGE, WRONG_WORDS}
 use Rattle.config_rules.specs.Cut.{◌>>=◌}
 use Rattle.config_rules.specs.Form.{given}
 use Rattle.config_rules.specs.ScriptText.{is_caller, is_number, is_value, natural_within, number_within, within}
@@ -15,10 +16,10 @@ use Rattle.config_rules.specs.ScriptText.{is_caller, is_number, is_value, natura
 
 abbrev pub within_by : NumberRead → Result ℤ ℕ
 within_by (Value v) = Ok v
-within_by OutOfRange = Err 3
-within_by Not = Err 2
+within_by OutOfRange = Err OUT_OF_RANGE
+within_by Not = Err WRONG_WORDS
 
-by_range : (fits : Bool) (v : ℤ) → within_by (cond fits (Value v) OutOfRange) ≡ cond fits (Ok v) (Err 3)
+by_range : (fits : Bool) (v : ℤ) → within_by (cond fits (Value v) OutOfRange) ≡ cond fits (Ok v) (Err OUT_OF_RANGE)
 by_range true v = refl
 by_range false v = refl
 
@@ -52,7 +53,7 @@ abbrev pub Narrow : (ℤ → Bool) → Type 0
 Narrow fits = (v : ℤ) → in_range v ≡ false → fits v ≡ false
 
 abbrev within_if : Bool → ℤ → Result ℤ ℕ
-within_if b v = cond b (Ok v) (Err 3)
+within_if b v = cond b (Ok v) (Err OUT_OF_RANGE)
 
 abbrev natural : (ℤ → Bool) → Option ℤ → Result ℕ ℕ
 natural fits o = within fits o >>= λ v. Ok (nat_abs v)
@@ -77,19 +78,19 @@ good_of : (o : Option ℤ) (w : ℤ) → within in_range o ≡ Ok w → o ≡ So
 good_of None w h = absurd (cc)
 good_of (Some v) w h = ap Some (is_if (in_range v) v w h)
 
-fit_if : (b : Bool) (v : ℤ) → (within_if b v >>= λ n. Ok (nat_abs n)) ≡ option_map_or Ok (given b (nat_abs v)) (Err 3)
+fit_if : (b : Bool) (v : ℤ) → (within_if b v >>= λ n. Ok (nat_abs n)) ≡ option_map_or Ok (given b (nat_abs v)) (Err OUT_OF_RANGE)
 fit_if true v = refl
 fit_if false v = refl
 
 -- a number that may lie within the range
-natural_is : (fits : ℤ → Bool) (word : List ℕ) (v : ℤ) → number_within in_range word ≡ Ok v → natural_within fits word ≡ option_map_or Ok (given (fits v) (nat_abs v)) (Err 3)
+natural_is : (fits : ℤ → Bool) (word : List ℕ) (v : ℤ) → number_within in_range word ≡ Ok v → natural_within fits word ≡ option_map_or Ok (given (fits v) (nat_abs v)) (Err OUT_OF_RANGE)
 natural_is fits word v h = ap (natural fits) (good_of (number word) v h) ∙ fit_if (fits v) v
 
 -- the same of a number of the code, which is what it was before
 pub natural_read : (fits : ℤ → Bool) (word : List ℕ) (v : ℤ) (o : Option ℕ) → SFits w64 v → number_within in_range word ≡ Ok v → o ≡ given (fits (to_z w64 (of_z w64 v))) (nat_abs (to_z w64 (of_z w64 v)))
-    → natural_within fits word ≡ option_map_or Ok o (Err 3)
+    → natural_within fits word ≡ option_map_or Ok o (Err OUT_OF_RANGE)
 natural_read fits word v o range h is =
-    let by : Option ℕ → Result ℕ ℕ = λ o. option_map_or Ok o (Err 3) in
+    let by : Option ℕ → Result ℕ ℕ = λ o. option_map_or Ok o (Err OUT_OF_RANGE) in
     natural_is fits word v h ∙ ap (λ z. by (given (fits z) (nat_abs z))) (sym (to_z-of_z range)) ∙ ap by (sym is)
 
 -- ---- the ranges of values and callers

@@ -7,6 +7,7 @@ use Rattle.std.proofs.lemmas.List.{drop_more}
 use Rattle.std.proofs.lemmas.List.Folds.{list_all_at}
 use Rattle.std.proofs.lemmas.List.Elements.{filter_map-append}
 use Rattle.cf_text.specs.Shapes.{number}
+use Rattle.cf_types.specs.declared.code.script.TheConstants.{OUT_OF_RANGE}
 use Rattle.config_rules.specs.Cut.{lines_of, ◌>>=◌}
 use Rattle.config_rules.specs.Form.{given}
 use Rattle.config_rules.specs.MachineText.{words_of}
@@ -22,7 +23,7 @@ abbrev natural : (ℤ → Bool) → Option ℤ → Result ℕ ℕ
 natural fits o = within fits o >>= λ v. Ok (nat_abs v)
 
 abbrev natural_if : Bool → ℤ → Result ℕ ℕ
-natural_if b v = cond b (Ok v) (Err 3) >>= λ v. Ok (nat_abs v)
+natural_if b v = cond b (Ok v) (Err OUT_OF_RANGE) >>= λ v. Ok (nat_abs v)
 
 turn_if : (b : Bool) (v : ℤ) (n : ℕ) → natural_if b v ≡ Ok n → (b ≡ true) × (Some (nat_abs v) ≡ Some n)
 turn_if true v n h = (refl, cc)
@@ -32,11 +33,11 @@ turn_of : (fits : ℤ → Bool) (o : Option ℤ) (n : ℕ) → natural fits o �
 turn_of fits None n h = absurd (cc)
 turn_of fits (Some v) n h = turn_if (fits v) v n h
 
-bad_if : (b : Bool) (v : ℤ) (code : ℕ) → natural_if b v ≡ Err code → (b ≡ false) × (code ≡ 3)
+bad_if : (b : Bool) (v : ℤ) (code : ℕ) → natural_if b v ≡ Err code → (b ≡ false) × (code ≡ OUT_OF_RANGE)
 bad_if true v code h = absurd (cc)
 bad_if false v code h = (refl, cc)
 
-bad_of : (fits : ℤ → Bool) (o : Option ℤ) (code : ℕ) → is_some o ≡ true → natural fits o ≡ Err code → (option_map_or fits o false ≡ false) × (code ≡ 3)
+bad_of : (fits : ℤ → Bool) (o : Option ℤ) (code : ℕ) → is_some o ≡ true → natural fits o ≡ Err code → (option_map_or fits o false ≡ false) × (code ≡ OUT_OF_RANGE)
 bad_of fits None code some h = absurd (cc)
 bad_of fits (Some v) code some h = bad_if (fits v) v code h
 
@@ -46,11 +47,11 @@ all_at : (p : List ℕ → Bool) (ws : List (List ℕ)) (i : ℕ) (d : List ℕ)
 all_at p ws i d true h all e = refl
 all_at p ws i d false h all e = absurd (let no_one : list_all p ws ≡ false = list_all_at p ws i d h e in cc)
 
-not_all : (callers : ℕ) (ws : List (List ℕ)) (code : ℕ) → list_all (is_turn callers) ws ≡ false → code ≡ 3 → given (not (list_all (is_turn callers) ws)) 3 ≡ Some code
-not_all callers ws code all three = ap (λ b. given (not b) 3) all ∙ ap Some (sym three)
+not_all : (callers : ℕ) (ws : List (List ℕ)) (code : ℕ) → list_all (is_turn callers) ws ≡ false → code ≡ OUT_OF_RANGE → given (not (list_all (is_turn callers) ws)) OUT_OF_RANGE ≡ Some code
+not_all callers ws code all three = ap (λ b. given (not b) OUT_OF_RANGE) all ∙ ap Some (sym three)
 
 word_stops : (callers : ℕ) (ws : List (List ℕ)) (i : ℕ) (d : List ℕ) (code : ℕ) → i < length ws → list_all is_number ws ≡ true → natural_within (is_caller callers) (get_or ws i d) ≡ Err code
-    → given (not (list_all (is_turn callers) ws)) 3 ≡ Some code
+    → given (not (list_all (is_turn callers) ws)) OUT_OF_RANGE ≡ Some code
 word_stops callers ws i d code h numbers e =
     let bad = bad_of (is_caller callers) (number (get_or ws i d)) code (all_at is_number ws i d (is_number (get_or ws i d)) h numbers refl) e in
     not_all callers ws code (list_all_at (is_turn callers) ws i d h bad.0) bad.1

@@ -2,6 +2,7 @@
 use Rattle.std.proofs.Common.{◌≡◌, ℕ, ◌-◌, ◌≤◌, length, get_or, take, drop, true, false, Bool, cond, List, [], ◌∷◌, ◌++◌, append_assoc, refl, ap, sym, ◌∙◌, arith, Result, Ok, Err, ℤ}
 use Rattle.std.specs.Prelude.{◌&&◌}
 use Rattle.std.proofs.lemmas.List.{take_all}
+use Rattle.cf_types.specs.declared.code.script.TheConstants.{WRONG_WORDS}
 use Rattle.cf_types.specs.declared.machine.Given.{Given}
 use Rattle.cf_text.specs.Shapes.{in_range}
 use Rattle.config_rules.specs.Cut.{◌>>=◌}
@@ -25,7 +26,7 @@ pub more_pairs : (name value : List ℕ) (ws : List (List ℕ)) → are_pairs (n
 more_pairs name value ws h = both_right (is_operand name && is_number value) (are_pairs ws) h
 
 abbrev operand_by : Bool → List ℕ → Result (List ℕ) ℕ
-operand_by b name = cond b (Ok name) (Err 2)
+operand_by b name = cond b (Ok name) (Err WRONG_WORDS)
 
 operand_if : (b : Bool) (name : List ℕ) (code : ℕ) → b ≡ true → operand_by b name ≡ Err code → ⊥
 operand_if true name code t h = cc

@@ -3,15 +3,13 @@ ghost use Rattle.config_rules.specs.ScriptText.{command_of, io_form, rescan_form
 ghost use Rattle.script_text.specs.Left.{Leaves};
 ghost use Rattle.script_text.specs.Verbs.{form_by};
 
-use crate::operand::{WRONG_WORDS, one_operand, operand, operand_or_none, transfer_value};
+use crate::operand::{one_operand, operand, operand_or_none, transfer_value};
 use crate::pairs::pairs_of;
 use crate::verb::{Verb, verb_of};
+use cf_types::code::script as code;
 use cf_types::{Command, List, Text};
 use machine_text::LineStop;
 use std::alloc::Global;
-
-/// The code of a word that is no command.
-const NO_COMMAND: u8 = 1;
 
 /// Reads what stands behind `io`.
 fn io_command(alloc: Global, words: &[Text]) -> Result<Command, LineStop>
@@ -23,7 +21,7 @@ fn io_command(alloc: Global, words: &[Text]) -> Result<Command, LineStop>
             let value = transfer_value(value.items())?;
             Ok(Command::Io(device, value))
         }
-        _ => Err(LineStop::Code(WRONG_WORDS)),
+        _ => Err(LineStop::Code(code::WRONG_WORDS)),
     }
 }
 
@@ -55,7 +53,7 @@ fn rescan_command(alloc: Global, words: &[Text]) -> Result<Command, LineStop>
             })
         }
         [device, attr, more @ ..] => rescan_on(alloc, device.items(), attr.items(), more),
-        [] => Err(LineStop::Code(WRONG_WORDS)),
+        [] => Err(LineStop::Code(code::WRONG_WORDS)),
     }
 }
 
@@ -85,6 +83,6 @@ pub fn command_of(alloc: Global, word: &[u8], words: &[Text]) -> Result<Command,
 {
     match verb_of(word) {
         Some(verb) => command_by(alloc, verb, words),
-        None => Err(LineStop::Code(NO_COMMAND)),
+        None => Err(LineStop::Code(code::NO_COMMAND)),
     }
 }

@@ -5,6 +5,7 @@ ghost use Rattle.config_rules.specs.ScriptText.{is_caller, is_number, is_operand
 ghost use Rattle.script_text.specs.Left.{Leaves};
 
 use cf_text::{NumberRead, is_name, read_number};
+use cf_types::code::script as code;
 use cf_types::{Name, Text};
 use machine_text::LineStop;
 use std::alloc::Global;
@@ -14,12 +15,6 @@ const MAX_OPERAND: usize = 80;
 
 /// The greatest value of a transfer.
 const MAX_VALUE: i64 = 4_294_967_295;
-
-/// The code of other words than the form has.
-pub const WRONG_WORDS: u8 = 2;
-
-/// The code of a number out of its range.
-const OUT_OF_RANGE: u8 = 3;
 
 /// Whether a word is a name of at most 80 bytes.
 pub fn is_operand(word: &[u8]) -> bool
@@ -35,7 +30,7 @@ pub fn operand(alloc: Global, word: &[u8]) -> Result<Name, LineStop>
     ensures { Leaves (operand word.now) result }
 {
     if !is_operand(word) {
-        return Err(LineStop::Code(WRONG_WORDS));
+        return Err(LineStop::Code(code::WRONG_WORDS));
     }
     Ok(Name::make(alloc, word)?)
 }
@@ -46,7 +41,7 @@ pub fn one_operand(alloc: Global, words: &[Text]) -> Result<Name, LineStop>
 {
     match words {
         [word] => operand(alloc, word.items()),
-        _ => Err(LineStop::Code(WRONG_WORDS)),
+        _ => Err(LineStop::Code(code::WRONG_WORDS)),
     }
 }
 
@@ -76,8 +71,8 @@ pub fn written_value(word: &[u8]) -> Result<i64, LineStop>
     ensures { Leaves (number_within in_range word.now) result }
 {
     match read_number(word) {
-        NumberRead::Not => Err(LineStop::Code(WRONG_WORDS)),
-        NumberRead::OutOfRange => Err(LineStop::Code(OUT_OF_RANGE)),
+        NumberRead::Not => Err(LineStop::Code(code::WRONG_WORDS)),
+        NumberRead::OutOfRange => Err(LineStop::Code(code::OUT_OF_RANGE)),
         NumberRead::Value(value) => Ok(value),
     }
 }
@@ -108,7 +103,7 @@ pub fn transfer_value(word: &[u8]) -> Result<u32, LineStop>
 {
     match in_transfer_range(written_value(word)?) {
         Some(value) => Ok(value),
-        None => Err(LineStop::Code(OUT_OF_RANGE)),
+        None => Err(LineStop::Code(code::OUT_OF_RANGE)),
     }
 }
 
@@ -118,6 +113,6 @@ pub fn caller_number(callers: u8, word: &[u8]) -> Result<u8, LineStop>
 {
     match in_caller_range(callers, written_value(word)?) {
         Some(caller) => Ok(caller),
-        None => Err(LineStop::Code(OUT_OF_RANGE)),
+        None => Err(LineStop::Code(code::OUT_OF_RANGE)),
     }
 }

@@ -3,8 +3,9 @@ ghost use Rattle.std.specs.List.{list_all};
 ghost use Rattle.config_rules.specs.ScriptText.{is_number, order_of};
 ghost use Rattle.script_text.specs.Left.{AddsTurns, AddsWords, Gives};
 
-use crate::operand::{WRONG_WORDS, caller_number, is_number};
+use crate::operand::{caller_number, is_number};
 use crate::stop::ScriptStop;
+use cf_types::code::script as code;
 use cf_types::{List, Text};
 use machine_text::{LineStop, has_bad_byte, words_of};
 use std::alloc::Global;
@@ -31,17 +32,18 @@ fn add_line(alloc: Global, turns: &mut List<u8>, callers: u8, line: &[u8]) -> Re
     ensures { AddsTurns callers line.now turns.old turns.new result }
 {
     if has_bad_byte(line) {
-        return Err(LineStop::Code(WRONG_WORDS));
+        return Err(LineStop::Code(code::WRONG_WORDS));
     }
     let words = words_of(alloc, line)?;
     if !are_numbers(words.items()) {
-        return Err(LineStop::Code(WRONG_WORDS));
+        return Err(LineStop::Code(code::WRONG_WORDS));
     }
     add_words(turns, callers, words.items())
 }
 
 /// Reads an order file of at most 1,048,576 bytes for 1 to 16 callers: the callers of the turns, each from 1 to
-/// `callers`, or the first bad line and its code, 2 or 3. An empty file has no turns. The format is this project's own.
+/// `callers`, or the first bad line and its code, `WRONG_WORDS` or `OUT_OF_RANGE`. An empty file has no turns. The
+/// format is this project's own.
 pub fn read_order(alloc: Global, text: &[u8], callers: u8) -> Result<List<u8>, ScriptStop>
     requires short { length text.now ≤ 1048576 }
     requires one { 1 ≤ callers }

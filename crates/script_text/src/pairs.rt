@@ -2,7 +2,8 @@ ghost use Rattle.std.specs.Prelude.{◌≡◌, IsTrue};
 ghost use Rattle.config_rules.specs.ScriptText.{are_pairs, given_in, pairs_of};
 ghost use Rattle.script_text.specs.Left.{Leaves};
 
-use crate::operand::{WRONG_WORDS, is_number, is_operand, operand, written_value};
+use crate::operand::{is_number, is_operand, operand, written_value};
+use cf_types::code::script as code;
 use cf_types::{Given, List, Text};
 use machine_text::LineStop;
 use std::alloc::Global;
@@ -45,7 +46,7 @@ pub fn pairs_of(alloc: Global, words: &[Text]) -> Result<List<Given>, LineStop>
     ensures { Leaves (pairs_of words.now) result }
 {
     if words.len() > MAX_PAIR_WORDS || !are_pairs(words) {
-        return Err(LineStop::Code(WRONG_WORDS));
+        return Err(LineStop::Code(code::WRONG_WORDS));
     }
     given_in(alloc, words)
 }

@@ -3,8 +3,8 @@ ghost use Rattle.config_rules.specs.ScriptText.{FormedScript, commands_of, line_
 ghost use Rattle.script_text.specs.Left.{Adds, Gives, Says};
 
 use crate::command::command_of;
-use crate::operand::WRONG_WORDS;
 use crate::stop::ScriptStop;
+use cf_types::code::script as code;
 use cf_types::{Command, List, Text};
 use machine_text::{LineStop, has_bad_byte, words_of};
 use std::alloc::Global;
@@ -30,7 +30,7 @@ fn line_says(alloc: Global, line: &[u8]) -> Result<Option<Command>, LineStop>
     ensures { Says (line_says line.now) result }
 {
     if has_bad_byte(line) {
-        return Err(LineStop::Code(WRONG_WORDS));
+        return Err(LineStop::Code(code::WRONG_WORDS));
     }
     let words = words_of(alloc, line)?;
     words_say(alloc, words.items())
@@ -44,13 +44,13 @@ fn add_line(alloc: Global, commands: &mut List<Command>, line: &[u8]) -> Result<
         return Ok(());
     };
     if MAX_COMMANDS <= commands.len() {
-        return Err(LineStop::Code(TOO_MANY));
+        return Err(LineStop::Code(code::TOO_MANY_COMMANDS));
     }
     commands.push(command)?;
     Ok(())
 }
 
-/// Reads a script of at most 1,048,576 bytes: its commands, at most 500, or the first bad line and its code, 1 to 4. A
+/// Reads a script of at most 1,048,576 bytes: its commands, at most 500, or the first bad line and its code. A
 /// line has one command, as drvctl(8) has them, and `#` begins a comment. The format is this project's own.
 pub fn read_script(alloc: Global, text: &[u8]) -> Result<List<Command>, ScriptStop>
     requires { length text.now ≤ 1048576 }

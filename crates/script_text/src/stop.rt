@@ -7,7 +7,7 @@ use thiserror::Error;
 /// Why a script or an order file can't be read.
 #[derive(Clone, Copy, Debug, PartialEq, Eq, Error)]
 pub enum ScriptStop {
-    /// The first bad line, counted from 1, and its code, from 1 to 4.
+    /// The first bad line, counted from 1, and its code, of those of scripts.
     #[error("line {line}: code {code}")]
     Fault { line: u32, code: u8 },
     /// Memory ran out.

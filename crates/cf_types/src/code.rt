@@ -1,0 +1,124 @@
+//! The codes of the faults of files, as fault lines tell them. Each kind of file has its own family.
+
+/// The codes of a configuration and the files that it includes.
+pub mod configuration {
+    /// The file is absent.
+    pub const FILE_ABSENT: u8 = 1;
+
+    /// The file has more bytes than a file may have.
+    pub const FILE_TOO_LONG: u8 = 2;
+
+    /// A byte is not allowed where it stands.
+    pub const BAD_BYTE: u8 = 3;
+
+    /// A string is open at the end of its line.
+    pub const OPEN_STRING: u8 = 4;
+
+    /// A number is out of its range.
+    pub const OUT_OF_RANGE: u8 = 5;
+
+    /// The statement has none of the forms, or a word or list in it is too long.
+    pub const NO_FORM: u8 = 6;
+
+    /// The statement, or a locator's string or size, is none that this language has.
+    pub const LEFT_OUT: u8 = 7;
+
+    /// An attribute is unknown, or the parent of an instance is neither a device nor an attribute.
+    pub const UNKNOWN_ATTRIBUTE: u8 = 8;
+
+    /// An attribute that is used as a place is no interface attribute.
+    pub const NO_INTERFACE: u8 = 9;
+
+    /// A device or a pseudo-device is unknown.
+    pub const UNKNOWN_DEVICE: u8 = 10;
+
+    /// The device of an instance has no attachment at all.
+    pub const NO_ATTACHMENT: u8 = 11;
+
+    /// None of the device's attachments fits the parent.
+    pub const NO_FITTING_ATTACHMENT: u8 = 12;
+
+    /// A locator that has no brackets is not written.
+    pub const MISSING_LOCATOR: u8 = 13;
+
+    /// The attribute has no locator of this name.
+    pub const UNKNOWN_LOCATOR: u8 = 14;
+
+    /// A locator is written twice in one list or instance.
+    pub const LOCATOR_TWICE: u8 = 15;
+
+    /// `?` stands for a locator that has no default.
+    pub const NO_DEFAULT: u8 = 16;
+
+    /// A unit is written on an attribute.
+    pub const UNIT_ON_ATTRIBUTE: u8 = 17;
+
+    /// The name is defined already, or is `root`.
+    pub const NAME_TAKEN: u8 = 18;
+
+    /// A device names a second device class.
+    pub const SECOND_CLASS: u8 = 19;
+
+    /// The file would be included too deep, or one file more than may be loaded.
+    pub const TOO_MANY_FILES: u8 = 20;
+
+    /// A condition word stands where none may, or a condition is open at the end of its file.
+    pub const BAD_NESTING: u8 = 21;
+
+    /// `prefix` has nothing to take away.
+    pub const NO_PREFIX: u8 = 22;
+
+    /// The statement would be one more than may be placed.
+    pub const TOO_MANY_STATEMENTS: u8 = 23;
+
+    /// The instance would be one more than there may be.
+    pub const TOO_MANY_INSTANCES: u8 = 24;
+
+    /// An interface list would have too many entries.
+    pub const TOO_MANY_INTERFACES: u8 = 25;
+}
+
+/// The codes of a machine file.
+pub mod machine {
+    /// The line has none of the forms, or a byte that is not allowed.
+    pub const BAD_LINE: u8 = 1;
+
+    /// An earlier line gave a spot of this name.
+    pub const SPOT_TWICE: u8 = 2;
+
+    /// No earlier line gave the parent or the matched spot.
+    pub const UNKNOWN_SPOT: u8 = 3;
+
+    /// The attribute is unknown or no interface attribute, or `root` stands on one side alone.
+    pub const NO_INTERFACE: u8 = 4;
+
+    /// The attribute has no locator of this name.
+    pub const UNKNOWN_LOCATOR: u8 = 5;
+
+    /// The attachment is unknown.
+    pub const UNKNOWN_ATTACHMENT: u8 = 6;
+
+    /// A number is out of its range.
+    pub const OUT_OF_RANGE: u8 = 7;
+
+    /// The spot would be one more than there may be.
+    pub const TOO_MANY_SPOTS: u8 = 8;
+
+    /// The spot would lie deeper than one may.
+    pub const TOO_DEEP: u8 = 9;
+}
+
+/// The codes of a script and of an order file, which have the second and third of them.
+pub mod script {
+    /// The first word is no command.
+    pub const NO_COMMAND: u8 = 1;
+
+    /// A byte is not allowed, or the other words don't have the command's form.
+    pub const WRONG_WORDS: u8 = 2;
+
+    /// A number is out of its range.
+    pub const OUT_OF_RANGE: u8 = 3;
+
+    /// The command would be one more than a script may have.
+    pub const TOO_MANY_COMMANDS: u8 = 4;
+}
