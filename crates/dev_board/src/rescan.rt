@@ -20,7 +20,7 @@ use crate::wanted::locator_place;
 use crate::work::{Refusal, Work};
 use attr_graph::Graph;
 use cf_types::{Given, Locator, Name, Place};
-use match_search::locators_at;
+use locator_rules::locators_at;
 use run_rules::{Dev, Setup};
 use scan_engine::offered;
 

@@ -8,7 +8,7 @@ ghost use Rattle.dev_board.specs.Works as works;
 ghost use Rattle.dev_board.specs.Effects.{IsKnown};
 
 use cf_types::{Command, Given, List, Locator, Memory, Place};
-use match_search::locators_at;
+use locator_rules::locators_at;
 use run_rules::{Setup, Wanted};
 use std::alloc::Global;
 

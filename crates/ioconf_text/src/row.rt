@@ -1,12 +1,12 @@
 ghost use Rattle.std.specs.Prelude.{◌≡◌, ◌<◌, ◌++◌, OnOk, map, codes, length, pos};
 ghost use Rattle.std.specs.List.{enumerate_from, slice_index_or};
-ghost use Rattle.cf_types.specs.Locators.{locators_at};
 ghost use Rattle.config_rules.specs.Listing.{spaced, parent_text, at_text, row_name, row_head, row_tail, row_line, locator_name, value_text, values_text};
 
 use crate::word::{
     put_attach_name, put_attr_name, put_device_name, put_number, put_place, put_unit,
 };
 use cf_types::{Locator, Memory, ParentSpec, Place, Row, Tables, put_decimal};
+use locator_rules::locators_at;
 
 fn put_row_name(out: &mut Vec<u8>, tables: &Tables, row: &Row) -> Result<(), Memory>
     ensures { OnOk result (out.new.items ≡ out.old.items ++ row_name tables.now row.now) }
@@ -41,19 +41,6 @@ fn put_at(out: &mut Vec<u8>, tables: &Tables, row: &Row) -> Result<(), Memory>
     match row.place {
         Place::Root => Ok(out.extend_from_slice(b"root")?),
         Place::At(attr) => put_parent(out, tables, attr, row.parent),
-    }
-}
-
-/// The locators of a place.
-fn locators_at(tables: &Tables, place: Place) -> &[Locator]
-    ensures { result.now ≡ locators_at tables.now.attrs place }
-{
-    match place {
-        Place::Root => &[],
-        Place::At(attr) => match tables.attrs.items().get(attr as usize) {
-            Some(attr) => attr.locs.items(),
-            None => &[],
-        },
     }
 }
 

@@ -1,5 +1,4 @@
 ghost use Rattle.std.specs.Prelude.{◌≡◌};
-ghost use Rattle.cf_types.specs.Locators.{locators_at};
 ghost use Rattle.config_rules.specs.MachineText.{attach_number, attr_number, interface_number, spot_above, spot_locators, spot_number, spot_place};
 ghost use Rattle.machine_model.specs.Indexed.{IsDraft, IsIndex};
 
@@ -7,7 +6,8 @@ use crate::draft::Draft;
 use crate::index::Index;
 use crate::word::spells;
 use cf_names::number_in;
-use cf_types::{Attr, Locator, Place};
+use cf_types::{Locator, Place};
+use locator_rules::locators_at;
 
 fn attr_number(index: &Index, name: &[u8]) -> Option<u32>
     requires { IsIndex index.now }
@@ -82,25 +82,13 @@ pub fn spot_place(index: &Index, parent: &[u8], attr: &[u8]) -> Option<Place>
     Some(Place::At(interface_number(index, attr)?))
 }
 
-fn locators_at(attrs: &[Attr], place: Place) -> &[Locator]
-    ensures { result.now ≡ locators_at attrs.now place }
-{
-    match place {
-        Place::Root => &[],
-        Place::At(number) => match attrs.get(number as usize) {
-            Some(attr) => attr.locs.items(),
-            None => &[],
-        },
-    }
-}
-
 /// The locators of a spot's place, at most 16.
 pub fn spot_locators<'t>(index: &Index<'t>, parent: &[u8], attr: &[u8]) -> &'t [Locator]
     requires { IsIndex index.now }
     ensures { result.now ≡ spot_locators index.now.tables.now parent.now attr.now }
 {
     match spot_place(index, parent, attr) {
-        Some(place) => locators_at(index.tables.attrs.items(), place),
+        Some(place) => locators_at(index.tables, place),
         None => &[],
     }
 }

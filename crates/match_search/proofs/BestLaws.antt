@@ -1,18 +1,58 @@
--- The best row by truth values is the winner where these are the rows' liveness.
-use Rattle.std.proofs.Common.{◌≡◌, ℕ, zero, suc, Bool, false, ◌&&◌, nat_lt, List, [], ◌∷◌, length, Option, Some, None, option_map, slice_get, slice_index_or, refl, sym, ◌∙◌, ap}
+-- The best of the rows so far is, in the end, the first of greatest worth; and it is the winner where the truth values are
+-- the rows' liveness.
+use Rattle.std.proofs.Common.{◌≡◌, ℕ, zero, suc, ◌<◌, ◌≤◌, Bool, true, false, not, ◌&&◌, ◌||◌, nat_lt, nat_le, List, [], ◌∷◌, length, find, Option, Some, None, option_map, slice_get, slice_index_or, refl, sym, ◌∙◌, ap, arith}
+use Rattle.std.specs.List.{list_all}
 use Rattle.std.specs.Option.{option_map_or}
+use Rattle.std.proofs.lemmas.Bool.Decides.{nat_tests}
 use Rattle.std.proofs.lemmas.Option.{slice_get-map}
 use Rattle.cf_types.specs.declared.machine.Machine.{Machine}
 use Rattle.cf_types.specs.declared.tables.Place.{Place}
 use Rattle.cf_types.specs.declared.tables.Row.{Row}
 use Rattle.cf_types.specs.declared.tables.Tables.{Tables}
 use Rattle.cf_types.specs.Locators.{locators_at, submatch}
+use Rattle.cf_types.specs.Numbers.{below}
 use Rattle.run_rules.specs.declared.world.Dev.{Dev}
 use Rattle.run_rules.specs.declared.world.ParentRef.{ParentRef}
 use Rattle.run_rules.specs.declared.world.Setup.{Setup}
 use Rattle.run_rules.specs.Search.{is_live_row, fits, found_at, match_value, is_candidate, value_of, winner}
+use Rattle.run_rules.proofs.Below.{and_both, find-none, find-is, all_below, at_below}
 use Rattle.run_rules.proofs.Winner.{IsBestOf, IsBest, winner_is}
-use Rattle.match_search.specs.Best.{live_rows, may_take, worth}
+use Rattle.match_search.specs.Best.{best_row, live_rows, may_take, worth}
+
+-- ---- the first of greatest worth
+
+-- a candidate than which none is worth more
+abbrev is_greatest : (ℕ → Bool) → (ℕ → ℕ) → ℕ → ℕ → Bool
+is_greatest c v n r = c r && list_all (λ q. not (c q) || nat_le (v q) (v r)) (below n)
+
+is_false : (b : Bool) → (b ≡ true → ⊥) → b ≡ false
+is_false true h = absurd (h refl)
+is_false false h = refl
+
+no_greater : (d : Bool) (x y : ℕ) → (d ≡ true → x ≤ y) → (not d || nat_le x y) ≡ true
+no_greater false x y h = refl
+no_greater true x y h = let most : x ≤ y = h refl in grind (arith, nat_tests)
+
+greater : (x y : ℕ) → y < x → (not true || nat_le x y) ≡ true → ⊥
+greater x y lt h = grind (arith, nat_tests)
+
+greatest_is : (c : ℕ → Bool) (v : ℕ → ℕ) (n : ℕ) (best : Option ℕ) → IsBest c v n best → find (is_greatest c v n) (below n) ≡ best
+greatest_is c v n None h = find-none (is_greatest c v n) n (λ q lt. rw (h q lt) refl)
+greatest_is c v n (Some b) h =
+    let all : list_all (λ q. not (c q) || nat_le (v q) (v b)) (below n) ≡ true = all_below _ n (λ q lt. no_greater (c q) (v q) (v b) (h.no_greater q lt)) in
+    find-is (is_greatest c v n) n b h.in_range (rw (h.candidate, all) refl)
+    (λ q less. is_false _ (λ top.
+    let both = and_both (c q) _ top in
+    let at = at_below (λ k. not (c k) || nat_le (v k) (v q)) n both.1 b h.in_range in
+    greater (v b) (v q) (h.no_earlier q less both.0) (rw h.candidate at at)))
+
+-- the best of all rows is the first of greatest worth
+pub row_is : (t : Tables) (m : Machine) (live : List Bool) (p : ParentRef) (place : Place) (x : ℕ) (best : Option ℕ)
+    → IsBest (may_take t m live p place x) (λ q. worth t m q x) (length t.rows) best → best ≡ best_row t m live p place x
+unfolding best_row
+row_is t m live p place x best h = sym (greatest_is (may_take t m live p place x) (λ q. worth t m q x) (length t.rows) best h)
+
+-- ---- the winner of a world
 
 index_is : {A : Type 0} (xs : List A) (i : ℕ) (x d : A) → slice_get xs i ≡ Some x → slice_index_or xs i d ≡ x
 index_is [] i x d e = absurd cc

@@ -5,16 +5,16 @@ ghost use Rattle.run_rules.specs.declared.world.Dev.{Dev};
 ghost use Rattle.run_rules.specs.declared.world.Setup.{Setup};
 ghost use Rattle.run_rules.specs.Search.{winner};
 ghost use Rattle.attr_graph.specs.Graphs.{IsGraphOf, declared_by};
-ghost use Rattle.match_search.specs.Best.{live_rows, may_take, worth};
+ghost use Rattle.match_search.specs.Best.{best_row, live_rows, may_take, worth};
 
-use crate::fits::{fits, found_at, locators_at, submatch};
+use crate::fits::{fits, passes};
 use crate::live::LiveRows;
 use crate::value::match_value;
 use attr_graph::Graph;
 use cf_types::{Machine, Place, Tables};
 use run_rules::ParentRef;
 
-/// Whether a row is live, fits, passes submatch and has a match value above 0.
+/// Whether a row is marked live, fits, passes submatch and has a match value above 0.
 fn takes(
     tables: &Tables,
     graph: &Graph,
@@ -32,11 +32,7 @@ fn takes(
         Some(r) => {
             live.is_live(row)
                 && fits(graph, tables, parent, place, r)
-                && submatch(
-                    locators_at(tables, place),
-                    r.locs.items(),
-                    found_at(machine, spot),
-                )
+                && passes(tables, machine, place, r, spot)
                 && match_value(machine, r.attach, spot) > 0
         }
         None => false,
@@ -64,8 +60,9 @@ fn is_above(tables: &Tables, machine: &Machine, row: u32, best: Option<u32>, spo
     }
 }
 
-/// The row that takes a spot below a parent at a place: of those that are live, fit, pass submatch and have a match value
-/// above 0 the one of greatest match value, the earliest among equals. None where there is none. See autoconf(9).
+/// The row that takes a spot below a parent at a place: of those that are marked live, fit, pass submatch and have a match
+/// value above 0 the one of greatest match value, the earliest among equals. None where there is none. The truth values
+/// may be any. See autoconf(9).
 pub fn best(
     tables: &Tables,
     graph: &Graph,
@@ -77,7 +74,10 @@ pub fn best(
 ) -> Option<u32>
     requires graph { IsGraphOf (declared_by tables.now) graph.now }
     requires few { length tables.now.rows ≤ 8192 }
-    ensures { (s : Setup) (devices : List Dev) → s.tables ≡ tables.now → s.machine ≡ machine.now → live.now ≡ live_rows s devices → winner s devices parent place spot ≡ result }
+    ensures row { result ≡ best_row tables.now machine.now live.now parent place spot }
+
+    // So it is the winner of each world whose rows are live as the truth values say.
+    ensures winner { (s : Setup) (devices : List Dev) → s.tables ≡ tables.now → s.machine ≡ machine.now → live.now ≡ live_rows s devices → winner s devices parent place spot ≡ result }
 {
     let mut best = None;
     for row in 0..tables.rows.len() as u32 {

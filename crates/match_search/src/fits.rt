@@ -7,34 +7,9 @@ ghost use Rattle.run_rules.specs.World as world;
 ghost use Rattle.attr_graph.specs.Graphs.{IsGraphOf, declared_by};
 
 use attr_graph::Graph;
-use cf_types::{Locator, Machine, ParentSpec, Place, Row, Tables};
+use cf_types::{Locs, Machine, ParentSpec, Place, Row, Tables};
+use locator_rules::submatch;
 use run_rules::ParentRef;
-
-fn fits_locator(default: Option<i64>, value: i64, found: i64) -> bool
-    ensures { result ≡ shared.fits_locator default value found }
-{
-    match default {
-        Some(default) => value == default || value == found,
-        None => value == found,
-    }
-}
-
-/// Whether each locator has the default or the value found.
-#[tactic(auto, unfolding(cf_types::specs::Locators::submatch))]
-pub fn submatch(locators: &[Locator], values: &[i64], found: &[i64]) -> bool
-    ensures { result ≡ shared.submatch locators.now values.now found.now }
-{
-    match locators {
-        [] => true,
-        [l, ls @ ..] => match values {
-            [] => false,
-            [v, vs @ ..] => match found {
-                [] => false,
-                [f, fs @ ..] => fits_locator(l.default, *v, *f) && submatch(ls, vs, fs),
-            },
-        },
-    }
-}
 
 fn names_parent(spec: Option<ParentSpec>, parent: ParentRef) -> bool
     ensures { result ≡ rule.names_parent spec parent }
@@ -93,19 +68,6 @@ pub fn fits(graph: &Graph, tables: &Tables, parent: ParentRef, place: Place, row
         && names_parent(row.parent, parent)
 }
 
-/// The locators of a place.
-pub fn locators_at(tables: &Tables, place: Place) -> &[Locator]
-    ensures { result.now ≡ shared.locators_at tables.now.attrs place }
-{
-    match place {
-        Place::Root => &[],
-        Place::At(a) => match tables.attrs.items().get(a as usize) {
-            Some(attr) => attr.locs.items(),
-            None => &[],
-        },
-    }
-}
-
 /// The locator values that are found at a spot.
 pub fn found_at(machine: &Machine, spot: u16) -> &[i64]
     ensures { result.now ≡ rule.found_at machine.now spot }
@@ -113,5 +75,22 @@ pub fn found_at(machine: &Machine, spot: u16) -> &[i64]
     match machine.spots.items().get(spot as usize) {
         Some(s) => s.found.items(),
         None => &[],
+    }
+}
+
+/// Whether the locator values of a row fit those that are found at a spot.
+#[tactic(auto, unfolding(cf_types::specs::Locators::submatch))]
+pub fn passes(tables: &Tables, machine: &Machine, place: Place, row: &Row, spot: u16) -> bool
+    ensures { result ≡ shared.submatch (shared.locators_at tables.now.attrs place) row.now.locs (rule.found_at machine.now spot) }
+{
+    let Place::At(attr) = place else {
+        return true;
+    };
+    let Some(attr) = tables.attrs.items().get(attr as usize) else {
+        return true;
+    };
+    match machine.spots.items().get(spot as usize) {
+        Some(spot) => submatch(attr, &row.locs, &spot.found),
+        None => submatch(attr, &row.locs, &Locs::make()),
     }
 }

@@ -7,5 +7,5 @@ mod live;
 mod value;
 
 pub use choice::best;
-pub use fits::{found_at, locators_at};
+pub use fits::found_at;
 pub use live::LiveRows;
