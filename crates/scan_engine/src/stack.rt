@@ -1,5 +1,5 @@
 //! What a caller is about to go on with.
-ghost use Rattle.std.specs.Prelude.{◌≡◌, ◌<◌, ◌≤◌, ◌+◌, ◌==◌, [], ◌∷◌, length, IsTrue, OnOk, option_copied};
+ghost use Rattle.std.specs.Prelude.{◌≡◌, ◌<◌, ◌≤◌, ◌+◌, ◌==◌, [], ◌∷◌, length, IsTrue, OnErr, OnOk, option_copied};
 ghost use Rattle.std.specs.List.{list_any};
 ghost use Rattle.run_rules.specs.World.{frame_serial};
 ghost use Rattle.run_rules.specs.After.{moved_top, under_top};
@@ -71,11 +71,12 @@ impl Stack {
         }
     }
 
-    /// Makes room for so many more frames. The frames are as before at both answers.
+    /// Makes room for so many more frames. The frames are as before at both answers, and at `Memory` so is the room.
     pub fn reserve(&mut self, n: usize) -> Result<(), Memory>
         ensures frames { self.new.frames ≡ self.old.frames }
         ensures room { OnOk result (n ≤ self.new.room) }
         ensures kept { self.old.room ≤ self.new.room }
+        ensures err { OnErr result (self.new ≡ self.old) }
     {
         self.frames.reserve(n)?;
         Ok(())
