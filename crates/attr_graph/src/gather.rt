@@ -6,16 +6,19 @@ ghost use Rattle.attr_graph.specs.Reach.{AreMarks, Gathers, reach_at};
 use crate::entry::AttrEntry;
 use crate::merge::{add_new, add_reach, unmark};
 use std::alloc::{AllocError, AllocFailed, Global};
+use thiserror::Error;
 
 /// The greatest number of entries of an interface list.
 pub const MAX_INTERFACES: usize = 64;
 
 /// Why an attribute or a device was not added.
-#[derive(Clone, Copy, Debug, PartialEq, Eq)]
+#[derive(Clone, Copy, Debug, PartialEq, Eq, Error)]
 pub enum GraphStop {
     /// Its interface list would have more than `MAX_INTERFACES` entries.
+    #[error("too many interface attributes")]
     TooMany,
     /// Memory ran out.
+    #[error("out of memory")]
     Memory,
 }
 

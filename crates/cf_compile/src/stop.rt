@@ -4,15 +4,19 @@ ghost use Rattle.cf_compile.specs.declared.stop.CompileStop.TheVariants as stops
 
 use cf_expand::ExpandStop;
 use cf_types::{Memory, Refusal};
+use thiserror::Error;
 
 /// Why a configuration was not compiled.
-#[derive(Drop)]
+#[derive(Debug, Drop, Error)]
 pub enum CompileStop {
     /// It has this fault, the first in reading order. See config(5).
+    #[error("line {}: code {}", .0.line, .0.code)]
     Refused(Refusal),
     /// A file could not be read; its source counted that.
+    #[error("read fault")]
     ReadFault,
     /// Memory ran out.
+    #[error("out of memory")]
     Memory,
 }
 

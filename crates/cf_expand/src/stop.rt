@@ -1,11 +1,14 @@
 use cf_types::Memory;
+use thiserror::Error;
 
 /// Why reading a configuration ended without an answer.
-#[derive(Clone, Copy, Debug, PartialEq, Eq)]
+#[derive(Clone, Copy, Debug, PartialEq, Eq, Error)]
 pub enum ExpandStop {
     /// A file could not be read; its source counted that.
+    #[error("read fault")]
     ReadFault,
     /// Memory ran out.
+    #[error("out of memory")]
     Memory,
 }
 

@@ -10,14 +10,17 @@ use cf_types::code::configuration as code;
 use cf_types::{Memory, Stmt, Token};
 use cf_words::Word;
 use std::alloc::{AllocError, Global};
+use thiserror::Error;
 
 /// Why tokens gave no statement.
-#[derive(Clone, Copy, Debug, PartialEq, Eq)]
+#[derive(Clone, Copy, Debug, PartialEq, Eq, Error)]
 pub enum GrammarStop {
     /// The tokens have none of the forms of config(5), with the code of the fault: `OUT_OF_RANGE` for a number, unit or
     /// count, `NO_FORM` for any other form, `LEFT_OUT` for a statement or a locator that is left out.
+    #[error("code {code}")]
     Fault { code: u8 },
     /// Want of memory.
+    #[error("out of memory")]
     Memory,
 }
 

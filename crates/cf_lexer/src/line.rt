@@ -4,14 +4,17 @@ ghost use Rattle.cf_lexer.specs.Line.{Leaves, span_tokens, with_line};
 
 use crate::front::{Span, front_part};
 use cf_types::{List, Memory as NoMemory, Token};
+use thiserror::Error;
 
 /// Why a text can't be cut into tokens.
-#[derive(Clone, Copy, Debug, PartialEq, Eq)]
+#[derive(Clone, Copy, Debug, PartialEq, Eq, Error)]
 pub enum LexStop {
     /// The line of the first faulty byte, counted from 1, and its code: `BAD_BYTE` for a byte that is not allowed,
     /// `OPEN_STRING` for the end of the line within a string.
+    #[error("line {line}: code {code}")]
     Fault { line: u32, code: u8 },
     /// Memory ran out.
+    #[error("out of memory")]
     Memory,
 }
 

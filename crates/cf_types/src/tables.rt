@@ -112,7 +112,7 @@ pub struct Tables {
 }
 
 /// The first fault of a configuration: the file as it was named, the line, counted from 1, or 0 for the file itself, and the code.
-#[derive(Drop)]
+#[derive(Debug, Drop)]
 pub struct Refusal {
     pub file: Text,
     pub line: u32,

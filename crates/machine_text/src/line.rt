@@ -5,6 +5,7 @@ ghost use Rattle.machine_text.specs.Records.{parted};
 
 use cf_types::{List, Memory as NoMemory, Text};
 use std::alloc::{AllocError, Global};
+use thiserror::Error;
 
 /// A line of a machine file that has words: its number, from 1, and its words, none of them empty.
 #[derive(Drop)]
@@ -14,11 +15,13 @@ pub struct Line {
 }
 
 /// Why a machine file can't be read.
-#[derive(Clone, Copy, Debug, PartialEq, Eq)]
+#[derive(Clone, Copy, Debug, PartialEq, Eq, Error)]
 pub enum MachineStop {
     /// The first bad line, counted from 1, and its code, of those of machine files.
+    #[error("line {line}: code {code}")]
     Fault { line: u32, code: u8 },
     /// Memory ran out.
+    #[error("out of memory")]
     Memory,
 }
 

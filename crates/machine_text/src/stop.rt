@@ -1,12 +1,15 @@
 use cf_types::Memory as NoMemory;
 use std::alloc::AllocError;
+use thiserror::Error;
 
 /// Why a line can't be taken.
-#[derive(Clone, Copy, PartialEq, Eq)]
+#[derive(Clone, Copy, Debug, PartialEq, Eq, Error)]
 pub enum LineStop {
     /// Its first code.
+    #[error("code {0}")]
     Code(u8),
     /// Memory ran out.
+    #[error("out of memory")]
     Memory,
 }
 
