@@ -4,3 +4,4 @@
 mod deferred;
 
 pub use deferred::Deferred;
+pub use run_rules::Key;

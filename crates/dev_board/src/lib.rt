@@ -52,6 +52,7 @@ pub use board::Board;
 pub use boot::run_boot;
 pub use io_result::IoResult;
 pub use posted::Posted;
+pub use run_rules::Wait;
 pub use stepped::Stepped;
 pub use told::Told;
 pub use turns::run_turns;

@@ -5,4 +5,5 @@ mod lookup;
 mod mark;
 mod tree;
 
+pub use run_rules::Dev;
 pub use tree::DevTree;

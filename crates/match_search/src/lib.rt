@@ -9,3 +9,4 @@ mod value;
 pub use choice::best;
 pub use fits::found_at;
 pub use live::LiveRows;
+pub use run_rules::ParentRef;

@@ -6,5 +6,6 @@ mod scan;
 mod spots;
 mod stack;
 
+pub use run_rules::{Frame, Position, Turn, Wanted};
 pub use scan::{next_turn, offered};
 pub use stack::Stack;

@@ -41,13 +41,11 @@ fn add_line(alloc: Global, turns: &mut List<u8>, callers: u8, line: &[u8]) -> Re
     add_words(turns, callers, words.items())
 }
 
-/// Reads an order file of at most 1,048,576 bytes for 1 to 16 callers: the callers of the turns, each from 1 to
+/// Reads an order file of at most 1,048,576 bytes for so many callers: the callers of the turns, each from 1 to
 /// `callers`, or the first bad line and its code, `WRONG_WORDS` or `OUT_OF_RANGE`. An empty file has no turns. The
 /// format is this project's own.
 pub fn read_order(alloc: Global, text: &[u8], callers: u8) -> Result<List<u8>, ScriptStop>
-    requires short { length text.now ≤ 1048576 }
-    requires one { 1 ≤ callers }
-    requires few { callers ≤ 16 }
+    requires { length text.now ≤ 1048576 }
     ensures gives { Gives (order_of callers text.now) result }
     ensures turns { IfOk result (λ turns. All (λ turn. (1 ≤ turn) × (turn ≤ callers)) turns) }
 {

@@ -14,7 +14,7 @@ use Rattle.script_text.proofs.order.read_order.Goals as goal
 pub overflow_add-number : goal.overflow_add-number
 overflow_add-number c =
     let turn = (YieldsList-turn (YieldsList-from_slice_split _ (λ b. b == 10) c.args.text.now (cc) (cc) (cc) (λ x r q k. search (rules, tests))) c.loop-line.yielded _ c.loop-line.yielded_by _ _ c.in-Some.line c.in-Some.is c.next.ensures.steps) in
-    omega (arith, c.loop-line.invariant.count, turn.0, lines_few c.args.text.now, c.requires.short)
+    omega (arith, c.loop-line.invariant.count, turn.0, lines_few c.args.text.now, c.requires)
 
 pub returns-in-Err-clause-gives : goal.returns-in-Err-clause-gives
 returns-in-Err-clause-gives c =
