@@ -1,0 +1,31 @@
+use Rattle.std.proofs.Common.{◌≡◌, ◌-◌, sym, ap, ◌∙◌, arith}
+use Rattle.std.specs.Int.{bit_at}
+use Rattle.lease_table.specs.Leases.{claim_at}
+use Rattle.lease_table.proofs.Bits.{bit_at_low}
+use Rattle.lease_table.proofs.Keeps.{looks}
+use Rattle.lease_table.proofs.table.LeaseTable.look.Goals as goal
+
+pub load-word-requires : goal.load-word-requires
+load-word-requires c =
+    let t = c.self.inside in
+    let s = c.seat.inside.seat in
+    let wide = c.self.invariant in
+    let words = ap (λ z. z.words) c.self.view_is in
+    let slot = c.requires.slot in
+    let mine = c.seat.invariant in (
+      ap (λ z. z.table) c.seat.view_is ∙ (c.requires.table ∙ sym c.self.view_is),
+      omega arith,
+      looks t.table.shared.key t.table.shared.table_id.slots s.id s.me.0 s.me.1 c.args.lease.now.slot (omega arith) (let a = mine.0 in let b = mine.1 in omega arith),
+    )
+
+pub returns-clause-own : goal.returns-clause-own
+returns-clause-own c =
+    let x = c.args.lease.now.slot in
+    let word = c.load-word.result in
+    let s = c.seat.inside in
+    let held = ap (λ z. claim_at z.view.standing x) c.seat.view_is ∙ c.requires.held in
+    let own : bit_at word (s.seat.me.0.standing.number - 1) ≡ 1 = (c.load-word.ensures.2.held c.args.lease.now.generation held).2 in
+    let same : s.caller ≡ c.args.seat.now.caller = ap (λ z. z.caller) c.seat.view_is in
+    let number : s.seat.me.0.standing.number ≡ c.args.seat.now.caller = c.seat.invariant.0 ∙ same in
+    let small = c.seat.invariant.2 in
+    ap (λ z. bit_at z (c.args.seat.now.caller - 1)) c.word_of.ensures.holders ∙ (bit_at_low word 16 (c.args.seat.now.caller - 1) (omega arith) ∙ (ap (λ z. bit_at word (z - 1)) (sym number) ∙ own))

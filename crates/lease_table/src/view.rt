@@ -1,0 +1,38 @@
+//! What a seat knows. Only contracts speak of these types: no value of them is made.
+use ref_ledger::SlotState;
+use std::collections::LinkedList;
+
+/// What a caller has of a slot: nothing, its bit set in vain, or a lease of this generation.
+#[derive(Drop)]
+pub enum Claim {
+    Nothing,
+    Trying,
+    Held(u64),
+}
+
+/// What the keeper knows of a slot: its state, and its generation, below 2^46.
+#[derive(Drop)]
+pub struct SlotRecord {
+    pub state: SlotState,
+    pub generation: u64,
+}
+
+/// What the rule speaks of: whether the seat is the keeper's; the caller's number, or 0; what the caller has of each slot;
+/// and what the keeper knows, the record of each slot and how many callers' numbers were drawn.
+#[derive(Drop)]
+pub struct Standing {
+    pub keeps: bool,
+    pub number: u64,
+    pub claims: LinkedList<Claim>,
+    pub slots: LinkedList<SlotRecord>,
+    pub drawn: u64,
+}
+
+/// A seat's standing, with the number of words that were shown to the seat, and the last of them with its slot.
+#[derive(Drop)]
+pub struct View {
+    pub standing: Standing,
+    pub shown: u64,
+    pub slot: u64,
+    pub word: u64,
+}
