@@ -113,7 +113,7 @@ impl Graph {
         Ok(is_few(own, count))
     }
 
-    /// The interface list of a device, of at most 64 entries. It takes no memory.
+    /// The interface list of a device. It takes no memory.
     pub fn interfaces(&self, device: u32) -> &[u32]
         requires { device < length self.now.devices }
         ensures { result.now ≡ interfaces_of self.now.attrs (slice_index_or self.now.devices device []) }

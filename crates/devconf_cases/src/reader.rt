@@ -66,6 +66,7 @@ impl Reader {
         for line in text.lines() {
             number = number.saturating_add(1);
             match self.take_line(line) {
+                // What takes a line does not know its number.
                 Err(Stop::BadLine(_)) => return Err(Stop::BadLine(number)),
                 other => other?,
             }

@@ -2,31 +2,24 @@
 
 use cf_types::Memory;
 use std::alloc::{AllocError, AllocFailed};
-use std::fmt::{self, Display, Formatter};
 use std::io;
+use thiserror::Error;
 
 /// Why the cases of a file cannot be run.
-#[derive(Debug, Drop)]
+#[derive(Debug, Drop, Error)]
 pub enum Stop {
-    /// The line with this number, counted from 1, has none of the forms.
+    /// The line with this number, counted from 1, has none of the forms; of a file that is not UTF-8 the line 0.
+    #[error("line {0} has none of the forms of docs/CASES.md")]
     BadLine(usize),
     /// The file is not there, or cannot be read.
+    #[error("cannot be read")]
     NoFile,
     /// The words could not be read, or what was found not be written.
+    #[error("fault of reading or writing")]
     Fault,
     /// Memory ran out.
+    #[error("out of memory")]
     Memory,
-}
-
-impl Display for Stop {
-    fn fmt<W: fmt::Write>(&self, f: &mut Formatter<W>) -> fmt::Result {
-        match self {
-            Stop::BadLine(line) => write!(f, "line {line} has none of the forms of docs/CASES.md"),
-            Stop::NoFile => f.write_str("cannot be read"),
-            Stop::Fault => f.write_str("fault of reading or writing"),
-            Stop::Memory => f.write_str("out of memory"),
-        }
-    }
 }
 
 impl From<Memory> for Stop {
