@@ -1,6 +1,6 @@
 -- Where no fault of reading was counted, what was read or refused is what is due.
 use Rattle.std.proofs.Common.{◌≡◌, ℕ, ◌≤◌, ◌<◌, ◌⊎◌, inl, inr, true, false, Bool, List, arith, length, Option, Some, None, ap, sym, ◌∙◌, refl, subst, if◌then◌else◌}
-use Rattle.std.proofs.lemmas.Bool.{le-leb}
+use Rattle.std.proofs.lemmas.Bool.{le-leb, lt-leb}
 use Rattle.std.specs.Prelude as std
 use Rattle.std.specs.Prelude.{Result, IfSome, codes, nat_le}
 use Rattle.cf_types.specs.declared.machine.Machine.{Machine}
@@ -65,9 +65,6 @@ if_true a b test e = rw e refl
 pub if_false : {A : Type 0} (a b : A) (test : Bool) → test ≡ false → (if test then a else b) ≡ b
 if_false a b test e = rw e refl
 
-pub lt_leb : (m n : ℕ) → n < m → nat_le m n ≡ false
-lt_leb m n h = grind arith
-
 -- a file that is short enough
 short_file : (next : Machine → Result Inputs Status) (tables : Tables) (name text : List ℕ) (file : Option (List ℕ)) → file ≡ Some text → length text ≤ MAX_FILE
     → booted_from next tables name file ≡ booted next (machine_of tables text)
@@ -76,7 +73,7 @@ short_file next tables name text file is short = rw is (if_true _ _ (nat_le (len
 -- a file that is too long
 long_file : (next : Machine → Result Inputs Status) (tables : Tables) (name text : List ℕ) (file : Option (List ℕ)) → file ≡ Some text → MAX_FILE < length text
     → booted_from next tables name file ≡ std.Err (TooLong name)
-long_file next tables name text file is long = rw is (if_false _ _ (nat_le (length text) MAX_FILE) (lt_leb (length text) MAX_FILE long))
+long_file next tables name text file is long = rw is (if_false _ _ (nat_le (length text) MAX_FILE) (lt-leb (length text) MAX_FILE long))
 
 -- what the scripts and the order file give is due, where the machine file describes a machine
 due_by_play : (form : Option Form) (files : Files) (file name order : List ℕ) (scripts : List (List ℕ)) (tables : Tables) (machine : Machine) (text : List ℕ) (answer : Result Inputs Status)

@@ -1,4 +1,4 @@
--- What the graph of lists says is what the lists say, and formed tables fit into a graph.
+-- What the graph of lists says is what the lists say.
 use Rattle.std.proofs.Common.{◌≡◌, ◌≤◌, ℕ, zero, suc, List, [], ◌∷◌, map, length, Option, refl, ap, ◌∙◌}
 use Rattle.std.specs.Prelude.{slice_get}
 use Rattle.std.specs.List.{slice_index_or}
@@ -7,11 +7,9 @@ use Rattle.std.proofs.lemmas.List.{length-map}
 use Rattle.std.proofs.lemmas.Option.{slice_get_past}
 use Rattle.cf_types.specs.declared.declared.Declared.{Declared}
 use Rattle.cf_types.specs.declared.tables.Device.{Device}
-use Rattle.cf_types.specs.declared.tables.Tables.{Tables}
 use Rattle.cf_types.specs.Gather.{is_in}
 use Rattle.cf_types.specs.Offers.{Node, firsts, interfaces, interfaces_of, named_by, nodes_of, offers}
-use Rattle.config_rules.specs.Formed.{FormedTables}
-use Rattle.attr_graph.specs.Graphs.{FitGraph, IsGraphOf}
+use Rattle.attr_graph.specs.Graphs.{IsGraphOf}
 use Rattle.attr_graph.specs.Reach.{Shape}
 
 listed : (nodes : List Node) (devices : List Device) (n : ℕ) → interfaces_of nodes (slice_index_or (map named_by devices) n []) ≡ option_map_or (λ x. interfaces_of nodes (named_by x)) (slice_get devices n) []
@@ -42,15 +40,3 @@ pub none_offered : (d : Declared) (n : ℕ) → length d.devices ≤ n → inter
 unfolding interfaces
 none_offered d n past =
     ap (λ (o : Option Device). option_map_or (λ x. interfaces_of (nodes_of d.attrs) (named_by x)) o []) (slice_get_past d.devices n past)
-
--- formed tables fit into a graph
-pub formed_fit : (t : Tables) → FormedTables t → FitGraph t
-formed_fit t h = record {
-  few_attrs = h.counted.attrs;
-  few_devices = h.few_devices;
-  earlier_needs = h.earlier_needs;
-  own = h.own;
-  device_needs = h.device_needs;
-  few_offered = h.few_offered;
-  few_offered_by_device = h.few_offered_by_device;
-}

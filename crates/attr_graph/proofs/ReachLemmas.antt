@@ -9,7 +9,7 @@ use Rattle.attr_graph.specs.declared.gather.GraphStop.{GraphStop}
 use Rattle.attr_graph.specs.declared.gather.GraphStop.TheVariants.{TooMany, Memory}
 use Rattle.attr_graph.specs.declared.gather.TheConstants.{MAX_INTERFACES}
 use Rattle.attr_graph.specs.Reach.{Gathers, KeptAttrs, MakesAttr, MakesDevice, node_of, nodes_of, new_list, reach_at}
-use Rattle.cf_types.specs.Offers.{Node, firsts, interfaces_of, is_open, walks}
+use Rattle.cf_types.specs.Offers.{Node, firsts, interfaces_of, is_interface_node, walks}
 use Rattle.std.proofs.lemmas.List.{length-map}
 use Rattle.cf_types.specs.Gather.{with_new, with_all}
 use Rattle.cf_types.proofs.OfferLemmas.{with_all-append, gathered_reach, interfaces_new}
@@ -51,7 +51,7 @@ attr_list attrs marks node own kept known e =
     let below : All (λ b. b < length (nodes_of attrs)) node.needs = subst (λ (n : ℕ). All (λ b. b < n) node.needs) (sym size) known in
     ap (λ xs. with_all xs (flat_map (reach_at attrs) node.needs)) e
     ∙ gathered_reach (nodes_of attrs) (cond node.iface (length attrs ∷ []) []) node.needs (reach_at attrs) (firsts_itself node.iface (length attrs)) (known_lists attrs marks node.needs kept known)
-    ∙ ap (λ n. firsts (cond node.iface (n ∷ []) [] ++ filter (is_open (nodes_of attrs)) (walks (nodes_of attrs) node.needs))) (sym size)
+    ∙ ap (λ n. firsts (cond node.iface (n ∷ []) [] ++ filter (is_interface_node (nodes_of attrs)) (walks (nodes_of attrs) node.needs))) (sym size)
     ∙ sym (interfaces_new (nodes_of attrs) kept.earlier node below)
     ∙ ap (λ n. interfaces_of (nodes_of attrs ++ node ∷ []) (n ∷ [])) size
 

@@ -1,11 +1,10 @@
 -- What matters of an instance for being rooted.
 use Rattle.std.proofs.Common.{◌≡◌, ℕ, ◌<◌, List, [], ◌∷◌, map, refl, ap, ◌∙◌, All, arith}
 use Rattle.std.specs.Prelude.{if◌then◌else◌}
-use Rattle.std.proofs.lemmas.List.Elements.{All-cons}
+use Rattle.std.proofs.lemmas.List.Elements.{All-cons, All-tail}
 use Rattle.cf_types.specs.declared.instance.Instance.{Instance}
 use Rattle.cf_types.specs.declared.stmt.UnitMark.{UnitMark}
 use Rattle.cf_types.specs.declared.stmt.UnitMark.TheVariants.{Fixed, Star}
-use Rattle.cf_types.proofs.OfferLemmas.{all_tail}
 use Rattle.config_rules.specs.Meaning as meaning
 use Rattle.cf_select.specs.Carried as carried
 use Rattle.cf_compile.specs.Meant.{inst_of, is_starred, written_unit}
@@ -27,4 +26,4 @@ pub insts_known : (n : ℕ) (insts : List Instance) → All (λ x. x.joined.devi
 insts_known n [] h = λ k d p. absurd (omega arith)
 insts_known n (i ∷ insts) h =
     All-cons (λ x. x.device < n) (inst_of i) (map inst_of insts) (h 0 i (omega arith))
-    (insts_known n insts (all_tail (λ (x : Instance). x.joined.device < n) i insts h))
+    (insts_known n insts (All-tail (λ (x : Instance). x.joined.device < n) i insts h))

@@ -4,6 +4,7 @@ use Rattle.std.specs.Prelude.{slice_index_or, false, if◌then◌else◌, Bool, 
 use Rattle.std.specs.Option.{option_to_list}
 use Rattle.std.proofs.lemmas.List.{length-map, length-take}
 use Rattle.cf_types.specs.declared.code.configuration.TheConstants.{TOO_MANY_INSTANCES}
+use Rattle.config_rules.proofs.GivenLaws.{no_code}
 use Rattle.cf_types.specs.declared.instance.Instance.{Instance}
 use Rattle.cf_types.specs.declared.stmt.Placed.{Placed}
 use Rattle.cf_types.specs.declared.stmt.Stmt.{Stmt}
@@ -18,7 +19,6 @@ use Rattle.cf_declare.specs.Limits.{HasFewLocators}
 use Rattle.config_rules.specs.Meaning.{instance_of, surviving}
 use Rattle.cf_declare.specs.Declare.{declare}
 use Rattle.cf_declare.specs.Graphs.{FitsDeclared}
-use Rattle.cf_declare.proofs.CodeLaws.{no_code}
 use Rattle.cf_declare.proofs.LimitLaws.{attrs_at_most, devices_at_most, attaches_at_most}
 use Rattle.cf_declare.proofs.LoopLaws.{so_far_begins, so_far_goes_on, so_far_stops, so_far_ends}
 use Rattle.cf_declare.proofs.SurvivingLaws.{placed_step, placed_end}

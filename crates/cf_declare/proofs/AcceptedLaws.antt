@@ -6,6 +6,8 @@ use Rattle.std.proofs.lemmas.List.{take_all}
 use Rattle.std.proofs.lemmas.List.Sums.{sum_by_push}
 use Rattle.std.proofs.lemmas.Option.{get_or_from_slice_get}
 use Rattle.cf_types.specs.declared.code.configuration.TheConstants.{TOO_MANY_INSTANCES}
+use Rattle.cf_types.proofs.ListLemmas.{slice_get_some}
+use Rattle.config_rules.proofs.GivenLaws.{no_code, no_first}
 use Rattle.cf_types.specs.declared.stmt.Placed.{Placed}
 use Rattle.cf_types.specs.declared.stmt.Stmt.{Stmt}
 use Rattle.cf_types.specs.declared.stmt.Stmt.TheVariants as stmt
@@ -20,8 +22,6 @@ use Rattle.config_rules.specs.Fault.{is_instance, err_of, fault_of, stmts_of, re
 use Rattle.config_rules.specs.Meaning.{if_joined, instance_of}
 use Rattle.cf_declare.specs.Settled.{Settled}
 use Rattle.cf_declare.specs.Sound.{SoundDeclared}
-use Rattle.cf_declare.proofs.ListFacts.{element}
-use Rattle.cf_declare.proofs.CodeLaws.{no_code, no_first}
 use Rattle.cf_declare.proofs.SettledLaws.{settled_nothing}
 use Rattle.cf_declare.proofs.FirstLaws.{first_here, settled_placed}
 use Rattle.cf_declare.proofs.SoundFacts.{sound_nothing}
@@ -47,7 +47,7 @@ none_from : (files : List (List ℕ)) (placed : List Placed) → first_code file
 none_from files placed none zero h = none
 none_from files placed none (suc i) h =
     let e : suc i ≡ i + 1 = omega arith in
-    let found = element placed i (omega arith) in
+    let found = slice_get_some placed i (omega arith) in
     ap (λ n. first_code files (stmts_of (take n placed)) (drop n placed)) e
     ∙ (none_here files placed i found.0 (omega arith) (sym (get_or_from_slice_get placed i found.0 found.0 found.1)) (none_from files placed none i (omega arith))).1
 
@@ -65,7 +65,7 @@ unfolding declared
 sound_so_far files placed none zero h = (settled_nothing, sound_nothing)
 sound_so_far files placed none (suc i) h =
     let e : i + 1 ≡ suc i = omega arith in
-    let found = element placed i (omega arith) in
+    let found = slice_get_some placed i (omega arith) in
     let is : found.0 ≡ get_or placed i found.0 = sym (get_or_from_slice_get placed i found.0 found.0 found.1) in
     let good = accepted_at files placed i found.0 (omega arith) is none in
     let before = sound_so_far files placed none i (omega arith) in

@@ -2,11 +2,11 @@
 use Rattle.std.proofs.Common.{◌≡◌, ℕ, ◌<◌, suc, Bool, true, false, cond, ◌&&◌, ◌||◌, Option, Some, None, List, [], ◌∷◌, length, refl, ap, sym, ◌∙◌, arith, All, IfSome}
 use Rattle.std.specs.Prelude.{filter, find, not, ◌==◌, nat_lt, is_some, unwrap_or, position, bytes_eq}
 use Rattle.std.specs.List.{list_any}
-use Rattle.std.proofs.lemmas.Bool.{eqb-true, eq-eqb, false≢true}
+use Rattle.std.proofs.lemmas.Bool.{eqb-true, eq-eqb, false≢true, or_parts}
 use Rattle.std.proofs.lemmas.Bool.Decides.{nat_tests}
-use Rattle.std.proofs.lemmas.List.Quantifiers.{position-Some}
 use Rattle.std.proofs.lemmas.List.Elements.{All-cons, All-nil}
 use Rattle.std.proofs.lemmas.Map.Views.{any-filter_same}
+use Rattle.cf_declare.proofs.ListFacts.{found_within}
 use Rattle.cf_types.specs.declared.declared.Declared.{Declared}
 use Rattle.cf_types.specs.Offers.{firsts}
 use Rattle.config_rules.specs.Declared.{attr_number}
@@ -73,21 +73,9 @@ pub some_class : (p : ℕ → Bool) (f : ℕ) (xs : List ℕ) → find p xs ≡ 
 some_class p f [] e = cc
 some_class p f (x ∷ xs) e = some_if p x f xs (p x) e (λ h. some_class p f xs h)
 
-position_within : {X : Type 0} (p : X → Bool) (xs : List X) (n : ℕ) → position p xs ≡ Some n → n < length xs
-position_within p [] n e = cc
-position_within p (x ∷ xs) n e = (position-Some p (x ∷ xs) n x e).0
-
-found_within : {X : Type 0} (p : X → Bool) (xs : List X) (o : Option ℕ) → position p xs ≡ o → IfSome o (λ n. n < length xs)
-found_within p xs None e = tt
-found_within p xs (Some n) e = position_within p xs n e
-
 number_within : (d : Declared) (name : List ℕ) (o : Option ℕ) → attr_number d name ≡ o → not (is_some o) ≡ false → unwrap_or o 0 < length d.attrs
 number_within d name None e h = absurd (false≢true (sym h))
-number_within d name (Some n) e h = found_within (λ a. bytes_eq a.name name) d.attrs (Some n) e
-
-left_false : (a b : Bool) → (a || b) ≡ false → a ≡ false
-left_false true b e = e
-left_false false b e = refl
+number_within d name (Some n) e h = found_within (λ a. bytes_eq a.name name) d.attrs n e
 
 right_false : (a b : Bool) → (a || b) ≡ false → b ≡ false
 right_false true b e = absurd (false≢true (sym e))
@@ -98,5 +86,5 @@ pub numbers_within : (d : Declared) (names : List (List ℕ)) → lacks_attr d n
 numbers_within d [] e = All-nil (λ a. a < length d.attrs)
 numbers_within d (name ∷ names) e =
     All-cons (λ a. a < length d.attrs) (unwrap_or (attr_number d name) 0) (attr_numbers d names)
-    (number_within d name (attr_number d name) refl (left_false (not (has_attr d name)) (lacks_attr d names) e))
+    (number_within d name (attr_number d name) refl (or_parts (not (has_attr d name)) (lacks_attr d names) e).0)
     (numbers_within d names (right_false (not (has_attr d name)) (lacks_attr d names) e))

@@ -5,6 +5,7 @@ use Rattle.std.specs.List.{list_all}
 use Rattle.std.specs.Option.{option_map_or}
 use Rattle.std.proofs.lemmas.Bool.{and_from, or_parts, not-false}
 use Rattle.cf_types.specs.declared.code.configuration.TheConstants.{LOCATOR_TWICE, NAME_TAKEN, NO_INTERFACE, UNKNOWN_ATTRIBUTE, UNKNOWN_DEVICE}
+use Rattle.config_rules.proofs.GivenLaws.{no_code, no_last, no_first}
 use Rattle.cf_types.specs.declared.stmt.Stmt.{Stmt}
 use Rattle.cf_types.specs.declared.stmt.Stmt.TheVariants as stmt
 use Rattle.cf_types.specs.declared.tables.Attr.{Attr}
@@ -12,21 +13,6 @@ use Rattle.config_rules.specs.Form.{given, ◌or◌}
 use Rattle.config_rules.specs.Declared.{Declared, is_root, attr_named, attr_name}
 use Rattle.config_rules.specs.Fault.{has_attr, has_device, lacks_attr, places_fault, code_of}
 use Rattle.cf_declare.proofs.ListFacts.{position_found, find_found, all_from_none}
-
--- where neither gives a code, the test fails and the rest gives none
-pub no_code : (test : Bool) (code : ℕ) (rest : Option ℕ) → (given test code or rest) ≡ None → (test ≡ false) × (rest ≡ None)
-no_code true code rest h = absurd (cc)
-no_code false code rest h = (refl, h)
-
--- the same of the last test
-pub no_last : (test : Bool) (code : ℕ) → given test code ≡ None → test ≡ false
-no_last true code h = absurd (cc)
-no_last false code h = refl
-
--- the same of an option that stands first
-pub no_first : {A : Type 0} (o rest : Option A) → (o or rest) ≡ None → (o ≡ None) × (rest ≡ None)
-no_first None rest h = (refl, h)
-no_first (Some x) rest h = absurd (cc)
 
 -- a statement names attributes and devices that are declared; a place may also be the root
 abbrev pub names_declared : Declared → Stmt → Bool

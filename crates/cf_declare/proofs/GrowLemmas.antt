@@ -5,6 +5,8 @@ use Rattle.std.specs.Option.{option_map_or, option_to_list}
 use Rattle.std.proofs.lemmas.List.{length-map}
 use Rattle.std.proofs.lemmas.List.Elements.{All-cons, All-nil, All-append}
 use Rattle.cf_types.specs.declared.code.configuration.TheConstants.{LOCATOR_TWICE, NAME_TAKEN, UNKNOWN_ATTRIBUTE}
+use Rattle.cf_types.proofs.ListLemmas.{all_below_more}
+use Rattle.config_rules.proofs.GivenLaws.{no_code}
 use Rattle.cf_types.specs.declared.stmt.Stmt.{Stmt}
 use Rattle.cf_types.specs.declared.stmt.Stmt.TheVariants as stmt
 use Rattle.cf_types.specs.declared.tables.Attr.{Attr}
@@ -19,7 +21,6 @@ use Rattle.cf_declare.specs.Declare.{new_attr, new_device, declare}
 use Rattle.cf_declare.specs.Graphs.{LocatorsFit}
 use Rattle.cf_declare.specs.Limits.{HasFewLocators}
 use Rattle.cf_declare.proofs.ClassLemmas.{numbers_within}
-use Rattle.cf_declare.proofs.CodeLaws.{no_code}
 use Rattle.cf_declare.proofs.LimitLaws.{few_locators_more}
 
 abbrev pub Differ : Attr → Type 0
@@ -56,22 +57,19 @@ new_needs d n (stmt.Device name None needs) h = tt
 new_needs d n (stmt.Device name (Some locs) needs) h = All-nil (λ b. b < length d.attrs)
 new_needs d n _ h = tt
 
-below_more : (xs : List ℕ) (n m : ℕ) → n ≤ m → All (λ b. b < n) xs → All (λ b. b < m) xs
-below_more xs n m h below k x p = let q : get_or xs k x < n = below k x p in omega arith
-
 device_needs : (d : Declared) (n : ℕ) (name : List ℕ) (locs : Option (List Locator)) (needs : List (List ℕ)) → code_of d n (stmt.Device name locs needs) ≡ None → All (λ b. b < length d.attrs) (attr_numbers d needs)
 device_needs d n name locs needs h = numbers_within d needs (no_code (lacks_attr d needs) UNKNOWN_ATTRIBUTE _ (no_code (repeats_locator locs) LOCATOR_TWICE _ (no_code _ NAME_TAKEN _ h).1).1).0
 
 -- a new device names its own attribute and attributes that are there
 pub new_names : (d : Declared) (n : ℕ) (s : Stmt) → code_of d n s ≡ None → IfSome (new_device d s) (λ x. All (λ b. b < length (d.attrs ++ option_to_list (new_attr d s))) (named_by x))
 new_names d n (stmt.Device name None needs) h =
-    below_more (attr_numbers d needs) (length d.attrs) _ (omega (arith, length-append d.attrs (option_to_list (new_attr d (stmt.Device name None needs)))))
+    all_below_more (attr_numbers d needs) (length d.attrs) _ (omega (arith, length-append d.attrs (option_to_list (new_attr d (stmt.Device name None needs)))))
     (device_needs d n name None needs h)
 new_names d n (stmt.Device name (Some locs) needs) h =
     let m = length (d.attrs ++ option_to_list (new_attr d (stmt.Device name (Some locs) needs))) in
     let size : m ≡ length d.attrs + 1 = length-append d.attrs (option_to_list (new_attr d (stmt.Device name (Some locs) needs))) in
     All-cons (λ b. b < m) (length d.attrs) (attr_numbers d needs) (omega (arith, size))
-    (below_more (attr_numbers d needs) (length d.attrs) m (omega (arith, size))
+    (all_below_more (attr_numbers d needs) (length d.attrs) m (omega (arith, size))
     (numbers_within d needs (no_code (lacks_attr d needs) UNKNOWN_ATTRIBUTE _ (no_code _ LOCATOR_TWICE _ (no_code _ NAME_TAKEN _ h).1).1).0))
 new_names d n _ h = tt
 

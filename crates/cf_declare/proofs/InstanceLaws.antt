@@ -3,8 +3,9 @@ use Rattle.std.proofs.Common.{◌≡◌, ℕ, ◌+◌, ◌<◌, ◌≤◌, zero,
 use Rattle.std.specs.Prelude.{ℤ, Result, Ok, Err, IfOk, flat_map, slice_get, slice_index_or, option_map, option_and_then, if◌then◌else◌}
 use Rattle.std.specs.Option.{option_to_list}
 use Rattle.std.proofs.lemmas.List.{take-map, take_all, length-map}
-use Rattle.std.proofs.lemmas.List.Elements.{All-append, All-weaker}
+use Rattle.std.proofs.lemmas.List.Elements.{All-append, All-weaker, All-nil}
 use Rattle.std.proofs.lemmas.Option.{get_or_from_slice_get, slice_get-map}
+use Rattle.cf_types.proofs.ListLemmas.{slice_get_some}
 use Rattle.cf_types.specs.declared.stmt.Placed.{Placed}
 use Rattle.cf_types.specs.declared.stmt.Stmt.{Stmt}
 use Rattle.cf_types.specs.declared.stmt.Stmt.TheVariants as stmt
@@ -21,7 +22,7 @@ use Rattle.cf_declare.specs.Declare.{declare}
 use Rattle.cf_declare.specs.Settled.{Settled}
 use Rattle.cf_declare.specs.Sound.{SoundDeclared}
 use Rattle.cf_declare.specs.Instances.{SoundInstances, SoundJoined}
-use Rattle.cf_declare.proofs.ListFacts.{all_of_option, element, all_of_none}
+use Rattle.cf_declare.proofs.ListFacts.{all_of_option}
 use Rattle.cf_declare.proofs.FirstLaws.{declared_placed}
 use Rattle.cf_declare.proofs.SurvivingLaws.{surviving_at, below_more, surviving_by_places}
 use Rattle.cf_declare.proofs.AcceptedLaws.{accepted_at, sound_so_far}
@@ -64,7 +65,7 @@ piece_sound stmts i s at sound =
   where
     by_mark : (d : Declared) (b : Bool) (xs : List Instance) → SoundInstances d xs → SoundInstances d (if b then xs else [])
     by_mark d true xs h = h
-    by_mark d false xs h = all_of_none (λ x. SoundJoined d x.joined)
+    by_mark d false xs h = All-nil (λ x. SoundJoined d x.joined)
 
 -- the same over placed statements
 placed_sound : (placed : List Placed) (i : ℕ) (p : Placed) → slice_get placed i ≡ Some p → SoundDeclared (declared (stmts_of (take i placed)))
@@ -78,10 +79,10 @@ placed_sound placed i p at sound =
 -- the instances of the first statements
 instances_so_far : (files : List (List ℕ)) (placed : List Placed) → first_code files [] placed ≡ None → (i : ℕ) → i ≤ length placed
     → SoundInstances (declared (stmts_of (take i placed))) (flat_map (surviving_at (stmts_of placed)) (below i))
-instances_so_far files placed none zero h = all_of_none (λ x. SoundJoined (declared []) x.joined)
+instances_so_far files placed none zero h = All-nil (λ x. SoundJoined (declared []) x.joined)
 instances_so_far files placed none (suc i) h =
     let e : i + 1 ≡ suc i = omega arith in
-    let found = element placed i (omega arith) in
+    let found = slice_get_some placed i (omega arith) in
     let is : found.0 ≡ get_or placed i found.0 = sym (get_or_from_slice_get placed i found.0 found.0 found.1) in
     let good = accepted_at files placed i found.0 (omega arith) is none in
     let before = sound_so_far files placed none i (omega arith) in

@@ -5,7 +5,7 @@ use Rattle.std.specs.List.{All, Contains, enumerate_from}
 use Rattle.std.specs.Option.{option_map_or, option_to_list}
 use Rattle.std.proofs.lemmas.Bool.{eqb-true}
 use Rattle.std.proofs.lemmas.List.{length-map}
-use Rattle.std.proofs.lemmas.List.Elements.{All-map, All-weaker, All-contains, All-contains_itself}
+use Rattle.std.proofs.lemmas.List.Elements.{All-map, All-weaker, All-contains, All-contains_itself, All-nil}
 use Rattle.std.proofs.lemmas.Option.{slice_get_within}
 use Rattle.cf_types.specs.declared.code.configuration.TheConstants.{NO_INTERFACE, UNIT_ON_ATTRIBUTE}
 use Rattle.cf_types.specs.declared.stmt.Stmt.{Stmt}
@@ -21,7 +21,7 @@ use Rattle.cf_types.specs.declared.tables.Place.{Place}
 use Rattle.cf_types.specs.declared.tables.Place.TheVariants.{Root, At}
 use Rattle.cf_types.specs.Locators.{locators_at}
 use Rattle.cf_types.specs.Offers.{is_interface}
-use Rattle.cf_types.proofs.ListLemmas.{slice_get-append_front}
+use Rattle.cf_types.proofs.ListLemmas.{slice_get-append_front, all_at}
 use Rattle.config_rules.specs.Declared.{Declared, attr_number, device_number}
 use Rattle.cf_types.specs.declared.instance.AttachPlace.{AttachPlace}
 use Rattle.cf_types.specs.declared.instance.Target.TheVariants.{Below, On}
@@ -31,7 +31,7 @@ use Rattle.config_rules.proofs.Parts.{ok_is}
 use Rattle.cf_declare.specs.Declare.{new_attr, new_device, new_attach, declare}
 use Rattle.cf_declare.specs.Sound.{IsOpen, SoundAttach, SoundDeclared}
 use Rattle.cf_declare.specs.Instances.{IsSpotOf, SoundJoined}
-use Rattle.cf_declare.proofs.ListFacts.{all_of_none, all_at, all_found, all_pieces, all_numbered, found_within}
+use Rattle.cf_declare.proofs.ListFacts.{all_found, all_pieces, all_numbered, found_within}
 use Rattle.cf_declare.proofs.SoundFacts.{open_within, place_more}
 
 -- ---- what is joined
@@ -43,7 +43,7 @@ IsSpot attaches device s = IsSpotOf attaches device s.attach s.place
 -- the spots of one attachment
 spots_at : (attaches : List Attach) (device number : ℕ) (a : Attach) → slice_get attaches number ≡ Some a → (own : Bool) → (a.device == device) ≡ own
     → All (IsSpot attaches device) (if own then map (λ place. record { attach = number; place = place }) a.places else [])
-spots_at attaches device number a at false e = all_of_none (IsSpot attaches device)
+spots_at attaches device number a at false e = All-nil (IsSpot attaches device)
 spots_at attaches device number a at true e =
     All-map (IsSpot attaches device) (λ place. record { attach = number; place = place }) a.places
     (All-weaker (Contains a.places) (IsSpotOf attaches device number) (λ place c. record { attach = a; has_number = at; is_of_device = eqb-true a.device device e; has_place = c }) a.places (All-contains_itself a.places))

@@ -2,14 +2,14 @@
 use Rattle.std.proofs.Common.{◌+◌, ◌≤◌, Some, None, [], length, arith}
 use Rattle.std.specs.Prelude.{unwrap_or, is_some, true, false}
 use Rattle.std.specs.Option.{option_to_list}
-use Rattle.std.proofs.lemmas.List.Elements.{All-cons, All-append}
+use Rattle.std.proofs.lemmas.List.Elements.{All-cons, All-append, All-nil}
 use Rattle.cf_types.specs.declared.stmt.Stmt.{Stmt}
 use Rattle.cf_types.specs.declared.stmt.Stmt.TheVariants as stmt
 use Rattle.config_rules.specs.Declared.{Declared, attr}
 use Rattle.config_rules.specs.Fault.{attr_numbers}
 use Rattle.cf_declare.specs.Declare.{new_attr, new_device, new_attach, declare}
 use Rattle.cf_declare.specs.Limits.{HasFewLocators, HaveFewLocators}
-use Rattle.cf_declare.proofs.ListFacts.{with_option, all_of_none}
+use Rattle.cf_declare.proofs.ListFacts.{with_option}
 
 -- ---- at most one of each
 
@@ -30,13 +30,13 @@ attaches_at_most d s = with_option d.attaches (new_attach d s)
 -- the attribute of a statement has its locators
 few_new : (d : Declared) (s : Stmt) → HasFewLocators s → HaveFewLocators (option_to_list (new_attr d s))
 few_new d (stmt.Define name locs needs) h =
-    All-cons (λ x. length x.locs ≤ 16) (attr name (is_some locs) false false (unwrap_or locs []) (attr_numbers d needs)) [] h (all_of_none (λ x. length x.locs ≤ 16))
-few_new d (stmt.Class name) h = All-cons (λ x. length x.locs ≤ 16) (attr name false true false [] []) [] (omega arith) (all_of_none (λ x. length x.locs ≤ 16))
+    All-cons (λ x. length x.locs ≤ 16) (attr name (is_some locs) false false (unwrap_or locs []) (attr_numbers d needs)) [] h (All-nil (λ x. length x.locs ≤ 16))
+few_new d (stmt.Class name) h = All-cons (λ x. length x.locs ≤ 16) (attr name false true false [] []) [] (omega arith) (All-nil (λ x. length x.locs ≤ 16))
 few_new d (stmt.DefPseudo name locs needs) h =
-    All-cons (λ x. length x.locs ≤ 16) (attr name (is_some locs) false true (unwrap_or locs []) (attr_numbers d needs)) [] h (all_of_none (λ x. length x.locs ≤ 16))
-few_new d (stmt.Device name None needs) h = all_of_none (λ x. length x.locs ≤ 16)
-few_new d (stmt.Device name (Some locs) needs) h = All-cons (λ x. length x.locs ≤ 16) (attr name true false false locs []) [] h (all_of_none (λ x. length x.locs ≤ 16))
-few_new d _ h = all_of_none (λ x. length x.locs ≤ 16)
+    All-cons (λ x. length x.locs ≤ 16) (attr name (is_some locs) false true (unwrap_or locs []) (attr_numbers d needs)) [] h (All-nil (λ x. length x.locs ≤ 16))
+few_new d (stmt.Device name None needs) h = All-nil (λ x. length x.locs ≤ 16)
+few_new d (stmt.Device name (Some locs) needs) h = All-cons (λ x. length x.locs ≤ 16) (attr name true false false locs []) [] h (All-nil (λ x. length x.locs ≤ 16))
+few_new d _ h = All-nil (λ x. length x.locs ≤ 16)
 
 -- attributes keep having at most 16
 pub few_locators_more : (d : Declared) (s : Stmt) → HaveFewLocators d.attrs → HasFewLocators s → HaveFewLocators (declare d s).attrs

@@ -5,10 +5,10 @@ use Rattle.std.specs.List.{enumerate_from, All, list_any, list_all}
 use Rattle.std.specs.Option.{option_to_list}
 use Rattle.std.specs.List.{cons_option}
 use Rattle.std.proofs.lemmas.Bool.{and_parts, and_from, or_parts, or_left, or_right, not-false}
-use Rattle.std.proofs.lemmas.List.Elements.{filter_map-append, All-cons, All-head, All-tail, All-append}
+use Rattle.std.proofs.lemmas.List.Elements.{filter_map-append, All-cons, All-head, All-tail, All-append, All-nil}
 use Rattle.std.proofs.lemmas.List.{length_push}
 use Rattle.std.proofs.lemmas.Option.{get_or_from_slice_get, slice_get_within}
-use Rattle.cf_types.proofs.ListLemmas.{slice_get-append_back}
+use Rattle.cf_types.proofs.ListLemmas.{slice_get-append_back, slice_get_some}
 pub use Rattle.cf_types.proofs.PlaceLemmas.{position_cons, position-map, position_kept, position_new, position_found, find_found, position_within, find_place}
 
 -- ---- what a function gives
@@ -84,23 +84,9 @@ all_fail p (x ∷ xs) h =
 
 -- ---- elements
 
--- the element at a place within the list
-pub element : {X : Type 0} (xs : List X) (i : ℕ) → i < length xs → (x : X) × (slice_get xs i ≡ Some x)
-element [] i h = absurd (omega arith)
-element (x ∷ xs) zero h = (x, refl)
-element (x ∷ xs) (suc i) h = element xs i (omega arith)
-
--- all of no elements
-pub all_of_none : {X : Type 0} (P : X → Type 0) → All P []
-all_of_none P = λ k d q. absurd (omega arith)
-
 -- nothing is added
 pub with_nothing : {X : Type 0} (xs : List X) → xs ≡ xs ++ []
 with_nothing xs = sym (append-nil xs)
-
--- what holds of all holds of the element at a place
-pub all_at : {X : Type 0} (P : X → Type 0) (xs : List X) (i : ℕ) (x : X) → All P xs → slice_get xs i ≡ Some x → P x
-all_at P xs i x h at = subst P (get_or_from_slice_get xs i x x at) (h i x (slice_get_within xs i x at))
 
 -- one element further
 found_one : {X : Type 0} (P : X → Type 0) (b : Bool) (x y : X) (o : Option X) → cond b (Some x) o ≡ Some y → P x → (o ≡ Some y → P y) → P y
@@ -114,12 +100,12 @@ all_found P p (x ∷ xs) y h e = found_one P (p x) x y (find p xs) e (All-head P
 
 -- what holds of all in each piece
 pub all_pieces : {X Y : Type 0} (P : Y → Type 0) (f : X → List Y) (xs : List X) → All (λ x. All P (f x)) xs → All P (flat_map f xs)
-all_pieces P f [] h = all_of_none P
+all_pieces P f [] h = All-nil P
 all_pieces P f (x ∷ xs) h = All-append P (f x) (flat_map f xs) (All-head (λ z. All P (f z)) x xs h) (all_pieces P f xs (All-tail (λ z. All P (f z)) x xs h))
 
 -- an element with its number stands at that place
 pub all_numbered : {X : Type 0} (before xs : List X) → All (λ e. slice_get (before ++ xs) e.0 ≡ Some e.1) (enumerate_from (length before) xs)
-all_numbered before [] = all_of_none (λ e. slice_get (before ++ []) e.0 ≡ Some e.1)
+all_numbered before [] = All-nil (λ e. slice_get (before ++ []) e.0 ≡ Some e.1)
 all_numbered {X} before (x ∷ xs) =
     let none : length before - length before ≡ 0 = omega arith in
     let here : slice_get (before ++ x ∷ xs) (length before) ≡ Some x = slice_get-append_back before (x ∷ xs) (length before) (omega arith) ∙ ap (slice_get (x ∷ xs)) none in
@@ -133,8 +119,8 @@ found_within p xs k h = subst (λ (o : Option ℕ). unwrap_or o 0 < length xs) h
 
 -- what holds of what an option gives
 pub all_of_option : {X : Type 0} (P : X → Type 0) (o : Option X) → ((x : X) → o ≡ Some x → P x) → All P (option_to_list o)
-all_of_option P None h = all_of_none P
-all_of_option P (Some x) h = All-cons P x [] (h x refl) (all_of_none P)
+all_of_option P None h = All-nil P
+all_of_option P (Some x) h = All-cons P x [] (h x refl) (All-nil P)
 
 -- an option as a list has at most one element
 one_at_most : {X : Type 0} (o : Option X) → length (option_to_list o) ≤ 1

@@ -4,7 +4,7 @@ use Rattle.std.specs.Prelude.{filter, if◌then◌else◌}
 use Rattle.std.specs.List.{All}
 use Rattle.std.proofs.lemmas.List.Elements.{filter-append}
 use Rattle.cf_types.specs.Gather.{is_in, with_new, with_all}
-use Rattle.cf_types.specs.Offers.{Node, AreEarlier, itself, is_open, walk, walks, firsts, interfaces_of}
+use Rattle.cf_types.specs.Offers.{Node, AreEarlier, itself, is_interface_node, walk, walks, firsts, interfaces_of}
 use Rattle.cf_types.proofs.OfferLemmas.{with_all-firsts, gathered_is, interfaces_new}
 
 -- a number that is added adds at most one
@@ -28,11 +28,11 @@ pub offers_with : (nodes : List Node) (a : ℕ) (names : List ℕ) → length (i
 unfolding interfaces_of
 offers_with nodes a names =
     let own = walk (length nodes) nodes a in
-    let one : filter (is_open nodes) (own ++ []) ≡ filter (is_open nodes) own = ap (filter (is_open nodes)) (append-nil own) in
-    let both : filter (is_open nodes) (own ++ walks nodes names) ≡ filter (is_open nodes) own ++ filter (is_open nodes) (walks nodes names) = filter-append (is_open nodes) own (walks nodes names) in
-    subst (λ (zs : List ℕ). length (firsts zs) ≤ length (firsts (filter (is_open nodes) (own ++ []))) + length (firsts (filter (is_open nodes) (walks nodes names)))) (sym both)
-    (subst (λ (zs : List ℕ). length (firsts (filter (is_open nodes) own ++ filter (is_open nodes) (walks nodes names))) ≤ length (firsts zs) + length (firsts (filter (is_open nodes) (walks nodes names)))) (sym one)
-    (length-firsts (filter (is_open nodes) own) (filter (is_open nodes) (walks nodes names))))
+    let one : filter (is_interface_node nodes) (own ++ []) ≡ filter (is_interface_node nodes) own = ap (filter (is_interface_node nodes)) (append-nil own) in
+    let both : filter (is_interface_node nodes) (own ++ walks nodes names) ≡ filter (is_interface_node nodes) own ++ filter (is_interface_node nodes) (walks nodes names) = filter-append (is_interface_node nodes) own (walks nodes names) in
+    subst (λ (zs : List ℕ). length (firsts zs) ≤ length (firsts (filter (is_interface_node nodes) (own ++ []))) + length (firsts (filter (is_interface_node nodes) (walks nodes names)))) (sym both)
+    (subst (λ (zs : List ℕ). length (firsts (filter (is_interface_node nodes) own ++ filter (is_interface_node nodes) (walks nodes names))) ≤ length (firsts zs) + length (firsts (filter (is_interface_node nodes) (walks nodes names)))) (sym one)
+    (length-firsts (filter (is_interface_node nodes) own) (filter (is_interface_node nodes) (walks nodes names))))
 
 -- at most one itself
 length_itself : (x : Node) (a : ℕ) → length (firsts (itself x a)) ≡ (if x.iface then 1 else 0)
@@ -48,7 +48,7 @@ pub offers_new : (nodes : List Node) → AreEarlier nodes → (x : Node) → All
     → length (interfaces_of (nodes ++ x ∷ []) (length nodes ∷ [])) ≤ (if x.iface then 1 else 0) + length (interfaces_of nodes x.needs)
 unfolding interfaces_of
 offers_new nodes e x h =
-    let rest = filter (is_open nodes) (walks nodes x.needs) in
+    let rest = filter (is_interface_node nodes) (walks nodes x.needs) in
     let n = length nodes in
     subst (λ (zs : List ℕ). length zs ≤ (if x.iface then 1 else 0) + length (firsts rest)) (sym (interfaces_new nodes e x h))
     (subst (λ (k : ℕ). length (firsts (itself x n ++ rest)) ≤ k + length (firsts rest)) (length_itself x n) (length-firsts (itself x n) rest))

@@ -4,7 +4,7 @@ use Rattle.std.specs.Prelude.{bytes_eq, IfSome, if◌then◌else◌}
 use Rattle.std.specs.List.{All}
 use Rattle.std.specs.Option.{option_map_or}
 use Rattle.std.proofs.lemmas.List.{map_push, length-map, length_push}
-use Rattle.std.proofs.lemmas.List.Elements.{All-cons, All-append, All-push, All-weaker}
+use Rattle.std.proofs.lemmas.List.Elements.{All-cons, All-append, All-push, All-weaker, All-nil}
 use Rattle.cf_types.specs.declared.tables.Attr.{Attr}
 use Rattle.cf_types.specs.declared.tables.Device.{Device}
 use Rattle.cf_types.specs.declared.tables.Attach.{Attach}
@@ -15,7 +15,7 @@ use Rattle.cf_types.proofs.OfferLemmas.{interfaces_kept, earlier_more}
 use Rattle.config_rules.specs.Declared.{Declared, has_attach}
 use Rattle.config_rules.specs.Fault.{has_attr, has_device}
 use Rattle.cf_declare.specs.Sound.{AreAttrs, IsOpen, NamesDiffer, SoundDevice, SoundAttach, SoundDeclared}
-use Rattle.cf_declare.proofs.ListFacts.{position_found, all_of_none}
+use Rattle.cf_declare.proofs.ListFacts.{position_found}
 use Rattle.cf_declare.proofs.NameFacts.{differ_push}
 use Rattle.cf_declare.proofs.OfferFacts.{offers_new}
 
@@ -28,11 +28,11 @@ no_names name_of = λ i j d p q. absurd (omega arith)
 -- where nothing is declared, it is sound
 pub sound_nothing : SoundDeclared (record { attrs = []; devices = []; attaches = [] })
 sound_nothing = record {
-  needs_are_earlier = record { earlier = λ a. all_of_none (λ b. b < a) };
+  needs_are_earlier = record { earlier = λ a. All-nil (λ b. b < a) };
   attrs_offer_few = λ a h. absurd (omega arith);
-  locators_differ = all_of_none (λ x. NamesDiffer (λ l. l.name) x.locs);
-  devices_are_sound = all_of_none (SoundDevice []);
-  attaches_are_sound = all_of_none (SoundAttach [] []);
+  locators_differ = All-nil (λ x. NamesDiffer (λ l. l.name) x.locs);
+  devices_are_sound = All-nil (SoundDevice []);
+  attaches_are_sound = All-nil (SoundAttach [] []);
   attr_names_differ = no_names (λ a. a.name);
   device_names_differ = no_names (λ x. x.name);
   attach_names_differ = no_names (λ a. a.name);
@@ -76,8 +76,8 @@ offers_kept attrs x e names h = ap (λ ns. interfaces_of ns names) (map_push nod
 
 -- the own attribute of a device, as a list
 own_within : (attrs : List Attr) (own : Option ℕ) → IfSome own (λ a. is_interface attrs a ≡ true) → AreAttrs attrs (option_map_or (λ a. a ∷ []) own [])
-own_within attrs None h = all_of_none (λ a. a < length attrs)
-own_within attrs (Some a) h = All-cons (λ b. b < length attrs) a [] (open_within attrs a h) (all_of_none (λ b. b < length attrs))
+own_within attrs None h = All-nil (λ a. a < length attrs)
+own_within attrs (Some a) h = All-cons (λ b. b < length attrs) a [] (open_within attrs a h) (All-nil (λ b. b < length attrs))
 
 -- the own attribute of a device stays an interface attribute
 own_more : (attrs : List Attr) (x : Attr) (own : Option ℕ) → IfSome own (λ a. is_interface attrs a ≡ true) → IfSome own (λ a. is_interface (attrs ++ x ∷ []) a ≡ true)
@@ -119,7 +119,7 @@ few_at : (attrs : List Attr) (x : Attr) → AreEarlier (nodes_of attrs) → ((a 
     → AreAttrs attrs x.needs → (if x.iface then 1 else 0) + length (interfaces_of (nodes_of attrs) x.needs) ≤ 64
     → (a : ℕ) → a < length (attrs ++ x ∷ []) → (a < length attrs) ⊎ (length attrs ≤ a) → length (interfaces_of (nodes_of (attrs ++ x ∷ [])) (a ∷ [])) ≤ 64
 few_at attrs x e few needs limit a h (inl p) =
-    subst (λ (xs : List ℕ). length xs ≤ 64) (sym (offers_kept attrs x e (a ∷ []) (All-cons (λ b. b < length attrs) a [] p (all_of_none (λ b. b < length attrs))))) (few a p)
+    subst (λ (xs : List ℕ). length xs ≤ 64) (sym (offers_kept attrs x e (a ∷ []) (All-cons (λ b. b < length attrs) a [] p (All-nil (λ b. b < length attrs))))) (few a p)
 few_at attrs x e few needs limit a h (inr p) =
     let nodes = nodes_of attrs in
     let same : a ≡ length nodes = omega (arith, length_push attrs x, length-map attrs node_of) in

@@ -7,6 +7,7 @@ use Rattle.std.proofs.lemmas.Bool.{or_parts, and_parts, not-false, ltb-false}
 use Rattle.std.proofs.lemmas.List.{map_push, length-map}
 use Rattle.std.proofs.lemmas.List.Elements.{All-cons}
 use Rattle.cf_types.specs.declared.code.configuration.TheConstants.{LOCATOR_TWICE, NAME_TAKEN, NO_INTERFACE, SECOND_CLASS, TOO_MANY_INTERFACES, UNKNOWN_ATTRIBUTE, UNKNOWN_DEVICE}
+use Rattle.config_rules.proofs.GivenLaws.{no_code, no_last, no_first}
 use Rattle.cf_types.specs.declared.stmt.Placed.{Placed}
 use Rattle.cf_types.specs.declared.stmt.Stmt.{Stmt}
 use Rattle.cf_types.specs.declared.stmt.Stmt.TheVariants as stmt
@@ -23,7 +24,6 @@ use Rattle.cf_declare.specs.Declare.{place_named, declare}
 use Rattle.cf_declare.specs.Settled.{Settled}
 use Rattle.cf_declare.specs.Sound.{AreAttrs, IsOpen, NamesDiffer, SoundDeclared}
 use Rattle.cf_declare.proofs.ListFacts.{all_from_none, position_within, find_place, with_nothing}
-use Rattle.cf_declare.proofs.CodeLaws.{no_code, no_last, no_first}
 use Rattle.cf_declare.proofs.NameFacts.{differ_all}
 use Rattle.cf_declare.proofs.OfferFacts.{offers_with, offers_new}
 use Rattle.cf_declare.proofs.DeclareLaws.{same_declared}

@@ -4,6 +4,7 @@ use Rattle.std.specs.Prelude.{slice_get, slice_index_or, flat_map, option_and_th
 use Rattle.std.specs.Option.{option_map_or, option_to_list}
 use Rattle.std.proofs.lemmas.List.{take_more, at_drop_more, at_drop_all, take-map, drop-map, length-map, get_or-map, flat_map_more}
 use Rattle.std.proofs.lemmas.Option.{slice_get_read, get_or_from_slice_get}
+use Rattle.cf_types.proofs.ListLemmas.{slice_get_some}
 use Rattle.cf_types.specs.declared.stmt.Stmt.{Stmt}
 use Rattle.cf_types.specs.declared.stmt.Placed.{Placed}
 use Rattle.cf_types.specs.declared.instance.Instance.{Instance}
@@ -12,7 +13,6 @@ use Rattle.config_rules.specs.Select.{survives, kept}
 use Rattle.config_rules.specs.Meaning.{instance_of, surviving}
 use Rattle.cf_types.specs.Numbers.{below}
 use Rattle.config_rules.proofs.CutLaws.{both_left}
-use Rattle.cf_declare.proofs.ListFacts.{element}
 
 -- the truth value of a statement looks at those behind it
 pub kept_at : (stmts : List Stmt) (i : ℕ) (s : Stmt) → slice_get stmts i ≡ Some s → slice_index_or (kept stmts) i false ≡ survives s (drop (i + 1) stmts)
@@ -172,7 +172,7 @@ places_so_far : (stmts : List Stmt) (i : ℕ) → i ≤ length stmts → flat_ma
 places_so_far stmts zero h = refl
 places_so_far stmts (suc i) h =
     let e : suc i ≡ i + 1 = omega arith in
-    let found = element stmts i (omega arith) in
+    let found = slice_get_some stmts i (omega arith) in
     ap (λ n. flat_map (surviving_at stmts) (below n) ++ surviving (take n stmts) (drop n stmts)) e
     ∙ place_step stmts i found.0 (omega arith) found.1
     ∙ places_so_far stmts i (omega arith)

@@ -86,7 +86,13 @@ fn place_fault(declared: &Catalog, place: &[u8]) -> Option<u8>
         return None;
     }
     match attr_named(declared, place) {
-        Some(attr) => { if attr.iface { None } else { Some(code::NO_INTERFACE) } }
+        Some(attr) => {
+            if attr.iface {
+                None
+            } else {
+                Some(code::NO_INTERFACE)
+            }
+        }
         None => Some(code::UNKNOWN_ATTRIBUTE),
     }
 }

@@ -8,6 +8,7 @@ use Rattle.std.specs.Cmp.Lexicographic.{slice_cmp}
 use Rattle.std.specs.Ordering.{is_eq, match_ordering, nat_cmp}
 use Rattle.std.specs.declared.cmp.Ordering.{Ordering}
 use Rattle.std.specs.declared.cmp.Ordering.TheVariants.{Less, Equal, Greater}
+use Rattle.std.proofs.Math.Bool.{or-false}
 use Rattle.cf_types.proofs.KeyLemmas.{Key, is_key, key_cmp, key_is, same_text}
 use Rattle.cf_types.specs.declared.stmt.Stmt.{Stmt}
 use Rattle.cf_types.specs.declared.stmt.Stmt.TheVariants as stmt
@@ -29,12 +30,8 @@ grouped : (a b c : Bool) → (a || (b || c)) ≡ ((a || b) || c)
 grouped true b c = refl
 grouped false b c = refl
 
-or_false : (a : Bool) → (a || false) ≡ a
-or_false true = refl
-or_false false = refl
-
 key_added : (name : List ℕ) (keys : List Key) (k : Key) → list_any (is_key name) (insert_key key_cmp keys k) ≡ (list_any (is_key name) keys || is_key name k)
-key_added name [] k = or_false (is_key name k)
+key_added name [] k = or-false (is_key name k)
 key_added name (x ∷ xs) k = by_order (key_cmp k x) refl (key_added name xs k)
   where
     by_order : (o : Ordering) → key_cmp k x ≡ o → list_any (is_key name) (insert_key key_cmp xs k) ≡ (list_any (is_key name) xs || is_key name k)

@@ -1,7 +1,7 @@
 -- The statements of a file, one after the other.
 use Rattle.std.proofs.Common.{◌≡◌, ℕ, ◌+◌, ◌-◌, arith, Option, Some, List, length, ◌∙◌}
 use Rattle.std.specs.Prelude.{OnOk, Result, Ok, Err}
-use Rattle.config_rules.specs.Reading.{Files, Level, Line, Reader, Reading, include, read_line, reader}
+use Rattle.config_rules.specs.Reading.{Files, Level, Statement, Reader, Reading, include, read_statement, reader}
 use Rattle.cf_expand.specs.declared.source.Include.{Include}
 use Rattle.cf_expand.specs.declared.source.Source.{Source}
 use Rattle.cf_expand.specs.Steps.{IsBelow, entered, here_of, went_on}
@@ -12,13 +12,13 @@ on_ok (Ok x) p f = f p
 on_ok (Err e) p f = tt
 
 -- the statement, what its include leads to, and the file that is read there
-pub included : (named : Files) (source below : Source) (around line : ℕ) (levels : List Level) (s : Line) (wanted : Include) (i : Option Include) (opened : Option Source) (old between inner new : Reading) → i ≡ Some wanted → opened ≡ Some below
-    → s.number ≡ line → source.room ≡ 16 - around
-    → ((files : Files) (reads : Reader) (a : ℕ) → source.room ≡ 16 - a → went_on files reads (here_of a source) levels s i between ≡ read_line files reads (here_of a source) levels s old)
-    → ((a : ℕ) (t : Line) → t.number ≡ line → entered named (a + length levels) opened inner ≡ include named (reader source.levels named) (here_of a source) levels t wanted.path wanted.optional between)
+pub included : (named : Files) (source below : Source) (around line : ℕ) (levels : List Level) (s : Statement) (wanted : Include) (i : Option Include) (opened : Option Source) (old between inner new : Reading) → i ≡ Some wanted → opened ≡ Some below
+    → s.line ≡ line → source.room ≡ 16 - around
+    → ((files : Files) (reads : Reader) (a : ℕ) → source.room ≡ 16 - a → went_on files reads (here_of a source) levels s i between ≡ read_statement files reads (here_of a source) levels s old)
+    → ((a : ℕ) (t : Statement) → t.line ≡ line → entered named (a + length levels) opened inner ≡ include named (reader source.levels named) (here_of a source) levels t wanted.path wanted.optional between)
     → IsBelow (source.room - length levels) (source.levels - 1) opened
     → ((a : ℕ) → below.room ≡ 16 - a → new ≡ entered named a (Some below) inner)
-    → new ≡ read_line named (reader source.levels named) (here_of around source) levels s old
+    → new ≡ read_statement named (reader source.levels named) (here_of around source) levels s old
 included named source below around line levels s wanted i opened old between inner new ei eo en er step opening is_below reads =
     let within = rw eo at is_below in
     let room : below.room ≡ 16 - (around + length levels) = omega (arith, within.0, er) in

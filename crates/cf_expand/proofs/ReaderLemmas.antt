@@ -3,7 +3,7 @@ use Rattle.std.proofs.Common.{◌≡◌, ℕ, ◌+◌, ◌==◌, List, [], ◌�
 use Rattle.std.specs.Prelude.{Ok, Err}
 use Rattle.cf_types.specs.declared.stmt.Token.{Token}
 use Rattle.config_rules.specs.Cut.{Cut, cut_of}
-use Rattle.config_rules.specs.Reading.{Files, Here, Reading, lines_in, read_cut, read_lines, reader, refused}
+use Rattle.config_rules.specs.Reading.{Files, Here, Reading, statements_in, read_cut, read_statements, reader, refused}
 use Rattle.cf_grammar.specs.Statement.{AreWithin}
 use Rattle.cf_grammar.proofs.CutWithin.{within_cut}
 
@@ -24,9 +24,9 @@ reader_more n files around name text r = rw add-one refl
 -- a file that was cut
 pub opened_reads : (n : ℕ) (files : Files) (around : ℕ) (name text shown lent listed : List ℕ) (tokens : List Token) (number : ℕ) (old new : Reading) → number ≡ length old.files → shown ≡ text → lent ≡ text → listed ≡ name
     → new ≡ with_file listed old → cut_of lent ≡ Ok tokens
-    → read_lines files (reader n files) (record { file = name; number = number; around = around; deepest = n == 0 }) [] (lines_in shown tokens) new ≡ reader (n + 1) files around name text old
+    → read_statements files (reader n files) (record { file = name; number = number; around = around; deepest = n == 0 }) [] (statements_in shown tokens) new ≡ reader (n + 1) files around name text old
 opened_reads n files around name text shown lent listed tokens number old new ek es el en ew ec =
-    let whole : reader (n + 1) files around name text old ≡ read_lines files (reader n files) (first_here n around name old) [] (lines_in text tokens) (with_file name old) =
+    let whole : reader (n + 1) files around name text old ≡ read_statements files (reader n files) (first_here n around name old) [] (statements_in text tokens) (with_file name old) =
     reader_more n files around name text old ∙ ap (λ c. read_cut files (reader n files) (first_here n around name old) text c (with_file name old)) (ap cut_of (sym el) ∙ ec) in
     rw (ek, es, ew, en) (sym whole)
 

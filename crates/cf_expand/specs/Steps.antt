@@ -3,7 +3,7 @@ use Rattle.std.specs.Prelude.{◌≡◌, ℕ, ◌-◌, ◌==◌, Bool, List, [],
 use Rattle.cf_types.specs.declared.stmt.Expanded.{Expanded}
 use Rattle.cf_types.specs.declared.stmt.Stmt.TheVariants as stmt
 use Rattle.cf_grammar.specs.Statement.{AreWithin}
-use Rattle.config_rules.specs.Reading.{Files, Here, Level, Line, Reader, Reading, include, lines_in, place, pop_prefix, read_lines, reader, refused, under_prefix}
+use Rattle.config_rules.specs.Reading.{Files, Here, Level, Statement, Reader, Reading, include, statements_in, place, pop_prefix, read_statements, reader, refused, under_prefix}
 use Rattle.cf_expand.specs.declared.source.Include.{Include}
 use Rattle.cf_expand.specs.declared.source.Source.{Source}
 
@@ -12,18 +12,18 @@ abbrev pub here_of : ℕ → Source → Here
 here_of around s = record { file = s.name; number = s.number; around = around; deepest = s.levels == 0 }
 
 -- a statement that was read, or what an include leads to
-abbrev pub went_on : Files → Reader → Here → List Level → Line → Option Include → Reading → Reading
+abbrev pub went_on : Files → Reader → Here → List Level → Statement → Option Include → Reading → Reading
 went_on files below here levels s None r = r
 went_on files below here levels s (Some i) r = include files below here levels s i.path i.optional r
 
 -- what a call did and what is still to be included come to the whole, whatever the files are
-abbrev pub Steps : {E : Type 0} → Source → List Level → Line → (Files → Reader → Here → Reading) → Result (Option Include) E → Reading → Type 0
+abbrev pub Steps : {E : Type 0} → Source → List Level → Statement → (Files → Reader → Here → Reading) → Result (Option Include) E → Reading → Type 0
 Steps source levels s whole result new =
     IfOk result (λ i. (files : Files) (below : Reader) (around : ℕ) → source.room ≡ 16 - around
     → went_on files below (here_of around source) levels s i new ≡ whole files below (here_of around source))
 
 -- a `prefix` with this path, or with none
-abbrev pub turned : Here → Line → Option (List ℕ) → Reading → Reading
+abbrev pub turned : Here → Statement → Option (List ℕ) → Reading → Reading
 turned here s None r = pop_prefix here s r.prefixes r
 turned here s (Some path) r =
     place here s (stmt.Prefix (Some path)) (record r { prefixes = under_prefix r.prefixes path ∷ r.prefixes })
@@ -31,7 +31,7 @@ turned here s (Some path) r =
 -- where a file was opened, its statements are still to be read
 abbrev pub entered : Files → ℕ → Option Source → Reading → Reading
 entered files around None r = r
-entered files around (Some s) r = read_lines files (reader s.levels files) (here_of around s) [] (lines_in s.text s.tokens) r
+entered files around (Some s) r = read_statements files (reader s.levels files) (here_of around s) [] (statements_in s.text s.tokens) r
 
 -- an include on this line whose file is absent
 abbrev pub when_absent : Source → ℕ → List ℕ → Bool → Reading → Reading

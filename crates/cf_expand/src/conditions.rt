@@ -1,6 +1,6 @@
 ghost use Rattle.std.specs.Prelude.{◌≡◌, [], ◌∷◌, length, OnOk};
-ghost use Rattle.config_rules.specs.Reading.{is_live};
-ghost use Rattle.cf_expand.specs.Conditions.{branches_by, closes_by, else_by, innermost, is_behind_else, levels_by, misplaced_by, next_by, opened_by, opens_by, placed_by};
+ghost use Rattle.config_rules.specs.Reading.{branches, closes, is_else, is_live, is_misplaced, is_placed, levels_after, next_branch, opened, opens};
+ghost use Rattle.cf_expand.specs.Conditions.{innermost, is_behind_else};
 
 use cf_types::{CondWord, Memory};
 use std::alloc::Global;
@@ -8,13 +8,13 @@ use std::collections::VecDeque;
 use std::marker::Model;
 
 fn opens(word: Option<CondWord>) -> bool
-    ensures { result ≡ opens_by word }
+    ensures { result ≡ opens word }
 {
     matches!(word, Some(CondWord::IfDef | CondWord::IfNDef))
 }
 
 fn branches(word: Option<CondWord>) -> bool
-    ensures { result ≡ branches_by word }
+    ensures { result ≡ branches word }
 {
     matches!(
         word,
@@ -23,13 +23,13 @@ fn branches(word: Option<CondWord>) -> bool
 }
 
 fn closes(word: Option<CondWord>) -> bool
-    ensures { result ≡ closes_by word }
+    ensures { result ≡ closes word }
 {
     matches!(word, Some(CondWord::EndIf))
 }
 
 fn is_else(word: Option<CondWord>) -> bool
-    ensures { result ≡ else_by word }
+    ensures { result ≡ is_else word }
 {
     matches!(word, Some(CondWord::Else))
 }
@@ -59,7 +59,7 @@ impl Model for Condition {
 
 impl Condition {
     fn next_branch(self, holds: bool, last: bool) -> Condition
-        ensures { result ≡ next_by holds last self }
+        ensures { result ≡ next_branch holds last self }
     {
         let Condition {
             line,
@@ -130,7 +130,7 @@ impl Conditions {
 
     /// Whether a statement that begins with this word is not left out.
     pub fn is_placed(&self, word: Option<CondWord>) -> bool
-        ensures { result ≡ placed_by word self.now }
+        ensures { result ≡ is_placed word self.now }
     {
         match self.open.front() {
             Some(condition) => if branches(word) || closes(word) {
@@ -153,7 +153,7 @@ impl Conditions {
 
     /// Whether a statement with this word may not stand here, where so many conditions may be open.
     pub fn is_misplaced(&self, room: usize, word: Option<CondWord>) -> bool
-        ensures { result ≡ misplaced_by room word self.now }
+        ensures { result ≡ is_misplaced room word self.now }
     {
         (opens(word) && self.len() >= room)
             || ((branches(word) || closes(word)) && self.len() == 0)
@@ -161,7 +161,7 @@ impl Conditions {
     }
 
     fn push(&mut self, line: u32, holds: bool) -> Result<(), Memory>
-        ensures { OnOk result (self.new ≡ opened_by line holds self.old ∷ self.old) }
+        ensures { OnOk result (self.new ≡ opened line holds self.old ∷ self.old) }
     {
         let outer = self.is_live();
         self.open.push_front(Condition {
@@ -176,7 +176,7 @@ impl Conditions {
 
     /// Goes over a statement with this word on this line, whose condition holds or doesn't.
     pub fn follow(&mut self, word: Option<CondWord>, line: u32, holds: bool) -> Result<(), Memory>
-        ensures { OnOk result (self.new ≡ levels_by word line holds self.old) }
+        ensures { OnOk result (self.new ≡ levels_after word line holds self.old) }
     {
         if opens(word) {
             return self.push(line, holds);

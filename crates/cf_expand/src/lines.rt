@@ -1,46 +1,24 @@
 ghost use Rattle.std.specs.Prelude.{◌≡◌, [], MatchOption, find};
 ghost use Rattle.std.specs.List.{position_or_len};
 ghost use Rattle.cf_words.specs.Words.{piece_of};
-ghost use Rattle.cf_grammar.specs.Statement.{AreWithin, IsWithin};
-ghost use Rattle.config_rules.specs.Cut.{is_stop, piece};
-ghost use Rattle.config_rules.specs.Form.{is_word};
-ghost use Rattle.config_rules.specs.Reading.{line_at};
-ghost use Rattle.cf_expand.specs.Conditions.{Begins, spelling};
-ghost use Rattle.cf_expand.specs.Lines.{Parts, line_of};
+ghost use Rattle.cf_grammar.specs.Statement.{AreWithin};
+ghost use Rattle.config_rules.specs.Cut.{is_stop};
+ghost use Rattle.config_rules.specs.Form.{condition_spelling, is_word};
+ghost use Rattle.config_rules.specs.Reading.{condition_of, line_at};
+ghost use Rattle.cf_expand.specs.Lines.{Parts, statement_of};
 
-use cf_types::{CondWord, Token, TokenKind};
+use cf_grammar::{condition_spelling, word_of};
+use cf_types::{CONDITION_WORDS, CondWord, Token, TokenKind};
 use cf_words::Word;
 
-const CONDITION_WORDS: [CondWord; 6] = [
-    CondWord::IfDef,
-    CondWord::IfNDef,
-    CondWord::ElifDef,
-    CondWord::ElifNDef,
-    CondWord::Else,
-    CondWord::EndIf,
-];
-
-fn spelling(word: CondWord) -> &'static [u8]
-    ensures { result.now ≡ spelling word }
-{
-    match word {
-        CondWord::IfDef => b"ifdef",
-        CondWord::IfNDef => b"ifndef",
-        CondWord::ElifDef => b"elifdef",
-        CondWord::ElifNDef => b"elifndef",
-        CondWord::Else => b"else",
-        CondWord::EndIf => b"endif",
-    }
-}
-
 fn spells(word: Word, condition: CondWord) -> bool
-    ensures { result ≡ is_word (spelling condition) (piece_of word.entry) }
+    ensures { result ≡ is_word (condition_spelling condition) (piece_of word.entry) }
 {
-    word.is_word(spelling(condition))
+    word.is_word(condition_spelling(condition))
 }
 
 fn condition_of(word: Word) -> Option<CondWord>
-    ensures { result ≡ find (λ condition. is_word (spelling condition) (piece_of word.entry)) CONDITION_WORDS }
+    ensures { result ≡ find (λ condition. is_word (condition_spelling condition) (piece_of word.entry)) CONDITION_WORDS }
 {
     CONDITION_WORDS
         .iter()
@@ -48,21 +26,10 @@ fn condition_of(word: Word) -> Option<CondWord>
         .find(|&condition| spells(word, condition))
 }
 
-/// A token with its bytes.
-pub fn word_of<'a>(text: &'a [u8], token: Token) -> Word<'a>
-    requires { IsWithin text.now token }
-    ensures { piece_of result ≡ piece text.now token }
-{
-    Word {
-        kind: token.kind,
-        text: &text[token.start as usize..token.end as usize],
-    }
-}
-
 /// The condition word with which a statement begins, if it does.
 pub fn condition_word(text: &[u8], tokens: &[Token]) -> Option<CondWord>
     requires { AreWithin text.now tokens.now }
-    ensures { Begins (line_of text.now tokens.now) result }
+    ensures { result ≡ condition_of (statement_of text.now tokens.now) }
 {
     match tokens {
         [first, ..] => condition_of(word_of(text, *first)),

@@ -1,5 +1,5 @@
 ghost use Rattle.std.specs.Prelude.{◌≡◌, ℕ, ◌+◌, ◌-◌, ◌≤◌, ◌<◌, IfOk, IfSome, OnOk, length};
-ghost use Rattle.config_rules.specs.Reading.{Files as Told, Line, include, nothing_read, read_first, reader};
+ghost use Rattle.config_rules.specs.Reading.{Files as Told, Statement, include, nothing_read, read_first, reader};
 ghost use Rattle.cf_expand.specs.Loaded.{IsLoaded, IsShort};
 ghost use Rattle.cf_expand.specs.Stop.{Counted};
 ghost use Rattle.cf_expand.specs.Steps.{IsBelow, WhereTold, entered, here_of, when_absent};
@@ -142,7 +142,7 @@ pub fn open_include<F: Files>(
     ensures told { F.told files.new ≡ F.told files.old }
     ensures counted { Counted (F.faults files.old) (F.faults files.new) result }
     ensures below { IfOk result (λ opened. IfSome opened (λ _. 1 ≤ source.now.levels) × IsBelow (source.now.room - length conditions.now) (source.now.levels - 1) opened) }
-    ensures read { WhereTold (F.told files.old) (λ named. IfOk result (λ opened. (around : ℕ) (s : Line) → s.number ≡ line
+    ensures read { WhereTold (F.told files.old) (λ named. IfOk result (λ opened. (around : ℕ) (s : Statement) → s.line ≡ line
         → entered named (around + length conditions.now) opened progress.new
         ≡ include named (reader source.now.levels named) (here_of around source.now) conditions.now s wanted.path wanted.optional progress.old)) }
 {

@@ -1,8 +1,8 @@
 ghost use Rattle.std.specs.Prelude.{◌≡◌, ℕ, ◌-◌, IfOk, IfSome, OnOk, Some};
 ghost use Rattle.cf_grammar.specs.Statement.{AreWithin};
 ghost use Rattle.config_rules.specs.Written.{AreWritten};
-ghost use Rattle.config_rules.specs.Reading.{nothing_read, read_end, read_line, reader, reading};
-ghost use Rattle.cf_expand.specs.Lines.{line_of};
+ghost use Rattle.config_rules.specs.Reading.{nothing_read, read_end, read_statement, reader, reading};
+ghost use Rattle.cf_expand.specs.Lines.{statement_of};
 ghost use Rattle.cf_expand.specs.Stop.{Counted};
 ghost use Rattle.cf_expand.specs.Steps.{WhereTold, entered, expanded, here_of};
 
@@ -35,7 +35,7 @@ fn read_end(
 
 /// Reads a statement, with the file that it includes.
 #[cycle(statements)]
-fn read_line<F: Files>(
+fn read_with_include<F: Files>(
     alloc: Global,
     files: &mut F,
     progress: &mut Progress,
@@ -47,7 +47,7 @@ fn read_line<F: Files>(
     ensures told { F.told files.new ≡ F.told files.old }
     ensures counted { Counted (F.faults files.old) (F.faults files.new) result }
     ensures read { WhereTold (F.told files.old) (λ named. OnOk result ((around : ℕ) → source.now.room ≡ 16 - around
-        → progress.new ≡ read_line named (reader source.now.levels named) (here_of around source.now) conditions.now (line_of source.now.text tokens.now) progress.old)) }
+        → progress.new ≡ read_statement named (reader source.now.levels named) (here_of around source.now) conditions.now (statement_of source.now.text tokens.now) progress.old)) }
 {
     let Some(wanted) = read_statement(alloc, progress, source, conditions, tokens)? else {
         return Ok(());
@@ -78,7 +78,7 @@ fn read_source<F: Files>(
     while let Some((statement, rest)) = first_statement(tokens) {
         let word = condition_word(source.text.items(), statement);
         let condition_holds = holds(progress, word, source.text.items(), statement);
-        read_line(alloc, files, progress, source, &conditions, statement)?;
+        read_with_include(alloc, files, progress, source, &conditions, statement)?;
         if progress.has_fault() {
             return Ok(());
         }

@@ -1,16 +1,15 @@
 ghost use Rattle.std.specs.Prelude.{◌≡◌, ℕ, ◌-◌, ◌<◌, IfOk, IfSome, OnOk, length};
 ghost use Rattle.cf_grammar.specs.Statement.{AreWithin};
-ghost use Rattle.config_rules.specs.Reading.{is_misplaced, is_placed, names_declared, read_line, read_placed, treat};
+ghost use Rattle.config_rules.specs.Reading.{condition_of, holds, is_misplaced, is_placed, names_declared, read_statement, read_placed, treat};
 ghost use Rattle.config_rules.specs.Written.{IsWritten};
-ghost use Rattle.cf_expand.specs.Conditions.{holds_by};
-ghost use Rattle.cf_expand.specs.Lines.{line_of};
+ghost use Rattle.cf_expand.specs.Lines.{statement_of};
 ghost use Rattle.cf_expand.specs.Steps.{Steps, here_of, turned};
 
 use crate::conditions::Conditions;
-use crate::lines::{condition_word, line_number, word_of};
+use crate::lines::{condition_word, line_number};
 use crate::progress::Progress;
 use crate::source::{Include, Source};
-use cf_grammar::{GrammarStop, statement};
+use cf_grammar::{GrammarStop, statement, word_of};
 use cf_types::code::configuration as code;
 use cf_types::{CondWord, Memory, Stmt, Text, Token};
 use std::alloc::Global;
@@ -20,7 +19,7 @@ const MAX_PLACED: usize = 65_536;
 
 fn names_declared(progress: &Progress, text: &[u8], tokens: &[Token]) -> bool
     requires { AreWithin text.now tokens.now }
-    ensures { result ≡ names_declared progress.now.placed (line_of text.now tokens.now) }
+    ensures { result ≡ names_declared progress.now.placed (statement_of text.now tokens.now) }
 {
     match tokens {
         [_, name, ..] => progress.is_declared(word_of(text, *name).text),
@@ -31,7 +30,7 @@ fn names_declared(progress: &Progress, text: &[u8], tokens: &[Token]) -> bool
 /// Whether the condition that a statement with this word names holds.
 pub fn holds(progress: &Progress, word: Option<CondWord>, text: &[u8], tokens: &[Token]) -> bool
     requires { AreWithin text.now tokens.now }
-    ensures { result ≡ holds_by word (names_declared progress.now.placed (line_of text.now tokens.now)) }
+    ensures { result ≡ holds word (names_declared progress.now.placed (statement_of text.now tokens.now)) }
 {
     match word {
         Some(CondWord::IfDef | CondWord::ElifDef) => names_declared(progress, text, tokens),
@@ -43,14 +42,14 @@ pub fn holds(progress: &Progress, word: Option<CondWord>, text: &[u8], tokens: &
 
 fn is_placed(source: &Source, conditions: &Conditions, tokens: &[Token]) -> bool
     requires { AreWithin source.now.text tokens.now }
-    ensures { result ≡ is_placed conditions.now (line_of source.now.text tokens.now) }
+    ensures { result ≡ is_placed (condition_of (statement_of source.now.text tokens.now)) conditions.now }
 {
     conditions.is_placed(condition_word(source.text.items(), tokens))
 }
 
 fn is_misplaced(source: &Source, conditions: &Conditions, tokens: &[Token]) -> bool
     requires { AreWithin source.now.text tokens.now }
-    ensures { (around : ℕ) → source.now.room ≡ 16 - around → result ≡ is_misplaced around conditions.now (line_of source.now.text tokens.now) }
+    ensures { (around : ℕ) → source.now.room ≡ 16 - around → result ≡ is_misplaced (16 - around) (condition_of (statement_of source.now.text tokens.now)) conditions.now }
 {
     conditions.is_misplaced(source.room, condition_word(source.text.items(), tokens))
 }
@@ -63,7 +62,7 @@ fn turn_prefix(
     path: Option<Text>,
 ) -> Result<(), Memory>
     requires { length progress.old.placed < 65536 }
-    ensures { OnOk result ((around : ℕ) → progress.new ≡ turned (here_of around source.now) (line_of source.now.text tokens.now) path progress.old) }
+    ensures { OnOk result ((around : ℕ) → progress.new ≡ turned (here_of around source.now) (statement_of source.now.text tokens.now) path progress.old) }
 {
     let line = line_number(tokens);
     match path {
@@ -92,7 +91,7 @@ fn treat(
     requires few { length progress.old.placed < 65536 }
     requires written { IsWritten stmt }
     ensures few { IfOk result (λ wanted. IfSome wanted (λ _. length progress.new.placed < 65536)) }
-    ensures steps { Steps source.now conditions.now (line_of source.now.text tokens.now) (λ files below here. treat files below here conditions.now (line_of source.now.text tokens.now) stmt progress.old) result progress.new }
+    ensures steps { Steps source.now conditions.now (statement_of source.now.text tokens.now) (λ files below here. treat files below here conditions.now (statement_of source.now.text tokens.now) stmt progress.old) result progress.new }
 {
     let line = line_number(tokens);
     match stmt {
@@ -118,10 +117,15 @@ fn read_placed(
 ) -> Result<Option<Include>, Memory>
     requires { AreWithin source.now.text tokens.now }
     ensures few { IfOk result (λ wanted. IfSome wanted (λ _. length progress.new.placed < 65536)) }
-    ensures steps { Steps source.now conditions.now (line_of source.now.text tokens.now) (λ files below here. read_placed files below here conditions.now (line_of source.now.text tokens.now) progress.old) result progress.new }
+    ensures steps { Steps source.now conditions.now (statement_of source.now.text tokens.now) (λ files below here. read_placed files below here conditions.now (statement_of source.now.text tokens.now) progress.old) result progress.new }
 {
     if progress.placed_len() >= MAX_PLACED {
-        progress.refuse(alloc, source.name.items(), line_number(tokens), code::TOO_MANY_STATEMENTS)?;
+        progress.refuse(
+            alloc,
+            source.name.items(),
+            line_number(tokens),
+            code::TOO_MANY_STATEMENTS,
+        )?;
         return Ok(None);
     }
     match statement(alloc, source.text.items(), tokens) {
@@ -144,7 +148,7 @@ pub fn read_statement(
 ) -> Result<Option<Include>, Memory>
     requires { AreWithin source.now.text tokens.now }
     ensures few { IfOk result (λ wanted. IfSome wanted (λ _. length progress.new.placed < 65536)) }
-    ensures steps { Steps source.now conditions.now (line_of source.now.text tokens.now) (λ files below here. read_line files below here conditions.now (line_of source.now.text tokens.now) progress.old) result progress.new }
+    ensures steps { Steps source.now conditions.now (statement_of source.now.text tokens.now) (λ files below here. read_statement files below here conditions.now (statement_of source.now.text tokens.now) progress.old) result progress.new }
 {
     if is_placed(source, conditions, tokens) {
         return read_placed(alloc, progress, source, conditions, tokens);

@@ -2,31 +2,24 @@
 use Rattle.std.proofs.Common.{◌≡◌, ◌∙◌, ◌+◌, ◌<◌, ◌≤◌, ℕ, Bool, true, false, ◌||◌, ◌&&◌, List, [], ◌∷◌, length, get_or, map, take, drop, ◌-◌, Option, Some, None, refl, sym, ap, arith}
 use Rattle.std.specs.Prelude.{is_none}
 use Rattle.std.proofs.lemmas.List.{drop-drop}
+use Rattle.std.proofs.Math.Bool.{or-false, and-false}
 use Rattle.cf_types.specs.declared.stmt.Piece.{Piece}
 use Rattle.config_rules.specs.Form.{has_named_text, has_text_or_size, is_chunk, is_left_out, is_text, may_name_locator, row_of, table}
 use Rattle.cf_words.proofs.ListLemmas.{map_first_rest}
-use Rattle.cf_grammar.specs.declared.keyword.Keyword.{Keyword}
+use Rattle.cf_types.specs.declared.keyword.Keyword.{Keyword}
 use Rattle.cf_grammar.proofs.FormLemmas.{keyword_in, row_is}
 use Rattle.cf_grammar.specs.LeftOut.{begins_named_text, begins_text_or_size, is_left_out_statement}
 
-and_false : (b : Bool) → (b && false) ≡ false
-and_false true = refl
-and_false false = refl
-
-or_false : (b : Bool) → (b || false) ≡ b
-or_false true = refl
-or_false false = refl
-
 named_here : (ps : List Piece) → has_named_text ps ≡ (begins_named_text ps || has_named_text (drop 1 ps))
 named_here [] = refl
-named_here (p ∷ []) = sym (or_false (may_name_locator p && false) ∙ and_false (may_name_locator p))
+named_here (p ∷ []) = sym (or-false (may_name_locator p && false) ∙ and-false (may_name_locator p))
 named_here (p ∷ q ∷ ps) = refl
 
 sized_here : (ps : List Piece) → has_text_or_size ps ≡ (begins_text_or_size ps || has_text_or_size (drop 1 ps))
 sized_here [] = refl
-sized_here (p ∷ []) = sym (or_false (may_name_locator p && false) ∙ and_false (may_name_locator p))
+sized_here (p ∷ []) = sym (or-false (may_name_locator p && false) ∙ and-false (may_name_locator p))
 sized_here (p ∷ q ∷ []) = refl
-sized_here (p ∷ q ∷ r ∷ ps) = rw (or_false (is_text r)) refl
+sized_here (p ∷ q ∷ r ∷ ps) = rw (or-false (is_text r)) refl
 
 -- a test of a list that holds where it holds at the beginning, or of the rest
 at_place : (here : List Piece → Bool) (has : List Piece → Bool) → ((ps : List Piece) → has ps ≡ (here ps || has (drop 1 ps)))

@@ -4,11 +4,10 @@ use Rattle.std.specs.Prelude.{find, nat_le, option_map}
 use Rattle.std.specs.List.{list_all}
 use Rattle.cf_types.specs.declared.stmt.Piece.{Piece}
 use Rattle.cf_types.specs.declared.stmt.Stmt.{Stmt}
-use Rattle.config_rules.specs.Form.{form_of, inst_stmt, is_word, row_of, table}
+use Rattle.config_rules.specs.Form.{form_by, form_of, inst_stmt, is_word, row_by, row_of, spelling_of, table}
 use Rattle.cf_words.proofs.ListLemmas.{map_first_rest}
-use Rattle.cf_grammar.specs.declared.keyword.Keyword.{Keyword}
-use Rattle.cf_grammar.specs.declared.keyword.TheConstants.{KEYWORDS}
-use Rattle.cf_grammar.specs.Keyword.{form_by, row_by, spelling_of}
+use Rattle.cf_types.specs.declared.keyword.Keyword.{Keyword}
+use Rattle.cf_types.specs.declared.keyword.TheConstants.{KEYWORDS}
 use Rattle.cf_grammar.proofs.KeywordLemmas.{row_found, table_is}
 
 abbrev pub keyword_in : Piece → Option Keyword

@@ -2,10 +2,9 @@
 use Rattle.std.proofs.Common.{◌≡◌, Bool, true, false, cond, Some, List, [], ◌∷◌, map, refl}
 use Rattle.std.specs.Prelude.{find, option_map}
 use Rattle.cf_types.specs.declared.stmt.Piece.{Piece}
-use Rattle.config_rules.specs.Form.{is_word, row_of, table}
-use Rattle.cf_grammar.specs.declared.keyword.Keyword.{Keyword}
-use Rattle.cf_grammar.specs.declared.keyword.TheConstants.{KEYWORDS}
-use Rattle.cf_grammar.specs.Keyword.{row_by, spelling_of}
+use Rattle.config_rules.specs.Form.{is_word, row_by, row_of, spelling_of, table}
+use Rattle.cf_types.specs.declared.keyword.Keyword.{Keyword}
+use Rattle.cf_types.specs.declared.keyword.TheConstants.{KEYWORDS}
 
 pub table_is : table ≡ map row_by KEYWORDS
 unfolding table

@@ -1,6 +1,5 @@
 pub mod Define
 pub mod Items
-pub mod Keyword
 pub mod LeftOut
 pub mod Negation
 pub mod Pairs

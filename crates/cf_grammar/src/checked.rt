@@ -1,10 +1,9 @@
 ghost use Rattle.std.specs.Prelude.{◌≡◌, ◌||◌, ◌&&◌, ◌==◌, IfOk, codes, is_some, length, map, true};
-ghost use Rattle.config_rules.specs.Form.{alone, are_chunks, are_values, checked, each, is_config, is_word, name_of, name_row, path_of, pseudo_stmt, value_of};
+ghost use Rattle.config_rules.specs.Form.{alone, are_chunks, are_values, checked, each, form_by, free_form, is_config, is_word, name_of, name_row, path_of, pseudo_stmt, spelling_of, value_of};
 ghost use Rattle.cf_words.specs.Words.{piece_of};
-ghost use Rattle.cf_grammar.specs.Keyword.{form_by, free_form, spelling_of};
 
-use crate::keyword::{Keyword, spelling};
-use cf_types::{List, Memory, Name, Piece, Stmt, Text};
+use crate::keyword::spelling;
+use cf_types::{Keyword, List, Memory, Name, Piece, Stmt, Text};
 use cf_words::{Word, count_of, is_name_word, is_path_word, name_of, value_of};
 use std::alloc::Global;
 

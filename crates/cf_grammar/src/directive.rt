@@ -1,5 +1,5 @@
 ghost use Rattle.std.specs.Prelude.{◌≡◌, IfOk, map, option_map};
-ghost use Rattle.config_rules.specs.Form.{alone, cond_stmt, cond_word, name_of, names_of, path_of, prefix_stmt};
+ghost use Rattle.config_rules.specs.Form.{alone, cond_form, cond_stmt, cond_word, name_of, names_of, path_of, prefix_stmt};
 ghost use Rattle.cf_words.specs.Words.{piece_of};
 
 use cf_types::{CondWord, Memory, Stmt};
@@ -30,11 +30,7 @@ pub fn prefix(alloc: Global, words: &[Word]) -> Result<Option<Stmt>, Memory>
 }
 
 /// `ifdef` and its kin: the name of an attribute or a device.
-pub fn named_condition(
-    alloc: Global,
-    word: CondWord,
-    words: &[Word],
-) -> Result<Option<Stmt>, Memory>
+fn named_condition(alloc: Global, word: CondWord, words: &[Word]) -> Result<Option<Stmt>, Memory>
     ensures { IfOk result (λ s. s ≡ cond_stmt word (map piece_of words.now)) }
 {
     match alone_name(alloc, words)? {
@@ -47,13 +43,25 @@ pub fn named_condition(
 }
 
 /// `else` or `endif`, which stand alone.
-pub fn bare_condition(word: CondWord, words: &[Word]) -> Option<Stmt>
+fn bare_condition(word: CondWord, words: &[Word]) -> Option<Stmt>
     ensures { result ≡ cond_word word (map piece_of words.now) }
 {
     if words.is_empty() {
         Some(Stmt::Cond { word, name: None })
     } else {
         None
+    }
+}
+
+/// A condition word and what stands behind it.
+pub fn condition(alloc: Global, word: CondWord, words: &[Word]) -> Result<Option<Stmt>, Memory>
+    ensures { IfOk result (λ s. s ≡ cond_form word (map piece_of words.now)) }
+{
+    match word {
+        CondWord::IfDef | CondWord::IfNDef | CondWord::ElifDef | CondWord::ElifNDef => {
+            named_condition(alloc, word, words)
+        }
+        CondWord::Else | CondWord::EndIf => Ok(bare_condition(word, words)),
     }
 }
 

@@ -1,18 +1,17 @@
 ghost use Rattle.std.specs.Prelude.{◌≡◌, IfOk, length, map, nat_le};
 ghost use Rattle.std.specs.List.{list_all};
-ghost use Rattle.config_rules.specs.Form.{form_of};
+ghost use Rattle.config_rules.specs.Form.{form_by, form_of};
 ghost use Rattle.cf_words.specs.Words.{piece_of};
-ghost use Rattle.cf_grammar.specs.Keyword.{form_by};
 
 use crate::attach::attach;
 use crate::checked::{config, free, ident, machine, max_partitions, max_users, pseudo_device};
 use crate::define::{Defines, defining, device};
-use crate::directive::{bare_condition, class, file_systems, include, named_condition, prefix};
+use crate::directive::{class, condition, file_systems, include, prefix};
 use crate::instance::instance;
 use crate::item::{make_options, options};
-use crate::keyword::{Keyword, keyword_of};
+use crate::keyword::keyword_of;
 use crate::negation::negation;
-use cf_types::{CondWord, Memory, Stmt};
+use cf_types::{Keyword, Memory, Stmt};
 use cf_words::Word;
 use std::alloc::Global;
 
@@ -39,12 +38,7 @@ fn by_keyword(
         Keyword::Include => include(alloc, false, words),
         Keyword::CInclude => include(alloc, true, words),
         Keyword::Prefix => prefix(alloc, words),
-        Keyword::IfDef => named_condition(alloc, CondWord::IfDef, words),
-        Keyword::IfNDef => named_condition(alloc, CondWord::IfNDef, words),
-        Keyword::ElifDef => named_condition(alloc, CondWord::ElifDef, words),
-        Keyword::ElifNDef => named_condition(alloc, CondWord::ElifNDef, words),
-        Keyword::Else => Ok(bare_condition(CondWord::Else, words)),
-        Keyword::EndIf => Ok(bare_condition(CondWord::EndIf, words)),
+        Keyword::Condition(word) => condition(alloc, word, words),
         Keyword::Define => defining(alloc, sized, Defines::Attribute, words),
         Keyword::DevClass => class(alloc, words),
         Keyword::DefPseudo => defining(alloc, sized, Defines::PseudoDevice, words),

@@ -44,7 +44,8 @@ impl From<AllocError> for GrammarStop {
     }
 }
 
-fn word_of<'a>(text: &'a [u8], token: Token) -> Word<'a>
+/// A token with its bytes.
+pub fn word_of<'a>(text: &'a [u8], token: Token) -> Word<'a>
     requires { IsWithin text.now token }
     ensures { piece_of result ≡ piece text.now token }
 {

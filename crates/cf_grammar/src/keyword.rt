@@ -1,80 +1,25 @@
 ghost use Rattle.std.specs.Prelude.{◌≡◌, ◌≤◌, find, length};
-ghost use Rattle.config_rules.specs.Form.{is_word};
+ghost use Rattle.config_rules.specs.Form.{condition_spelling, is_word, spelling_of};
 ghost use Rattle.cf_words.specs.Words.{piece_of};
-ghost use Rattle.cf_grammar.specs.Keyword.{spelling_of};
 
+use cf_types::{CondWord, KEYWORDS, Keyword};
 use cf_words::Word;
 
-/// A word with which a statement begins.
-#[derive(Clone, Copy)]
-pub enum Keyword {
-    Include,
-    CInclude,
-    Prefix,
-    IfDef,
-    IfNDef,
-    ElifDef,
-    ElifNDef,
-    Else,
-    EndIf,
-    Define,
-    DevClass,
-    DefPseudo,
-    Device,
-    Attach,
-    No,
-    Options,
-    MakeOptions,
-    FileSystem,
-    PseudoDevice,
-    MaxUsers,
-    MaxPartitions,
-    Machine,
-    Ident,
-    Config,
-    DefFlag,
-    DefParam,
-    DefFs,
-    File,
-    DeviceMajor,
-    Version,
-    Obsolete,
+/// How a condition word is written, in at most 80 bytes.
+pub fn condition_spelling(word: CondWord) -> &'static [u8]
+    ensures bytes { result.now ≡ condition_spelling word }
+    ensures not_empty { 1 ≤ length result.now }
+    ensures not_long { length result.now ≤ 80 }
+{
+    match word {
+        CondWord::IfDef => b"ifdef",
+        CondWord::IfNDef => b"ifndef",
+        CondWord::ElifDef => b"elifdef",
+        CondWord::ElifNDef => b"elifndef",
+        CondWord::Else => b"else",
+        CondWord::EndIf => b"endif",
+    }
 }
-
-/// All words with which statements begin; any other first word is that of an instance.
-pub const KEYWORDS: [Keyword; 31] = [
-    Keyword::Include,
-    Keyword::CInclude,
-    Keyword::Prefix,
-    Keyword::IfDef,
-    Keyword::IfNDef,
-    Keyword::ElifDef,
-    Keyword::ElifNDef,
-    Keyword::Else,
-    Keyword::EndIf,
-    Keyword::Define,
-    Keyword::DevClass,
-    Keyword::DefPseudo,
-    Keyword::Device,
-    Keyword::Attach,
-    Keyword::No,
-    Keyword::Options,
-    Keyword::MakeOptions,
-    Keyword::FileSystem,
-    Keyword::PseudoDevice,
-    Keyword::MaxUsers,
-    Keyword::MaxPartitions,
-    Keyword::Machine,
-    Keyword::Ident,
-    Keyword::Config,
-    Keyword::DefFlag,
-    Keyword::DefParam,
-    Keyword::DefFs,
-    Keyword::File,
-    Keyword::DeviceMajor,
-    Keyword::Version,
-    Keyword::Obsolete,
-];
 
 /// How a keyword is written, in at most 80 bytes.
 pub fn spelling(keyword: Keyword) -> &'static [u8]
@@ -86,12 +31,7 @@ pub fn spelling(keyword: Keyword) -> &'static [u8]
         Keyword::Include => b"include",
         Keyword::CInclude => b"cinclude",
         Keyword::Prefix => b"prefix",
-        Keyword::IfDef => b"ifdef",
-        Keyword::IfNDef => b"ifndef",
-        Keyword::ElifDef => b"elifdef",
-        Keyword::ElifNDef => b"elifndef",
-        Keyword::Else => b"else",
-        Keyword::EndIf => b"endif",
+        Keyword::Condition(word) => condition_spelling(word),
         Keyword::Define => b"define",
         Keyword::DevClass => b"devclass",
         Keyword::DefPseudo => b"defpseudo",

@@ -13,4 +13,5 @@ mod item;
 mod keyword;
 mod negation;
 
-pub use grammar::{GrammarStop, statement};
+pub use grammar::{GrammarStop, statement, word_of};
+pub use keyword::condition_spelling;

@@ -1,8 +1,9 @@
 ghost use Rattle.std.specs.Prelude.{◌≡◌, ◌+◌, ◌==◌, ◌&&◌, slice_index, ◌≤◌, length, drop, take_while, Some, IfOk};
 ghost use Rattle.std.specs.List.{prefix_len};
-ghost use Rattle.config_rules.specs.Cut.{is_space, is_chunk_byte, is_text_byte, is_mark_byte, quoted_part};
+ghost use Rattle.config_rules.specs.Cut.{is_chunk_byte, is_text_byte, is_mark_byte, quoted_part};
 ghost use Rattle.cf_lexer.specs.Front.{IsWithin, front, front_at, front_result, span};
 
+use cf_text::is_space;
 use cf_types::TokenKind;
 use cf_types::code::configuration as code;
 
@@ -19,12 +20,6 @@ pub struct Span {
 pub struct Front {
     pub len: usize,
     pub token: Option<Span>,
-}
-
-pub fn is_space(byte: u8) -> bool
-    ensures { result ≡ is_space byte }
-{
-    byte == b' ' || byte == b'\t'
 }
 
 fn is_chunk_byte(byte: u8) -> bool

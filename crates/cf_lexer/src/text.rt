@@ -2,8 +2,8 @@ ghost use Rattle.std.specs.Prelude.{◌≡◌, ◌++◌, ◌≤◌, cond, length
 ghost use Rattle.config_rules.specs.Cut.{Cut, cut_of, stop_behind};
 ghost use Rattle.cf_lexer.specs.Line.{begins, IsFaultOf, Shows};
 
-use crate::front::is_space;
 use crate::line::{LexStop, cut_line};
+use cf_text::is_space;
 use cf_types::{List, Memory as NoMemory, Token, TokenKind};
 use std::alloc::Global;
 

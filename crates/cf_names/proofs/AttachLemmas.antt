@@ -3,6 +3,7 @@ use Rattle.std.proofs.Common.{◌≡◌, ℕ, ◌+◌, ◌<◌, ◌≤◌, suc, 
 use Rattle.std.specs.Prelude.{◌==◌, if◌then◌else◌, All, filter_map}
 use Rattle.std.specs.List.{cons_option, enumerate_from}
 use Rattle.std.proofs.lemmas.List.Elements.{All-cons, All-nil}
+use Rattle.cf_types.proofs.ListLemmas.{all_below_more}
 use Rattle.cf_types.specs.declared.tables.Attach.{Attach}
 use Rattle.cf_names.specs.Attaches.{attaches_of}
 
@@ -12,9 +13,6 @@ numbers_from n attaches device = filter_map (λ a. if a.1.device == device then 
 
 -- ---- within
 
-below_more : (xs : List ℕ) (n m : ℕ) → n ≤ m → All (λ k. k < n) xs → All (λ k. k < m) xs
-below_more xs n m h below k x p = let q : get_or xs k x < n = below k x p in omega arith
-
 within_if : (b : Bool) (n m : ℕ) (xs : List ℕ) → n < m → All (λ k. k < m) xs → All (λ k. k < m) (cons_option (if b then Some n else None) xs)
 within_if true n m xs h all = All-cons (λ k. k < m) n xs h all
 within_if false n m xs h all = all
@@ -23,11 +21,11 @@ within_from : (n : ℕ) (attaches : List Attach) (device : ℕ) → All (λ k. k
 within_from n [] device = All-nil (λ k. k < n + 0)
 within_from n (a ∷ attaches) device =
     within_if (a.device == device) n (n + suc (length attaches)) (numbers_from (n + 1) attaches device) (omega arith)
-    (below_more (numbers_from (n + 1) attaches device) (n + 1 + length attaches) (n + suc (length attaches)) (omega arith) (within_from (n + 1) attaches device))
+    (all_below_more (numbers_from (n + 1) attaches device) (n + 1 + length attaches) (n + suc (length attaches)) (omega arith) (within_from (n + 1) attaches device))
 
 -- each is the number of an attachment
 pub numbers_within : (attaches : List Attach) (device : ℕ) → All (λ n. n < length attaches) (attaches_of attaches device)
-numbers_within attaches device = below_more (attaches_of attaches device) (0 + length attaches) (length attaches) (omega arith) (within_from 0 attaches device)
+numbers_within attaches device = all_below_more (attaches_of attaches device) (0 + length attaches) (length attaches) (omega arith) (within_from 0 attaches device)
 
 -- ---- one more attachment
 

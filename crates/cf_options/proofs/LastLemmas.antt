@@ -2,10 +2,11 @@
 use Rattle.std.proofs.Common.{◌≡◌, ℕ, ◌+◌, ◌<◌, ◌≤◌, ◌||◌, Bool, true, false, cond, Option, Some, None, List, [], ◌∷◌, length, get_or, take, drop, refl, ap, sym, ◌∙◌, arith, inl, inr}
 use Rattle.std.specs.Prelude.{bytes_eq, nat_lt}
 use Rattle.std.specs.List.{list_any}
-use Rattle.std.proofs.lemmas.Bool.{cases_lt}
+use Rattle.std.proofs.lemmas.Bool.{cases_lt, lt-ltb, le-ltb}
 use Rattle.std.proofs.lemmas.Bool.Decides.{nat_tests}
 use Rattle.std.proofs.lemmas.List.{drop_all, take_more, length-take-le, drop-append-le}
 use Rattle.std.proofs.lemmas.List.Folds.{list_any-append}
+use Rattle.std.proofs.Math.Bool.{or-false, or-true}
 use Rattle.config_rules.specs.Select.{has_name}
 use Rattle.cf_options.specs.Last.{is_behind}
 
@@ -24,27 +25,13 @@ names_more names i name q value old now next h is so_far new =
     new ∙ ap (λ o. cond (bytes_eq name q) value o) so_far ∙ cond_or (has_name (take i names) q) (bytes_eq name q) value old
     ∙ ap (λ n. cond (has_name (take i names) q || (bytes_eq n q || false)) value old) is ∙ ap (λ b. cond b value old) (sym more)
 
-or_true : (a : Bool) → (a || true) ≡ true
-or_true true = refl
-or_true false = refl
-
-or_false : (a : Bool) → (a || false) ≡ a
-or_false true = refl
-or_false false = refl
-
 behind_more : (i n : ℕ) (old : Option ℕ) (t a : Bool) → nat_lt i n ≡ true → is_behind i old ≡ a → is_behind i (cond t (Some n) old) ≡ (a || (t || false))
-behind_more i n old true a h e = h ∙ sym (or_true a)
-behind_more i n old false a h e = e ∙ sym (or_false a)
+behind_more i n old true a h e = h ∙ sym (or-true a)
+behind_more i n old false a h e = e ∙ sym (or-false a)
 
 behind_none : (i n : ℕ) (old : Option ℕ) (t : Bool) → nat_lt i n ≡ false → is_behind i old ≡ false → is_behind i (cond t (Some n) old) ≡ false
 behind_none i n old true h e = h
 behind_none i n old false h e = e
-
-lt_true : (i n : ℕ) → i < n → nat_lt i n ≡ true
-lt_true i n h = grind (arith, nat_tests)
-
-lt_false : (i n : ℕ) → n ≤ i → nat_lt i n ≡ false
-lt_false i n h = grind (arith, nat_tests)
 
 -- one more statement
 pub last_more : {X : Type 0} (test : X → Bool) (placed : List X) (n : ℕ) (p : X) (i : ℕ) (old new : Option ℕ) → n < length placed → p ≡ get_or placed n p
@@ -58,11 +45,11 @@ last_more test placed n p i old new h is so_far e =
           let more : list_any test (drop (i + 1) (take (n + 1) placed)) ≡ (list_any test (drop (i + 1) (take n placed)) || (test p || false)) =
           ap (λ xs. list_any test (drop (i + 1) xs)) (take_more placed n p h) ∙ ap (list_any test) (drop-append-le (i + 1) (take n placed) (get_or placed n p ∷ []) front)
           ∙ list_any-append test (drop (i + 1) (take n placed)) (get_or placed n p ∷ []) ∙ ap (λ x. list_any test (drop (i + 1) (take n placed)) || (test x || false)) (sym is) in
-          ap (is_behind i) e ∙ behind_more i n old (test p) (list_any test (drop (i + 1) (take n placed))) (lt_true i n less) so_far ∙ sym more)
+          ap (is_behind i) e ∙ behind_more i n old (test p) (list_any test (drop (i + 1) (take n placed))) (lt-ltb i n less) so_far ∙ sym more)
       | inr past ↦ (
           let k : length (take n placed) ≤ i + 1 = omega arith in
           let m : length (take (n + 1) placed) ≤ i + 1 = omega arith in
-          ap (is_behind i) e ∙ behind_none i n old (test p) (lt_false i n (omega arith)) (so_far ∙ ap (list_any test) (drop_all (i + 1) (take n placed) k))
+          ap (is_behind i) e ∙ behind_none i n old (test p) (le-ltb i n (omega arith)) (so_far ∙ ap (list_any test) (drop_all (i + 1) (take n placed) k))
           ∙ sym (ap (list_any test) (drop_all (i + 1) (take (n + 1) placed) m)))
     ]
 

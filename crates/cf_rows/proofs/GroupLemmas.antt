@@ -3,7 +3,7 @@ use Rattle.std.proofs.Common.{◌≡◌, ◌≢◌, ℕ, zero, suc, ◌+◌, ◌
 use Rattle.std.specs.Prelude.{◌==◌, flat_map}
 use Rattle.std.specs.List.{filter_map, cons_option}
 use Rattle.std.specs.Borrow.{Bor}
-use Rattle.std.proofs.lemmas.Bool.{eq-eqb}
+use Rattle.std.proofs.lemmas.Bool.{eq-eqb, or_right, or_from, or_parts}
 use Rattle.std.proofs.lemmas.Bool.Decides.{nat_tests}
 use Rattle.std.proofs.lemmas.List.Elements.{filter-append, filter_map-append}
 use Rattle.cf_types.specs.declared.instance.Instance.{Instance}
@@ -18,24 +18,17 @@ use Rattle.cf_rows.specs.Rows.{seen, of_unit, units_of, AreGroups}
 
 -- ---- places in a list of numbers
 
-or_true : (a b : Bool) → b ≡ true → (a || b) ≡ true
-or_true true b h = refl
-or_true false b h = h
-
-or_false : (a b : Bool) → a ≡ false → b ≡ false → (a || b) ≡ false
-or_false a b e h = rw (e, h) refl
-
 pub differ : (x u : ℕ) → x ≢ u → (x == u) ≡ false
 differ x u h = grind (arith, nat_tests)
 
 in_at : (k : ℕ) (xs : List ℕ) → k < length xs → is_in (get_or xs k 0) xs ≡ true
 in_at k [] h = absurd (omega arith)
 in_at zero (x ∷ xs) h = ap (λ b. b || is_in x xs) (eq-eqb x x refl)
-in_at (suc k) (x ∷ xs) h = or_true (x == get_or xs k 0) _ (in_at k xs (omega arith))
+in_at (suc k) (x ∷ xs) h = or_right (x == get_or xs k 0) _ (in_at k xs (omega arith))
 
 not_in : (u : ℕ) (xs : List ℕ) → ((k : ℕ) → k < length xs → get_or xs k 0 ≢ u) → is_in u xs ≡ false
 not_in u [] h = refl
-not_in u (x ∷ xs) h = or_false (x == u) (is_in u xs) (differ x u (h 0 (omega arith))) (not_in u xs (λ k p e. h (suc k) (omega arith) e))
+not_in u (x ∷ xs) h = or_from (x == u) (is_in u xs) (differ x u (h 0 (omega arith))) (not_in u xs (λ k p e. h (suc k) (omega arith) e))
 
 front_at : {X : Type 0} (xs ys : List X) (k : ℕ) (d : X) → k < length xs → get_or (xs ++ ys) k d ≡ get_or xs k d
 front_at [] ys k d h = absurd (omega arith)
@@ -89,14 +82,10 @@ units_fixed insts i u b h is =
 none_there : (b : Bool) (x : Instance) (xs : List Instance) (u : ℕ) → same_mark x.mark (Fixed u) ≡ b → b ≡ false → of_unit xs u ≡ [] → of_unit (x ∷ xs) u ≡ []
 none_there b x xs u is e h = ap (λ c. cond c (x ∷ of_unit xs u) (of_unit xs u)) (is ∙ e) ∙ h
 
-left_false : (a b : Bool) → (a || b) ≡ false → (a ≡ false) × (b ≡ false)
-left_false true b h = absurd (cc)
-left_false false b h = (refl, h)
-
 no_unit_at : (o : Option ℕ) (x : Instance) (xs : List Instance) (u : ℕ) → unit_of x ≡ o → is_in u (cons_option o (filter_map unit_of xs)) ≡ false → (is_in u (filter_map unit_of xs) ≡ false → of_unit xs u ≡ []) → of_unit (x ∷ xs) u ≡ []
 no_unit_at None x xs u is h ih = none_there false x xs u (test_star x x.mark u refl is) refl (ih h)
 no_unit_at (Some v) x xs u is h ih =
-    let both = left_false (v == u) (is_in u (filter_map unit_of xs)) h in
+    let both = or_parts (v == u) (is_in u (filter_map unit_of xs)) h in
     none_there (v == u) x xs u (test_fixed x x.mark v u refl is) both.0 (ih both.1)
 
 -- a unit that isn't there has no instances

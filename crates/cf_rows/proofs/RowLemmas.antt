@@ -2,7 +2,7 @@
 use Rattle.std.proofs.Common.{◌≡◌, ℕ, zero, suc, ◌+◌, ◌<◌, ◌≤◌, max, Bool, true, false, cond, Option, Some, None, List, [], ◌∷◌, ◌++◌, length, get_or, take, map, refl, ap, sym, ◌∙◌, subst, arith, All, append-nil, append_assoc, add-one}
 use Rattle.std.specs.Prelude.{◌==◌, filter, flat_map, IfSome, is_none}
 use Rattle.std.specs.List.{filter_map, cons_option}
-use Rattle.std.proofs.lemmas.List.{take_more, map-append, length-map}
+use Rattle.std.proofs.lemmas.List.{take_more, map-append, length-map, get_or_default}
 use Rattle.std.proofs.lemmas.List.Elements.{filter-append, filter_map-append, All-filter}
 use Rattle.std.proofs.lemmas.List.Sums.{fold-append}
 use Rattle.std.proofs.lemmas.Grind.{flat_map-append}
@@ -28,12 +28,6 @@ empty_more (x ∷ lists) more (suc d) h e = empty_more lists more d (λ k. h (su
 pub seen_more : (refs : List (Bor Instance)) (i : ℕ) (r : Bor Instance) → i < length refs → r ≡ get_or refs i r → seen (take (i + 1) refs) ≡ seen (take i refs) ++ r.now ∷ []
 seen_more refs i r p is =
     ap seen (take_more refs i r p) ∙ map-append (λ (x : Bor Instance). x.now) (take i refs) (get_or refs i r ∷ []) ∙ ap (λ (x : Bor Instance). seen (take i refs) ++ x.now ∷ []) (sym is)
-
--- an element that is there is the same with another default
-pub same_default : {X : Type 0} (xs : List X) (k : ℕ) (c d : X) → k < length xs → get_or xs k c ≡ get_or xs k d
-same_default [] k c d h = absurd (omega arith)
-same_default (x ∷ xs) zero c d h = refl
-same_default (x ∷ xs) (suc k) c d h = same_default xs k c d (omega arith)
 
 -- one more of those that are grouped
 pub more_groups : (own : List (Bor Instance)) (i : ℕ) (r : Bor Instance) (groups : List (List (Bor Instance))) (place : ℕ → Option ℕ) → i < length own → r ≡ get_or own i r → AreGroups (seen (take i own) ++ r.now ∷ []) groups place → AreGroups (seen (take (i + 1) own)) groups place
@@ -120,7 +114,7 @@ pub seen_groups : (groups : List (List (Bor Instance))) (i : ℕ) (ordered order
 seen_groups groups i ordered ordered' group p is so_far new =
     ap seen new ∙ map-append (λ (x : Bor Instance). x.now) ordered group
     ∙ flat_map_step seen groups i [] [] (seen ordered) (seen ordered ++ seen group) p so_far
-    (ap (λ (g : List (Bor Instance)). seen ordered ++ seen g) (is ∙ same_default groups i group [] p))
+    (ap (λ (g : List (Bor Instance)). seen ordered ++ seen g) (is ∙ get_or_default groups i group [] p))
 
 -- the row of one more instance
 pub row_step : (f : Instance → Row) (ordered : List (Bor Instance)) (i : ℕ) (r : Bor Instance) (first rows rows' : List Row) → i < length ordered → r ≡ get_or ordered i r → rows ≡ first ++ map f (seen (take i ordered)) → rows' ≡ rows ++ f r.now ∷ []

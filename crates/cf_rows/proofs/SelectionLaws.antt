@@ -4,7 +4,7 @@ use Rattle.std.proofs.Common.{◌≡◌, ℕ, zero, suc, ◌+◌, ◌<◌, ◌�
 use Rattle.std.specs.Prelude.{AllPairs, ℤ, Option, Some, None, Result, Ok, Err, not, replicate}
 use Rattle.std.specs.Option.{option_map_or}
 use Rattle.std.proofs.lemmas.List.Kept.{AllPairs-cons}
-use Rattle.cf_types.proofs.OfferLemmas.{all_tail}
+use Rattle.std.proofs.lemmas.List.Elements.{All-tail, All-cons}
 use Rattle.cf_types.specs.declared.instance.Instance.{Instance}
 use Rattle.cf_types.specs.declared.instance.Joined.{Joined}
 use Rattle.cf_types.specs.declared.stmt.UnitMark.{UnitMark}
@@ -30,10 +30,6 @@ places_push count before (x ∷ stmts) s =
 
 -- ---- parts of a list
 
-all_cons : {X : Type 0} (P : X → Type 0) (x : X) (xs : List X) → P x → All P xs → All P (x ∷ xs)
-all_cons P x xs here h zero d p = here
-all_cons P x xs here h (suc k) d p = h k d (omega arith)
-
 pairs_head : {X : Type 0} (R : X → X → Type 0) (x : X) (xs : List X) → AllPairs R (x ∷ xs) → All (R x) xs
 pairs_head R x xs h k d p = h 0 (suc k) d (omega arith) (omega arith)
 
@@ -48,7 +44,7 @@ marked_cons : (w : Bool) (i : Instance) (insts : List Instance) (m : Bool) (mark
 marked_cons w i insts m marks = first_of (cond m w (not w)) i m _
 
 all_if : (P : Instance → Type 0) (b : Bool) (i : Instance) (xs : List Instance) → P i → All P xs → All P (cond b (i ∷ xs) xs)
-all_if P true i xs here h = all_cons P i xs here h
+all_if P true i xs here h = All-cons P i xs here h
 all_if P false i xs here h = h
 
 -- what holds of each instance holds of each that is marked
@@ -56,7 +52,7 @@ pub marked_all : (P : Instance → Type 0) (w : Bool) (insts : List Instance) (m
 marked_all P w [] marks h = λ k d p. absurd (omega arith)
 marked_all P w (i ∷ insts) [] h = λ k d p. absurd (omega arith)
 marked_all P w (i ∷ insts) (m ∷ marks) h =
-    subst (λ (is : List Instance). All P is) (sym (marked_cons w i insts m marks)) (all_if P (cond m w (not w)) i _ (h 0 i (omega arith)) (marked_all P w insts marks (all_tail P i insts h)))
+    subst (λ (is : List Instance). All P is) (sym (marked_cons w i insts m marks)) (all_if P (cond m w (not w)) i _ (h 0 i (omega arith)) (marked_all P w insts marks (All-tail P i insts h)))
 
 pairs_if : (R : Instance → Instance → Type 0) (b : Bool) (i : Instance) (xs : List Instance) → All (R i) xs → AllPairs R xs → AllPairs R (cond b (i ∷ xs) xs)
 pairs_if R true i xs here h = AllPairs-cons R i xs here h
@@ -108,7 +104,7 @@ one_before None n rest h kept = (kept.0, λ k d p. let lt : n + 1 ≤ (get_or re
 one_before (Some i) n rest h kept =
     let here : i.stmt ≡ n = h i refl in (
       AllPairs-cons (λ a b. a.stmt < b.stmt) i rest (λ k d p. let lt : n + 1 ≤ (get_or rest k d).stmt = kept.1 k d p in omega arith) kept.0,
-      all_cons (λ j. n ≤ j.stmt) i rest (omega arith) (λ k d p. let lt : n + 1 ≤ (get_or rest k d).stmt = kept.1 k d p in omega arith),
+      All-cons (λ j. n ≤ j.stmt) i rest (omega arith) (λ k d p. let lt : n + 1 ≤ (get_or rest k d).stmt = kept.1 k d p in omega arith),
     )
 
 none_or_one : (b : Bool) (o : Option Instance) (n : ℕ) (rest : List Instance) → ((i : Instance) → o ≡ Some i → i.stmt ≡ n) → FromPlace rest (n + 1) → FromPlace (cond b (option_map_or (λ i. i ∷ []) o []) [] ++ rest) n

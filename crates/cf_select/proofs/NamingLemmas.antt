@@ -26,8 +26,11 @@ use Rattle.cf_types.specs.declared.stmt.Placed.{Placed}
 use Rattle.config_rules.specs.Fault.{stmts_of}
 use Rattle.config_rules.proofs.PlacedLaws.{stmts_more}
 use Rattle.std.proofs.lemmas.Option.{slice_get_past}
+use Rattle.std.proofs.Math.Bool.{or-false, or-true}
+use Rattle.std.proofs.lemmas.Bool.{cases_Bool}
+use Rattle.cf_types.proofs.TestLemmas.{equal_turned, equal_itself}
 use Rattle.cf_select.proofs.WantLemmas.{at_append}
-use Rattle.cf_select.proofs.ReachedLemmas.{all_below, cases, eq_same, eq_sym, is_in_push, or_false, or_true}
+use Rattle.cf_select.proofs.ReachedLemmas.{all_below, is_in_push}
 
 -- ---- the keys that name an instance
 
@@ -35,19 +38,19 @@ bytes_sym : (xs ys : List ℕ) → bytes_eq xs ys ≡ bytes_eq ys xs
 bytes_sym [] [] = refl
 bytes_sym [] (y ∷ ys) = refl
 bytes_sym (x ∷ xs) [] = refl
-bytes_sym (x ∷ xs) (y ∷ ys) = ap (λ b. b && bytes_eq xs ys) (eq_sym x y) ∙ ap (λ b. (y == x) && b) (bytes_sym xs ys)
+bytes_sym (x ∷ xs) (y ∷ ys) = ap (λ b. b && bytes_eq xs ys) (equal_turned x y) ∙ ap (λ b. (y == x) && b) (bytes_sym xs ys)
 
 same_units : (u v : Option ℕ) → option_eq (λ x y. x == y) u v ≡ same_mark (mark_of v) (mark_of u)
 same_units None None = refl
 same_units None (Some v) = refl
 same_units (Some u) None = refl
-same_units (Some u) (Some v) = eq_sym u v
+same_units (Some u) (Some v) = equal_turned u v
 
 numbers_sym : (u v : Option ℕ) → option_eq (λ x y. x == y) u v ≡ option_eq (λ x y. x == y) v u
 numbers_sym None None = refl
 numbers_sym None (Some v) = refl
 numbers_sym (Some u) None = refl
-numbers_sym (Some u) (Some v) = eq_sym u v
+numbers_sym (Some u) (Some v) = equal_turned u v
 
 both : (a b c d : Bool) → a ≡ c → b ≡ d → (a && b) ≡ (c && d)
 both a b c d e f = ap (λ x. x && b) e ∙ ap (λ x. c && x) f
@@ -84,7 +87,7 @@ key_names base u at pairs flags (named.At a) = same_attachments at a
 
 listed_more : (b : Bool) (old next : List ℕ) (place x : ℕ) → next ≡ cond b (old ++ place ∷ []) old → is_in x next ≡ (is_in x old || (b && (place == x)))
 listed_more true old next place x is = ap (is_in x) is ∙ is_in_push old place x
-listed_more false old next place x is = ap (is_in x) is ∙ sym (or_false (is_in x old))
+listed_more false old next place x is = ap (is_in x) is ∙ sym (or-false (is_in x old))
 
 three : (o a b c h : Bool) → (((o || (a && h)) || (b && h)) || (c && h)) ≡ (o || ((a || (b || c)) && h))
 three true a b c h = refl
@@ -132,7 +135,7 @@ listed_below lists free key places short is = all_below places (length free) (λ
 
 pub short_without : {S : Type 0} (lists next : HashMap Named (List ℕ) S) (free free_new : List Bool) (key : Named) → AreShort lists free → length free_new ≡ length free
     → ((q : Named) → list_at block.ghosts.eq next q ≡ cond (block.ghosts.eq key q) [] (list_at block.ghosts.eq lists q)) → AreShort next free_new
-short_without lists next free free_new key short size rest q x h = omega (arith, size, short q x (was (cases (block.ghosts.eq key q))))
+short_without lists next free free_new key short size rest q x h = omega (arith, size, short q x (was (cases_Bool (block.ghosts.eq key q))))
   where
     was : (block.ghosts.eq key q ≡ true) ⊎ (block.ghosts.eq key q ≡ false) → is_listed lists q x ≡ true
     was (inl e) = let none : list_at block.ghosts.eq next q ≡ [] = rest q ∙ ap (λ b. cond b [] (list_at block.ghosts.eq lists q)) e in let no_way : false ≡ true = ap (is_in x) (sym none) ∙ h in absurd (cc)
@@ -144,7 +147,7 @@ pub listed_without : {S : Type 0} (test : Named → ℕ → Bool) (lists next : 
     → ((x : ℕ) → get_or free_new x false ≡ (get_or free x false && not (is_in x places))) → AreListed test lists free → AreListed test next free_new
 listed_without test lists next free free_new key places rest same left listed q x h =
     let both_say = is_and (get_or free x false) (is_in x places) (sym (left x) ∙ h) in
-    kept both_say.1 (cases (block.ghosts.eq key q)) ∙ listed q x both_say.0
+    kept both_say.1 (cases_Bool (block.ghosts.eq key q)) ∙ listed q x both_say.0
   where
     kept : is_in x places ≡ false → (block.ghosts.eq key q ≡ true) ⊎ (block.ghosts.eq key q ≡ false) → is_listed next q x ≡ is_listed lists q x
     kept not_there (inl e) =
@@ -154,13 +157,13 @@ listed_without test lists next free free_new key places rest same left listed q 
 
 any_first : (f : ℕ → Bool) (y : ℕ) (xs : List ℕ) → (f y ≡ true) ⊎ (f y ≡ false) → list_any f (y ∷ xs) ≡ true → (list_any f xs ≡ true → (x : ℕ) × (f x ≡ true) × (is_in x xs ≡ true))
     → (x : ℕ) × (f x ≡ true) × (is_in x (y ∷ xs) ≡ true)
-any_first f y xs (inl e) h later = (y, e, ap (λ b. b || is_in y xs) (eq_same y))
-any_first f y xs (inr e) h later = let more = later (sym (ap (λ b. b || list_any f xs) e) ∙ h) in (more.0, more.1, ap (λ b. (y == more.0) || b) more.2 ∙ or_true (y == more.0))
+any_first f y xs (inl e) h later = (y, e, ap (λ b. b || is_in y xs) (equal_itself y))
+any_first f y xs (inr e) h later = let more = later (sym (ap (λ b. b || list_any f xs) e) ∙ h) in (more.0, more.1, ap (λ b. (y == more.0) || b) more.2 ∙ or-true (y == more.0))
 
 -- one of a list passes, with its number
 any_at : (f : ℕ → Bool) (xs : List ℕ) → list_any f xs ≡ true → (x : ℕ) × (f x ≡ true) × (is_in x xs ≡ true)
 any_at f [] h = absurd (cc)
-any_at f (y ∷ xs) h = any_first f y xs (cases (f y)) h (λ e. any_at f xs e)
+any_at f (y ∷ xs) h = any_first f y xs (cases_Bool (f y)) h (λ e. any_at f xs e)
 
 none_first : (f : ℕ → Bool) (y : ℕ) (xs : List ℕ) (x : ℕ) → (f y ≡ true) ⊎ (f y ≡ false) → ((y == x) ≡ true) ⊎ ((y == x) ≡ false) → list_any f (y ∷ xs) ≡ false → is_in x (y ∷ xs) ≡ true
     → (list_any f xs ≡ false → is_in x xs ≡ true → f x ≡ false) → f x ≡ false
@@ -171,14 +174,14 @@ none_first f y xs x (inr g) (inr apart) h e later = later (sym (ap (λ b. b || l
 -- none of a list passes
 none_at : (f : ℕ → Bool) (xs : List ℕ) (x : ℕ) → list_any f xs ≡ false → is_in x xs ≡ true → f x ≡ false
 none_at f [] x h e = absurd (cc)
-none_at f (y ∷ xs) x h e = none_first f y xs x (cases (f y)) (cases (y == x)) h e (λ a b. none_at f xs x a b)
+none_at f (y ∷ xs) x h e = none_first f y xs x (cases_Bool (f y)) (cases_Bool (y == x)) h e (λ a b. none_at f xs x a b)
 
 pub takes_listed : {S : Type 0} (test : Named → ℕ → Bool) (lists : HashMap Named (List ℕ) S) (free free_new : List Bool) (key : Named) (places : List ℕ) (found : Bool) → places ≡ list_at block.ghosts.eq lists key
     → ((x : ℕ) → get_or free_new x false ≡ (get_or free x false && not (is_in x places))) → found ≡ list_any (λ x. get_or free x false) places → AreListed test lists free → TakesBack (test key) free free_new found
 takes_listed test lists free free_new key places found is left found_is listed = record {
-  left = λ x. left x ∙ as_named x (cases (get_or free x false));
+  left = λ x. left x ∙ as_named x (cases_Bool (get_or free x false));
   some = λ e. let one = any_at (λ x. get_or free x false) places (sym found_is ∙ e) in (one.0, one.1, sym (listed key one.0 one.1) ∙ ap (is_in one.0) (sym is) ∙ one.2);
-  none = λ e x here. none_named e x here (cases (is_in x places));
+  none = λ e x here. none_named e x here (cases_Bool (is_in x places));
 }
   where
     as_named : (x : ℕ) → (get_or free x false ≡ true) ⊎ (get_or free x false ≡ false) → (get_or free x false && not (is_in x places)) ≡ (get_or free x false && not (test key x))
@@ -215,7 +218,7 @@ unfolding names_one
 one_named n [] free x h e = absurd (cc)
 one_named n (s ∷ stmts) [] x h e = absurd (cc)
 one_named n (s ∷ stmts) (m ∷ free) zero h e = ap (λ b. (b && m) || names_one n stmts free) e ∙ ap (λ b. b || names_one n stmts free) h
-one_named n (s ∷ stmts) (m ∷ free) (suc x) h e = ap (λ b. (names n s && m) || b) (one_named n stmts free x h e) ∙ or_true (names n s && m)
+one_named n (s ∷ stmts) (m ∷ free) (suc x) h e = ap (λ b. (names n s && m) || b) (one_named n stmts free x h e) ∙ or-true (names n s && m)
 
 none_named : (n : Stmt) (stmts : List Stmt) (free : List Bool) → ((x : ℕ) → get_or free x false ≡ true → option_map_or (names n) (slice_get stmts x) false ≡ false) → names_one n stmts free ≡ false
 unfolding names_one
@@ -248,7 +251,7 @@ pub statement_more : {S : Type 0} (stmts : List Stmt) (s : Stmt) (lists next : H
 statement_more stmts s lists next free free_new place short listed size as_many put is q x h =
     put q x ∙ elim (read_push free x (ap (λ bs. get_or bs x false) (sym is) ∙ h)) [
       | inl e ↦ ap (λ b. b || (names (negation_of q) s && (place == x))) (listed q x e)
-      | inr e ↦ ap (λ b. b || (names (negation_of q) s && (place == x))) (not_yet (cases (is_listed lists q x)) e ∙ sym (ap (λ o. option_map_or (names (negation_of q)) o false) (slice_get_past stmts x (omega arith))))
+      | inr e ↦ ap (λ b. b || (names (negation_of q) s && (place == x))) (not_yet (cases_Bool (is_listed lists q x)) e ∙ sym (ap (λ o. option_map_or (names (negation_of q)) o false) (slice_get_past stmts x (omega arith))))
     ]
     ∙ sym (at_append (names (negation_of q)) stmts s x ∙ ap (λ n. names_at stmts q x || (names (negation_of q) s && (n == x))) as_many)
   where
@@ -260,7 +263,7 @@ pub short_more : {S : Type 0} (s : Stmt) (lists next : HashMap Named (List ℕ) 
     → ((q : Named) (x : ℕ) → is_listed next q x ≡ (is_listed lists q x || (names (negation_of q) s && (place == x)))) → free_new ≡ free ++ true ∷ [] → AreShort next free_new
 short_more s lists next free free_new place short size put is q x h =
     let longer : length free_new ≡ length free + 1 = ap length is ∙ length-append free (true ∷ []) in
-    elim (cases (is_listed lists q x)) [
+    elim (cases_Bool (is_listed lists q x)) [
       | inl e ↦ omega (arith, longer, short q x e)
       | inr e ↦ (let here : (names (negation_of q) s && (place == x)) ≡ true = ap (λ b. b || (names (negation_of q) s && (place == x))) (sym e) ∙ sym (put q x) ∙ h in
           let is : place ≡ x = at_end (names (negation_of q) s) here in omega (arith, longer, size))

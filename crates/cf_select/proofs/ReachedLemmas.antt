@@ -7,6 +7,9 @@ use Rattle.std.proofs.lemmas.Bool.Decides.{nat_tests}
 use Rattle.std.proofs.lemmas.List.{take_all, take-append-drop, take-append-le, length-append}
 use Rattle.std.proofs.lemmas.List.Elements.{All-nil, All-cons}
 use Rattle.std.proofs.lemmas.List.Folds.{list_any-append}
+use Rattle.std.proofs.Math.Bool.{or-false, or-true}
+use Rattle.std.proofs.lemmas.Bool.{or_parts, cases_Bool}
+use Rattle.cf_types.proofs.TestLemmas.{equal_itself}
 use Rattle.cf_types.specs.Gather.{is_in}
 use Rattle.cf_select.specs.Places.{list_at}
 use Rattle.cf_select.specs.Reached.{AreWaiting, AreWithin, Marks, Serves}
@@ -14,35 +17,13 @@ use Rattle.cf_select.specs.Wanted.{waits}
 use Rattle.cf_select.specs.contracts.want.WantPartialEq.TheImpl as block
 use Rattle.cf_select.specs.declared.want.Want.{Want}
 
-pub or_false : (a : Bool) → (a || false) ≡ a
-or_false true = refl
-or_false false = refl
-
-pub or_true : (a : Bool) → (a || true) ≡ true
-or_true true = refl
-or_true false = refl
-
 or_assoc : (a b c : Bool) → ((a || b) || c) ≡ (a || (b || c))
 or_assoc true b c = refl
 or_assoc false b c = refl
 
-both_false : (a b : Bool) → (a || b) ≡ false → (a ≡ false) × (b ≡ false)
-both_false true b h = absurd (cc)
-both_false false b h = (refl, h)
-
-pub cases : (b : Bool) → (b ≡ true) ⊎ (b ≡ false)
-cases true = inl refl
-cases false = inr refl
-
-pub eq_sym : (a b : ℕ) → (a == b) ≡ (b == a)
-eq_sym a b = grind (arith, nat_tests)
-
-pub eq_same : (n : ℕ) → (n == n) ≡ true
-eq_same n = grind (arith, nat_tests)
-
 -- a list with one more at its end
 pub is_in_push : (xs : List ℕ) (y x : ℕ) → is_in x (xs ++ y ∷ []) ≡ (is_in x xs || (y == x))
-is_in_push xs y x = list_any-append (λ z. z == x) xs (y ∷ []) ∙ ap (λ b. is_in x xs || b) (or_false (y == x))
+is_in_push xs y x = list_any-append (λ z. z == x) xs (y ∷ []) ∙ ap (λ b. is_in x xs || b) (or-false (y == x))
 
 -- ---- marks
 
@@ -81,7 +62,7 @@ marks_then m o m1 o1 m2 o2 f g h a b is = record {
 -- each of these is below n
 pub all_below : (xs : List ℕ) (n : ℕ) → ((x : ℕ) → is_in x xs ≡ true → x < n) → All (λ x. x < n) xs
 all_below [] n h = All-nil (λ x. x < n)
-all_below (y ∷ xs) n h = All-cons (λ x. x < n) y xs (h y (ap (λ b. b || is_in y xs) (eq_same y))) (all_below xs n (λ x e. h x (ap (λ b. (y == x) || b) e ∙ or_true (y == x))))
+all_below (y ∷ xs) n h = All-cons (λ x. x < n) y xs (h y (ap (λ b. b || is_in y xs) (equal_itself y))) (all_below xs n (λ x e. h x (ap (λ b. (y == x) || b) e ∙ or-true (y == x))))
 
 -- ---- those that wait for one thing
 
@@ -91,12 +72,12 @@ pub serve_one : {S : Type 0} (waiting : HashMap Want (List ℕ) S) (marks : List
     → ((q : Want) → block.ghosts.eq want q ≡ true → list_at block.ghosts.eq waiting q ≡ places)
     → Marks marks order marks_new order_new (λ x. is_in x places) → Serves waiting marks order next marks_new order_new (want ∷ [])
 serve_one waiting marks order next marks_new order_new want places within is rest same more = record {
-  within = λ q x h. omega (arith, more.size, within q x (was q x (cases (block.ghosts.eq want q)) h));
+  within = λ q x h. omega (arith, more.size, within q x (was q x (cases_Bool (block.ghosts.eq want q)) h));
   left = λ wanted known q x h.
-      let not_now = both_false (get_or marks x false) (is_in x places) (sym (more.marked x) ∙ h) in
-      stays q x (cases (block.ghosts.eq want q)) not_now.1 ∙ known q x not_now.0;
+      let not_now = or_parts (get_or marks x false) (is_in x places) (sym (more.marked x) ∙ h) in
+      stays q x (cases_Bool (block.ghosts.eq want q)) not_now.1 ∙ known q x not_now.0;
   served = λ wanted known. record {
-    marked = λ x. more.marked x ∙ as_wanted wanted known x (cases (get_or marks x false));
+    marked = λ x. more.marked x ∙ as_wanted wanted known x (cases_Bool (get_or marks x false));
     size = more.size;
     listed = more.listed;
     front = more.front;
@@ -115,7 +96,7 @@ serve_one waiting marks order next marks_new order_new want places within is res
 
     as_wanted : (wanted : Want → ℕ → Bool) → AreWaiting wanted waiting marks → (x : ℕ) → (get_or marks x false ≡ true) ⊎ (get_or marks x false ≡ false) → (get_or marks x false || is_in x places) ≡ (get_or marks x false || (wanted want x || false))
     as_wanted wanted known x (inl e) = ap (λ b. b || is_in x places) e ∙ sym (ap (λ b. b || (wanted want x || false)) e)
-    as_wanted wanted known x (inr e) = ap (λ b. get_or marks x false || b) (ap (is_in x) is ∙ known want x e ∙ sym (or_false (wanted want x)))
+    as_wanted wanted known x (inr e) = ap (λ b. get_or marks x false || b) (ap (is_in x) is ∙ known want x e ∙ sym (or-false (wanted want x)))
 
 -- ---- and then those that wait for other things
 

@@ -9,20 +9,16 @@ use Rattle.std.proofs.lemmas.List.{take_all, take-append-drop, take-append-le, l
 use Rattle.std.proofs.lemmas.List.Elements.{All-get_or}
 use Rattle.std.proofs.lemmas.Option.{slice_get_cases}
 use Rattle.std.proofs.lemmas.List.Folds.{list_any_at, list_any_more}
+use Rattle.std.proofs.Math.Bool.{or-true}
+use Rattle.std.proofs.lemmas.Bool.{or_cases}
+use Rattle.cf_types.proofs.TestLemmas.{equal_itself}
 use Rattle.cf_types.specs.Gather.{is_in}
-use Rattle.config_rules.specs.Select.{LeadsToRoot, Rooted, AllRooted, AreRooted, Closed, is_at_root, is_at_root_at}
+use Rattle.config_rules.specs.Select.{Rooted, AreRooted, is_at_root, is_at_root_at}
+use Rattle.config_rules.proofs.RootedLaws.{Closed, closed_marks}
 use Rattle.cf_select.specs.declared.instance.Inst.{Inst}
 use Rattle.cf_select.specs.declared.want.Want.{Want}
 use Rattle.cf_select.specs.Carried.{inst_of}
-use Rattle.cf_select.specs.Reached.{AreMarked, AreWaiting, AreWithin, Serves}
-use Rattle.cf_select.proofs.ReachedLemmas.{eq_same, or_true}
-
--- marks that are closed and mark those at the root mark all that is rooted
-pub closed_marks : (at_root : ℕ → Bool) (carries : ℕ → ℕ → Bool) (n : ℕ) (marks : List Bool) → ((i : ℕ) → i < n → at_root i ≡ true → get_or marks i false ≡ true) → Closed carries n marks
-    → (i : ℕ) (chain : List ℕ) → LeadsToRoot at_root carries n i chain → get_or marks i false ≡ true
-closed_marks at_root carries n marks roots closed i [] h = roots i h.0 h.1
-closed_marks at_root carries n marks roots closed i (j ∷ chain) h =
-    closed j i h.0 (closed_marks at_root carries n marks roots closed j chain h.2) h.1
+use Rattle.cf_select.specs.Reached.{AllRooted, AreMarked, AreWaiting, AreWithin, Serves}
 
 pub are_rooted : (at_root : ℕ → Bool) (carries : ℕ → ℕ → Bool) (n : ℕ) (marks : List Bool) → AllRooted at_root carries n marks → ((i : ℕ) → i < n → at_root i ≡ true → get_or marks i false ≡ true) → Closed carries n marks → AreRooted at_root carries n marks
 are_rooted at_root carries n marks sound roots closed = record {
@@ -40,10 +36,6 @@ in_range [] j h = absurd (cc)
 in_range (x ∷ xs) zero h = omega arith
 in_range (x ∷ xs) (suc j) h = let e : j < length xs = in_range xs j h in omega arith
 
-is_or : (a b : Bool) → (a || b) ≡ true → (a ≡ true) ⊎ (b ≡ true)
-is_or true b h = inl refl
-is_or false b h = inr h
-
 -- ---- the marks while they spread, where those before place `next` of the list have marked all that they carry
 
 pub record Spreads {S : Type 0} (at_root : ℕ → Bool) (carries : ℕ → ℕ → Bool) (wanted : Want → ℕ → Bool) (n : ℕ) (waiting : HashMap Want (List ℕ) S) (marks : List Bool) (order : List ℕ) (next : ℕ) : Type 0 where
@@ -59,7 +51,7 @@ pub record Spreads {S : Type 0} (at_root : ℕ → Bool) (carries : ℕ → ℕ 
 pub listed_below : {S : Type 0} (at_root : ℕ → Bool) (carries : ℕ → ℕ → Bool) (wanted : Want → ℕ → Bool) (n : ℕ) (waiting : HashMap Want (List ℕ) S) (marks : List Bool) (order : List ℕ) (next : ℕ)
     → next < length order → Spreads at_root carries wanted n waiting marks order next → (get_or marks (get_or order next 0) false ≡ true) × (get_or order next 0 < n)
 listed_below at_root carries wanted n waiting marks order next h r =
-    let marked : get_or marks (get_or order next 0) false ≡ true = sym (r.listed.same (get_or order next 0)) ∙ list_any_at (λ y. y == get_or order next 0) order next 0 h (eq_same (get_or order next 0)) in
+    let marked : get_or marks (get_or order next 0) false ≡ true = sym (r.listed.same (get_or order next 0)) ∙ list_any_at (λ y. y == get_or order next 0) order next 0 h (equal_itself (get_or order next 0)) in
     (marked, omega (arith, in_range marks (get_or order next 0) marked, r.sound.as_many))
 
 pub spread_more : {S : Type 0} (at_root : ℕ → Bool) (carries : ℕ → ℕ → Bool) (wanted : Want → ℕ → Bool) (n : ℕ) (w : HashMap Want (List ℕ) S) (m : List Bool) (o : List ℕ) (next : ℕ) (w1 : HashMap Want (List ℕ) S) (m1 : List Bool) (o1 : List ℕ) (ws : List Want)
@@ -77,7 +69,7 @@ spread_more at_root carries wanted n w m o next w1 m1 o1 ws h r serves same =
     record {
       sound = record {
         as_many = more.size ∙ r.sound.as_many;
-        sound = λ i p e. elim (is_or (get_or m i false) (list_any (λ q. wanted q i) ws) (sym (more.marked i) ∙ e)) [
+        sound = λ i p e. elim (or_cases (get_or m i false) (list_any (λ q. wanted q i) ws) (sym (more.marked i) ∙ e)) [
           | inl was ↦ r.sound.sound i p was
           | inr new ↦ rooted_above at_root carries n j i p (sym (same i) ∙ new) (r.sound.sound j here.1 here.0)
         ];
@@ -87,9 +79,9 @@ spread_more at_root carries wanted n w m o next w1 m1 o1 ws h r serves same =
       within = serves.within;
       left = serves.left wanted r.left;
       past = longer;
-      done = λ k i e c. elim (is_or (is_in k (take next o)) (j == k) (sym (ap (is_in k) front ∙ list_any_more (λ y. y == k) o next 0 h) ∙ e)) [
+      done = λ k i e c. elim (or_cases (is_in k (take next o)) (j == k) (sym (ap (is_in k) front ∙ list_any_more (λ y. y == k) o next 0 h) ∙ e)) [
         | inl before ↦ kept i (r.done k i before c)
-        | inr now ↦ (let is : j ≡ k = grind (arith, nat_tests) in more.marked i ∙ ap (λ b. get_or m i false || b) (same i ∙ ap (λ x. carries x i) is ∙ c) ∙ or_true (get_or m i false))
+        | inr now ↦ (let is : j ≡ k = grind (arith, nat_tests) in more.marked i ∙ ap (λ b. get_or m i false || b) (same i ∙ ap (λ x. carries x i) is ∙ c) ∙ or-true (get_or m i false))
       ];
     }
 

@@ -6,27 +6,20 @@ use Rattle.attr_graph.specs.Reach.{Shape}
 use Rattle.cf_types.specs.declared.tables.Place.{Place}
 use Rattle.cf_types.specs.declared.tables.Place.TheVariants.{Root, At}
 use Rattle.config_rules.specs.Declared.{Declared}
-use Rattle.config_rules.specs.Select as select
-use Rattle.config_rules.specs.Select.{AreRooted, LeadsToRoot, RootedInsts, is_at_root_at, is_parent}
+use Rattle.config_rules.specs.Select.{AreRooted, Inst, LeadsToRoot, RootedInsts, carries, carries_at, is_at_root_at, is_parent, offered_by, offers_place}
 use Rattle.attr_graph.specs.Graphs.{IsGraphOf}
 use Rattle.attr_graph.proofs.GraphLaws.{graph_offers}
-use Rattle.cf_select.specs.Carried.{RootedIn, carries, carries_at, offers_place}
+use Rattle.cf_select.specs.Carried.{RootedIn, offered_in}
 
-place_offered : (d : Declared) (graph : Shape) → IsGraphOf d graph → (device : ℕ) (place : Place) → offers_place graph device place ≡ select.offers_place d device place
-place_offered d graph h device Root = refl
-place_offered d graph h device (At a) = graph_offers d graph h device a
+place_alike : (f g : ℕ → ℕ → Bool) → ((d a : ℕ) → f d a ≡ g d a) → (device : ℕ) (place : Place) → offers_place f device place ≡ offers_place g device place
+place_alike f g same device Root = refl
+place_alike f g same device (At a) = same device a
 
-carried : (d : Declared) (graph : Shape) → IsGraphOf d graph → (j i : select.Inst) → carries graph j i ≡ select.carries d j i
-carried d graph h j i = ap (λ b. b && option_map_or (λ p. is_parent p j) i.parent true) (place_offered d graph h j.device i.place)
-
-carried_one : (d : Declared) (graph : Shape) → IsGraphOf d graph → (x : select.Inst) (o : Option select.Inst) → option_map_or (λ y. carries graph x y) o false ≡ option_map_or (λ y. select.carries d x y) o false
-carried_one d graph h x None = refl
-carried_one d graph h x (Some y) = carried d graph h x y
-
-carried_two : (d : Declared) (graph : Shape) → IsGraphOf d graph → (j i : Option select.Inst)
-    → option_map_or (λ x. option_map_or (λ y. carries graph x y) i false) j false ≡ option_map_or (λ x. option_map_or (λ y. select.carries d x y) i false) j false
-carried_two d graph h None i = refl
-carried_two d graph h (Some x) i = carried_one d graph h x i
+carried_alike : (f g : ℕ → ℕ → Bool) → ((d a : ℕ) → f d a ≡ g d a) → (j i : Option Inst)
+    → option_map_or (λ x. option_map_or (λ y. carries f x y) i false) j false ≡ option_map_or (λ x. option_map_or (λ y. carries g x y) i false) j false
+carried_alike f g same None i = refl
+carried_alike f g same (Some x) None = refl
+carried_alike f g same (Some x) (Some y) = ap (λ b. b && option_map_or (λ p. is_parent p x) y.parent true) (place_alike f g same x.device y.place)
 
 leads_along : (at_root : ℕ → Bool) (f g : ℕ → ℕ → Bool) (n : ℕ) → ((j i : ℕ) → f j i ≡ g j i) → (i : ℕ) (chain : List ℕ) → LeadsToRoot at_root f n i chain → LeadsToRoot at_root g n i chain
 leads_along at_root f g n same i [] h = h
@@ -40,6 +33,7 @@ rooted_along at_root f g n marks same h = record {
 }
 
 -- what is rooted in the graph is rooted in the tables
-pub rooted_in_tables : (d : Declared) (graph : Shape) (insts : List select.Inst) (marks : List Bool) → IsGraphOf d graph → RootedIn graph insts marks → RootedInsts d insts marks
+pub rooted_in_tables : (d : Declared) (graph : Shape) (insts : List Inst) (marks : List Bool) → IsGraphOf d graph → RootedIn graph insts marks → RootedInsts d insts marks
 rooted_in_tables d graph insts marks h r =
-    rooted_along (is_at_root_at insts) (carries_at graph insts) (select.carries_at d insts) (length insts) marks (λ j i. carried_two d graph h (slice_get insts j) (slice_get insts i)) r
+    rooted_along (is_at_root_at insts) (carries_at (offered_in graph) insts) (carries_at (offered_by d) insts) (length insts) marks
+    (λ j i. carried_alike (offered_in graph) (offered_by d) (graph_offers d graph h) (slice_get insts j) (slice_get insts i)) r

@@ -8,6 +8,8 @@ use Rattle.std.proofs.lemmas.List.Folds.{list_any-append}
 use Rattle.std.specs.Option.{option_map, option_map_or}
 use Rattle.std.proofs.lemmas.Bool.Decides.{nat_tests}
 use Rattle.std.proofs.lemmas.List.{take_more, map-append, length-map, length-take-le}
+use Rattle.std.proofs.Math.Bool.{or-false, and-false}
+use Rattle.cf_types.proofs.TestLemmas.{equal_turned}
 use Rattle.config_rules.specs.Select as select
 use Rattle.cf_select.specs.declared.instance.Inst.{Inst}
 use Rattle.cf_select.specs.declared.want.Want.{Want}
@@ -18,21 +20,16 @@ use Rattle.cf_types.specs.declared.tables.Place.{Place}
 use Rattle.cf_types.specs.declared.tables.Place.TheVariants.{Root, At}
 use Rattle.cf_types.specs.Gather.{is_in}
 use Rattle.cf_types.specs.Offers.{interfaces_of}
-use Rattle.config_rules.specs.Select.{is_parent, same_mark}
+use Rattle.config_rules.specs.Select.{carries, carries_at, is_parent, offers_place, same_mark}
 use Rattle.attr_graph.specs.Reach.{Shape}
 use Rattle.cf_select.specs.declared.want.Carrier.{Carrier}
 use Rattle.cf_select.specs.declared.want.Carrier.TheVariants as carrier
-use Rattle.cf_select.specs.Carried.{carries, carries_at, inst_of, offers_place}
-use Rattle.cf_select.proofs.ReachedLemmas.{eq_sym, or_false}
+use Rattle.cf_select.specs.Carried.{inst_of, offered_in}
 use Rattle.cf_select.specs.Wanted.{asks, carriers_of, is_at, own_of, wants, wants_at, wants_of}
 
 and_true : (a : Bool) → (a && true) ≡ a
 and_true true = refl
 and_true false = refl
-
-and_false : (a : Bool) → (a && false) ≡ false
-and_false true = refl
-and_false false = refl
 
 eq_past : (x : ℕ) → (0 == suc x) ≡ false
 eq_past x = grind (arith, nat_tests)
@@ -46,8 +43,8 @@ eq_next n x = grind (arith, nat_tests)
 -- one more at the end
 pub at_append : {X : Type 0} (t : X → Bool) (xs : List X) (y : X) (x : ℕ) → option_map_or t (slice_get (xs ++ y ∷ []) x) false ≡ (option_map_or t (slice_get xs x) false || (t y && (length xs == x)))
 at_append t [] y zero = sym (and_true (t y))
-at_append t [] y (suc x) = sym (ap (λ b. t y && b) (eq_past x) ∙ and_false (t y))
-at_append t (z ∷ xs) y zero = sym (ap (λ b. t z || (t y && b)) (eq_front (length xs)) ∙ ap (λ b. t z || b) (and_false (t y)) ∙ or_false (t z))
+at_append t [] y (suc x) = sym (ap (λ b. t y && b) (eq_past x) ∙ and-false (t y))
+at_append t (z ∷ xs) y zero = sym (ap (λ b. t z || (t y && b)) (eq_front (length xs)) ∙ ap (λ b. t z || b) (and-false (t y)) ∙ or-false (t z))
 at_append t (z ∷ xs) y (suc x) = at_append t xs y x ∙ sym (ap (λ b. option_map_or t (slice_get xs x) false || (t y && b)) (eq_next (length xs) x))
 
 pub wants_more : (insts : List Inst) (i : ℕ) (d : Inst) (q : Want) (x : ℕ) (now next : Bool) → i < length insts → now ≡ wants_at (map inst_of (take i insts)) q x
@@ -76,7 +73,7 @@ fits parent j = option_map_or (λ p. is_parent p j) parent true
 -- who asks for one of the carriers that an instance is has it as a parent
 asked : (p : Bool) (a b c : Bool) → a ≡ b → ((p && a) || ((p && c) || false)) ≡ (p && (a || c))
 asked true true b c e = refl
-asked true false b c e = or_false c
+asked true false b c e = or-false c
 asked false a b c e = refl
 
 asks_unit : (e : ℕ) (u : Option ℕ) (d : ℕ) (m : UnitMark) → list_any (asks (Some (record { device = e; unit = u }))) (carrier.Any ∷ carrier.Of d ∷ own_of d m ∷ [])
@@ -84,14 +81,14 @@ asks_unit : (e : ℕ) (u : Option ℕ) (d : ℕ) (m : UnitMark) → list_any (as
 asks_unit e None d Star = asked (e == d) true true false refl
 asks_unit e None d (Fixed v) = asked (e == d) true true false refl
 asks_unit e (Some u) d Star = asked (e == d) false false true refl
-asks_unit e (Some u) d (Fixed v) = asked (e == d) false false (u == v) refl ∙ ap (λ b. (e == d) && b) (eq_sym u v)
+asks_unit e (Some u) d (Fixed v) = asked (e == d) false false (u == v) refl ∙ ap (λ b. (e == d) && b) (equal_turned u v)
 
 asks_one_of : (parent : Option ParentSpec) (j : select.Inst) → list_any (asks parent) (carriers_of j) ≡ fits parent j
 asks_one_of None j = refl
 asks_one_of (Some p) j = asks_unit p.device p.unit j.device j.mark
 
 wants_here : (y : select.Inst) (a : ℕ) (cs : List Carrier) → list_any (wants y) (map (λ c. record { attr = a; carrier = c }) cs) ≡ (is_at a y.place && list_any (asks y.parent) cs)
-wants_here y a [] = sym (and_false (is_at a y.place))
+wants_here y a [] = sym (and-false (is_at a y.place))
 wants_here y a (c ∷ cs) = ap (λ b. wants y (record { attr = a; carrier = c }) || b) (wants_here y a cs) ∙ both (is_at a y.place) (asks y.parent c) (list_any (asks y.parent) cs)
   where
     both : (p a b : Bool) → ((p && a) || (p && b)) ≡ (p && (a || b))
@@ -104,7 +101,7 @@ offered (At a) attrs = is_in a attrs
 
 offered_first : (a : ℕ) (attrs : List ℕ) (pl : Place) (b : Bool) → ((is_at a pl && b) || (offered pl attrs && b)) ≡ (offered pl (a ∷ attrs) && b)
 offered_first a attrs Root b = refl
-offered_first a attrs (At c) b = first (c == a) (a == c) (is_in c attrs) b (eq_sym c a)
+offered_first a attrs (At c) b = first (c == a) (a == c) (is_in c attrs) b (equal_turned c a)
   where
     first : (s t r b : Bool) → s ≡ t → ((s && b) || (r && b)) ≡ ((t || r) && b)
     first true true r true e = refl
@@ -129,20 +126,20 @@ none_wants : (ws : List Want) → list_any (λ q. false) ws ≡ false
 none_wants [] = refl
 none_wants (q ∷ ws) = none_wants ws
 
-offers_it : (graph : Shape) (j : select.Inst) (pl : Place) → offered pl (interfaces_of graph.attrs (slice_index_or graph.devices j.device [])) ≡ offers_place graph j.device pl
+offers_it : (graph : Shape) (j : select.Inst) (pl : Place) → offered pl (interfaces_of graph.attrs (slice_index_or graph.devices j.device [])) ≡ offers_place (offered_in graph) j.device pl
 offers_it graph j Root = refl
 offers_it graph j (At a) = refl
 
 carried_or_none : (graph : Shape) (j : select.Inst) (o : Option select.Inst)
-    → list_any (λ q. option_map_or (λ i. wants i q) o false) (wants_of j (interfaces_of graph.attrs (slice_index_or graph.devices j.device []))) ≡ option_map_or (λ y. carries graph j y) o false
+    → list_any (λ q. option_map_or (λ i. wants i q) o false) (wants_of j (interfaces_of graph.attrs (slice_index_or graph.devices j.device []))) ≡ option_map_or (λ y. carries (offered_in graph) j y) o false
 carried_or_none graph j None = none_wants (wants_of j (interfaces_of graph.attrs (slice_index_or graph.devices j.device [])))
 carried_or_none graph j (Some y) =
     wants_among y j (interfaces_of graph.attrs (slice_index_or graph.devices j.device [])) ∙ ap (λ b. b && fits y.parent j) (offers_it graph j y.place)
 
 -- those whom an instance carries are those that want what it serves
 pub carried_wants : (graph : Shape) (insts : List select.Inst) (n : ℕ) (j : select.Inst) (x : ℕ) → slice_get insts n ≡ Some j
-    → list_any (λ q. wants_at insts q x) (wants_of j (interfaces_of graph.attrs (slice_index_or graph.devices j.device []))) ≡ carries_at graph insts n x
-carried_wants graph insts n j x is = carried_or_none graph j (slice_get insts x) ∙ sym (ap (λ o. option_map_or (λ z. option_map_or (λ y. carries graph z y) (slice_get insts x) false) o false) is)
+    → list_any (λ q. wants_at insts q x) (wants_of j (interfaces_of graph.attrs (slice_index_or graph.devices j.device []))) ≡ carries_at (offered_in graph) insts n x
+carried_wants graph insts n j x is = carried_or_none graph j (slice_get insts x) ∙ sym (ap (λ o. option_map_or (λ z. option_map_or (λ y. carries (offered_in graph) z y) (slice_get insts x) false) o false) is)
 
 pub inst_got : (insts : List Inst) (n : ℕ) (i : Inst) → slice_get insts n ≡ Some i → slice_get (map inst_of insts) n ≡ Some (inst_of i)
 inst_got insts n i is = slice_get-map inst_of insts n ∙ ap (λ o. option_map inst_of o) is

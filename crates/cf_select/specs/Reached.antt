@@ -3,6 +3,7 @@ use Rattle.std.specs.Prelude.{◌≡◌, ℕ, ◌<◌, ◌+◌, Bool, true, fals
 use Rattle.std.specs.List.{list_any, slice_index_or}
 use Rattle.std.specs.HashMap.{HashMap}
 use Rattle.cf_types.specs.Gather.{is_in}
+use Rattle.config_rules.specs.Select.{Rooted}
 use Rattle.cf_select.specs.Wanted.{waits}
 use Rattle.cf_select.specs.declared.want.Want.{Want}
 
@@ -31,3 +32,8 @@ pub record Serves {S : Type 0} (waiting : HashMap Want (List ℕ) S) (marks : Li
   pub within : AreWithin waiting_new marks_new
   pub left : (wanted : Want → ℕ → Bool) → AreWaiting wanted waiting marks → AreWaiting wanted waiting_new marks_new
   pub served : (wanted : Want → ℕ → Bool) → AreWaiting wanted waiting marks → Marks marks order marks_new order_new (λ x. list_any (λ q. wanted q x) wants)
+
+-- those that are marked are rooted
+pub record AllRooted (at_root : ℕ → Bool) (carries : ℕ → ℕ → Bool) (n : ℕ) (marks : List Bool) : Type 0 where
+  pub as_many : length marks ≡ n
+  pub sound : (i : ℕ) → i < n → slice_index_or marks i false ≡ true → Rooted at_root carries n i

@@ -1,12 +1,12 @@
 ghost use Rattle.std.specs.Prelude.{◌≡◌, ◌<◌, ℕ, true, false, not, [], ◌∷◌, ◌++◌, ◌==◌, length, map, slice_get, Some, if◌then◌else◌, All, IfOk, OnOk};
 ghost use Rattle.std.specs.List.{slice_index_or};
 ghost use Rattle.config_rules.specs.Declared.{Declared};
-ghost use Rattle.config_rules.specs.Select.{AllRooted, AreRooted, Closed, RootedInsts, is_at_root, is_at_root_at};
+ghost use Rattle.config_rules.specs.Select.{AreRooted, RootedInsts, carries_at, is_at_root, is_at_root_at};
 ghost use Rattle.attr_graph.specs.Graphs.{IsGraphOf};
 ghost use Rattle.cf_types.specs.Gather.{is_in};
 ghost use Rattle.cf_types.specs.Offers.{interfaces_of};
-ghost use Rattle.cf_select.specs.Carried.{RootedIn, carries_at, inst_of};
-ghost use Rattle.cf_select.specs.Reached.{AreMarked, AreWaiting, AreWithin, Marks, Serves};
+ghost use Rattle.cf_select.specs.Carried.{RootedIn, inst_of, offered_in};
+ghost use Rattle.cf_select.specs.Reached.{AllRooted, AreMarked, AreWaiting, AreWithin, Marks, Serves};
 ghost use Rattle.cf_select.specs.Wanted.{carriers_of, wants_at, wants_of};
 ghost use Rattle.cf_select.specs.declared.want.Want.{Want as Wanted};
 
@@ -129,9 +129,9 @@ fn spread(
     requires order { AreMarked marks.old.items order.old.items }
     requires within { AreWithin waiting.old marks.old.items }
     requires waiting { AreWaiting (wants_at (map inst_of insts.now)) waiting.old marks.old.items }
-    requires sound { AllRooted (is_at_root_at (map inst_of insts.now)) (carries_at graph.now (map inst_of insts.now)) (length insts.now) marks.old.items }
+    requires sound { AllRooted (is_at_root_at (map inst_of insts.now)) (carries_at (offered_in graph.now) (map inst_of insts.now)) (length insts.now) marks.old.items }
     requires roots { (i : ℕ) → i < length insts.now → is_at_root_at (map inst_of insts.now) i ≡ true → slice_index_or marks.old.items i false ≡ true }
-    ensures { OnOk result (AreRooted (is_at_root_at (map inst_of insts.now)) (carries_at graph.now (map inst_of insts.now)) (length insts.now) marks.new.items) }
+    ensures { OnOk result (AreRooted (is_at_root_at (map inst_of insts.now)) (carries_at (offered_in graph.now) (map inst_of insts.now)) (length insts.now) marks.new.items) }
 {
     let mut next = 0;
     while next < order.len() {

@@ -5,6 +5,10 @@ use Rattle.std.specs.Char.{is_ascii_alphabetic, is_ascii_alphanumeric, is_ascii_
 use Rattle.std.specs.List.{list_all, suffix_len}
 use Rattle.std.specs.Str.Parse.{digits_value}
 
+-- a space or a tab
+abbrev pub is_space : ℕ → Bool
+is_space c = c == 32 || c == 9
+
 -- ---- names
 
 -- a letter or `_`

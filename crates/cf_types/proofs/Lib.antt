@@ -2,3 +2,4 @@ pub mod KeyLemmas
 pub mod ListLemmas
 pub mod OfferLemmas
 pub mod PlaceLemmas
+pub mod TestLemmas

@@ -1,10 +1,11 @@
 -- One more element of a list that is filled in a loop, and the elements of a list that is put together.
-use Rattle.std.proofs.Common.{◌≡◌, ℕ, ◌+◌, ◌-◌, ◌<◌, ◌≤◌, zero, suc, arith, Bool, cond, Option, Some, None, List, [], ◌∷◌, ◌++◌, length, get_or, take, map, refl, ap, sym, ◌∙◌, append_assoc}
-use Rattle.std.specs.Prelude.{filter, flat_map, slice_get, option_map}
+use Rattle.std.proofs.Common.{◌≡◌, ℕ, ◌+◌, ◌-◌, ◌<◌, ◌≤◌, zero, suc, arith, Bool, true, false, cond, subst, Option, Some, None, List, [], ◌∷◌, ◌++◌, length, get_or, take, map, refl, ap, sym, ◌∙◌, append_assoc}
+use Rattle.std.specs.Prelude.{find, flat_map, slice_get, option_map}
 use Rattle.std.specs.Option.{option_to_list}
-use Rattle.std.specs.List.{filter_map, enumerate_from}
+use Rattle.std.specs.List.{All, filter_map, enumerate_from}
 use Rattle.std.proofs.lemmas.List.{length-take-le, take_more, map_more, flat_map_more}
-use Rattle.std.proofs.lemmas.List.Elements.{filter_map-append, filter-append}
+use Rattle.std.proofs.lemmas.List.Elements.{filter_map-append}
+use Rattle.std.proofs.lemmas.Option.{get_or_from_slice_get, slice_get_within}
 
 filter_map_one : {X Y : Type 0} (o : Option Y) (h : X → Option Y) (x : X) → h x ≡ o → filter_map h (x ∷ []) ≡ option_to_list o
 filter_map_one None h x e = rw e refl
@@ -15,9 +16,6 @@ pub filter_map_more : {X Y : Type 0} (h : X → Option Y) (xs : List X) (i : ℕ
 filter_map_more h xs i d p =
     ap (filter_map h) (take_more xs i d p) ∙ filter_map-append h (take i xs) (get_or xs i d ∷ [])
     ∙ ap (λ ys. filter_map h (take i xs) ++ ys) (filter_map_one (h (get_or xs i d)) h (get_or xs i d) refl)
-
-pub filter_more : {X : Type 0} (p : X → Bool) (xs : List X) (i : ℕ) (d : X) → i < length xs → filter p (take (i + 1) xs) ≡ filter p (take i xs) ++ cond (p (get_or xs i d)) (get_or xs i d ∷ []) []
-filter_more p xs i d h = ap (filter p) (take_more xs i d h) ∙ filter-append p (take i xs) (get_or xs i d ∷ [])
 
 pub filter_map_step : {X Y : Type 0} (h : X → Option Y) (xs : List X) (i : ℕ) (x : X) (ys zs : List Y) → i < length xs → x ≡ get_or xs i x → ys ≡ filter_map h (take i xs) → zs ≡ ys ++ option_to_list (h x) → zs ≡ filter_map h (take (i + 1) xs)
 filter_map_step h xs i x ys zs p is so_far new =
@@ -65,3 +63,28 @@ enumerate_more xs i d p =
     let e : 0 + length (take i xs) ≡ i = omega (arith, length-take-le i xs (omega arith)) in
     ap (enumerate_from 0) (take_more xs i d p) ∙ enumerate-append 0 (take i xs) (get_or xs i d)
     ∙ ap (λ j. enumerate_from 0 (take i xs) ++ (j, get_or xs i d) ∷ []) e
+
+-- ---- what stands in a list
+
+-- the element at a place within the list
+pub slice_get_some : {X : Type 0} (xs : List X) (i : ℕ) → i < length xs → (x : X) × (slice_get xs i ≡ Some x)
+slice_get_some [] i h = absurd (omega arith)
+slice_get_some (x ∷ xs) zero h = (x, refl)
+slice_get_some (x ∷ xs) (suc i) h = slice_get_some xs i (omega arith)
+
+-- what holds of all holds of the element at a place
+pub all_at : {X : Type 0} (P : X → Type 0) (xs : List X) (i : ℕ) (x : X) → All P xs → slice_get xs i ≡ Some x → P x
+all_at P xs i x h at = subst P (get_or_from_slice_get xs i x x at) (h i x (slice_get_within xs i x at))
+
+-- numbers below a bound are below a greater one
+pub all_below_more : (xs : List ℕ) (n m : ℕ) → n ≤ m → All (λ k. k < n) xs → All (λ k. k < m) xs
+all_below_more xs n m h below k x p = let q : get_or xs k x < n = below k x p in omega arith
+
+-- what is found passes
+pub found_passes : {X : Type 0} (p : X → Bool) (xs : List X) (y : X) → find p xs ≡ Some y → p y ≡ true
+found_passes p [] y h = absurd (cc)
+found_passes {X} p (x ∷ xs) y h = one (p x) refl h (found_passes p xs y)
+  where
+    one : (b : Bool) → p x ≡ b → cond b (Some x) (find p xs) ≡ Some y → (find p xs ≡ Some y → p y ≡ true) → p y ≡ true
+    one true e k later = let same : x ≡ y = cc in ap p (sym same) ∙ e
+    one false e k later = later k

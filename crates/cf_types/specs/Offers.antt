@@ -20,8 +20,9 @@ nodes_of attrs = map node_of attrs
 abbrev pub needs_at : List Node → ℕ → List ℕ
 needs_at nodes a = option_map_or (λ x. x.needs) (slice_get nodes a) []
 
-abbrev pub is_open : List Node → ℕ → Bool
-is_open nodes a = option_map_or (λ x. x.iface) (slice_get nodes a) false
+-- whether a node is that of an interface attribute
+abbrev pub is_interface_node : List Node → ℕ → Bool
+is_interface_node nodes a = option_map_or (λ x. x.iface) (slice_get nodes a) false
 
 -- an attribute, followed by the walks of those that it names; they are earlier ones, so so many steps serve
 unfoldable pub walk : ℕ → List Node → ℕ → List ℕ
@@ -39,7 +40,7 @@ firsts (x ∷ xs) = x ∷ filter (λ y. not (y == x)) (firsts xs)
 
 -- the interface attributes of the walks of these attributes
 unfoldable pub interfaces_of : List Node → List ℕ → List ℕ
-interfaces_of nodes names = firsts (filter (is_open nodes) (walks nodes names))
+interfaces_of nodes names = firsts (filter (is_interface_node nodes) (walks nodes names))
 
 -- each attribute names earlier ones alone
 pub record AreEarlier (nodes : List Node) : Type 0 where

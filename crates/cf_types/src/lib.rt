@@ -5,6 +5,7 @@
 pub mod code;
 mod declared;
 mod instance;
+mod keyword;
 mod list;
 mod locs;
 mod machine;
@@ -17,6 +18,7 @@ mod tree;
 
 pub use declared::Declared;
 pub use instance::{AttachPlace, Instance, Joined, Target};
+pub use keyword::{CONDITION_WORDS, KEYWORDS, Keyword};
 pub use list::{List, Text};
 pub use locs::Locs;
 pub use machine::{Command, Given, Machine, MatchLine, Policy, Script, Spot, StyleLine, Ticket};

@@ -54,6 +54,26 @@ pub struct Policy {
     pub finaliser: bool,
 }
 
+impl Policy {
+    ghost use Rattle.std.specs.Prelude.{◌≡◌};
+    ghost use Rattle.cf_types.specs.Policies.{no_policy};
+
+    /// The policy of a driver that refuses nothing and puts nothing off.
+    pub fn none() -> Policy
+        ensures { result ≡ no_policy }
+    {
+        Policy {
+            nodetach: false,
+            norescan: false,
+            nopower: false,
+            failsuspend: false,
+            defer: false,
+            interrupts: false,
+            finaliser: false,
+        }
+    }
+}
+
 /// What a machine file describes: the hardware that is there, and what its drivers do.
 #[derive(Drop)]
 pub struct Machine {

@@ -45,18 +45,21 @@ accepted_formed r marks written none =
     let few : length stmts ≤ 65536 = omega (arith, length-map r.placed (λ p. p.stmt), written.few) in
     record {
       counted = record { attrs = omega (arith, few_attrs stmts); attaches = omega (arith, few_attaches stmts); locators = few_locators stmts good };
-      few_devices = omega (arith, few_devices stmts);
+      graph = record {
+        few_attrs = omega (arith, few_attrs stmts);
+        few_devices = omega (arith, few_devices stmts);
+        earlier_needs = sound.needs_are_earlier;
+        own = own_within d sound;
+        device_needs = All-weaker (SoundDevice d.attrs) (λ x. AreAttrs d.attrs x.needs) (λ x one. one.names_attrs) d.devices sound.devices_are_sound;
+        few_offered = few_offered d sound;
+        few_offered_by_device = few_by_device d sound;
+      };
       few_rows = omega (arith, rows_few (length d.devices) insts, marked_few r.files r.placed marks none);
-      earlier_needs = sound.needs_are_earlier;
       attr_names = attr_names stmts good sound;
       device_names = device_names stmts good sound;
       attach_names = attach_names stmts good sound;
       digits_for_units = plain_devices stmts good;
       different_locators = locators_differ d sound;
-      few_offered = few_offered d sound;
-      few_offered_by_device = few_by_device d sound;
-      own = own_within d sound;
-      device_needs = All-weaker (SoundDevice d.attrs) (λ x. AreAttrs d.attrs x.needs) (λ x one. one.names_attrs) d.devices sound.devices_are_sound;
       attach_devices = All-weaker (SoundAttach d.attrs d.devices) (λ x. x.device < length d.devices) (λ x one. one.has_device) d.attaches sound.attaches_are_sound;
       attach_places = places_open d sound;
       attach_needs = All-weaker (SoundAttach d.attrs d.devices) (λ x. AreAttrs d.attrs x.needs) (λ x one. one.names_attrs) d.attaches sound.attaches_are_sound;

@@ -6,6 +6,8 @@ use Rattle.std.proofs.lemmas.Bool.{and_from, or_parts}
 use Rattle.std.proofs.lemmas.List.Elements.{All-head, All-tail}
 use Rattle.std.proofs.lemmas.Slice.Eq.{bytes_eq-Decides}
 use Rattle.cf_types.specs.declared.code.configuration.TheConstants.{NAME_TAKEN, UNKNOWN_DEVICE}
+use Rattle.std.proofs.lemmas.List.{get_or_default}
+use Rattle.config_rules.proofs.GivenLaws.{no_code, no_last, no_first}
 use Rattle.cf_types.specs.declared.stmt.Placed.{Placed}
 use Rattle.cf_types.specs.declared.stmt.Stmt.{Stmt}
 use Rattle.cf_types.specs.declared.stmt.Stmt.TheVariants as stmt
@@ -16,8 +18,6 @@ use Rattle.config_rules.specs.MachineText.{differ, is_free_name, is_one}
 use Rattle.config_rules.specs.Written.{IsName}
 use Rattle.cf_declare.specs.Sound.{NamesDiffer}
 use Rattle.cf_declare.proofs.AcceptedLaws.{accepted_at}
-use Rattle.cf_declare.proofs.CodeLaws.{no_code, no_first, no_last}
-use Rattle.cf_rows.proofs.RowLemmas.{same_default}
 use Rattle.config_laws.specs.Free.{IsFree}
 
 -- ---- `root`
@@ -44,7 +44,7 @@ free_fault before s h = free_code (declared before) (count_by is_instance before
 pub all_free : (files : List (List ℕ)) (placed : List Placed) → first_code files [] placed ≡ None → All (λ p. IsFree p.stmt) placed
 all_free files placed none k d lt =
     let p = get_or placed k d in
-    free_fault _ p.stmt (accepted_at files placed k p lt (same_default placed k d p lt) none)
+    free_fault _ p.stmt (accepted_at files placed k p lt (get_or_default placed k d p lt) none)
 
 -- a name that is written and isn't `root`
 pub free_name : (name : List ℕ) → IsName name → is_root name ≡ false → is_free_name name ≡ true

@@ -8,6 +8,7 @@ use Rattle.std.proofs.lemmas.List.Elements.{All-append, All-cons, All-head, All-
 use Rattle.std.proofs.lemmas.List.Sums.{count_by-le-length, length-filter}
 use Rattle.std.proofs.lemmas.Option.{get_or_from_slice_get}
 use Rattle.std.proofs.lemmas.Slice.Zip.{length-zip}
+use Rattle.cf_types.proofs.ListLemmas.{slice_get_some, found_passes}
 use Rattle.cf_types.specs.Locators.{locators_at}
 use Rattle.cf_types.specs.declared.instance.AttachPlace.{AttachPlace}
 use Rattle.cf_types.specs.declared.instance.Instance.{Instance}
@@ -25,16 +26,14 @@ use Rattle.cf_types.specs.declared.tables.Place.{Place}
 use Rattle.cf_types.specs.declared.tables.Place.TheVariants.{Root, At}
 use Rattle.config_rules.specs.Declared.{Declared, declared}
 use Rattle.config_rules.specs.Fault.{first_code, is_instance, stmts_of}
-use Rattle.config_rules.specs.Formed.{is_root}
 use Rattle.config_rules.specs.Joined.{attached, device_or, fill, join, parent_of, spots_of, suits, target_of}
 use Rattle.config_rules.specs.Meaning.{if_joined, instance_of, marked, surviving}
-use Rattle.config_rules.specs.Select.{names, survives}
+use Rattle.config_rules.specs.Select.{is_root_place, names, survives}
 use Rattle.config_rules.specs.Written.{IsUnit, IsWritten}
 use Rattle.config_rules.proofs.CutLaws.{if_bind}
 use Rattle.config_rules.proofs.PlacedLaws.{stmts_more}
 use Rattle.cf_declare.proofs.AcceptedLaws.{accepted_at, instances_few}
 use Rattle.cf_declare.proofs.JoinLaws.{some_of}
-use Rattle.cf_declare.proofs.ListFacts.{element}
 use Rattle.cf_rows.specs.Rows.{UnitFits}
 
 -- ---- all that survive
@@ -77,22 +76,13 @@ surviving_fit stmts h = surviving_all UnitFits [] stmts (λ k d lt. instance_fit
 
 -- an instance at the root names no parent
 abbrev pub IsAlone : Joined → Type 0
-IsAlone j = is_root j.place ≡ true → j.parent ≡ None
+IsAlone j = is_root_place j.place ≡ true → j.parent ≡ None
 
-alone_at : (d : Declared) (target : Target) (place : Place) → suits d target place ≡ true → is_root place ≡ true → parent_of target ≡ None
+alone_at : (d : Declared) (target : Target) (place : Place) → suits d target place ≡ true → is_root_place place ≡ true → parent_of target ≡ None
 alone_at d AtRoot place h e = refl
 alone_at d (Below parent) Root h e = absurd (cc)
 alone_at d (Below parent) (At a) h e = absurd (cc)
 alone_at d (On b) place h e = refl
-
--- what is found passes
-found_passes : {X : Type 0} (p : X → Bool) (xs : List X) (y : X) → find p xs ≡ Some y → p y ≡ true
-found_passes p [] y h = absurd (cc)
-found_passes {X} p (x ∷ xs) y h = one (p x) refl h (found_passes p xs y)
-  where
-    one : (b : Bool) → p x ≡ b → cond b (Some x) (find p xs) ≡ Some y → (find p xs ≡ Some y → p y ≡ true) → p y ≡ true
-    one true e k later = let same : x ≡ y = cc in ap p (sym same) ∙ e
-    one false e k later = later k
 
 joins_alone : (d : Declared) (base : List ℕ) (at : AtSpec) (pairs : List GivenLoc) → IfOk (join d base at pairs) IsAlone
 unfolding join
@@ -139,7 +129,7 @@ count_so_far : (files : List (List ℕ)) (placed : List Placed) → first_code f
 count_so_far files placed none zero h = omega arith
 count_so_far files placed none (suc i) h =
     let e : i + 1 ≡ suc i = omega arith in
-    let found = element placed i (omega arith) in
+    let found = slice_get_some placed i (omega arith) in
     let is : found.0 ≡ get_or placed i found.0 = sym (get_or_from_slice_get placed i found.0 found.0 found.1) in
     let few = instances_few (stmts_of (take i placed)) found.0.stmt (accepted_at files placed i found.0 (omega arith) is none) (count_so_far files placed none i (omega arith)) in
     subst (λ (n : ℕ). count_by is_instance (stmts_of (take n placed)) ≤ 8192) e

@@ -7,17 +7,17 @@ use Rattle.std.proofs.lemmas.Bool.{and_from}
 use Rattle.std.proofs.lemmas.List.{length-map}
 use Rattle.std.proofs.lemmas.List.Elements.{All-head, All-tail, All-weaker}
 use Rattle.std.proofs.lemmas.Option.{slice_get_past}
+use Rattle.cf_types.proofs.ListLemmas.{all_at}
 use Rattle.cf_types.specs.declared.tables.Attr.{Attr}
 use Rattle.cf_types.specs.declared.tables.Device.{Device}
 use Rattle.cf_types.specs.declared.tables.Locator.{Locator}
 use Rattle.cf_types.specs.declared.tables.Place.{Place}
 use Rattle.cf_types.specs.declared.tables.Place.TheVariants.{Root, At}
-use Rattle.cf_types.specs.Offers.{Node, firsts, interfaces, interfaces_of, is_interface, is_open, named_by, needs_at, node_of, nodes_of, walk}
+use Rattle.cf_types.specs.Offers.{Node, firsts, interfaces, interfaces_of, is_interface, is_interface_node, named_by, needs_at, node_of, nodes_of, walk}
 use Rattle.config_rules.specs.Declared.{Declared}
 use Rattle.config_rules.specs.Formed.{is_place}
 use Rattle.config_rules.specs.MachineText.{differ}
 use Rattle.cf_declare.specs.Sound.{IsOpen, NamesDiffer, SoundAttach, SoundDevice, SoundDeclared}
-use Rattle.cf_declare.proofs.ListFacts.{all_at}
 use Rattle.cf_declare.proofs.SoundFacts.{open_within}
 use Rattle.config_laws.proofs.FreeLaws.{names_differ}
 
@@ -28,13 +28,13 @@ offers_nothing : (nodes : List Node) (a : ℕ) → length nodes ≤ a → length
 unfolding interfaces_of firsts walk
 offers_nothing nodes a h = by_steps (length nodes)
   where
-    shut : is_open nodes a ≡ false
+    shut : is_interface_node nodes a ≡ false
     shut = ap (λ o. option_map_or (λ x. x.iface) o false) (slice_get_past nodes a h)
 
     alone : needs_at nodes a ≡ []
     alone = ap (λ o. option_map_or (λ x. x.needs) o []) (slice_get_past nodes a h)
 
-    by_steps : (n : ℕ) → length (firsts (filter (is_open nodes) (walk n nodes a ++ []))) ≡ 0
+    by_steps : (n : ℕ) → length (firsts (filter (is_interface_node nodes) (walk n nodes a ++ []))) ≡ 0
     by_steps zero = refl
     by_steps (suc n) = rw (alone, shut) refl
 

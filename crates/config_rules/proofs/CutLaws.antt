@@ -2,7 +2,7 @@
 use Rattle.std.proofs.Common.{◌≡◌, ℕ, zero, suc, ◌+◌, ◌≤◌, ◌⊎◌, inl, inr, Bool, true, false, cond, not, ◌&&◌, ◌||◌, List, [], ◌∷◌, ◌++◌, length, take, drop, refl, ap, sym, ◌∙◌, subst, arith, Result, Ok, Err, length-append, length-drop, append_assoc, append-nil, one-add, codes}
 use Rattle.std.specs.Prelude.{IfOk, ◌==◌, take_while, slice_index, ⊤}
 use Rattle.std.specs.List.{prefix_len, list_all, list_any}
-use Rattle.std.proofs.lemmas.Bool.{eqb-true}
+use Rattle.std.proofs.lemmas.Bool.{eqb-true, not-true, or_cases, false_from_ne_true}
 use Rattle.std.proofs.lemmas.List.{take-append-drop}
 use Rattle.std.proofs.Math.Seq.{drop-append_seam}
 use Rattle.cf_types.specs.declared.code.configuration.TheConstants.{BAD_BYTE}
@@ -19,19 +19,11 @@ pub both_right : (a b : Bool) → (a && b) ≡ true → b ≡ true
 both_right true b h = h
 both_right false b h = absurd (cc)
 
-pub either : (a b : Bool) → (a || b) ≡ true → (a ≡ true) ⊎ (b ≡ true)
-either true b h = inl refl
-either false b h = inr h
-
-pub not_true : (a : Bool) → (a ≡ true → ⊥) → a ≡ false
-not_true true h = absurd (h refl)
-not_true false h = refl
-
 -- what holds of each of these bytes holds of one of them
 pub one_of : (P : ℕ → Bool) (xs : List ℕ) (c : ℕ) → list_any (λ m. m == c) xs ≡ true → list_all P xs ≡ true → P c ≡ true
 one_of P [] c h k = absurd (cc)
 one_of P (x ∷ xs) c h k =
-    elim (either (x == c) (list_any (λ m. m == c) xs) h) [
+    elim (or_cases (x == c) (list_any (λ m. m == c) xs) h) [
       | inl e ↦ ap P (sym (eqb-true x c e)) ∙ both_left (P x) (list_all P xs) k
       | inr e ↦ one_of P xs c e (both_right (P x) (list_all P xs) k)
     ]
@@ -44,26 +36,22 @@ from_byte P c x h k = ap P (eqb-true c x h) ∙ k
 not_chunk : ℕ → Bool
 not_chunk c = not (is_chunk_byte c)
 
-pub false_from : (a : Bool) → not a ≡ true → a ≡ false
-false_from true h = absurd (cc)
-false_from false h = refl
-
 pub space_no_chunk : (c : ℕ) → is_space c ≡ true → is_chunk_byte c ≡ false
 space_no_chunk c h =
-    elim (either (c == 32) (c == 9) h) [
-      | inl e ↦ false_from _ (from_byte (λ m. not (is_chunk_byte m)) c 32 e refl)
-      | inr e ↦ false_from _ (from_byte (λ m. not (is_chunk_byte m)) c 9 e refl)
+    elim (or_cases (c == 32) (c == 9) h) [
+      | inl e ↦ not-true _ (from_byte (λ m. not (is_chunk_byte m)) c 32 e refl)
+      | inr e ↦ not-true _ (from_byte (λ m. not (is_chunk_byte m)) c 9 e refl)
     ]
 
 pub chunk_no_space : (c : ℕ) → is_chunk_byte c ≡ true → is_space c ≡ false
-chunk_no_space c h = not_true (is_space c) (λ s. let e : is_chunk_byte c ≡ false = space_no_chunk c s in cc)
+chunk_no_space c h = false_from_ne_true (is_space c) (λ s. let e : is_chunk_byte c ≡ false = space_no_chunk c s in cc)
 
 pub chunk_is_not : (c x : ℕ) → is_chunk_byte x ≡ false → is_chunk_byte c ≡ true → (c == x) ≡ false
-chunk_is_not c x differs h = not_true (c == x) (λ e. let same : is_chunk_byte c ≡ is_chunk_byte x = ap is_chunk_byte (eqb-true c x e) in cc)
+chunk_is_not c x differs h = false_from_ne_true (c == x) (λ e. let same : is_chunk_byte c ≡ is_chunk_byte x = ap is_chunk_byte (eqb-true c x e) in cc)
 
 -- a mark is none of the others
 pub mark_is : (P : ℕ → Bool) (c : ℕ) → list_all (λ m. not (P m)) (codes ",=:{}[]()!&|") ≡ true → is_mark_byte c ≡ true → P c ≡ false
-mark_is P c k h = false_from _ (one_of (λ m. not (P m)) (codes ",=:{}[]()!&|") c h k)
+mark_is P c k h = not-true _ (one_of (λ m. not (P m)) (codes ",=:{}[]()!&|") c h k)
 
 -- ---- runs of bytes
 

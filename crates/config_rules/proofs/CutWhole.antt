@@ -2,7 +2,7 @@
 use Rattle.std.proofs.Common.{◌≡◌, ℕ, zero, suc, ◌≤◌, inl, inr, Bool, true, false, ◌&&◌, ◌||◌, List, [], ◌∷◌, ◌++◌, length, take, drop, refl, ap, sym, ◌∙◌, subst, arith, Result, Ok, Err, length-append, length-drop, append_assoc, append-nil}
 use Rattle.std.specs.Prelude.{IfErr, ◌==◌, take_while, slice_index, ⊤}
 use Rattle.std.specs.List.{prefix_len, list_all, list_any}
-use Rattle.std.proofs.lemmas.Bool.{eqb-true}
+use Rattle.std.proofs.lemmas.Bool.{eqb-true, or_parts}
 use Rattle.std.proofs.lemmas.List.{take-append-drop}
 use Rattle.std.proofs.Math.Seq.{take-append_seam, drop-append_seam}
 use Rattle.cf_types.specs.declared.code.configuration.TheConstants.{BAD_BYTE}
@@ -130,17 +130,13 @@ parts_only line parts k =
 
 -- ---- a fault
 
-or_false : (a b : Bool) → (a || b) ≡ false → (a ≡ false) × (b ≡ false)
-or_false true b h = absurd (cc)
-or_false false b h = (refl, h)
-
 none_first : (c : ℕ) (more : List ℕ) → begins_part c more ≡ false → first_part c more ≡ Err BAD_BYTE
 none_first c more h =
-    let a = or_false ((((is_space c || c == 35) || c == 34) || is_chunk_byte c) || is_mark_byte c) (c == 43 && slice_index more 0 == 61) h in
-    let b = or_false (((is_space c || c == 35) || c == 34) || is_chunk_byte c) (is_mark_byte c) a.0 in
-    let d = or_false ((is_space c || c == 35) || c == 34) (is_chunk_byte c) b.0 in
-    let e = or_false (is_space c || c == 35) (c == 34) d.0 in
-    let f = or_false (is_space c) (c == 35) e.0 in
+    let a = or_parts ((((is_space c || c == 35) || c == 34) || is_chunk_byte c) || is_mark_byte c) (c == 43 && slice_index more 0 == 61) h in
+    let b = or_parts (((is_space c || c == 35) || c == 34) || is_chunk_byte c) (is_mark_byte c) a.0 in
+    let d = or_parts ((is_space c || c == 35) || c == 34) (is_chunk_byte c) b.0 in
+    let e = or_parts (is_space c || c == 35) (c == 34) d.0 in
+    let f = or_parts (is_space c) (c == 35) e.0 in
     rw (f.0, f.1, e.1, d.1, b.1, a.1) refl
 
 not_text : (more : List ℕ) (code : ℕ) → NoQuote more code → is_text_byte (slice_index more 0) ≡ false
@@ -167,9 +163,9 @@ stuck_err rest code (inr s) =
 
 stuck_first : (rest : List ℕ) (code : ℕ) → Stuck rest code → is_chunk_byte (slice_index rest 0) ≡ false
 stuck_first rest code (inl s) =
-    let a = or_false ((((is_space s.0 || s.0 == 35) || s.0 == 34) || is_chunk_byte s.0) || is_mark_byte s.0) (s.0 == 43 && slice_index s.1 0 == 61) s.3 in
-    let b = or_false (((is_space s.0 || s.0 == 35) || s.0 == 34) || is_chunk_byte s.0) (is_mark_byte s.0) a.0 in
-    let d = or_false ((is_space s.0 || s.0 == 35) || s.0 == 34) (is_chunk_byte s.0) b.0 in
+    let a = or_parts ((((is_space s.0 || s.0 == 35) || s.0 == 34) || is_chunk_byte s.0) || is_mark_byte s.0) (s.0 == 43 && slice_index s.1 0 == 61) s.3 in
+    let b = or_parts (((is_space s.0 || s.0 == 35) || s.0 == 34) || is_chunk_byte s.0) (is_mark_byte s.0) a.0 in
+    let d = or_parts ((is_space s.0 || s.0 == 35) || s.0 == 34) (is_chunk_byte s.0) b.0 in
     ap (λ xs. is_chunk_byte (slice_index xs 0)) s.2 ∙ d.1
 stuck_first rest code (inr s) = ap (λ xs. is_chunk_byte (slice_index xs 0)) s.2
 
@@ -180,7 +176,7 @@ end_stuck (Comment b ∷ []) rest h k = absurd (cc)
 end_stuck (Quoted b ∷ []) rest h k = tt
 end_stuck (Chunk b ∷ []) rest h k = k
 end_stuck (Mark b ∷ []) rest h k = tt
-end_stuck (p ∷ q ∷ ps) rest h k = let e = or_false (is_comment p) (list_any is_comment (q ∷ ps)) h in end_stuck (q ∷ ps) rest e.1 k
+end_stuck (p ∷ q ∷ ps) rest h k = let e = or_parts (is_comment p) (list_any is_comment (q ∷ ps)) h in end_stuck (q ∷ ps) rest e.1 k
 
 -- a fault is the one that the function gives
 pub fault_only : (line : List ℕ) (code : ℕ) → LineFault line code → parts_of line ≡ Err code

@@ -10,6 +10,7 @@ use Rattle.std.proofs.lemmas.List.FromFn.{length-enumerate_from}
 use Rattle.std.proofs.lemmas.List.Elements.{All-nil, All-push, All-weaker}
 use Rattle.std.proofs.lemmas.List.Folds.{list_any-append}
 use Rattle.cf_types.specs.declared.code.machine.TheConstants.{NO_INTERFACE, OUT_OF_RANGE, UNKNOWN_ATTACHMENT, UNKNOWN_SPOT}
+use Rattle.config_rules.proofs.GivenLaws.{if_given, no_code, no_last, no_first}
 use Rattle.cf_types.proofs.ListLemmas.{slice_get-append_front, slice_get-append_back}
 use Rattle.cf_types.proofs.PlaceLemmas.{position_found}
 use Rattle.cf_types.specs.declared.machine.Machine.{Machine}
@@ -26,8 +27,9 @@ use Rattle.cf_types.specs.Policies.{no_policy}
 use Rattle.cf_text.specs.Shapes.{number}
 use Rattle.config_rules.specs.Cut.{at_line, ◌>>=◌}
 use Rattle.config_rules.specs.Form.{each, given, ◌or◌}
-use Rattle.config_rules.specs.Formed.{AreNames, FittingMachine, FittingMatch, FittingSpot, FittingStyle, is_place, is_root}
-use Rattle.config_rules.specs.MachineText.{GivenValue, LineForm, SpotLine, MatchOf, StyleOf, DriverOf, WordLine, after_line, after_lines, attach_number, depth_of, differ, driver_line, found_fault, found_value, given_value, in_match_range, interface_number, is_free_name, is_one, is_spot, line_form, located, machine_of, mark_words, match_line, no_machine, records_of, spot_above, spot_fault, spot_line, spot_locators, spot_number, spot_of, spot_place, style_line, with_policies}
+use Rattle.config_rules.specs.Formed.{AreNames, FittingMachine, FittingMatch, FittingSpot, FittingStyle, is_place}
+use Rattle.config_rules.specs.Select.{is_root_place}
+use Rattle.config_rules.specs.MachineText.{GivenValue, LineForm, SpotLine, MatchOf, StyleOf, DriverOf, WordLine, after_line, after_lines, attach_number, depth_of, differ, driver_line, found_fault, found_value, located_value, in_match_range, interface_number, is_free_name, is_one, is_spot, line_form, located, machine_of, mark_words, match_line, no_machine, records_of, spot_above, spot_fault, spot_line, spot_locators, spot_number, spot_of, spot_place, style_line, with_policies}
 use Rattle.config_rules.proofs.CutLaws.{both_left, both_right}
 use Rattle.config_rules.proofs.Parts.{ok_is}
 
@@ -37,26 +39,6 @@ use Rattle.config_rules.proofs.Parts.{ok_is}
 unless : {A B : Type 0} (P : B → Type 0) (fault : Option ℕ) (x : A) (f : A → Result B ℕ) → (fault ≡ None → IfOk (f x) P) → IfOk (option_map_or (λ code. Err code) fault (Ok x) >>= f) P
 unless P (Some code) x f h = tt
 unless P None x f h = h refl
-
-passed : (b : Bool) (code : ℕ) (more : Option ℕ) → (given b code or more) ≡ None → b ≡ false
-passed true code more h = absurd (cc)
-passed false code more h = refl
-
-rest : (b : Bool) (code : ℕ) (more : Option ℕ) → (given b code or more) ≡ None → more ≡ None
-rest true code more h = absurd (cc)
-rest false code more h = h
-
-past : (first more : Option ℕ) → (first or more) ≡ None → more ≡ None
-past (Some code) more h = absurd (cc)
-past None more h = h
-
-last : (b : Bool) (code : ℕ) → given b code ≡ None → b ≡ false
-last true code h = absurd (cc)
-last false code h = refl
-
-if_given : {A : Type 0} (P : A → Type 0) (b : Bool) (x : A) → (b ≡ true → P x) → IfSome (given b x) P
-if_given P true x h = h refl
-if_given P false x h = tt
 
 there : {A : Type 0} (o : Option A) (P : A → Type 0) (d : A) → is_none o ≡ false → IfSome o P → P (unwrap_or o d)
 there None P d h p = absurd (cc)
@@ -207,7 +189,7 @@ above_if true o n h = tt
 above_if false o n h = h
 
 rooted_if : (b c : Bool) (o q : Option ℕ) → (not b && is_none (cond b None o)) ≡ false → is_none (cond b (given c Root) (option_map (λ a. At a) q)) ≡ false
-    → is_none (cond b None o) ≡ is_root (unwrap_or (cond b (given c Root) (option_map (λ a. At a) q)) Root)
+    → is_none (cond b None o) ≡ is_root_place (unwrap_or (cond b (given c Root) (option_map (λ a. At a) q)) Root)
 rooted_if true true o q h k = refl
 rooted_if true false o q h k = absurd (cc)
 rooted_if false c None q h k = absurd (cc)
@@ -239,16 +221,16 @@ pub spot_fits : (t : Tables) (spots : List Spot) (name parent attr : List ℕ) (
 spot_fits t spots name parent attr found marks h =
     let root : Bool = bytes_eq parent (codes "root") in
     let place : Option ℕ = cond (bytes_eq attr (codes "root")) None (interface_number t attr) in
-    let after_name = rest (is_some (spot_number spots name)) 2 _ h in
-    let after_parent = rest (not root && is_none (spot_above spots parent)) 3 _ after_name in
-    let after_place = rest (is_none (spot_place t parent attr)) 4 _ after_parent in
-    let after_found = past (found_fault (spot_locators t parent attr) found) _ after_place in
+    let after_name = (no_code (is_some (spot_number spots name)) 2 _ h).1 in
+    let after_parent = (no_code (not root && is_none (spot_above spots parent)) 3 _ after_name).1 in
+    let after_place = (no_code (is_none (spot_place t parent attr)) 4 _ after_parent).1 in
+    let after_found = (no_first (found_fault (spot_locators t parent attr) found) _ after_place).1 in
     record {
       above = above_if root (spot_number spots parent) (length spots) (position_below (λ s. bytes_eq s.name parent) spots);
-      rooted = rooted_if root (bytes_eq attr (codes "root")) (spot_number spots parent) place (passed _ 3 _ after_name) (passed _ 4 _ after_parent);
+      rooted = rooted_if root (bytes_eq attr (codes "root")) (spot_number spots parent) place (no_code _ 3 _ after_name).0 (no_code _ 4 _ after_parent).0;
       place = place_if t.attrs root (bytes_eq attr (codes "root")) place (interface_unless t.attrs (bytes_eq attr (codes "root")) (interface_number t attr) (interface_is t attr));
       one_value_a_locator = length-map (spot_locators t parent attr) (found_value found) ∙ locators_are t.attrs (spot_place t parent attr);
-      depth = not_deep _ (last _ 9 (rest (nat_le 1024 (length spots)) 8 _ after_found));
+      depth = not_deep _ (no_last _ 9 (no_code (nat_le 1024 (length spots)) 8 _ after_found).1);
     }
 
 -- ---- lines by their forms
@@ -274,7 +256,7 @@ spot_line_is : (words : List (List ℕ)) → IfSome (spot_line words) HasForm
 spot_line_is [] = tt
 spot_line_is (name ∷ []) = tt
 spot_line_is (name ∷ parent ∷ []) = tt
-spot_line_is (name ∷ parent ∷ attr ∷ more) = spot_is name parent attr (drop (length (located more)) more) (each given_value (located more))
+spot_line_is (name ∷ parent ∷ attr ∷ more) = spot_is name parent attr (drop (length (located more)) more) (each located_value (located more))
 
 small : (n : ℕ) → (nat_le 0 n && nat_le n 65535) ≡ true → n ≤ 65535
 small n h = grind (arith, nat_tests)
@@ -323,11 +305,11 @@ spot_line_fits : (t : Tables) (m : Machine) (name parent attr : List ℕ) (found
     → IfOk (after_line t m (Some (SpotLine name parent attr found marks))) (FittingMachine t)
 spot_line_fits t m name parent attr found marks f free =
     unless (FittingMachine t) (spot_fault t m.spots name parent attr found) (spot_of t m.spots name parent attr found marks) (λ s. Ok (record m { spots = m.spots ++ s ∷ [] })) (λ none.
-    let after_name = rest (is_some (spot_number m.spots name)) 2 _ none in
-    let after_parent = rest (not (bytes_eq parent (codes "root")) && is_none (spot_above m.spots parent)) 3 _ after_name in
-    let after_place = rest (is_none (spot_place t parent attr)) 4 _ after_parent in
-    let after_found = past (found_fault (spot_locators t parent attr) found) _ after_place in
-    machine_with_spot t m (spot_of t m.spots name parent attr found marks) f (room _ (passed _ 8 _ after_found)) free (passed _ 2 _ none) (spot_fits t m.spots name parent attr found marks none))
+    let after_name = (no_code (is_some (spot_number m.spots name)) 2 _ none).1 in
+    let after_parent = (no_code (not (bytes_eq parent (codes "root")) && is_none (spot_above m.spots parent)) 3 _ after_name).1 in
+    let after_place = (no_code (is_none (spot_place t parent attr)) 4 _ after_parent).1 in
+    let after_found = (no_first (found_fault (spot_locators t parent attr) found) _ after_place).1 in
+    machine_with_spot t m (spot_of t m.spots name parent attr found marks) f (room _ (no_code _ 8 _ after_found).0) free (no_code _ 2 _ none).0 (spot_fits t m.spots name parent attr found marks none))
 
 matched_below : (spots : List Spot) (spot : Option (List ℕ)) → IfSome (option_and_then (spot_number spots) spot) (λ s. s < length spots)
 matched_below spots None = tt
@@ -340,11 +322,11 @@ match_line_fits t m attach spot value f within =
     (record { attach = unwrap_or (attach_number t attach) 0; spot = option_and_then (spot_number m.spots) spot; value = unwrap_or value 0 })
     (λ l. Ok (record m { matches = m.matches ++ l ∷ [] })) (λ none.
     let line : MatchLine = record { attach = unwrap_or (attach_number t attach) 0; spot = option_and_then (spot_number m.spots) spot; value = unwrap_or value 0 } in
-    let after_attach = rest (is_none (attach_number t attach)) 6 _ none in
+    let after_attach = (no_code (is_none (attach_number t attach)) 6 _ none).1 in
     let fits : FittingMatch t m.spots line = record {
-      attach = there (attach_number t attach) (λ a. a < length t.attaches) 0 (passed _ 6 _ none) (position_below (λ a. bytes_eq a.name attach) t.attaches);
+      attach = there (attach_number t attach) (λ a. a < length t.attaches) 0 (no_code _ 6 _ none).0 (position_below (λ a. bytes_eq a.name attach) t.attaches);
       spot = matched_below m.spots spot;
-      value = there value (λ v. v ≤ 65535) 0 (last _ 7 (rest no_spot 3 _ after_attach)) within;
+      value = there value (λ v. v ≤ 65535) 0 (no_last _ 7 (no_code no_spot 3 _ after_attach).1) within;
     } in
     record {
       few_spots = f.few_spots;
@@ -363,8 +345,8 @@ style_line_fits t m attach attr indirect f =
     (λ l. Ok (record m { styles = m.styles ++ l ∷ [] })) (λ none.
     let line : StyleLine = record { attach = unwrap_or (attach_number t attach) 0; attr = unwrap_or (interface_number t attr) 0; indirect = indirect } in
     let fits : FittingStyle t line = record {
-      attach = there (attach_number t attach) (λ a. a < length t.attaches) 0 (passed _ 6 _ none) (position_below (λ a. bytes_eq a.name attach) t.attaches);
-      attr = there (interface_number t attr) (λ a. is_interface t.attrs a ≡ true) 0 (last _ 4 (rest (is_none (attach_number t attach)) 6 _ none)) (interface_is t attr);
+      attach = there (attach_number t attach) (λ a. a < length t.attaches) 0 (no_code _ 6 _ none).0 (position_below (λ a. bytes_eq a.name attach) t.attaches);
+      attr = there (interface_number t attr) (λ a. is_interface t.attrs a ≡ true) 0 (no_last _ 4 (no_code (is_none (attach_number t attach)) 6 _ none).1) (interface_is t attr);
     } in
     record {
       few_spots = f.few_spots;

@@ -1,10 +1,11 @@
 -- A list of truth values that is closed, with a chain to the root for each that is marked, marks exactly what is rooted.
 use Rattle.std.proofs.Common.{sym, ◌≡◌, ℕ, zero, suc, ◌<◌, inl, inr, Bool, true, false, not, ◌&&◌, ◌||◌, List, [], ◌∷◌, length, refl, ap, ◌∙◌, arith}
 use Rattle.std.specs.Prelude.{slice_index_or, nat_lt}
-use Rattle.std.proofs.lemmas.Bool.{cases_lt}
+use Rattle.std.proofs.lemmas.Bool.{cases_lt, ltb-true}
 use Rattle.std.proofs.lemmas.List.{ext_get_or}
 use Rattle.std.proofs.lemmas.Bool.Decides.{nat_tests}
-use Rattle.config_rules.specs.Select.{LeadsToRoot, AreRooted, Closed}
+use Rattle.cf_types.proofs.TestLemmas.{same_answer}
+use Rattle.config_rules.specs.Select.{LeadsToRoot, AreRooted}
 use Rattle.config_rules.proofs.CutLaws.{both_left, both_right}
 
 -- each number below this one passes
@@ -40,20 +41,21 @@ implied : (a b : Bool) → implies a b ≡ true → a ≡ true → b ≡ true
 implied true b h k = h
 implied false b h k = absurd (cc)
 
-below_is : (i n : ℕ) → nat_lt i n ≡ true → i < n
-below_is i n h = grind (arith, nat_tests)
-
 leads_is : (at_root : ℕ → Bool) (carries : ℕ → ℕ → Bool) (n i : ℕ) (chain : List ℕ) → leads at_root carries n i chain ≡ true → LeadsToRoot at_root carries n i chain
-leads_is at_root carries n i [] h = (below_is i n (both_left (nat_lt i n) (at_root i) h), both_right (nat_lt i n) (at_root i) h)
+leads_is at_root carries n i [] h = (ltb-true i n (both_left (nat_lt i n) (at_root i) h), both_right (nat_lt i n) (at_root i) h)
 leads_is at_root carries n i (j ∷ chain) h =
     let here : (nat_lt i n && carries j i) ≡ true = both_left (nat_lt i n && carries j i) (leads at_root carries n j chain) h in (
-      below_is i n (both_left (nat_lt i n) (carries j i) here),
+      ltb-true i n (both_left (nat_lt i n) (carries j i) here),
       both_right (nat_lt i n) (carries j i) here,
       leads_is at_root carries n j chain (both_right (nat_lt i n && carries j i) (leads at_root carries n j chain) h),
     )
 
--- what is closed holds all that is rooted
-closed_marks : (at_root : ℕ → Bool) (carries : ℕ → ℕ → Bool) (n : ℕ) (marks : List Bool) → ((i : ℕ) → i < n → at_root i ≡ true → slice_index_or marks i false ≡ true)
+-- nothing that is marked carries one that isn't
+abbrev pub Closed : (ℕ → ℕ → Bool) → ℕ → List Bool → Type 0
+Closed carries n marks = (j i : ℕ) → i < n → slice_index_or marks j false ≡ true → carries j i ≡ true → slice_index_or marks i false ≡ true
+
+-- marks that are closed and mark those at the root mark all that is rooted
+pub closed_marks : (at_root : ℕ → Bool) (carries : ℕ → ℕ → Bool) (n : ℕ) (marks : List Bool) → ((i : ℕ) → i < n → at_root i ≡ true → slice_index_or marks i false ≡ true)
     → Closed carries n marks → (i : ℕ) (chain : List ℕ) → LeadsToRoot at_root carries n i chain → slice_index_or marks i false ≡ true
 closed_marks at_root carries n marks roots closed i [] h = roots i h.0 h.1
 closed_marks at_root carries n marks roots closed i (j ∷ chain) h = closed j i h.0 (closed_marks at_root carries n marks roots closed j chain h.2) h.1
@@ -88,15 +90,10 @@ rooted_by at_root carries n marks chains len h =
       complete = λ i r. closed_marks at_root carries n marks roots carried i r.0 r.1;
     }
 
-both_ways : (a b : Bool) → (a ≡ true → b ≡ true) → (b ≡ true → a ≡ true) → a ≡ b
-both_ways true b to from = sym (to refl)
-both_ways false true to from = from refl
-both_ways false false to from = refl
-
 -- there is one such list of truth values
 pub marks_one : (at_root : ℕ → Bool) (carries : ℕ → ℕ → Bool) (n : ℕ) (marks others : List Bool) → AreRooted at_root carries n marks → AreRooted at_root carries n others → marks ≡ others
 marks_one at_root carries n marks others a b =
     let as_many : length marks ≡ length others = a.as_many ∙ sym b.as_many in
     ext_get_or false marks others as_many (λ i lt.
     let within : i < n = omega (arith, a.as_many) in
-    both_ways (slice_index_or marks i false) (slice_index_or others i false) (λ h. b.complete i (a.sound i within h)) (λ h. a.complete i (b.sound i within h)))
+    same_answer (slice_index_or marks i false) (slice_index_or others i false) (λ h. b.complete i (a.sound i within h)) (λ h. a.complete i (b.sound i within h)))

@@ -2,22 +2,19 @@
 use Rattle.std.proofs.Common.{not, ◌&&◌, ◌≡◌, ℕ, zero, suc, ◌<◌, Bool, true, false, ◌||◌, Some, List, [], ◌∷◌, refl, sym, ap, ◌∙◌, subst, arith, inl, inr}
 use Rattle.std.specs.Prelude.{slice_get, slice_index_or}
 use Rattle.std.specs.List.{list_any}
+use Rattle.std.proofs.lemmas.Bool.{or_parts, or_right, not-true, or_cases}
 use Rattle.cf_types.specs.declared.stmt.Stmt.{Stmt}
 use Rattle.config_rules.specs.Fault.{is_instance}
 use Rattle.config_rules.specs.Select.{names, survives, kept, Survives, takes_back, TakesBack}
-use Rattle.config_rules.proofs.CutLaws.{both_left, both_right, either, false_from}
-
-neither : (a b : Bool) → (a || b) ≡ false → (a ≡ false) × (b ≡ false)
-neither true b h = absurd (cc)
-neither false b h = (refl, h)
+use Rattle.config_rules.proofs.CutLaws.{both_left, both_right}
 
 -- none of these statements names it, one by one
 none_names : (s : Stmt) (later : List Stmt) (j : ℕ) (n : Stmt) → list_any (λ m. names m s) later ≡ false → slice_get later j ≡ Some n → names n s ≡ false
 none_names s [] j n h at = absurd (cc)
 none_names s (m ∷ later) zero n h at =
     let same : m ≡ n = cc in
-    ap (λ k. names k s) (sym same) ∙ (neither (names m s) (list_any (λ k. names k s) later) h).0
-none_names s (m ∷ later) (suc j) n h at = none_names s later j n (neither (names m s) (list_any (λ k. names k s) later) h).1 at
+    ap (λ k. names k s) (sym same) ∙ (or_parts (names m s) (list_any (λ k. names k s) later) h).0
+none_names s (m ∷ later) (suc j) n h at = none_names s later j n (or_parts (names m s) (list_any (λ k. names k s) later) h).1 at
 
 -- and if none does one by one, none does
 no_names : (s : Stmt) (later : List Stmt) → ((j : ℕ) (n : Stmt) → slice_get later j ≡ Some n → names n s ≡ false) → list_any (λ m. names m s) later ≡ false
@@ -37,7 +34,7 @@ first_survives : (x : Stmt) (later : List Stmt) → survives x later ≡ true �
 first_survives x later h = record {
   here = refl;
   instance = both_left (is_instance x) _ h;
-  not_named = behind_first x x later (false_from (list_any (λ m. names m x) later) (both_right (is_instance x) _ h));
+  not_named = behind_first x x later (not-true (list_any (λ m. names m x) later) (both_right (is_instance x) _ h));
 }
 
 -- where the truth value says so, the instance survives
@@ -70,7 +67,7 @@ takes_first : (n x : Stmt) (between : List Stmt) → (names n x && not (list_any
 takes_first n x between h = record {
   here = refl;
   named = both_left (names n x) _ h;
-  not_named = behind_first x x between (false_from (list_any (λ m. names m x) between) (both_right (names n x) _ h));
+  not_named = behind_first x x between (not-true (list_any (λ m. names m x) between) (both_right (names n x) _ h));
 }
 
 takes_further : (n x s : Stmt) (between : List Stmt) (i : ℕ) → TakesBack between n i s → TakesBack (x ∷ between) n (suc i) s
@@ -81,14 +78,10 @@ pub takes_back_sound : (n : Stmt) (before : List Stmt) → takes_back n before �
 unfolding takes_back
 takes_back_sound n [] h = absurd (cc)
 takes_back_sound n (x ∷ between) h =
-    elim (either (names n x && not (list_any (λ m. names m x) between)) (takes_back n between) h) [
+    elim (or_cases (names n x && not (list_any (λ m. names m x) between)) (takes_back n between) h) [
       | inl here ↦ (0, x, takes_first n x between here)
       | inr more ↦ let t = takes_back_sound n between more in (suc t.0, t.1, takes_further n x t.1 between t.0 t.2)
     ]
-
-or_right : (a b : Bool) → b ≡ true → (a || b) ≡ true
-or_right true b h = refl
-or_right false b h = h
 
 -- and the other way round
 pub takes_back_complete : (n : Stmt) (before : List Stmt) (i : ℕ) (s : Stmt) → TakesBack before n i s → takes_back n before ≡ true

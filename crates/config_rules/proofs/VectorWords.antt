@@ -8,7 +8,7 @@ use Rattle.config_rules.specs.Form.{form_fault}
 use Rattle.config_rules.specs.Reading.{Files, reading}
 use Rattle.config_rules.specs.Declared.{declared}
 use Rattle.config_rules.specs.Fault.{first_fault, stmts_of}
-use Rattle.config_rules.specs.Select.{Inst, is_at_root_at, carries_at}
+use Rattle.config_rules.specs.Select.{Inst, is_at_root_at, carries_at, offered_by}
 use Rattle.config_rules.specs.Meaning.{inst_of, surviving, tables_of, Means}
 use Rattle.config_rules.specs.Listing.{listing}
 use Rattle.cf_types.specs.declared.stmt.Stmt.{Stmt}
@@ -66,7 +66,7 @@ insts_in fs = map inst_of (surviving [] (stmts_in fs))
 -- these of the surviving instances are rooted, each by a chain of such places
 abbrev pub Roots : Files → List Bool → List (List ℕ) → Type 0
 Roots fs rooted chains =
-    are_marks (is_at_root_at (insts_in fs)) (carries_at (declared (stmts_in fs)) (insts_in fs)) (length (insts_in fs)) rooted chains ≡ true
+    are_marks (is_at_root_at (insts_in fs)) (carries_at (offered_by (declared (stmts_in fs))) (insts_in fs)) (length (insts_in fs)) rooted chains ≡ true
 
 -- the files are accepted, and this is the listing of the tables that they mean
 abbrev pub ListsIn : List (List ℕ × List ℕ) → List Bool → List (List ℕ) → List (List ℕ) → Type 0
@@ -93,7 +93,7 @@ lists_means fs rooted chains shown h =
       meant = record {
         accepted = h.0;
         marks = rooted;
-        rooted = rooted_by (is_at_root_at insts) (carries_at (declared (stmts_in (files fs))) insts) (length insts) rooted chains h.1 h.2;
+        rooted = rooted_by (is_at_root_at insts) (carries_at (offered_by (declared (stmts_in (files fs)))) insts) (length insts) rooted chains h.1 h.2;
         shown = refl;
       };
       listed = h.3;

@@ -5,17 +5,22 @@ use Rattle.std.specs.List.{before_first, list_all}
 use Rattle.std.specs.Str.Parse.{digits_value}
 use Rattle.std.proofs.lemmas.Bool.{leb-true}
 use Rattle.std.proofs.lemmas.List.Elements.{All-cons, All-nil}
+use Rattle.config_rules.proofs.GivenLaws.{if_given}
 use Rattle.cf_types.specs.declared.stmt.Piece.{Piece}
 use Rattle.cf_types.specs.declared.stmt.UnitMark.{UnitMark}
 use Rattle.cf_types.specs.declared.stmt.UnitMark.TheVariants.{Fixed, Star}
-use Rattle.cf_types.specs.declared.stmt.CondWord.TheVariants as word
+use Rattle.cf_types.specs.declared.keyword.Keyword.{Keyword}
+use Rattle.cf_types.specs.declared.keyword.Keyword.TheVariants as word
+use Rattle.cf_types.specs.declared.keyword.TheConstants.{KEYWORDS}
+use Rattle.cf_types.specs.declared.stmt.CondWord.{CondWord}
+use Rattle.cf_types.specs.declared.stmt.CondWord.TheVariants as condition
 use Rattle.cf_types.specs.declared.stmt.ItemKind.{ItemKind}
 use Rattle.cf_types.specs.declared.stmt.ItemKind.TheVariants as of_kind
 use Rattle.cf_types.specs.declared.stmt.Stmt.{Stmt}
 use Rattle.cf_types.specs.declared.stmt.Stmt.TheVariants as stmt
 use Rattle.cf_types.specs.declared.tables.Locator.{Locator}
 use Rattle.cf_text.specs.Shapes.{ends_with_digit, is_written, is_decimal, base_len, unit_of, base_before}
-use Rattle.config_rules.specs.Form.{◌or◌, alone, at_place, attach_stmt, attached, by_row, count_of, defining, device_stmt, each, fixed_of, form_of, free_row, free_words, given, inst_stmt, is_before_last, is_chunk, is_mark, is_word, locator_name, locator_of, locators_of, marked_of, make_item, name_of, names_of, option_item, path_of, needs_of, no_inst, no_stmt, pairs_of, parted, parted_at, place_of, prefix_stmt, pseudo_stmt, row_of, table, TableRow, unit_chunk, value_of, with_body, with_default, within}
+use Rattle.config_rules.specs.Form.{◌or◌, alone, at_place, attach_stmt, attached, by_row, cond_form, count_of, defining, device_stmt, each, fixed_of, form_by, form_of, free_form, given, inst_stmt, is_before_last, is_chunk, is_mark, is_word, locator_name, locator_of, locators_of, marked_of, make_item, name_of, names_of, option_item, path_of, needs_of, no_inst, no_stmt, pairs_of, parted, parted_at, place_of, prefix_stmt, pseudo_stmt, row_by, row_of, table, TableRow, unit_chunk, value_of, with_body, with_default, within}
 use Rattle.config_rules.specs.Written.{AreLocators, IsName, IsUnit, IsWritten}
 use Rattle.config_rules.proofs.CutLaws.{both_left, both_right}
 
@@ -44,10 +49,6 @@ if_or P (Some x) rest h k = h
 if_both : {A : Type 0} (P : A → Type 0) (b : Bool) (o rest : Option A) → (b ≡ true → IfSome o P) → (b ≡ false → IfSome rest P) → IfSome (cond b o rest) P
 if_both P true o rest h k = h refl
 if_both P false o rest h k = k refl
-
-if_given : {A : Type 0} (P : A → Type 0) (b : Bool) (x : A) → (b ≡ true → P x) → IfSome (given b x) P
-if_given P true x h = h refl
-if_given P false x h = tt
 
 -- what each gives, if each gives something
 if_each : {A B : Type 0} (P : B → Type 0) (f : A → Option B) → ((x : A) → IfSome (f x) P) → (xs : List A) → IfSome (each f xs) (All P)
@@ -276,43 +277,52 @@ row_written : (rows : List TableRow) → RowsWritten rows → (p : Piece) → If
 row_written [] h p = tt
 row_written (r ∷ rows) h p = if_both RowWritten (is_word r.word p) (Some r) (row_of rows p) (λ _. h.0) (λ _. row_written rows h.1 p)
 
-free_rows_written : (words : List (List ℕ)) → RowsWritten (map free_row words)
-free_rows_written [] = tt
-free_rows_written (w ∷ words) = (λ ps. free_given (nat_lt 0 (length ps)) (stmt.Free w ps) tt, free_rows_written words)
+cond_written : (c : CondWord) (ps : List Piece) → IfSome (cond_form c ps) IsWritten
+cond_written condition.IfDef ps = free_map (λ name. stmt.Cond condition.IfDef (Some name)) (λ x. tt) (alone name_of ps)
+cond_written condition.IfNDef ps = free_map (λ name. stmt.Cond condition.IfNDef (Some name)) (λ x. tt) (alone name_of ps)
+cond_written condition.ElifDef ps = free_map (λ name. stmt.Cond condition.ElifDef (Some name)) (λ x. tt) (alone name_of ps)
+cond_written condition.ElifNDef ps = free_map (λ name. stmt.Cond condition.ElifNDef (Some name)) (λ x. tt) (alone name_of ps)
+cond_written condition.Else ps = free_given (length ps == 0) (stmt.Cond condition.Else None) tt
+cond_written condition.EndIf ps = free_given (length ps == 0) (stmt.Cond condition.EndIf None) tt
 
--- one row and those behind it
-infixr 5 ◌beside◌
-◌beside◌ : {A B : Type 0} → A → B → A × B
-x beside y = (x, y)
+free_written : (w : List ℕ) (ps : List Piece) → IfSome (free_form w true ps) IsWritten
+free_written w ps = free_given (nat_lt 0 (length ps)) (stmt.Free w ps) tt
+
+keyword_written : (k : Keyword) (ps : List Piece) → IfSome (form_by k true ps) IsWritten
+keyword_written word.Include ps = free_map (λ path. stmt.Include path false) (λ x. tt) (alone path_of ps)
+keyword_written word.CInclude ps = free_map (λ path. stmt.Include path true) (λ x. tt) (alone path_of ps)
+keyword_written word.Prefix ps = prefix_written ps
+keyword_written (word.Condition c) ps = cond_written c ps
+keyword_written word.Define ps = define_written ps
+keyword_written word.DevClass ps = if_map IsWritten stmt.Class (alone name_of ps) (if_alone IsName name_of named ps)
+keyword_written word.DefPseudo ps = defpseudo_written ps
+keyword_written word.Device ps = device_written ps
+keyword_written word.Attach ps = attach_written ps
+keyword_written word.No ps = no_stmt_written ps
+keyword_written word.Options ps = free_map stmt.Options (λ x. tt) (each option_item (parted ps))
+keyword_written word.MakeOptions ps = free_map stmt.MakeOptions (λ x. tt) (each make_item (parted ps))
+keyword_written word.FileSystem ps = free_map stmt.FileSystems (λ x. tt) (names_of ps)
+keyword_written word.PseudoDevice ps = pseudo_written ps
+keyword_written word.MaxUsers ps = free_given _ (stmt.Checked (codes "maxusers")) tt
+keyword_written word.MaxPartitions ps = free_given _ (stmt.Checked (codes "maxpartitions")) tt
+keyword_written word.Machine ps = free_given _ (stmt.Checked (codes "machine")) tt
+keyword_written word.Ident ps = free_given _ (stmt.Checked (codes "ident")) tt
+keyword_written word.Config ps = free_given _ (stmt.Checked (codes "config")) tt
+keyword_written word.DefFlag ps = free_written (codes "defflag") ps
+keyword_written word.DefParam ps = free_written (codes "defparam") ps
+keyword_written word.DefFs ps = free_written (codes "deffs") ps
+keyword_written word.File ps = free_written (codes "file") ps
+keyword_written word.DeviceMajor ps = free_written (codes "device-major") ps
+keyword_written word.Version ps = free_written (codes "version") ps
+keyword_written word.Obsolete ps = free_written (codes "obsolete") ps
+
+rows_written : (ks : List Keyword) → RowsWritten (map row_by ks)
+rows_written [] = tt
+rows_written (k ∷ ks) = (keyword_written k, rows_written ks)
 
 table_written : RowsWritten table
 unfolding table
-table_written =
-    (λ ps. free_map (λ path. stmt.Include path false) (λ x. tt) (alone path_of ps))
-    beside (λ ps. free_map (λ path. stmt.Include path true) (λ x. tt) (alone path_of ps))
-    beside prefix_written
-    beside (λ ps. free_map (λ name. stmt.Cond word.IfDef (Some name)) (λ x. tt) (alone name_of ps))
-    beside (λ ps. free_map (λ name. stmt.Cond word.IfNDef (Some name)) (λ x. tt) (alone name_of ps))
-    beside (λ ps. free_map (λ name. stmt.Cond word.ElifDef (Some name)) (λ x. tt) (alone name_of ps))
-    beside (λ ps. free_map (λ name. stmt.Cond word.ElifNDef (Some name)) (λ x. tt) (alone name_of ps))
-    beside (λ ps. free_given (length ps == 0) (stmt.Cond word.Else None) tt)
-    beside (λ ps. free_given (length ps == 0) (stmt.Cond word.EndIf None) tt)
-    beside define_written
-    beside (λ ps. if_map IsWritten stmt.Class (alone name_of ps) (if_alone IsName name_of named ps))
-    beside defpseudo_written
-    beside device_written
-    beside attach_written
-    beside no_stmt_written
-    beside (λ ps. free_map stmt.Options (λ x. tt) (each option_item (parted ps)))
-    beside (λ ps. free_map stmt.MakeOptions (λ x. tt) (each make_item (parted ps)))
-    beside (λ ps. free_map stmt.FileSystems (λ x. tt) (names_of ps))
-    beside pseudo_written
-    beside (λ ps. free_given _ (stmt.Checked (codes "maxusers")) tt)
-    beside (λ ps. free_given _ (stmt.Checked (codes "maxpartitions")) tt)
-    beside (λ ps. free_given _ (stmt.Checked (codes "machine")) tt)
-    beside (λ ps. free_given _ (stmt.Checked (codes "ident")) tt)
-    beside (λ ps. free_given _ (stmt.Checked (codes "config")) tt)
-    beside free_rows_written free_words
+table_written = rows_written KEYWORDS
 
 by_row_written : (o : Option TableRow) (p : Piece) (ps : List Piece) → IfSome o RowWritten → IfSome (by_row true o p ps) IsWritten
 by_row_written (Some r) p ps h = h ps

@@ -25,9 +25,13 @@ is_root name = bytes_eq name (codes "root")
 abbrev pub place_in : List (List ℕ) → List ℕ → Option ℕ
 place_in names name = position (λ n. bytes_eq n name) names
 
--- the numbers of these names
+-- the numbers of these names, each told by a look-up
+abbrev pub numbers_by : (List ℕ → Option ℕ) → List (List ℕ) → List ℕ
+numbers_by number_of wanted = map (λ name. unwrap_or (number_of name) 0) wanted
+
+-- the numbers of these names in a list of names
 abbrev pub numbers_in : List (List ℕ) → List (List ℕ) → List ℕ
-numbers_in names wanted = map (λ name. unwrap_or (place_in names name) 0) wanted
+numbers_in names = numbers_by (place_in names)
 
 -- the attribute that a statement declares; a device with braces declares one of its own name
 abbrev pub attr_name : Stmt → Option (List ℕ)
@@ -42,19 +46,35 @@ abbrev pub device_name : Stmt → Option (List ℕ)
 device_name (stmt.Device name locs needs) = Some name
 device_name _ = None
 
--- ---- what a statement declares, where these are the names of all attributes and devices
+-- ---- what a statement declares, where look-ups tell the numbers of the attributes and devices that it names
 
 -- an attribute of this name
 abbrev pub attr : List ℕ → Bool → Bool → Bool → List Locator → List ℕ → Attr
 attr name iface class pseudo locs needs = record { name = name; iface = iface; class = class; pseudo = pseudo; locs = locs; needs = needs }
 
 -- a device with braces declares an interface attribute that needs no other
+abbrev pub attr_by : (List ℕ → Option ℕ) → Stmt → Option Attr
+attr_by attr_number (stmt.Define name locs needs) = Some (attr name (is_some locs) false false (unwrap_or locs []) (numbers_by attr_number needs))
+attr_by attr_number (stmt.Class name) = Some (attr name false true false [] [])
+attr_by attr_number (stmt.DefPseudo name locs needs) = Some (attr name (is_some locs) false true (unwrap_or locs []) (numbers_by attr_number needs))
+attr_by attr_number (stmt.Device name locs needs) = option_map (λ l. attr name true false false l []) locs
+attr_by attr_number _ = None
+
+-- the root, or the interface attribute of this name
+abbrev pub place_by : (List ℕ → Option ℕ) → List ℕ → Place
+place_by attr_number name = if is_root name then Root else At (unwrap_or (attr_number name) 0)
+
+-- an attachment has the name behind `with`, or else that of its device
+abbrev pub attach_by : (List ℕ → Option ℕ) → (List ℕ → Option ℕ) → Stmt → Option Attach
+attach_by attr_number device_number (stmt.Attach device places name needs) =
+    Some (record { name = unwrap_or name device; device = unwrap_or (device_number device) 0; places = map (place_by attr_number) places; needs = numbers_by attr_number needs })
+attach_by attr_number device_number _ = None
+
+-- ---- what statements declare, where these are the names of all attributes and devices
+
+-- the attribute of a statement
 abbrev pub attr_of : List (List ℕ) → Stmt → Option Attr
-attr_of attrs (stmt.Define name locs needs) = Some (attr name (is_some locs) false false (unwrap_or locs []) (numbers_in attrs needs))
-attr_of attrs (stmt.Class name) = Some (attr name false true false [] [])
-attr_of attrs (stmt.DefPseudo name locs needs) = Some (attr name (is_some locs) false true (unwrap_or locs []) (numbers_in attrs needs))
-attr_of attrs (stmt.Device name locs needs) = option_map (λ l. attr name true false false l []) locs
-attr_of attrs _ = None
+attr_of attrs = attr_by (place_in attrs)
 
 -- a device, with the number of the attribute of its own, if it has braces
 abbrev pub device_of : List (List ℕ) → Stmt → Option Device
@@ -62,15 +82,13 @@ device_of attrs (stmt.Device name locs needs) =
     Some (record { name = name; own = option_and_then (λ l. place_in attrs name) locs; needs = numbers_in attrs needs })
 device_of attrs _ = None
 
--- the root, or the interface attribute of this name
+-- the place of this name
 abbrev pub place_of : List (List ℕ) → List ℕ → Place
-place_of attrs name = if is_root name then Root else At (unwrap_or (place_in attrs name) 0)
+place_of attrs = place_by (place_in attrs)
 
--- an attachment has the name behind `with`, or else that of its device
+-- the attachment of a statement
 abbrev pub attach_of : List (List ℕ) → List (List ℕ) → Stmt → Option Attach
-attach_of attrs devices (stmt.Attach device places name needs) =
-    Some (record { name = unwrap_or name device; device = unwrap_or (place_in devices device) 0; places = map (place_of attrs) places; needs = numbers_in attrs needs })
-attach_of attrs devices _ = None
+attach_of attrs devices = attach_by (place_in attrs) (place_in devices)
 
 -- each list, in the order of the statements
 abbrev pub declared_with : List (List ℕ) → List (List ℕ) → List Stmt → Declared

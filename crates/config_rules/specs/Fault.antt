@@ -13,7 +13,7 @@ use Rattle.cf_types.specs.declared.tables.Locator.{Locator}
 use Rattle.cf_types.specs.declared.tables.Refusal.{Refusal}
 use Rattle.config_rules.specs.Form.{given, ◌or◌}
 use Rattle.config_rules.specs.Reading.{Files, Reading, reading}
-use Rattle.config_rules.specs.Declared.{Declared, declared, is_root, attr_number, device_number, attr_named, has_attach}
+use Rattle.config_rules.specs.Declared.{Declared, declared, is_root, numbers_by, attr_number, device_number, attr_named, has_attach}
 use Rattle.cf_types.specs.Offers.{nodes_of, interfaces_of, firsts}
 use Rattle.config_rules.specs.Joined.{join}
 
@@ -42,7 +42,7 @@ lacks_attr d names = list_any (λ name. not (has_attr d name)) names
 
 -- the numbers of these attributes
 abbrev pub attr_numbers : Declared → List (List ℕ) → List ℕ
-attr_numbers d names = map (λ name. unwrap_or (attr_number d name) 0) names
+attr_numbers d = numbers_by (attr_number d)
 
 -- an interface list of its own attribute, where there is one, and those of these names would be too long
 abbrev pub offers_too_much : Declared → Option (List Locator) → List (List ℕ) → Bool

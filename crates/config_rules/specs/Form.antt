@@ -3,6 +3,9 @@
 use Rattle.std.specs.Prelude.{◌≡◌, ℕ, ◌-◌, Bool, true, false, not, ◌&&◌, ◌||◌, ◌==◌, nat_lt, nat_le, if◌then◌else◌, List, [], ◌∷◌, length, take, drop, map, bytes_eq, codes, Option, Some, None, is_some, is_none, option_map, option_and_then, ℤ, pos, nat_abs, int_le}
 use Rattle.std.specs.List.{list_all, list_any, slice_split, before_first, after_first}
 use Rattle.cf_types.specs.declared.code.configuration.TheConstants.{OUT_OF_RANGE, NO_FORM, LEFT_OUT}
+use Rattle.cf_types.specs.declared.keyword.Keyword.{Keyword}
+use Rattle.cf_types.specs.declared.keyword.Keyword.TheVariants as word
+use Rattle.cf_types.specs.declared.keyword.TheConstants.{KEYWORDS}
 use Rattle.cf_types.specs.declared.stmt.TokenKind.{TokenKind}
 use Rattle.cf_types.specs.declared.stmt.TokenKind.TheVariants as kind
 use Rattle.cf_types.specs.declared.stmt.Piece.{Piece}
@@ -12,7 +15,7 @@ use Rattle.cf_types.specs.declared.stmt.AtSpec.{AtSpec}
 use Rattle.cf_types.specs.declared.stmt.AtSpec.TheVariants.{Root, Named}
 use Rattle.cf_types.specs.declared.stmt.GivenLoc.{GivenLoc}
 use Rattle.cf_types.specs.declared.stmt.CondWord.{CondWord}
-use Rattle.cf_types.specs.declared.stmt.CondWord.TheVariants as word
+use Rattle.cf_types.specs.declared.stmt.CondWord.TheVariants as condition
 use Rattle.cf_types.specs.declared.stmt.ItemKind.TheVariants as of_kind
 use Rattle.cf_types.specs.declared.stmt.Item.{Item}
 use Rattle.cf_types.specs.declared.stmt.Stmt.{Stmt}
@@ -314,6 +317,21 @@ cond_stmt word ps = option_map (λ name. stmt.Cond word (Some name)) (alone name
 abbrev pub cond_word : CondWord → List Piece → Option Stmt
 cond_word word ps = given (length ps == 0) (stmt.Cond word None)
 
+-- what may stand behind a condition word
+abbrev pub cond_form : CondWord → List Piece → Option Stmt
+cond_form condition.Else = cond_word condition.Else
+cond_form condition.EndIf = cond_word condition.EndIf
+cond_form word = cond_stmt word
+
+-- how a condition word is written
+abbrev pub condition_spelling : CondWord → List ℕ
+condition_spelling condition.IfDef = codes "ifdef"
+condition_spelling condition.IfNDef = codes "ifndef"
+condition_spelling condition.ElifDef = codes "elifdef"
+condition_spelling condition.ElifNDef = codes "elifndef"
+condition_spelling condition.Else = codes "else"
+condition_spelling condition.EndIf = codes "endif"
+
 -- `prefix` alone takes the top prefix away
 abbrev pub prefix_stmt : List Piece → Option Stmt
 prefix_stmt [] = Some (stmt.Prefix None)
@@ -333,42 +351,75 @@ pub record TableRow : Type 0 where
 abbrev pub row : List ℕ → (Bool → List Piece → Option Stmt) → TableRow
 row word form = record { word = word; form = form }
 
--- the words of the statements that may have any tokens
-abbrev pub free_words : List (List ℕ)
-free_words = codes "defflag" ∷ codes "defparam" ∷ codes "deffs" ∷ codes "file" ∷ codes "device-major" ∷ codes "version" ∷ codes "obsolete" ∷ []
+-- how the word is written with which a statement begins
+abbrev pub spelling_of : Keyword → List ℕ
+spelling_of word.Include = codes "include"
+spelling_of word.CInclude = codes "cinclude"
+spelling_of word.Prefix = codes "prefix"
+spelling_of (word.Condition c) = condition_spelling c
+spelling_of word.Define = codes "define"
+spelling_of word.DevClass = codes "devclass"
+spelling_of word.DefPseudo = codes "defpseudo"
+spelling_of word.Device = codes "device"
+spelling_of word.Attach = codes "attach"
+spelling_of word.No = codes "no"
+spelling_of word.Options = codes "options"
+spelling_of word.MakeOptions = codes "makeoptions"
+spelling_of word.FileSystem = codes "file-system"
+spelling_of word.PseudoDevice = codes "pseudo-device"
+spelling_of word.MaxUsers = codes "maxusers"
+spelling_of word.MaxPartitions = codes "maxpartitions"
+spelling_of word.Machine = codes "machine"
+spelling_of word.Ident = codes "ident"
+spelling_of word.Config = codes "config"
+spelling_of word.DefFlag = codes "defflag"
+spelling_of word.DefParam = codes "defparam"
+spelling_of word.DefFs = codes "deffs"
+spelling_of word.File = codes "file"
+spelling_of word.DeviceMajor = codes "device-major"
+spelling_of word.Version = codes "version"
+spelling_of word.Obsolete = codes "obsolete"
 
--- such a statement has one or more further tokens
-abbrev pub free_row : List ℕ → TableRow
-free_row word = row word (λ sized ps. given (nat_lt 0 (length ps)) (stmt.Free word ps))
+-- a statement of any words, one at least
+abbrev pub free_form : List ℕ → Bool → List Piece → Option Stmt
+free_form word sized ps = given (nat_lt 0 (length ps)) (stmt.Free word ps)
+
+-- the statement that the tokens behind a keyword are
+abbrev pub form_by : Keyword → Bool → List Piece → Option Stmt
+form_by word.Include = λ sized ps. option_map (λ path. stmt.Include path false) (alone path_of ps)
+form_by word.CInclude = λ sized ps. option_map (λ path. stmt.Include path true) (alone path_of ps)
+form_by word.Prefix = λ sized ps. prefix_stmt ps
+form_by (word.Condition c) = λ sized ps. cond_form c ps
+form_by word.Define = λ sized ps. defining sized stmt.Define ps
+form_by word.DevClass = λ sized ps. option_map stmt.Class (alone name_of ps)
+form_by word.DefPseudo = λ sized ps. defining sized stmt.DefPseudo ps
+form_by word.Device = device_stmt
+form_by word.Attach = λ sized ps. attach_stmt ps
+form_by word.No = no_stmt
+form_by word.Options = λ sized ps. option_map stmt.Options (each option_item (parted ps))
+form_by word.MakeOptions = λ sized ps. option_map stmt.MakeOptions (each make_item (parted ps))
+form_by word.FileSystem = λ sized ps. option_map stmt.FileSystems (names_of ps)
+form_by word.PseudoDevice = pseudo_stmt
+form_by word.MaxUsers = λ sized ps. checked (codes "maxusers") ((length ps == 1 || length ps == 3) && are_values sized ps)
+form_by word.MaxPartitions = λ sized ps. checked (codes "maxpartitions") (length ps == 1 && are_values sized ps)
+form_by word.Machine = λ sized ps. checked (codes "machine") (is_some (name_row ps))
+form_by word.Ident = λ sized ps. checked (codes "ident") (is_some (alone path_of ps))
+form_by word.Config = λ sized ps. checked (codes "config") (is_config ps)
+form_by word.DefFlag = free_form (codes "defflag")
+form_by word.DefParam = free_form (codes "defparam")
+form_by word.DefFs = free_form (codes "deffs")
+form_by word.File = free_form (codes "file")
+form_by word.DeviceMajor = free_form (codes "device-major")
+form_by word.Version = free_form (codes "version")
+form_by word.Obsolete = free_form (codes "obsolete")
+
+-- the row of a word
+abbrev pub row_by : Keyword → TableRow
+row_by keyword = row (spelling_of keyword) (form_by keyword)
 
 -- the rows that begin with a word of their own
 unfoldable pub table : List TableRow
-table =
-    row (codes "include") (λ sized ps. option_map (λ path. stmt.Include path false) (alone path_of ps))
-    ∷ row (codes "cinclude") (λ sized ps. option_map (λ path. stmt.Include path true) (alone path_of ps))
-    ∷ row (codes "prefix") (λ sized ps. prefix_stmt ps)
-    ∷ row (codes "ifdef") (λ sized ps. cond_stmt word.IfDef ps)
-    ∷ row (codes "ifndef") (λ sized ps. cond_stmt word.IfNDef ps)
-    ∷ row (codes "elifdef") (λ sized ps. cond_stmt word.ElifDef ps)
-    ∷ row (codes "elifndef") (λ sized ps. cond_stmt word.ElifNDef ps)
-    ∷ row (codes "else") (λ sized ps. cond_word word.Else ps)
-    ∷ row (codes "endif") (λ sized ps. cond_word word.EndIf ps)
-    ∷ row (codes "define") (λ sized ps. defining sized stmt.Define ps)
-    ∷ row (codes "devclass") (λ sized ps. option_map stmt.Class (alone name_of ps))
-    ∷ row (codes "defpseudo") (λ sized ps. defining sized stmt.DefPseudo ps)
-    ∷ row (codes "device") device_stmt
-    ∷ row (codes "attach") (λ sized ps. attach_stmt ps)
-    ∷ row (codes "no") no_stmt
-    ∷ row (codes "options") (λ sized ps. option_map stmt.Options (each option_item (parted ps)))
-    ∷ row (codes "makeoptions") (λ sized ps. option_map stmt.MakeOptions (each make_item (parted ps)))
-    ∷ row (codes "file-system") (λ sized ps. option_map stmt.FileSystems (names_of ps))
-    ∷ row (codes "pseudo-device") pseudo_stmt
-    ∷ row (codes "maxusers") (λ sized ps. checked (codes "maxusers") ((length ps == 1 || length ps == 3) && are_values sized ps))
-    ∷ row (codes "maxpartitions") (λ sized ps. checked (codes "maxpartitions") (length ps == 1 && are_values sized ps))
-    ∷ row (codes "machine") (λ sized ps. checked (codes "machine") (is_some (name_row ps)))
-    ∷ row (codes "ident") (λ sized ps. checked (codes "ident") (is_some (alone path_of ps)))
-    ∷ row (codes "config") (λ sized ps. checked (codes "config") (is_config ps))
-    ∷ map free_row free_words
+table = map row_by KEYWORDS
 
 -- the row of this word
 abbrev pub row_of : List TableRow → Piece → Option TableRow

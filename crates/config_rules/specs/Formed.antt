@@ -16,6 +16,7 @@ use Rattle.cf_types.specs.Offers.{AreEarlier, interfaces, interfaces_of, is_inte
 use Rattle.cf_text.specs.Shapes.{ends_with_digit}
 use Rattle.config_rules.specs.MachineText.{depth_of, differ, is_free_name}
 use Rattle.config_rules.specs.Meaning.{first_unit}
+use Rattle.config_rules.specs.Select.{is_root_place}
 
 -- ---- tables
 
@@ -29,16 +30,22 @@ abbrev pub is_place : List Attr → Place → Bool
 is_place attrs Root = true
 is_place attrs (At a) = is_interface attrs a
 
--- the root
-abbrev pub is_root : Place → Bool
-is_root Root = true
-is_root (At a) = false
-
 -- so few attributes, attachments and locators that their numbers can be kept
 pub record CountedTables (t : Tables) : Type 0 where
   pub attrs : length t.attrs ≤ 65536
   pub attaches : length t.attaches ≤ 65536
   pub locators : All (λ a. length a.locs ≤ 16) t.attrs
+
+-- tables whose attributes and devices fit into a graph: they are so few, name attributes that are there, attributes
+-- name earlier ones alone, and each offers few
+pub record FitGraph (t : Tables) : Type 0 where
+  pub few_attrs : length t.attrs ≤ 65536
+  pub few_devices : length t.devices ≤ 65536
+  pub earlier_needs : AreEarlier (nodes_of t.attrs)
+  pub own : All (λ d. IfSome d.own (λ a. a < length t.attrs)) t.devices
+  pub device_needs : All (λ d. All (λ a. a < length t.attrs) d.needs) t.devices
+  pub few_offered : (a : ℕ) → length (interfaces_of (nodes_of t.attrs) (a ∷ [])) ≤ 64
+  pub few_offered_by_device : (d : ℕ) → length (interfaces t.attrs t.devices d) ≤ 64
 
 -- the units of the rows of a device without star
 abbrev pub fixed_units : List Row → ℕ → List ℕ
@@ -51,25 +58,20 @@ pub record FormedRow (t : Tables) (r : Row) : Type 0 where
   pub listed_place : IfSome (slice_get t.attaches r.attach) (λ x. Contains x.places r.place)
   pub one_value_a_locator : length r.locs ≡ length (locators_at t.attrs r.place)
   pub parent : IfSome r.parent (λ p. p.device < length t.devices)
-  pub no_parent_at_root : is_root r.place ≡ true → r.parent ≡ None
+  pub no_parent_at_root : is_root_place r.place ≡ true → r.parent ≡ None
   pub fixed_unit : r.star ≡ false → r.unit ≤ 65535
   pub starred_unit : r.star ≡ true → r.unit ≡ first_unit (fixed_units t.rows r.device)
 
 -- the tables of a configuration: their numbers, names and lengths
 pub record FormedTables (t : Tables) : Type 0 where
   pub counted : CountedTables t
-  pub few_devices : length t.devices ≤ 65536
+  pub graph : FitGraph t
   pub few_rows : length t.rows ≤ 8192
-  pub earlier_needs : AreEarlier (nodes_of t.attrs)
   pub attr_names : AreNames (map (λ a. a.name) t.attrs)
   pub device_names : AreNames (map (λ d. d.name) t.devices)
   pub attach_names : AreNames (map (λ a. a.name) t.attaches)
   pub digits_for_units : All (λ d. ends_with_digit d.name ≡ false) t.devices
   pub different_locators : All (λ a. differ (map (λ l. l.name) a.locs) ≡ true) t.attrs
-  pub few_offered : (a : ℕ) → length (interfaces_of (nodes_of t.attrs) (a ∷ [])) ≤ 64
-  pub few_offered_by_device : (d : ℕ) → length (interfaces t.attrs t.devices d) ≤ 64
-  pub own : All (λ d. IfSome d.own (λ a. a < length t.attrs)) t.devices
-  pub device_needs : All (λ d. All (λ a. a < length t.attrs) d.needs) t.devices
   pub attach_devices : All (λ x. x.device < length t.devices) t.attaches
   pub attach_places : All (λ x. list_all (is_place t.attrs) x.places ≡ true) t.attaches
   pub attach_needs : All (λ x. All (λ a. a < length t.attrs) x.needs) t.attaches
@@ -80,7 +82,7 @@ pub record FormedTables (t : Tables) : Type 0 where
 -- a spot in its place
 pub record FittingSpot (t : Tables) (spots : List Spot) (s : Spot) : Type 0 where
   pub above : IfSome s.parent (λ p. p < length spots)
-  pub rooted : is_none s.parent ≡ is_root s.place
+  pub rooted : is_none s.parent ≡ is_root_place s.place
   pub place : is_place t.attrs s.place ≡ true
   pub one_value_a_locator : length s.found ≡ length (locators_at t.attrs s.place)
   pub depth : depth_of (length spots) spots s.parent ≤ 64

@@ -14,6 +14,7 @@ use Rattle.cf_types.specs.declared.tables.Place.{Place}
 use Rattle.cf_types.specs.declared.tables.Place.TheVariants.{Root, At}
 use Rattle.cf_types.specs.declared.tables.Tables.{Tables}
 use Rattle.cf_types.specs.Locators.{locators_at}
+use Rattle.cf_types.specs.Offers.{is_interface}
 use Rattle.cf_text.specs.Shapes.{is_written, number, in_range}
 use Rattle.config_rules.specs.Cut.{lines_of, is_space, at_line, ◌>>=◌}
 use Rattle.config_rules.specs.Form.{given, each, ◌or◌}
@@ -65,13 +66,13 @@ pub record GivenValue : Type 0 where
 abbrev pub ranged : List ℕ → Option (Option ℤ)
 ranged word = option_map (λ v. given (in_range v) v) (number word)
 
--- a name and `=`, with a value behind it
+-- something stands before the first `=`; behind it may stand anything, or nothing
 abbrev pub is_located : List ℕ → Bool
 is_located word = list_any (λ c. c == 61) word && nat_lt 0 (length (before_first (λ c. c == 61) word))
 
 -- `loc=V`; a locator's name is looked up, whatever its shape
-abbrev pub given_value : List ℕ → Option GivenValue
-given_value word =
+abbrev pub located_value : List ℕ → Option GivenValue
+located_value word =
     if is_located word
     then option_map (λ v. record { name = before_first (λ c. c == 61) word; value = v }) (ranged (after_first (λ c. c == 61) word))
     else None
@@ -112,7 +113,7 @@ is_spot name found marks = is_free_name name && differ (map (λ g. g.name) found
 abbrev pub spot_form : List ℕ → List ℕ → List ℕ → List (List ℕ) → Option LineForm
 spot_form name parent attr rest =
     let marks = drop (length (located rest)) rest in
-    option_and_then (λ found. given (is_spot name found marks) (SpotLine name parent attr found marks)) (each given_value (located rest))
+    option_and_then (λ found. given (is_spot name found marks) (SpotLine name parent attr found marks)) (each located_value (located rest))
 
 -- a match value is from 0 to 65535
 abbrev pub in_match_range : ℤ → Bool
@@ -185,7 +186,7 @@ attach_number t name = position (λ a. bytes_eq a.name name) t.attaches
 -- the number of an interface attribute
 abbrev pub interface_number : Tables → List ℕ → Option ℕ
 interface_number t name =
-    option_and_then (λ a. given (option_map_or (λ x. x.iface) (slice_get t.attrs a) false) a) (attr_number t name)
+    option_and_then (λ a. given (is_interface t.attrs a) a) (attr_number t name)
 
 -- the number of an earlier spot
 abbrev pub spot_number : List Spot → List ℕ → Option ℕ

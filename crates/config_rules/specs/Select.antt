@@ -123,26 +123,27 @@ pub record Inst : Type 0 where
 abbrev pub is_parent : ParentSpec → Inst → Bool
 is_parent p j = p.device == j.device && option_map_or (λ unit. same_mark j.mark Star || same_mark j.mark (Fixed unit)) p.unit true
 
--- the device offers the attribute of a place
-abbrev pub offers_place : Declared → ℕ → Place → Bool
-offers_place d device Root = false
-offers_place d device (At a) = offers d.attrs d.devices device a
+-- the device offers the attribute of a place, where a test says which device offers which attribute
+abbrev pub offers_place : (ℕ → ℕ → Bool) → ℕ → Place → Bool
+offers_place offered device Root = false
+offers_place offered device (At a) = offered device a
 
 -- the first can carry the second
-abbrev pub carries : Declared → Inst → Inst → Bool
-carries d j i = offers_place d j.device i.place && option_map_or (λ p. is_parent p j) i.parent true
+abbrev pub carries : (ℕ → ℕ → Bool) → Inst → Inst → Bool
+carries offered j i = offers_place offered j.device i.place && option_map_or (λ p. is_parent p j) i.parent true
+
+-- the root
+abbrev pub is_root_place : Place → Bool
+is_root_place Root = true
+is_root_place (At a) = false
 
 -- an instance at the root
 abbrev pub is_at_root : Inst → Bool
-is_at_root i = at_root i.place
-  where
-    at_root : Place → Bool
-    at_root Root = true
-    at_root (At a) = false
+is_at_root i = is_root_place i.place
 
 -- the instance at one place carries the one at another
-abbrev pub carries_at : Declared → List Inst → ℕ → ℕ → Bool
-carries_at d insts j i = option_map_or (λ x. option_map_or (λ y. carries d x y) (slice_get insts i) false) (slice_get insts j) false
+abbrev pub carries_at : (ℕ → ℕ → Bool) → List Inst → ℕ → ℕ → Bool
+carries_at offered insts j i = option_map_or (λ x. option_map_or (λ y. carries offered x y) (slice_get insts i) false) (slice_get insts j) false
 
 -- the instance at this place of the list is at the root
 abbrev pub is_at_root_at : List Inst → ℕ → Bool
@@ -159,21 +160,16 @@ LeadsToRoot at_root carries n i (j ∷ chain) = (i < n) × (carries j i ≡ true
 abbrev pub Rooted : (ℕ → Bool) → (ℕ → ℕ → Bool) → ℕ → ℕ → Type 0
 Rooted at_root carries n i = (chain : List ℕ) × LeadsToRoot at_root carries n i chain
 
--- those that are marked are rooted
-pub record AllRooted (at_root : ℕ → Bool) (carries : ℕ → ℕ → Bool) (n : ℕ) (marks : List Bool) : Type 0 where
-  pub as_many : length marks ≡ n
-  pub sound : (i : ℕ) → i < n → slice_index_or marks i false ≡ true → Rooted at_root carries n i
-
 -- one truth value for each, true exactly for those that are rooted
 pub record AreRooted (at_root : ℕ → Bool) (carries : ℕ → ℕ → Bool) (n : ℕ) (marks : List Bool) : Type 0 where
   pub as_many : length marks ≡ n
   pub sound : (i : ℕ) → i < n → slice_index_or marks i false ≡ true → Rooted at_root carries n i
   pub complete : (i : ℕ) → Rooted at_root carries n i → slice_index_or marks i false ≡ true
 
--- nothing that is marked carries one that isn't
-abbrev pub Closed : (ℕ → ℕ → Bool) → ℕ → List Bool → Type 0
-Closed carries n marks = (j i : ℕ) → i < n → slice_index_or marks j false ≡ true → carries j i ≡ true → slice_index_or marks i false ≡ true
+-- what a device offers, as it is declared
+abbrev pub offered_by : Declared → ℕ → ℕ → Bool
+offered_by d = offers d.attrs d.devices
 
 -- one truth value for each instance, true exactly for those that are rooted
 abbrev pub RootedInsts : Declared → List Inst → List Bool → Type 0
-RootedInsts d insts marks = AreRooted (is_at_root_at insts) (carries_at d insts) (length insts) marks
+RootedInsts d insts marks = AreRooted (is_at_root_at insts) (carries_at (offered_by d) insts) (length insts) marks

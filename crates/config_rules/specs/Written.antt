@@ -1,5 +1,6 @@
--- What the grammar limits in a statement, and how many statements are placed at most. A name may still be `root` here:
--- a place may have that name, and a definition of it is refused later.
+-- What the grammar limits in definitions, attachments and instances, and how many statements are placed at most; what
+-- other statements hold is not said here. A name may still be `root`: a place may have that name, and a definition of it
+-- is refused later.
 use Rattle.std.specs.Prelude.{◌≡◌, ◌≤◌, ℕ, true, false, List, [], length, Option, unwrap_or, IfSome, All, ⊤}
 use Rattle.cf_types.specs.declared.stmt.Placed.{Placed}
 use Rattle.cf_types.specs.declared.stmt.Stmt.{Stmt}

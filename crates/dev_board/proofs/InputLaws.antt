@@ -79,7 +79,7 @@ bounded_tables t h =
       formed = formed_devices t h;
       few_rows = h.few_rows;
       low_units = all_imp (FormedRow t) (λ (r : Row). r.unit ≤ 65536) (λ r f. low_unit t r (all_imp (FormedRow t) IsLow (λ q g. g.fixed_unit) t.rows rows) f) t.rows rows;
-      few_offered = h.few_offered_by_device;
+      few_offered = h.graph.few_offered_by_device;
     }
 
 pub bounded : (s : Setup) → MayRun s → Bounded s

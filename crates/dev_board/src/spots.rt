@@ -38,15 +38,7 @@ pub fn policy_of(setup: &Setup, row: u32) -> Policy
         .get(attach_of(setup, row) as usize)
     {
         Some(policy) => *policy,
-        None => Policy {
-            nodetach: false,
-            norescan: false,
-            nopower: false,
-            failsuspend: false,
-            defer: false,
-            interrupts: false,
-            finaliser: false,
-        },
+        None => Policy::none(),
     }
 }
 

@@ -6,6 +6,7 @@ use Rattle.std.specs.BTreeMap.{BTreeMap}
 use Rattle.std.specs.Global.{Global}
 use Rattle.std.proofs.lemmas.List.{length-map, length-take-le, map_more}
 use Rattle.std.proofs.lemmas.List.Folds.{list_any-append}
+use Rattle.std.proofs.lemmas.Bool.{and_right}
 use Rattle.cf_types.proofs.PlaceLemmas.{position_found}
 use Rattle.config_rules.specs.MachineText.{differ, is_one}
 use Rattle.config_rules.proofs.MachineLaws.{differ_push}
@@ -19,16 +20,12 @@ one_more true true c h = refl
 one_more true false c h = refl
 one_more false b c h = absurd (cc)
 
-not_both : (a b : Bool) → b ≡ false → (a && b) ≡ false
-not_both true b h = h
-not_both false b h = refl
-
 twice_if : (b : Bool) (n name : List ℕ) (names more : List (List ℕ)) → bytes_eq n name ≡ b → (b || list_any (λ m. bytes_eq m name) names) ≡ true
     → (list_any (λ m. bytes_eq m name) names ≡ true → differ (names ++ name ∷ more) ≡ false) → differ (n ∷ names ++ name ∷ more) ≡ false
 twice_if true n name names more e h ih =
     ap (λ b. not b && differ (names ++ name ∷ more))
     (list_any-append (λ w. bytes_eq n w) names (name ∷ more) ∙ one_more (bytes_eq n name) (is_one names n) (list_any (λ w. bytes_eq n w) more) e)
-twice_if false n name names more e h ih = not_both (not (is_one (names ++ name ∷ more) n)) (differ (names ++ name ∷ more)) (ih h)
+twice_if false n name names more e h ih = and_right (not (is_one (names ++ name ∷ more) n)) (differ (names ++ name ∷ more)) (ih h)
 
 -- a name that stands before
 pub differ_twice : (names : List (List ℕ)) (name : List ℕ) (more : List (List ℕ)) → list_any (λ n. bytes_eq n name) names ≡ true → differ (names ++ name ∷ more) ≡ false

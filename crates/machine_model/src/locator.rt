@@ -1,7 +1,7 @@
 ghost use Rattle.std.specs.Prelude.{◌≡◌, ◌==◌, IfOk, length, map, not, option_map, take_while};
 ghost use Rattle.std.specs.List.{after_first, before_first, list_any};
 ghost use Rattle.config_rules.specs.Form.{each};
-ghost use Rattle.config_rules.specs.MachineText.{differ, given_value, is_located, located};
+ghost use Rattle.config_rules.specs.MachineText.{differ, located_value, is_located, located};
 ghost use Rattle.machine_model.specs.Found.{given_of, names_of};
 
 use crate::word::ranged;
@@ -53,8 +53,8 @@ fn is_located(word: &[u8]) -> bool
 }
 
 /// Reads `loc=V`.
-fn given_value(alloc: Global, word: &[u8]) -> Result<Option<FoundValue>, Memory>
-    ensures { IfOk result (λ v. option_map given_of v ≡ given_value word.now) }
+fn located_value(alloc: Global, word: &[u8]) -> Result<Option<FoundValue>, Memory>
+    ensures { IfOk result (λ v. option_map given_of v ≡ located_value word.now) }
 {
     if !is_located(word) {
         return Ok(None);
@@ -70,11 +70,11 @@ fn given_value(alloc: Global, word: &[u8]) -> Result<Option<FoundValue>, Memory>
 
 /// Reads locators and their values; `None` where a word is not `loc=V`.
 pub fn given_values(alloc: Global, words: &[Text]) -> Result<Option<List<FoundValue>>, Memory>
-    ensures { IfOk result (λ found. option_map (map given_of) found ≡ each given_value words.now) }
+    ensures { IfOk result (λ found. option_map (map given_of) found ≡ each located_value words.now) }
 {
     let mut found = List::make(alloc);
     for word in words {
-        match given_value(alloc, word.items())? {
+        match located_value(alloc, word.items())? {
             Some(value) => found.push(value)?,
             None => return Ok(None),
         }

@@ -14,27 +14,13 @@ use machine_text::{Line, LineStop, MachineStop, records};
 use std::alloc::Global;
 use std::collections::BTreeMap;
 
-fn no_policy() -> Policy
-    ensures { result ≡ no_policy }
-{
-    Policy {
-        nodetach: false,
-        norescan: false,
-        nopower: false,
-        failsuspend: false,
-        defer: false,
-        interrupts: false,
-        finaliser: false,
-    }
-}
-
 /// One policy for each attachment.
 fn no_policies(alloc: Global, attaches: &[Attach]) -> Result<List<Policy>, Memory>
     ensures { IfOk result (λ policies. policies ≡ map (λ a. no_policy) attaches.now) }
 {
     let mut policies = List::make(alloc);
     for _attach in attaches {
-        policies.push(no_policy())?;
+        policies.push(Policy::none())?;
     }
     Ok(policies)
 }

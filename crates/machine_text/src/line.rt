@@ -1,8 +1,8 @@
 ghost use Rattle.std.specs.Prelude.{◌≡◌, ◌==◌, IfOk, length, not, take_while};
-ghost use Rattle.config_rules.specs.Cut.{is_space};
 ghost use Rattle.config_rules.specs.MachineText.{has_bad_byte, is_allowed, uncommented, words_of};
 ghost use Rattle.machine_text.specs.Records.{parted};
 
+use cf_text::is_space;
 use cf_types::{List, Memory as NoMemory, Text};
 use std::alloc::{AllocError, Global};
 use thiserror::Error;
@@ -45,12 +45,6 @@ impl From<AllocError> for MachineStop {
     fn from(_error: AllocError) -> MachineStop {
         MachineStop::Memory
     }
-}
-
-fn is_space(byte: u8) -> bool
-    ensures { result ≡ is_space byte }
-{
-    byte == b' ' || byte == b'\t'
 }
 
 fn is_allowed(byte: u8) -> bool

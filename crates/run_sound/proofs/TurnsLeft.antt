@@ -36,7 +36,7 @@ few_places s live p None may = cases (driver_at s live p)
   where
     cases : (o : Option ℕ) → length (option_map_or (λ d. map At (interfaces s.tables.attrs s.tables.devices d)) o (Root ∷ [])) ≤ 64
     cases None = omega arith
-    cases (Some d) = omega (arith, length-map (interfaces s.tables.attrs s.tables.devices d) At, may.tables.few_offered_by_device d)
+    cases (Some d) = omega (arith, length-map (interfaces s.tables.attrs s.tables.devices d) At, may.tables.graph.few_offered_by_device d)
 
 low_numbers : {A : Type 0} (first bound : ℕ) (xs : List A) → first + length xs ≤ bound → AllByRecursion (λ (e : ℕ × A). e.0 < bound) (enumerate_from first xs)
 low_numbers first bound [] le = tt

@@ -6,12 +6,10 @@ use Rattle.std.specs.Prelude.{Vec}
 use Rattle.std.proofs.lemmas.List.{get_or-map, get_or-set_same, get_or-set_other, length-append, length-map, length-set, map-append, map-set, set-get_or}
 use Rattle.std.proofs.lemmas.List.Folds.{list_any-append}
 use Rattle.std.proofs.lemmas.Map.Views.{any-filter_same}
+use Rattle.std.proofs.Math.Bool.{or-false}
+use Rattle.cf_types.proofs.TestLemmas.{equal_turned}
 use Rattle.cf_types.specs.Gather.{is_in}
 use Rattle.unit_alloc.specs.Taken.{GivenBack, NoneTaken, TakenToo, is_taken}
-
-or_none : (b : Bool) → (b || false) ≡ b
-or_none true = refl
-or_none false = refl
 
 -- one unit more
 pub one_more : (taken : List (List ℕ)) (device unit d n : ℕ) (list : List ℕ) → device < length taken → list ≡ slice_index_or taken device [] ++ unit ∷ []
@@ -21,19 +19,12 @@ one_more taken device unit d n list h e = cases (device == d) refl
     here : is_taken (slice_set taken device list) device n ≡ (is_taken taken device n || unit == n)
     here =
         ap (is_in n) (get_or-set_same taken device list [] h ∙ e) ∙ list_any-append (λ y. y == n) (slice_index_or taken device []) (unit ∷ [])
-        ∙ ap (λ b. is_taken taken device n || b) (or_none (unit == n))
+        ∙ ap (λ b. is_taken taken device n || b) (or-false (unit == n))
 
     cases : (b : Bool) → (device == d) ≡ b → is_taken (slice_set taken device list) d n ≡ (is_taken taken d n || (b && unit == n))
     cases false k =
-        ap (is_in n) (get_or-set_other taken device d list [] (λ is. eqb-false device d k (sym is))) ∙ sym (or_none (is_taken taken d n))
+        ap (is_in n) (get_or-set_other taken device d list [] (λ is. eqb-false device d k (sym is))) ∙ sym (or-false (is_taken taken d n))
     cases true k = subst (λ i. is_taken (slice_set taken device list) i n ≡ (is_taken taken i n || unit == n)) (eqb-true device d k) here
-
-turned : (a b : ℕ) → (a == b) ≡ (b == a)
-turned a b = cases (a == b) refl
-  where
-    cases : (c : Bool) → (a == b) ≡ c → c ≡ (b == a)
-    cases true k = sym (eq-eqb b a (sym (eqb-true a b k)))
-    cases false k = sym (ne_eqb b a (λ is. eqb-false a b k (sym is)))
 
 -- one unit less
 pub one_less : (taken : List (List ℕ)) (device unit d n : ℕ) (list : List ℕ) → device < length taken → list ≡ filter (λ y. not (y == unit)) (slice_index_or taken device [])
@@ -41,7 +32,7 @@ pub one_less : (taken : List (List ℕ)) (device unit d n : ℕ) (list : List �
 one_less taken device unit d n list h e = cases (device == d) refl
   where
     other : (k : ℕ) → (k == n) ≡ true → not (k == unit) ≡ not (unit == n)
-    other k is = ap not (turned k unit ∙ ap (λ i. unit == i) (eqb-true k n is))
+    other k is = ap not (equal_turned k unit ∙ ap (λ i. unit == i) (eqb-true k n is))
 
     here : is_taken (slice_set taken device list) device n ≡ (not (unit == n) && is_taken taken device n)
     here =

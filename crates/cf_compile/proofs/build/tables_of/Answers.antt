@@ -31,7 +31,7 @@ warnings-requires-clause-orphans c =
 
 pub overflow_cast-len : goal.overflow_cast-len
 overflow_cast-len c =
-    let few : length (declared (stmts_of c.args.placed.now)).devices ≤ 65536 = (accepted_formed (read_from c.args.files.now c.args.placed.now) [] c.requires.written c.requires.accepted).few_devices in
+    let few : length (declared (stmts_of c.args.placed.now)).devices ≤ 65536 = (accepted_formed (read_from c.args.files.now c.args.placed.now) [] c.requires.written c.requires.accepted).graph.few_devices in
     let size : c.len.result ≡ length (declared (stmts_of c.args.placed.now)).devices = c.len.ensures ∙ ap (λ (d : Declared). length d.devices) c.requires.declared in
     omega (arith, size, few)
 

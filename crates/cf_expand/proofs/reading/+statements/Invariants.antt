@@ -1,11 +1,11 @@
 use Rattle.std.proofs.Common.{◌≡◌, ℕ, ◌+◌, ◌-◌, ◌*◌, Some, [], length}
 use Rattle.cf_grammar.specs.Statement.{AreWithin}
-use Rattle.config_rules.specs.Reading.{Files, lines_in, read_lines, reader}
+use Rattle.config_rules.specs.Reading.{Files, statements_in, read_statements, reader}
 use Rattle.cf_expand.specs.Steps.{here_of}
 use Rattle.cf_expand.proofs.reading.+statements.Given as goal
 
-abbrev pub decreases-read_line : goal.decreases-read_line
-decreases-read_line g l = 2 * l.source.now.levels
+abbrev pub decreases-read_with_include : goal.decreases-read_with_include
+decreases-read_with_include g l = 2 * l.source.now.levels
 
 abbrev pub decreases-read_source : goal.decreases-read_source
 decreases-read_source g l = 2 * l.source.now.levels + 1
@@ -16,8 +16,8 @@ invariant-read_source-loop-statement g l = record {
   counted : g.F.Files.faults l.files ≡ g.F.Files.faults l.fn.files;
   within : AreWithin l.source.text l.tokens;
   so_far : (named : Files) → g.F.Files.told l.fn.files ≡ Some named → (around : ℕ) → l.source.room ≡ 16 - around
-      → read_lines named (reader l.source.levels named) (here_of around l.source) l.conditions (lines_in l.source.text l.tokens) l.progress
-      ≡ read_lines named (reader l.source.levels named) (here_of around l.source) [] (lines_in l.source.text l.source.tokens) l.fn.progress;
+      → read_statements named (reader l.source.levels named) (here_of around l.source) l.conditions (statements_in l.source.text l.tokens) l.progress
+      ≡ read_statements named (reader l.source.levels named) (here_of around l.source) [] (statements_in l.source.text l.source.tokens) l.fn.progress;
 }
 
 abbrev pub decreases-read_source-loop-statement : goal.decreases-read_source-loop-statement

@@ -1,11 +1,12 @@
 use Rattle.std.proofs.Common.{map}
-use Rattle.cf_select.specs.Carried.{carries_at, inst_of}
+use Rattle.config_rules.specs.Select.{carries_at}
+use Rattle.cf_select.specs.Carried.{inst_of, offered_in}
 use Rattle.cf_select.proofs.RootedLemmas.{marked_roots, roots_marked}
 use Rattle.cf_select.proofs.marks.rooted_marks.Goals as goal
 
 pub spread-requires-clause-sound : goal.spread-requires-clause-sound
 spread-requires-clause-sound c =
-    marked_roots (carries_at c.args.graph.now (map inst_of c.args.insts.now)) c.args.insts.now c.mark_roots.new.marks.items c.in_ok-mark_roots.ensures.marks
+    marked_roots (carries_at (offered_in c.args.graph.now) (map inst_of c.args.insts.now)) c.args.insts.now c.mark_roots.new.marks.items c.in_ok-mark_roots.ensures.marks
 
 pub spread-requires-clause-roots : goal.spread-requires-clause-roots
 spread-requires-clause-roots c = λ i h root. roots_marked c.args.insts.now c.mark_roots.new.marks.items i c.in_ok-mark_roots.ensures.marks root

@@ -1,5 +1,6 @@
 use Rattle.std.proofs.Common.{◌≡◌, ◌∙◌, ◌<◌, ◌≤◌, length, map, get_or, arith, ap}
-use Rattle.cf_select.specs.Carried.{carries_at, inst_of}
+use Rattle.config_rules.specs.Select.{carries_at}
+use Rattle.cf_select.specs.Carried.{inst_of, offered_in}
 use Rattle.cf_select.proofs.RootedLemmas.{listed_below, read_at, known_at, spread_all, spread_more}
 use Rattle.cf_select.proofs.WantLemmas.{carried_wants, inst_got}
 use Rattle.cf_select.proofs.marks.spread.Goals as goal
@@ -19,7 +20,7 @@ loop-next-preserved c =
     let read : c.index.result.now ≡ get_or c.loop-next.order.items c.loop-next.next 0 = read_at c.loop-next.order.items c.loop-next.next c.index.result.now within c.index.ensures in
     spread_more _ _ _ _ _ _ _ _ _ _ _ _ within c.loop-next.invariant c.in_ok-serve.ensures
     (λ x. carried_wants c.args.graph.now (map inst_of c.args.insts.now) c.index.result.now (inst_of c.inst_at.result.now) x (inst_got c.args.insts.now c.index.result.now c.inst_at.result.now c.inst_at.ensures)
-    ∙ ap (λ k. carries_at c.args.graph.now (map inst_of c.args.insts.now) k x) read)
+    ∙ ap (λ k. carries_at (offered_in c.args.graph.now) (map inst_of c.args.insts.now) k x) read)
 
 pub returns : goal.returns
 returns c =

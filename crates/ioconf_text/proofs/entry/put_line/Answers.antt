@@ -1,5 +1,4 @@
-use Rattle.attr_graph.proofs.GraphLaws.{formed_fit}
 use Rattle.ioconf_text.proofs.entry.put_line.Goals as goal
 
 pub graph_of-requires : goal.graph_of-requires
-graph_of-requires c = formed_fit c.args.tables.now c.requires
+graph_of-requires c = c.requires.graph

@@ -1,14 +1,13 @@
-use Rattle.attr_graph.proofs.GraphLaws.{formed_fit}
 use Rattle.run_rules.specs.declared.world.Setup.{Setup}
 use Rattle.dev_board.proofs.Opening.{begins}
 use Rattle.dev_board.proofs.ScriptedLaws.{scripts_may}
 use Rattle.dev_board.proofs.board.Board.start.Goals as goal
 
 pub graph_of-requires : goal.graph_of-requires
-graph_of-requires c = formed_fit c.args.tables c.requires.tables
+graph_of-requires c = c.requires.tables.graph
 
 pub begin-requires : goal.begin-requires
-begin-requires c = record { few = c.requires.machine.few_spots; few_devices = c.requires.tables.few_devices }
+begin-requires c = record { few = c.requires.machine.few_spots; few_devices = c.requires.tables.graph.few_devices }
 
 pub invariant_of-result : goal.invariant_of-result
 invariant_of-result c =

@@ -1,0 +1,77 @@
+use crate::CondWord;
+
+/// A word with which a statement begins.
+#[derive(Clone, Copy)]
+pub enum Keyword {
+    Include,
+    CInclude,
+    Prefix,
+    Condition(CondWord),
+    Define,
+    DevClass,
+    DefPseudo,
+    Device,
+    Attach,
+    No,
+    Options,
+    MakeOptions,
+    FileSystem,
+    PseudoDevice,
+    MaxUsers,
+    MaxPartitions,
+    Machine,
+    Ident,
+    Config,
+    DefFlag,
+    DefParam,
+    DefFs,
+    File,
+    DeviceMajor,
+    Version,
+    Obsolete,
+}
+
+/// All words with which statements begin; any other first word is that of an instance.
+pub const KEYWORDS: [Keyword; 31] = [
+    Keyword::Include,
+    Keyword::CInclude,
+    Keyword::Prefix,
+    Keyword::Condition(CondWord::IfDef),
+    Keyword::Condition(CondWord::IfNDef),
+    Keyword::Condition(CondWord::ElifDef),
+    Keyword::Condition(CondWord::ElifNDef),
+    Keyword::Condition(CondWord::Else),
+    Keyword::Condition(CondWord::EndIf),
+    Keyword::Define,
+    Keyword::DevClass,
+    Keyword::DefPseudo,
+    Keyword::Device,
+    Keyword::Attach,
+    Keyword::No,
+    Keyword::Options,
+    Keyword::MakeOptions,
+    Keyword::FileSystem,
+    Keyword::PseudoDevice,
+    Keyword::MaxUsers,
+    Keyword::MaxPartitions,
+    Keyword::Machine,
+    Keyword::Ident,
+    Keyword::Config,
+    Keyword::DefFlag,
+    Keyword::DefParam,
+    Keyword::DefFs,
+    Keyword::File,
+    Keyword::DeviceMajor,
+    Keyword::Version,
+    Keyword::Obsolete,
+];
+
+/// All condition words.
+pub const CONDITION_WORDS: [CondWord; 6] = [
+    CondWord::IfDef,
+    CondWord::IfNDef,
+    CondWord::ElifDef,
+    CondWord::ElifNDef,
+    CondWord::Else,
+    CondWord::EndIf,
+];
