@@ -76,6 +76,15 @@ pub mod configuration {
 
     /// An interface list would have too many entries.
     pub const TOO_MANY_INTERFACES: u8 = 25;
+
+    /// The first word of a `file` statement is no path.
+    pub const NO_PATH: u8 = 26;
+
+    /// What follows the path of a `file` statement has not the form of a condition, flags and a rule.
+    pub const NO_CONDITION: u8 = 27;
+
+    /// A condition nests too deep.
+    pub const TOO_DEEP: u8 = 28;
 }
 
 /// The codes of a machine file.
