@@ -153,10 +153,11 @@ build() {
     told=
     : >"$work/done"
     for crate in $(crates_of "$name"); do
-        echo "$crate $(find "$top/crates/$crate" -name out -prune -o -name '*.rt' -print -o -name '*.antt' -print | xargs cat | wc -l)"
+        echo "$crate $(find "$top/crates/$crate" -name out -prune -o \( -name '*.rt' -o -name '*.antt' \) -exec cat {} + | wc -l)"
     done | longest_first >"$work/todo"
     all=$(wc -l <"$work/todo")
     echo "$name: proving and building the program, $places crates at a time; README.md says how long the first time takes" >&2
+    echo "$name: examples/now.sh shows an example at once, by code that is not proved" >&2
     rm -f "$program"
     while [ "$(wc -l <"$work/done")" -lt "$all" ]; do
         collect
