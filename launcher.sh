@@ -76,7 +76,8 @@ prove() {
     [ "$1" != "$name" ] || { [ -x "$room/crates/$1/out/$name" ] && status=0; }
     [ ! -d "$room/crates/$1/out" ] || mv "$room/crates/$1/out" "$top/crates/$1/out"
     rm -rf "$room"
-    echo "$status" >"$work/$1.ended"
+    echo "$status" >"$work/$1.status"
+    mv "$work/$1.status" "$work/$1.ended"
 }
 
 # How far it is: on a terminal one line that is written anew, else a line a minute.
