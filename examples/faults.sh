@@ -84,6 +84,7 @@ count() {
 
 by_number() {
     expect 1 'config nofile:0: code 1' ioconf nofile
+    expect 8 'read fault' ioconf .
     head -c 1048577 /dev/zero | tr '\0' '\n' >"$folder/conf"
     expect 1 'config conf:0: code 2' ioconf conf
     echo 'include conf' >"$folder/conf"
