@@ -2,7 +2,7 @@
 use Rattle.std.proofs.Common.{◌≡◌, ℕ, ◌+◌, Bool, true, false, not, cond, List, [], ◌∷◌, ◌++◌, length, filter, get_or, take, drop, refl, sym, ap, ◌∙◌, arith, length-append, length-drop, append-nil, add-one}
 use Rattle.std.specs.List.{All, AllWithin}
 use Rattle.std.proofs.lemmas.Bool.{eqb-true, eq-eqb}
-use Rattle.std.proofs.lemmas.List.{get_or-drop, set-get_or, set_split}
+use Rattle.std.proofs.lemmas.List.{get_or-drop, set-get_or, set_split, nil_from_length}
 use Rattle.std.proofs.lemmas.List.Elements.{All-head, All-tail, filter-append}
 use Rattle.run_rules.specs.declared.world.Deferred.{Deferred}
 use Rattle.run_rules.specs.declared.world.Key.{Key}
@@ -115,9 +115,5 @@ none_kept p (x ∷ xs) e = cases (none_kept p xs) (p x) refl e
     cases rest true is long = absurd (omega (arith, long))
     cases rest false is long = passes (λ y. not (p y)) x xs (ap not is) ∙ ap (λ ys. x ∷ ys) (rest long)
 
-empty_if : {A : Type 0} (xs : List A) → length xs ≡ 0 → xs ≡ []
-empty_if [] e = refl
-empty_if (x ∷ xs) e = absurd (omega (arith, e))
-
 pub none_counted : (queue : List Deferred) (key : Key) → length (entries_of queue key) ≡ 0 → (entries_of queue key ≡ []) × (others_of queue key ≡ queue)
-none_counted queue key e = (empty_if (entries_of queue key) e, none_kept (λ e. same_key e.key key) queue e)
+none_counted queue key e = (nil_from_length (entries_of queue key) e, none_kept (λ e. same_key e.key key) queue e)

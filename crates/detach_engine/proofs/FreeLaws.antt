@@ -6,6 +6,8 @@ use Rattle.std.specs.List.{AllByRecursion}
 use Rattle.std.proofs.lemmas.Bool.{eqb-true}
 use Rattle.std.proofs.lemmas.List.{reverse-append}
 use Rattle.std.proofs.lemmas.List.Folds.{find-append}
+use Rattle.cf_types.proofs.TestLemmas.{clash}
+use Rattle.run_rules.proofs.Marked.{number_is, is_numbered}
 use Rattle.run_rules.specs.declared.world.Dev.{Dev}
 use Rattle.run_rules.specs.World.{World, is_number, is_live, children, serial_of}
 use Rattle.run_rules.specs.Next.{next_free}
@@ -65,13 +67,6 @@ later_fails p (d ∷ ds) x h e = cases (λ k. later_fails p ds x h.1 k) (find p 
 abbrev AreSoundlyCondemned : World → Type 0
 AreSoundlyCondemned w = AllByRecursion (λ d. (k : ℕ) → d.condemned ≡ Some k → IsSoundlyCondemned w d k) w.live
 
-by_caller : (o : Option ℕ) (k : ℕ) → is_number o k ≡ true → o ≡ Some k
-by_caller None k e = absurd cc
-by_caller (Some j) k e = ap (λ n. Some n) (eqb-true j k e)
-
-of_caller : (o : Option ℕ) (k : ℕ) → o ≡ Some k → is_number o k ≡ true
-of_caller o k e = rw e (eq-eqb k k refl)
-
 later_all : (w : World) → EachLater (IsApart w.setup) w.live → EachLater (λ d e. d.serial < e.serial) w.live
 later_all w h = each w.live h
   where
@@ -100,13 +95,10 @@ live_back s (d ∷ ds) p x e is = cases (λ k. live_back s ds p x k is) (find p 
     cases more (Some y) g k = or_true (d.serial == s) (is_live ds s) (more (g ∙ k))
     cases more None g k = rw (eq-eqb d.serial s (ap (λ (e : Dev). e.serial) (one (p d) k) ∙ is)) refl
 
-clash : (b : Bool) → b ≡ true → b ≡ false → ⊥
-clash b t f = absurd cc
-
 alone : (w : World) (k s : ℕ) (x : Dev) → HasSoundDevices w.setup w.live w.next → AreSoundlyCondemned w → find (λ d. is_number d.condemned k) (reverse w.live) ≡ Some x → x.serial ≡ s
     → children w.live s ≡ []
 alone w k s x sound condemned found is =
-    let by : x.condemned ≡ Some k = by_caller x.condemned k (find_true (λ (d : Dev). is_number d.condemned k) (reverse w.live) x found) in
+    let by : x.condemned ≡ Some k = number_is x.condemned k (find_true (λ (d : Dev). is_number d.condemned k) (reverse w.live) x found) in
     let down : IsSoundlyCondemned w x k = found_in (λ d. (k : ℕ) → d.condemned ≡ Some k → IsSoundlyCondemned w d k) (λ (d : Dev). is_number d.condemned k) (reverse w.live) x (all_back (λ d. (k : ℕ) → d.condemned ≡ Some k → IsSoundlyCondemned w d k) w.live condemned) found k by in
     let fails = later_fails (λ (d : Dev). is_number d.condemned k) w.live x (later_all w sound.apart) found in
     nothing_left (λ d. d.parent == s) w.live
@@ -119,7 +111,7 @@ alone w k s x sound condemned found is =
     other e place both true h =
         let below : e.parent ≡ x.serial = eqb-true e.parent s h ∙ sym is in
         let after : e.parent < e.serial = place.after_parent in
-        absurd (clash (is_number e.condemned k) (of_caller e.condemned k (both.0 below)) (both.1 (omega arith)))
+        absurd (clash (is_number e.condemned k) (is_numbered e.condemned k (both.0 below)) (both.1 (omega arith)))
 
 pub next_free_alone : (w : World) (k s : ℕ) → HasSoundDevices w.setup w.live w.next → AreSoundlyCondemned w → next_free w.live k ≡ Some s → children w.live s ≡ []
 unfolding next_free

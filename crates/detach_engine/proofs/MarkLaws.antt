@@ -2,15 +2,11 @@
 use Rattle.std.proofs.Common.{◌≡◌, ℕ, Bool, true, false, not, ◌&&◌, ◌||◌, cond, Some, List, [], ◌∷◌, find, refl, ap, ◌∙◌}
 use Rattle.std.specs.Prelude.{IsTrue}
 use Rattle.std.specs.List.{AllByRecursion}
+use Rattle.run_rules.proofs.Each.{find_alike}
 use Rattle.run_rules.specs.declared.world.Dev.{Dev}
 use Rattle.run_rules.specs.World.{World, has, is_under, is_condemned, is_pinned, is_held, policy_of}
 use Rattle.run_rules.specs.Next.{hindered, is_hindrance}
 use Rattle.detach_engine.specs.Hindrance.{Marked, AreMarksOf, hindrance, stands_in_way}
-
--- two tests that agree on each element find the same one
-find_same : {A : Type 0} (p q : A → Bool) (xs : List A) → AllByRecursion (λ x. p x ≡ q x) xs → find p xs ≡ find q xs
-find_same p q [] h = refl
-find_same {A} p q (x ∷ xs) h = ap (λ b. cond b (Some x) (find p xs)) h.0 ∙ ap (λ o. cond (q x) (Some x) o) (find_same p q xs h.1)
 
 same_test : (under forced nodetach marked pinned busy condemned held : Bool) → (IsTrue (not forced) → IsTrue under → marked ≡ nodetach) → (IsTrue under → busy ≡ pinned)
     → (under && ((not forced && marked) || busy || condemned || held)) ≡ (under && ((not forced && nodetach) || pinned || condemned || held))
@@ -31,4 +27,4 @@ agree w m s k forced (d ∷ ds) h g = (
 pub hindered_is : (w : World) (m : Marked) (s k : ℕ) (forced : Bool) → AreMarksOf w s forced m → hindrance w.live w.refs m s k forced ≡ hindered w s k forced
 unfolding hindrance hindered
 hindered_is w m s k forced h =
-    find_same (stands_in_way w.live w.refs m s k forced) (is_hindrance w s k forced) w.live (agree w m s k forced w.live h.pinned h.undetachable)
+    find_alike (stands_in_way w.live w.refs m s k forced) (is_hindrance w s k forced) w.live (agree w m s k forced w.live h.pinned h.undetachable)

@@ -69,18 +69,6 @@ condemner_plain live k s d = cases (is_under live s d.serial)
 
 -- ---- the marks
 
-pub sleep_at : (s : ℕ) (asleep : Bool) (d : Dev) → d.serial ≡ s → with_sleep s asleep d ≡ record d { asleep = asleep }
-sleep_at s asleep d e = rw (eq-eqb d.serial s e) refl
-
-pub sleep_past : (s : ℕ) (asleep : Bool) (d : Dev) → d.serial ≢ s → with_sleep s asleep d ≡ d
-sleep_past s asleep d ne = rw (ne_eqb d.serial s ne) refl
-
-pub condemned_at : (live : List Dev) (k s : ℕ) (d : Dev) → is_under live s d.serial ≡ true → with_condemner live k s d ≡ record d { condemned = Some k }
-condemned_at live k s d e = rw e refl
-
-pub condemned_past : (live : List Dev) (k s : ℕ) (d : Dev) → is_under live s d.serial ≡ false → with_condemner live k s d ≡ d
-condemned_past live k s d e = rw e refl
-
 -- ---- what is looked up in them
 
 pub live_alike : (xs ys : List Dev) (s : ℕ) → Alike SamePlain xs ys → is_live xs s ≡ is_live ys s

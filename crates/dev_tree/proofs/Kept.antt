@@ -2,9 +2,10 @@
 use Rattle.std.proofs.Common.{◌≡◌, ◌≢◌, ℕ, ◌+◌, ◌<◌, Bool, true, false, not, ◌&&◌, ◌||◌, ◌==◌, cond, None, List, [], ◌∷◌, ◌++◌, length, map, refl, ap, sym, subst, ◌∙◌, arith}
 use Rattle.std.specs.Prelude.{IsTrue, filter}
 use Rattle.std.specs.List.{AllByRecursion, list_any, zip}
-use Rattle.std.proofs.lemmas.Bool.{eqb-true, eqb-false}
+use Rattle.std.proofs.lemmas.Bool.{eqb-true, eqb-false, not_from_false}
 use Rattle.std.proofs.lemmas.List.{length-append}
 use Rattle.std.proofs.lemmas.Map.Views.{any-filter_same}
+use Rattle.run_rules.proofs.Each.{all_filter, later_filter}
 use Rattle.run_rules.specs.declared.world.Arrival.{Arrival}
 use Rattle.run_rules.specs.declared.world.Dev.{Dev}
 use Rattle.run_rules.specs.World.{is_live, children}
@@ -27,9 +28,6 @@ pub sound_start : AreSound (record { live = []; drivers = []; next = 1 })
 sound_start = record { drivers = refl; from_one = omega arith; placed = tt; later = tt; spots = tt; names = tt }
 
 -- ---- one device more
-
-not_true : (b : Bool) → b ≡ false → IsTrue (not b)
-not_true b h = rw h refl
 
 known_below : (t : Devices) (p : ℕ) → AreSound t → IsTrue (p == 0 || is_live t.live p) → p < t.next
 known_below t p h known = cases (p == 0) refl known
@@ -54,26 +52,10 @@ sound_with t device a h named bare known =
           (all_imp (λ d. (d.spot == a.spot) ≡ false) (λ d. d.spot ≢ a.spot) (λ d k. eqb-false d.spot a.spot k) t.live (none_of (λ d. d.spot == a.spot) t.live bare));
       names = subst (EachLater (λ p q. IsTrue (not (p.1 == q.1 && p.0.unit == q.0.unit)))) (sym (zip_snoc t.live t.drivers e device long))
           (later_snoc (λ p q. IsTrue (not (p.1 == q.1 && p.0.unit == q.0.unit))) (driven t) (e, device) h.names
-          (all_imp (λ p. has_name device a.unit p ≡ false) (λ p. IsTrue (not (p.1 == device && p.0.unit == a.unit))) (λ p k. not_true (p.1 == device && p.0.unit == a.unit) k) (driven t) (none_of (has_name device a.unit) (driven t) named)));
+          (all_imp (λ p. has_name device a.unit p ≡ false) (λ p. IsTrue (not (p.1 == device && p.0.unit == a.unit))) (λ p k. not_from_false (p.1 == device && p.0.unit == a.unit) k) (driven t) (none_of (has_name device a.unit) (driven t) named)));
     }
 
 -- ---- one device less
-
-all_filter : {A : Type 0} (P : A → Type 0) (test : A → Bool) (xs : List A) → AllByRecursion P xs → AllByRecursion P (filter test xs)
-all_filter P test [] h = tt
-all_filter {A} P test (x ∷ xs) h = cases (test x) (all_filter P test xs h.1)
-  where
-    cases : (b : Bool) → AllByRecursion P (filter test xs) → AllByRecursion P (cond b (x ∷ filter test xs) (filter test xs))
-    cases true more = (h.0, more)
-    cases false more = more
-
-later_filter : {A : Type 0} (R : A → A → Type 0) (test : A → Bool) (xs : List A) → EachLater R xs → EachLater R (filter test xs)
-later_filter R test [] h = tt
-later_filter {A} R test (x ∷ xs) h = cases (test x) (later_filter R test xs h.1)
-  where
-    cases : (b : Bool) → EachLater R (filter test xs) → EachLater R (cond b (x ∷ filter test xs) (filter test xs))
-    cases true more = (all_filter (R x) test xs h.0, more)
-    cases false more = more
 
 nothing_kept : {A : Type 0} (test : A → Bool) (xs : List A) → filter test xs ≡ [] → list_any test xs ≡ false
 nothing_kept test [] e = refl

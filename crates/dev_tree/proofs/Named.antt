@@ -2,7 +2,7 @@
 use Rattle.std.proofs.Common.{◌≡◌, ◌≢◌, ℕ, ◌+◌, ◌<◌, Bool, true, false, ◌&&◌, ◌==◌, cond, Some, List, length, get_or, drop, find, refl, ap, sym, ◌∙◌, eq-eqb}
 use Rattle.std.specs.Prelude.{option_map}
 use Rattle.std.specs.List.{zip}
-use Rattle.std.proofs.lemmas.Bool.{ne_eqb}
+use Rattle.std.proofs.lemmas.Bool.{ne_eqb, and_right}
 use Rattle.run_rules.specs.declared.world.Dev.{Dev}
 use Rattle.dev_tree.specs.Tree.{has_name}
 use Rattle.dev_tree.proofs.Pairs.{zip_more}
@@ -24,10 +24,6 @@ named_here live drivers device unit i d lt long goes e f =
     ap (option_map (λ p. p.0.serial))
     (next_is live drivers device unit i d true lt long goes (rw (eq-eqb (get_or drivers i 0) device e) (rw (eq-eqb (get_or live i d).unit unit f) refl)))
 
-and_no : (a b : Bool) → b ≡ false → (a && b) ≡ false
-and_no true b e = e
-and_no false b e = refl
-
 pub other_driver : (live : List Dev) (drivers : List ℕ) (device unit i : ℕ) (d : Dev) → i < length live → length drivers ≡ length live → Goes live drivers device unit i
     → get_or drivers i 0 ≢ device → Goes live drivers device unit (i + 1)
 other_driver live drivers device unit i d lt long goes ne =
@@ -36,4 +32,4 @@ other_driver live drivers device unit i d lt long goes ne =
 pub other_unit : (live : List Dev) (drivers : List ℕ) (device unit i : ℕ) (d : Dev) → i < length live → length drivers ≡ length live → Goes live drivers device unit i
     → (get_or live i d).unit ≢ unit → Goes live drivers device unit (i + 1)
 other_unit live drivers device unit i d lt long goes ne =
-    sym (next_is live drivers device unit i d false lt long goes (and_no (get_or drivers i 0 == device) ((get_or live i d).unit == unit) (ne_eqb (get_or live i d).unit unit ne)))
+    sym (next_is live drivers device unit i d false lt long goes (and_right (get_or drivers i 0 == device) ((get_or live i d).unit == unit) (ne_eqb (get_or live i d).unit unit ne)))

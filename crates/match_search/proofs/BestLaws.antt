@@ -5,6 +5,7 @@ use Rattle.std.specs.List.{list_all}
 use Rattle.std.specs.Option.{option_map_or}
 use Rattle.std.proofs.lemmas.Bool.Decides.{nat_tests}
 use Rattle.std.proofs.lemmas.Option.{slice_get-map}
+use Rattle.std.proofs.lemmas.Bool.{false_from_ne_true}
 use Rattle.cf_types.specs.declared.machine.Machine.{Machine}
 use Rattle.cf_types.specs.declared.tables.Place.{Place}
 use Rattle.cf_types.specs.declared.tables.Row.{Row}
@@ -25,10 +26,6 @@ use Rattle.match_search.specs.Best.{best_row, live_rows, may_take, worth}
 abbrev is_greatest : (ℕ → Bool) → (ℕ → ℕ) → ℕ → ℕ → Bool
 is_greatest c v n r = c r && list_all (λ q. not (c q) || nat_le (v q) (v r)) (below n)
 
-is_false : (b : Bool) → (b ≡ true → ⊥) → b ≡ false
-is_false true h = absurd (h refl)
-is_false false h = refl
-
 no_greater : (d : Bool) (x y : ℕ) → (d ≡ true → x ≤ y) → (not d || nat_le x y) ≡ true
 no_greater false x y h = refl
 no_greater true x y h = let most : x ≤ y = h refl in grind (arith, nat_tests)
@@ -41,7 +38,7 @@ greatest_is c v n None h = find-none (is_greatest c v n) n (λ q lt. rw (h q lt)
 greatest_is c v n (Some b) h =
     let all : list_all (λ q. not (c q) || nat_le (v q) (v b)) (below n) ≡ true = all_below _ n (λ q lt. no_greater (c q) (v q) (v b) (h.no_greater q lt)) in
     find-is (is_greatest c v n) n b h.in_range (rw (h.candidate, all) refl)
-    (λ q less. is_false _ (λ top.
+    (λ q less. false_from_ne_true _ (λ top.
     let both = and_both (c q) _ top in
     let at = at_below (λ k. not (c k) || nat_le (v k) (v q)) n both.1 b h.in_range in
     greater (v b) (v q) (h.no_earlier q less both.0) (rw h.candidate at at)))

@@ -2,7 +2,7 @@
 use Rattle.std.proofs.Common.{◌≡◌, ◌≢◌, ℕ, ◌+◌, ◌<◌, Bool, true, false, not, ◌&&◌, ◌||◌, ◌==◌, cond, find, Some, List, [], ◌∷◌, ◌++◌, refl, subst, arith, eq-eqb}
 use Rattle.std.specs.Prelude.{IsTrue}
 use Rattle.std.specs.List.{AllByRecursion, list_any}
-use Rattle.std.proofs.lemmas.Bool.{eqb-true}
+use Rattle.std.proofs.lemmas.Bool.{eqb-true, not_from_false}
 use Rattle.std.proofs.lemmas.List.Folds.{list_any-append}
 use Rattle.run_rules.specs.declared.world.Setup.{Setup}
 use Rattle.run_rules.specs.declared.world.Dev.{Dev}
@@ -80,9 +80,6 @@ known_below s live next p h low known = cases (p == 0) refl known
 
 -- ---- a device comes
 
-not_true : (b : Bool) → b ≡ false → IsTrue (not b)
-not_true b h = rw h refl
-
 other_spot : (d : Dev) (x : ℕ) → (d.spot == x) ≡ false → d.spot ≢ x
 other_spot d x h e = clash (d.spot == x) (eq-eqb d.spot x e) h
   where
@@ -99,7 +96,7 @@ devices_come s live next e h low named known free bare = record {
       (record { below_next = omega (arith, named); after_parent = omega (arith, named, known_below s live next e.parent h low known); parent_live = known_more live e e.parent known });
   apart = later_snoc (IsApart s) live e h.apart
       (all_both (IsPlaced live next) (λ d. ((driver_of s d.row == driver_of s e.row && d.unit == e.unit) ≡ false) × ((d.spot == e.spot) ≡ false)) (λ d. IsApart s d e)
-      (λ d p q. record { later = omega (arith, named, p.below_next); names = not_true (driver_of s d.row == driver_of s e.row && d.unit == e.unit) q.0; spots = other_spot d e.spot q.1 })
+      (λ d p q. record { later = omega (arith, named, p.below_next); names = not_from_false (driver_of s d.row == driver_of s e.row && d.unit == e.unit) q.0; spots = other_spot d e.spot q.1 })
       live h.placed
       (all_both (λ d. (driver_of s d.row == driver_of s e.row && d.unit == e.unit) ≡ false) (λ d. (d.spot == e.spot) ≡ false) _ (λ d a b. (a, b)) live
       (none_of (λ d. driver_of s d.row == driver_of s e.row && d.unit == e.unit) live free) (none_of (λ d. d.spot == e.spot) live bare)));

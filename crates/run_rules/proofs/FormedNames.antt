@@ -7,6 +7,7 @@ use Rattle.std.proofs.lemmas.Bool.Decides.{nat_tests}
 use Rattle.std.proofs.lemmas.Fmt.{length-decimal-le, decimal_nonempty}
 use Rattle.std.proofs.lemmas.List.{get_or-append-add}
 use Rattle.std.proofs.lemmas.List.Folds.{list_all-append}
+use Rattle.std.proofs.lemmas.Bool.{and_from, le-leb, leb-true}
 use Rattle.cf_text.specs.Shapes.{begins_name, continues_name, is_name, is_written, ends_with_digit}
 use Rattle.run_rules.specs.World.{root_name}
 use Rattle.run_rules.specs.Lines.{is_known_name, IsFormedName, IsDeviceName}
@@ -33,35 +34,26 @@ ends_digit n ds h some =
     let place : length (n ++ ds) - 1 ≡ length n + (length ds - 1) = omega (arith, length-append n ds) in
     rw (place, get_or-append-add n ds (length ds - 1) 0) (digit_test _ (all_get IsDigit ds (length ds - 1) 0 h (omega arith)))
 
-both_true : (a b : Bool) → a ≡ true → b ≡ true → (a && b) ≡ true
-both_true a b x y = rw (x, y) refl
-
 name_goes_on : (n ds : List ℕ) → is_name n ≡ true → AllDigits ds → is_name (n ++ ds) ≡ true
 name_goes_on [] ds h all = absurd cc
 name_goes_on (c ∷ cs) ds h all =
     let parts = and_both (begins_name c) (list_all continues_name cs) h in
     rw (parts.0, list_all-append continues_name cs ds, parts.1, digits_continue ds all) refl
 
-le_true : (a b : ℕ) → a ≤ b → nat_le a b ≡ true
-le_true a b h = grind (arith, nat_tests, h)
-
-true_le : (a b : ℕ) → nat_le a b ≡ true → a ≤ b
-true_le a b h = grind (arith, nat_tests, h)
-
 -- how long a name that may be written is
 pub written_length : (n : List ℕ) → IsTrue (is_written n) → (1 ≤ length n) × (length n ≤ 63)
 written_length [] w = absurd cc
-written_length (c ∷ cs) w = (omega arith, true_le _ _ (and_both (nat_le (length (c ∷ cs)) 63) (is_name (c ∷ cs)) w).0)
+written_length (c ∷ cs) w = (omega arith, leb-true _ _ (and_both (nat_le (length (c ∷ cs)) 63) (is_name (c ∷ cs)) w).0)
 
 -- a driver's name and a unit
 pub written_device : (n : List ℕ) (u : ℕ) → IsTrue (is_written n) → u < 2 ^ 32 → IsDeviceName (n ++ decimal u)
 written_device n u w lt =
     let parts = and_both (nat_le (length n) 63) (is_name n) w in
-    let short : length n ≤ 63 = true_le _ _ parts.0 in
+    let short : length n ≤ 63 = leb-true _ _ parts.0 in
     let few : length (decimal u) ≤ 10 = length-decimal-le 10 u (omega arith) (omega arith) (omega arith) in
     let some : 1 ≤ length (decimal u) = decimal_nonempty u (omega arith) in
     let digits : AllDigits (decimal u) = all_digits u (omega arith) in
-    both_true _ _ (both_true _ _ (name_goes_on n (decimal u) parts.1 digits) (le_true _ _ (omega (arith, length-append n (decimal u))))) (ends_digit n (decimal u) digits some)
+    and_from _ _ (and_from _ _ (name_goes_on n (decimal u) parts.1 digits) (le-leb _ _ (omega (arith, length-append n (decimal u))))) (ends_digit n (decimal u) digits some)
 
 pub device_known : (n : List ℕ) → IsDeviceName n → IsFormedName n
 device_known n h = (and_both (is_known_name n) (ends_with_digit n) h).0

@@ -10,6 +10,7 @@ use Rattle.run_rules.specs.World.{has, is_number}
 use Rattle.run_rules.specs.Search.{turns, is_before, is_due, is_open, is_occupied, passes_filter, found_at, due, is_winner, winner, winner_at}
 use Rattle.run_rules.specs.declared.world.Turn.{Turn}
 use Rattle.std.proofs.Common.{◌<◌, ◌||◌}
+use Rattle.std.proofs.lemmas.Bool.{not-true}
 use Rattle.run_rules.proofs.Below.{and_both, find_below}
 
 -- what is found passes the test
@@ -24,12 +25,8 @@ find_true {A} p (y ∷ ys) x e = cases (λ k. find_true p ys x k) (p y) refl e
     cases more true here k = ap p (sym (some_is y x k)) ∙ here
     cases more false here k = more k
 
-not_false : (b : Bool) → not b ≡ true → b ≡ false
-not_false true h = absurd cc
-not_false false h = refl
-
 open_free : (a b o f : Bool) → (a && b && not o && f) ≡ true → o ≡ false
-open_free a b o f h = not_false o (and_both (a && b) (not o) (and_both (a && b && not o) f h).0).1
+open_free a b o f h = not-true o (and_both (a && b) (not o) (and_both (a && b && not o) f h).0).1
 
 pub due_free : (s : Setup) (live : List Dev) (absent hidden : List ℕ) (p : ℕ) (only : Option ℕ) (wanted : List Wanted) (from : Position) (t : Turn)
     → due s live absent hidden p only wanted from ≡ Some t → is_occupied live t.at.spot ≡ false
@@ -49,10 +46,10 @@ due_passes s live absent hidden p only wanted from t e =
 
 pub due_forward : (s : Setup) (live : List Dev) (absent hidden : List ℕ) (p : ℕ) (only : Option ℕ) (wanted : List Wanted) (from : Position) (t : Turn)
     → due s live absent hidden p only wanted from ≡ Some t → is_before t.at from ≡ false
-due_forward s live absent hidden p only wanted from t e = not_false (is_before t.at from) (due_passes s live absent hidden p only wanted from t e).0
+due_forward s live absent hidden p only wanted from t e = not-true (is_before t.at from) (due_passes s live absent hidden p only wanted from t e).0
 
 open_seen : (a h o f : Bool) → (a && not h && not o && f) ≡ true → h ≡ false
-open_seen a h o f e = not_false h (and_both a (not h) (and_both (a && not h) (not o) (and_both (a && not h && not o) f e).0).0).1
+open_seen a h o f e = not-true h (and_both a (not h) (and_both (a && not h) (not o) (and_both (a && not h && not o) f e).0).0).1
 
 -- its spot is not hidden
 pub due_seen : (s : Setup) (live : List Dev) (absent hidden : List ℕ) (p : ℕ) (only : Option ℕ) (wanted : List Wanted) (from : Position) (t : Turn)

@@ -12,3 +12,5 @@ pub mod FormedNames
 pub mod CountsOn
 pub mod OwnNames
 pub mod Holders
+pub mod Each
+pub mod Marked

@@ -2,7 +2,8 @@
 use Rattle.std.proofs.Common.{◌≡◌, ◌≢◌, ℕ, zero, suc, ◌-◌, ◌<◌, ◌^◌, Bool, true, false, not, ◌&&◌, ◌==◌, List, [], ◌∷◌, length, Some, slice_get, refl, sym, inl, inr, arith, eq-eqb}
 use Rattle.std.specs.Char.{is_ascii_digit}
 use Rattle.std.specs.List.{AllByRecursion}
-use Rattle.std.proofs.lemmas.Bool.{cases_lt}
+use Rattle.std.proofs.lemmas.Bool.{cases_lt, not-true}
+use Rattle.cf_types.proofs.TestLemmas.{clash}
 use Rattle.cf_text.specs.Shapes.{ends_with_digit}
 use Rattle.cf_types.specs.declared.tables.Device.{Device}
 use Rattle.cf_types.specs.declared.tables.Row.{Row}
@@ -36,19 +37,12 @@ later_at R (z ∷ zs) (suc i) (suc j) x y h lt e f = later_at R zs i j x y h.1 (
 
 -- ---- names
 
-clash : (b : Bool) → b ≡ true → b ≡ false → ⊥
-clash b t f = cc
-
 pub ends_plain : (n : List ℕ) → ends_with_digit n ≡ false → EndsPlain n
 ends_plain [] h = tt
 ends_plain (b ∷ []) h = λ digit. clash (is_ascii_digit b) (digit_test b digit) h
 ends_plain (b ∷ c ∷ bs) h =
     let last : length (b ∷ c ∷ bs) - 1 ≡ suc (length (c ∷ bs) - 1) = omega arith in
     ends_plain (c ∷ bs) (rw last at h)
-
-not_false : (b : Bool) → not b ≡ true → b ≡ false
-not_false true h = absurd cc
-not_false false h = refl
 
 driver_at : (s : Setup) (i : ℕ) (d : Device) → slice_get s.tables.devices i ≡ Some d → driver_name s i ≡ d.name
 driver_at s i d e = rw e refl
@@ -76,7 +70,7 @@ row_driver s r formed lt =
 plain_driver : (s : Setup) (i : ℕ) → HasFormedDevices s.tables → i < length s.tables.devices → EndsPlain (driver_name s i)
 plain_driver s i formed lt =
     let d = there s.tables.devices i lt in
-    rw d.1 (ends_plain d.0.name (not_false _ (all_at IsNamed s.tables.devices i d.0 formed.named d.1).plain_end))
+    rw d.1 (ends_plain d.0.name (not-true _ (all_at IsNamed s.tables.devices i d.0 formed.named d.1).plain_end))
 
 apart_named : (s : Setup) (d e : Dev) → HasFormedDevices s.tables → d.row < length s.tables.rows → e.row < length s.tables.rows → d.unit < 2 ^ 32 → e.unit < 2 ^ 32
     → IsApart s d e → name_of s d ≢ name_of s e

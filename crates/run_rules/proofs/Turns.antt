@@ -16,8 +16,9 @@ use Rattle.run_rules.specs.declared.world.Turn.{Turn}
 use Rattle.run_rules.specs.declared.world.Wanted.{Wanted}
 use Rattle.std.specs.List.{enumerate_from}
 use Rattle.std.specs.Prelude.{flat_map}
-use Rattle.std.proofs.lemmas.List.Folds.{find-append}
+use Rattle.std.proofs.lemmas.List.Folds.{find-append, list_any-append}
 use Rattle.std.proofs.lemmas.Grind.{flat_map-append}
+use Rattle.std.proofs.lemmas.List.Elements.{filter-append}
 use Rattle.cf_types.specs.Numbers.{below}
 use Rattle.run_rules.specs.Search.{is_child, is_occupied, child_spots, places_of, scan_places, turns_at, turns_of, is_before, is_due, is_open, due}
 
@@ -103,28 +104,17 @@ due_at_root s live absent hidden p wanted from o none e =
 
 -- ---- tests of listed numbers
 
-list_any-append' : {A : Type 0} (p : A → Bool) (xs ys : List A) → list_any p (xs ++ ys) ≡ (list_any p xs || list_any p ys)
-list_any-append' p [] ys = refl
-list_any-append' p (x ∷ xs) ys = elim (p x) as (λ b. (b || list_any p (xs ++ ys)) ≡ ((b || list_any p xs) || list_any p ys)) [ true ↦ refl | false ↦ list_any-append' p xs ys ]
-
-filter-append' : {A : Type 0} (p : A → Bool) (xs ys : List A) → filter p (xs ++ ys) ≡ filter p xs ++ filter p ys
-filter-append' p [] ys = refl
-filter-append' {A} p (x ∷ xs) ys = elim (p x) as (λ b. cond b (x ∷ filter p (xs ++ ys)) (filter p (xs ++ ys)) ≡ cond b (x ∷ filter p xs) (filter p xs) ++ filter p ys) [
-  | true ↦ ap (λ (r : List A). x ∷ r) (filter-append' p xs ys)
-  | false ↦ filter-append' p xs ys
-]
-
 has_past : (p : ℕ → Bool) (n x : ℕ) → n ≤ x → has (filter p (below n)) x ≡ false
 has_past p zero x le = refl
 has_past p (suc n) x le =
     let other : (n == x) ≡ false = grind (arith, nat_tests) in
-    rw (filter-append' p (below n) (n ∷ []), list_any-append' (λ y. y == x) (filter p (below n)) (filter p (n ∷ [])), has_past p n x (omega arith))
+    rw (filter-append p (below n) (n ∷ []), list_any-append (λ y. y == x) (filter p (below n)) (filter p (n ∷ [])), has_past p n x (omega arith))
     (elim (p n) as (λ b. list_any (λ y. y == x) (cond b (n ∷ []) []) ≡ false) [ true ↦ rw other refl | false ↦ refl ])
 
 pub has_filter : (p : ℕ → Bool) (n x : ℕ) → x < n → has (filter p (below n)) x ≡ p x
 has_filter p zero x lt = absurd (omega arith)
 has_filter p (suc n) x lt =
-    rw (filter-append' p (below n) (n ∷ []), list_any-append' (λ y. y == x) (filter p (below n)) (filter p (n ∷ [])))
+    rw (filter-append p (below n) (n ∷ []), list_any-append (λ y. y == x) (filter p (below n)) (filter p (n ∷ [])))
     (elim (cases_lt x n) [
       | inl less ↦
           let other : (n == x) ≡ false = grind (arith, nat_tests) in

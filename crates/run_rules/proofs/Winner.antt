@@ -2,7 +2,7 @@
 use Rattle.std.proofs.Common.{◌≡◌, ℕ, ◌+◌, ◌<◌, ◌≤◌, Bool, true, false, not, ◌&&◌, ◌||◌, ◌==◌, nat_lt, nat_le, List, length, find, Option, Some, None, refl, inl, inr, arith}
 use Rattle.std.proofs.lemmas.Bool.Decides.{nat_tests}
 use Rattle.std.specs.List.{list_all}
-use Rattle.std.proofs.lemmas.Bool.{cases_lt}
+use Rattle.std.proofs.lemmas.Bool.{cases_lt, false_from_ne_true}
 use Rattle.cf_types.specs.declared.tables.Place.{Place}
 use Rattle.run_rules.specs.declared.world.Setup.{Setup}
 use Rattle.run_rules.specs.declared.world.Dev.{Dev}
@@ -27,10 +27,6 @@ IsBest c v i (Some b) = IsBestOf c v i b
 abbrev tops : (ℕ → Bool) → (ℕ → ℕ) → ℕ → ℕ → Bool
 tops c v n r = c r && list_all (λ q. not (c q) || nat_lt (v q) (v r) || (v q == v r && nat_le r q)) (below n)
 
-is_false : (b : Bool) → (b ≡ true → ⊥) → b ≡ false
-is_false true h = absurd (h refl)
-is_false false h = refl
-
 no_better : (d : Bool) (x y b q : ℕ) → (d ≡ true → x ≤ y) → (d ≡ true → q < b → x < y) → (not d || nat_lt x y || (x == y && nat_le b q)) ≡ true
 no_better false x y b q le lt = refl
 no_better true x y b q le lt =
@@ -51,7 +47,7 @@ best_is c v n None h = find-none (tops c v n) n (λ q lt. rw (h q lt) refl)
 best_is c v n (Some b) h =
     let all : list_all (λ q. not (c q) || nat_lt (v q) (v b) || (v q == v b && nat_le b q)) (below n) ≡ true = all_below _ n (λ q lt. no_better (c q) (v q) (v b) b q (h.no_greater q lt) (λ here less. h.no_earlier q less here)) in
     find-is (tops c v n) n b h.in_range (rw (h.candidate, all) refl)
-    (λ q less. is_false _ (λ top.
+    (λ q less. false_from_ne_true _ (λ top.
     let both = and_both (c q) _ top in
     let at = at_below (λ k. not (c k) || nat_lt (v k) (v q) || (v k == v q && nat_le q k)) n both.1 b h.in_range in
     better (v b) (v q) q b (h.no_earlier q less both.0) (rw h.candidate at at)))

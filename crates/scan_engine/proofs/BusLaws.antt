@@ -4,6 +4,7 @@ use Rattle.std.specs.Prelude.{flat_map}
 use Rattle.std.specs.List.{AllByRecursion, enumerate_from}
 use Rattle.std.proofs.lemmas.Bool.{cases_lt}
 use Rattle.std.proofs.lemmas.Bool.Decides.{nat_tests}
+use Rattle.run_rules.proofs.Each.{find_alike}
 use Rattle.cf_types.specs.declared.machine.Machine.{Machine}
 use Rattle.cf_types.specs.declared.tables.Place.{Place}
 use Rattle.cf_types.specs.declared.tables.Place.TheVariants.{At}
@@ -18,7 +19,6 @@ use Rattle.scan_engine.specs.Turns.{first_from}
 use Rattle.scan_engine.proofs.Positions.{by_attr, by_row, from_start, not_by_attr, not_by_row, on_row, position_is}
 use Rattle.scan_engine.proofs.Order.{all_of}
 use Rattle.scan_engine.proofs.TurnsOf.{all_bus}
-use Rattle.scan_engine.proofs.TurnLaws.{find_alike}
 
 -- ---- one row
 

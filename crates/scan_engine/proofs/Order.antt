@@ -2,6 +2,7 @@
 use Rattle.std.proofs.Common.{◌≡◌, ℕ, zero, suc, ◌+◌, ◌<◌, ◌≤◌, Bool, true, false, List, [], ◌∷◌, ◌++◌, length, map, filter, cond, refl, arith}
 use Rattle.std.specs.Prelude.{flat_map}
 use Rattle.std.specs.List.{AllByRecursion, enumerate_from}
+use Rattle.run_rules.proofs.Each.{all_append, all_map, all_below}
 use Rattle.cf_types.specs.Numbers.{below}
 use Rattle.run_rules.specs.Sound.{EachLater}
 
@@ -15,14 +16,6 @@ pub all_of : {A : Type 0} (P : A → Type 0) (xs : List A) → ((x : A) → P x)
 all_of P [] f = tt
 all_of P (x ∷ xs) f = (f x, all_of P xs f)
 
-pub all_append : {A : Type 0} (P : A → Type 0) (xs ys : List A) → AllByRecursion P xs → AllByRecursion P ys → AllByRecursion P (xs ++ ys)
-all_append P [] ys h k = k
-all_append P (x ∷ xs) ys h k = (h.0, all_append P xs ys h.1 k)
-
-pub all_map : {A B : Type 0} (P : B → Type 0) (f : A → B) (xs : List A) → AllByRecursion (λ x. P (f x)) xs → AllByRecursion P (map f xs)
-all_map P f [] h = tt
-all_map P f (x ∷ xs) h = (h.0, all_map P f xs h.1)
-
 -- what passes a test has what all have, and passes it
 pub all_filter : {A : Type 0} (P : A → Type 0) (p : A → Bool) (xs : List A) → AllByRecursion P xs → AllByRecursion (λ x. P x × (p x ≡ true)) (filter p xs)
 all_filter P p [] h = tt
@@ -35,10 +28,6 @@ all_filter P p (x ∷ xs) h = keep (p x) refl (all_filter P p xs h.1)
 pub all_flat : {A B : Type 0} (P : B → Type 0) (f : A → List B) (xs : List A) → AllByRecursion (λ x. AllByRecursion P (f x)) xs → AllByRecursion P (flat_map f xs)
 all_flat P f [] h = tt
 all_flat P f (x ∷ xs) h = all_append P (f x) (flat_map f xs) h.0 (all_flat P f xs h.1)
-
-pub all_below : (n : ℕ) → AllByRecursion (λ k. k < n) (below n)
-all_below zero = tt
-all_below (suc n) = all_append (λ k. k < suc n) (below n) (n ∷ []) (all_weaken (λ k. k < n) (λ k. k < suc n) (below n) (λ k lt. omega arith) (all_below n)) (omega arith, tt)
 
 pub all_enumerated : {A : Type 0} (n : ℕ) (xs : List A) → AllByRecursion (λ e. (n ≤ e.0) × (e.0 < n + length xs)) (enumerate_from n xs)
 all_enumerated n [] = tt
@@ -57,14 +46,6 @@ later_map R f (x ∷ xs) h = (all_map (R (f x)) f xs h.0, later_map R f xs h.1)
 pub later_weaken : {A : Type 0} (R S : A → A → Type 0) (xs : List A) → ((x y : A) → R x y → S x y) → EachLater R xs → EachLater S xs
 later_weaken R S [] f h = tt
 later_weaken R S (x ∷ xs) f h = (all_weaken (R x) (S x) xs (f x) h.0, later_weaken R S xs f h.1)
-
-pub later_filter : {A : Type 0} (R : A → A → Type 0) (p : A → Bool) (xs : List A) → EachLater R xs → EachLater R (filter p xs)
-later_filter R p [] h = tt
-later_filter R p (x ∷ xs) h = keep (p x) (later_filter R p xs h.1)
-  where
-    keep : (b : Bool) → EachLater R (filter p xs) → EachLater R (cond b (x ∷ filter p xs) (filter p xs))
-    keep true more = (all_weaken (λ y. R x y × (p y ≡ true)) (R x) (filter p xs) (λ y both. both.0) (all_filter (R x) p xs h.0), more)
-    keep false more = more
 
 pub later_append : {A : Type 0} (R : A → A → Type 0) (xs ys : List A) → EachLater R xs → EachLater R ys → AllByRecursion (λ x. AllByRecursion (R x) ys) xs → EachLater R (xs ++ ys)
 later_append R [] ys h k across = k

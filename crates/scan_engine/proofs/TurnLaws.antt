@@ -2,6 +2,8 @@
 use Rattle.std.proofs.Common.{◌≡◌, ℕ, ◌<◌, ◌≤◌, ◌⊎◌, inl, inr, Bool, true, false, not, ◌&&◌, List, [], ◌∷◌, length, filter, find, cond, Option, Some, None, refl, sym, subst, ap, ◌∙◌, arith}
 use Rattle.std.specs.Prelude.{IfSome}
 use Rattle.std.specs.List.{AllByRecursion}
+use Rattle.std.proofs.lemmas.Bool.{not-false, not-true}
+use Rattle.run_rules.proofs.Each.{find_alike, all_found}
 use Rattle.cf_types.specs.declared.machine.Machine.{Machine}
 use Rattle.cf_types.specs.declared.tables.Tables.{Tables}
 use Rattle.cf_types.specs.Offers.{interfaces}
@@ -49,10 +51,6 @@ find_taken p q (x ∷ xs) t h k =
       | inr later ↦ rw later.0 (find_taken p q xs t later.1 k)
     ]
 
-pub find_alike : {A : Type 0} (p p' : A → Bool) (xs : List A) → AllByRecursion (λ x. p x ≡ p' x) xs → find p xs ≡ find p' xs
-find_alike p p' [] h = refl
-find_alike p p' (x ∷ xs) h = rw (h.0, find_alike p p' xs h.1) refl
-
 -- it does not pass the other: the search goes on with a test that what is before it fails, and what comes later passes
 find_passed : {A : Type 0} (R : A → A → Type 0) (p p' q : A → Bool) (xs : List A) (t : A) → EachLater R xs → find p xs ≡ Some t → q t ≡ false
     → ((x : A) → p x ≡ false → p' x ≡ false) → p' t ≡ false → ((x : A) → R t x → (p x ≡ true) × (p' x ≡ true))
@@ -90,33 +88,17 @@ find_fewer p p' (x ∷ xs) t h before at =
       | inr more ↦ rw (more.0, before x more.0) (find_fewer p p' xs t more.1 before at)
     ]
 
-all_found : {A : Type 0} (P : A → Type 0) (p : A → Bool) (xs : List A) (t : A) → AllByRecursion P xs → find p xs ≡ Some t → P t
-all_found P p [] t all h = absurd cc
-all_found P p (x ∷ xs) t all h =
-    elim (first_or_later p x xs t h) [
-      | inl here ↦ subst P here.1 all.0
-      | inr more ↦ all_found P p xs t all.1 more.1
-    ]
-
 -- ---- the turns
-
-not_before : (b : Bool) → not b ≡ true → b ≡ false
-not_before true h = absurd cc
-not_before false h = refl
-
-is_not : (b : Bool) → not b ≡ false → b ≡ true
-is_not true h = refl
-is_not false h = absurd cc
 
 -- the next turn is not before the position
 pub next_forward : (ts : List Turn) (from : Position) (t : Turn) → find (λ u. not (is_before u.at from)) ts ≡ Some t → is_before t.at from ≡ false
-next_forward ts from t h = not_before (is_before t.at from) (find_true (λ u. not (is_before u.at from)) ts t h)
+next_forward ts from t h = not-true (is_before t.at from) (find_true (λ u. not (is_before u.at from)) ts t h)
 
 -- what is before the position is before the one behind the next turn
 before_next : (ts : List Turn) (from : Position) (t : Turn) → find (λ u. not (is_before u.at from)) ts ≡ Some t
     → (u : Turn) → not (is_before u.at from) ≡ false → not (is_before u.at (past t.at)) ≡ false
 before_next ts from t h u k =
-    let early : is_before u.at t.at ≡ true = before_later u.at from t.at (is_not (is_before u.at from) k) (next_forward ts from t h) in
+    let early : is_before u.at t.at ≡ true = before_later u.at from t.at (not-false (is_before u.at from) k) (next_forward ts from t h) in
     ap not (before_later u.at t.at (past t.at) early (past_behind t.at))
 
 next_past : (t : Turn) → not (is_before t.at (past t.at)) ≡ false

@@ -5,6 +5,7 @@ use Rattle.std.specs.Option.{option_map_or}
 use Rattle.std.proofs.lemmas.Bool.{eqb-true}
 use Rattle.std.proofs.lemmas.Bool.Decides.{nat_tests}
 use Rattle.std.proofs.lemmas.List.{length-map}
+use Rattle.run_rules.proofs.Each.{all_map, all_below, later_filter}
 use Rattle.cf_types.specs.declared.machine.Machine.{Machine}
 use Rattle.cf_types.specs.declared.machine.Spot.{Spot}
 use Rattle.cf_types.specs.declared.tables.Tables.{Tables}
@@ -19,7 +20,7 @@ use Rattle.run_rules.specs.Sound.{EachLater}
 use Rattle.run_rules.proofs.Below.{and_both}
 use Rattle.scan_engine.specs.Turns.{IsTurn}
 use Rattle.scan_engine.proofs.Positions.{by_attr, by_row, on_row}
-use Rattle.scan_engine.proofs.Order.{all_weaken, all_of, all_map, all_filter, all_flat, all_below, all_enumerated, later_map, later_weaken, later_filter, later_flat, later_below, later_enumerated}
+use Rattle.scan_engine.proofs.Order.{all_weaken, all_of, all_filter, all_flat, all_enumerated, later_map, later_weaken, later_flat, later_below, later_enumerated}
 
 -- the first turn stands before the second
 abbrev pub Earlier : Turn → Turn → Type 0

@@ -1,7 +1,8 @@
 use Rattle.std.proofs.Common.{◌≡◌, false, List, sym, subst, ◌∙◌, None, arith}
+use Rattle.run_rules.proofs.Marked.{condemned_at, condemned_past}
 use Rattle.run_rules.specs.declared.world.Dev.{Dev}
 use Rattle.run_rules.specs.After.{with_condemner}
-use Rattle.dev_tree.proofs.Alike.{Alike, SamePlain, condemned_at, condemned_past, condemner_plain, half_alike, order_alike, under_alike}
+use Rattle.dev_tree.proofs.Alike.{Alike, SamePlain, condemner_plain, half_alike, order_alike, under_alike}
 use Rattle.dev_tree.proofs.Halves.{half_set, half_kept, half_all}
 use Rattle.dev_tree.proofs.mark.mark_condemned.Goals as goal
 use Rattle.dev_tree.proofs.mark.mark_condemned.Goals.{then-is_under, else-is_under}

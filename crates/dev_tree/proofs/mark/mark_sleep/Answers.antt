@@ -1,7 +1,7 @@
 use Rattle.std.proofs.Common.{◌∙◌, false, None, arith}
+use Rattle.run_rules.proofs.Marked.{sleep_at, sleep_past}
 use Rattle.run_rules.specs.declared.world.Dev.{Dev}
 use Rattle.run_rules.specs.After.{with_sleep}
-use Rattle.dev_tree.proofs.Alike.{sleep_at, sleep_past}
 use Rattle.dev_tree.proofs.Halves.{half_set, half_all}
 use Rattle.dev_tree.proofs.mark.mark_sleep.Goals as goal
 use Rattle.dev_tree.proofs.mark.mark_sleep.Goals.{then-device-serial, else-device-serial}
