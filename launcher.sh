@@ -9,6 +9,15 @@ is_current() {
         \( -name '*.rt' -o -name '*.antt' -o -name crates.txt \) -newer "$program" -print -quit)" ]
 }
 
+# Was the crate $1 proved after the last change of its sources and of those that it stands on?
+is_proved() {
+    stamp=$top/crates/$1/out/rlib/stamp
+    [ -f "$stamp" ] || return 1
+    for lower in $(crates_of "$1"); do
+        [ -z "$(find "$top/crates/$lower" "$top/crates.txt" -name out -prune -o -type f -newer "$stamp" -print -quit)" ] || return 1
+    done
+}
+
 # The crates of this repository that the crate $1 stands on, and itself, lowest first.
 crates_of() {
     awk -v top="$1" '
@@ -49,6 +58,11 @@ places() {
     if [ "${free:-1}" -lt "$processors" ]; then echo "${free:-1}"; else echo "$processors"; fi
 }
 
+# Puts what was made of the crate $1 from its room to its place.
+bring_back() {
+    [ ! -d "$work/$1/crates/$1/out" ] || mv "$work/$1/crates/$1/out" "$top/crates/$1/out"
+}
+
 # Proves the crate $1 with so many jobs, in a room of its own, since two checks that share a lower crate's folder wait for
 # one another. The room has the sources, and of the lower crates what was made of them.
 prove() {
@@ -74,7 +88,7 @@ prove() {
     wait $!
     status=$?
     [ "$1" != "$name" ] || { [ -x "$room/crates/$1/out/$name" ] && status=0; }
-    [ ! -d "$room/crates/$1/out" ] || mv "$room/crates/$1/out" "$top/crates/$1/out"
+    bring_back "$1"
     rm -rf "$room"
     echo "$status" >"$work/$1.status"
     mv "$work/$1.status" "$work/$1.ended"
@@ -104,6 +118,8 @@ collect() {
             leave 125
         fi
         rm "$work/$crate.ended" "$work/$crate.at"
+        # What is changed while this call goes on is newer than what it makes.
+        [ "$crate" = "$name" ] || touch -c -r "$work/launcher" "$top/crates/$crate/out/rlib/stamp"
         echo "$crate" >>"$work/done"
     done
 }
@@ -143,6 +159,8 @@ build() {
             echo "$name: waiting for another call that builds the programs" >&2
             while kill -0 "$(cat "$work/launcher" 2>/dev/null)" 2>/dev/null; do sleep 1; done
         else
+            # The call that made it was killed.
+            for room in "$work"/*/; do bring_back "$(basename "$room")"; done
             rm -rf "$work"
         fi
     done
@@ -154,6 +172,7 @@ build() {
     told=
     : >"$work/done"
     for crate in $(crates_of "$name"); do
+        ! is_proved "$crate" || echo "$crate" >>"$work/done"
         echo "$crate $(find "$top/crates/$crate" -name out -prune -o \( -name '*.rt' -o -name '*.antt' \) -exec cat {} + | wc -l)"
     done | longest_first >"$work/todo"
     all=$(wc -l <"$work/todo")
@@ -167,7 +186,7 @@ build() {
         sleep 1
     done
     [ ! -t 2 ] || echo >&2
-    touch "$program"
+    touch -r "$work/launcher" "$program"
     rm -rf "$work"
     trap - INT TERM HUP
 }
