@@ -107,7 +107,7 @@ pub fn judge(
     requires survive { survive.now ≡ kept (stmts_of placed.now) }
     ensures { IfOk result (Judges files.now placed.now) }
 {
-    let mut declarations = Declarations::make(alloc);
+    let mut declarations = Declarations::make(alloc, placed);
     let mut instances = List::make(alloc);
     let mut count = 0;
     for (place, statement) in placed.iter().enumerate() {

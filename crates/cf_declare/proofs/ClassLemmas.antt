@@ -1,6 +1,6 @@
 -- Two device classes among numbers of attributes, and the numbers of attributes that are there.
-use Rattle.std.proofs.Common.{◌≡◌, ℕ, ◌<◌, suc, Bool, true, false, cond, ◌&&◌, ◌||◌, Option, Some, None, List, [], ◌∷◌, length, refl, ap, sym, ◌∙◌, arith, All, IfSome}
-use Rattle.std.specs.Prelude.{filter, find, not, ◌==◌, nat_lt, is_some, unwrap_or, position, bytes_eq}
+use Rattle.std.proofs.Common.{◌≡◌, ℕ, ◌<◌, suc, Bool, true, false, cond, ◌&&◌, ◌||◌, Option, Some, None, List, [], ◌∷◌, length, refl, ap, sym, ◌∙◌, arith, All}
+use Rattle.std.specs.Prelude.{filter, find, not, ◌==◌, nat_lt, is_some, unwrap_or, bytes_eq}
 use Rattle.std.specs.List.{list_any}
 use Rattle.std.proofs.lemmas.Bool.{eqb-true, eq-eqb, false≢true, or_parts}
 use Rattle.std.proofs.lemmas.Bool.Decides.{nat_tests}

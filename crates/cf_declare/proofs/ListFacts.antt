@@ -7,8 +7,7 @@ use Rattle.std.specs.List.{cons_option}
 use Rattle.std.proofs.lemmas.Bool.{and_parts, and_from, or_parts, or_left, or_right, not-false}
 use Rattle.std.proofs.lemmas.List.Elements.{filter_map-append, All-cons, All-head, All-tail, All-append, All-nil}
 use Rattle.std.proofs.lemmas.List.{length_push}
-use Rattle.std.proofs.lemmas.Option.{get_or_from_slice_get, slice_get_within}
-use Rattle.cf_types.proofs.ListLemmas.{slice_get-append_back, slice_get_some}
+use Rattle.cf_types.proofs.ListLemmas.{slice_get-append_back}
 pub use Rattle.cf_types.proofs.PlaceLemmas.{position_cons, position-map, position_kept, position_new, position_found, find_found, position_within, find_place}
 
 -- ---- what a function gives

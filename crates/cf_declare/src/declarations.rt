@@ -9,9 +9,10 @@ ghost use Rattle.cf_declare.specs.Limits.{HasFewLocators};
 use crate::grow::grow;
 use crate::join::join;
 use crate::judge::code_of;
+use crate::names::name_hash;
 use attr_graph::Graph;
 use cf_names::Catalog;
-use cf_types::{AtSpec, Declared, GivenLoc, Joined, Memory, Stmt};
+use cf_types::{AtSpec, Declared, GivenLoc, Joined, Memory, Placed, Stmt};
 use std::alloc::Global;
 use std::marker::Model;
 
@@ -36,12 +37,13 @@ impl Model for Declarations {
 }
 
 impl Declarations {
-    /// Nothing is declared yet. It takes no memory.
-    pub fn make(alloc: Global) -> Declarations
+    /// Nothing is declared yet; names will be found by a hash whose key follows from all names that these statements
+    /// declare. It takes no memory.
+    pub fn make(alloc: Global, placed: &[Placed]) -> Declarations
         ensures { result ≡ record { attrs = []; devices = []; attaches = [] } }
     {
         Declarations {
-            lists: Catalog::make(alloc),
+            lists: Catalog::make(alloc, name_hash(placed)),
             graph: Graph::make(alloc),
         }
     }

@@ -9,5 +9,6 @@ mod grow;
 mod join;
 mod judge;
 mod lookup;
+mod names;
 
 pub use declarations::Declarations;

@@ -1,20 +1,25 @@
 -- The numbers of names, with one more name.
 use Rattle.std.proofs.Common.{◌≡◌, ℕ, ◌+◌, suc, Bool, true, false, cond, Option, Some, None, List, [], ◌∷◌, ◌++◌, length, map, refl, ap, sym, ◌∙◌, subst, arith}
-use Rattle.std.specs.Prelude.{bytes_eq, is_some, option_map, position}
-use Rattle.std.specs.BTreeMap.{BTreeMap, insert_entry}
+use Rattle.std.specs.Prelude.{Vec, bytes_eq, is_some, option_map, position}
+use Rattle.std.specs.Global.{Global}
 use Rattle.std.specs.Map.{lookup}
-use Rattle.std.specs.declared.cmp.Ordering.{Ordering}
-use Rattle.std.specs.declared.cmp.Ordering.TheVariants.{Less, Equal, Greater}
-use Rattle.std.specs.Cmp.Lexicographic.{slice_cmp}
-use Rattle.std.specs.Ordering.{is_eq, match_ordering, nat_cmp}
 use Rattle.std.proofs.lemmas.Bool.{false≢true}
 use Rattle.std.proofs.lemmas.List.{length-map, map-append}
 use Rattle.std.proofs.lemmas.Slice.Eq.{bytes_eq-Decides}
-use Rattle.cf_types.proofs.KeyLemmas.{Key, is_key, is_same, key_cmp, key_is, same_text}
 use Rattle.cf_types.proofs.PlaceLemmas.{position_cons, position-map}
-use Rattle.cf_names.specs.Numbers.{AreNumbers, number_in}
+use Rattle.indexmap.specs.IndexMap.{insert_entry}
+use Rattle.cf_names.specs.Numbers.{AreNumbers, Numbers, number_in}
 
 -- ---- one more key of a map
+
+abbrev Key : Type 0
+Key = Vec ℕ Global
+
+abbrev key_eq : Key → Key → Bool
+key_eq a b = bytes_eq a.items b.items
+
+abbrev is_key : List ℕ → Key → Bool
+is_key q k = bytes_eq q k.items
 
 over : {X : Type 0} (a b : Bool) (new old more : X) → a ≡ b → cond b new more ≡ cond a new (cond b old more)
 over true true new old more h = refl
@@ -23,21 +28,21 @@ over true false new old more h = absurd (cc)
 over false true new old more h = absurd (cc)
 
 -- what is looked up after a number was set
-key_set : (q : List ℕ) (es : List (Key × ℕ)) (k : Key) (n : ℕ) → lookup (is_key q) (insert_entry key_cmp es k n) ≡ cond (is_key q k) (Some n) (lookup (is_key q) es)
+key_set : (q : List ℕ) (es : List (Key × ℕ)) (k : Key) (n : ℕ) → lookup (is_key q) (insert_entry key_eq es k n) ≡ cond (is_key q k) (Some n) (lookup (is_key q) es)
 key_set q [] k n = refl
-key_set q (e ∷ es) k n = by_order (key_cmp k e.0) refl (key_set q es k n)
+key_set q (e ∷ es) k n = by_equal (key_eq k e.0) refl (key_set q es k n)
   where
-    apart : (a b : Bool) → is_key q k ≡ a → is_key q e.0 ≡ b → is_eq (key_cmp k e.0) ≡ false → (rest : Option ℕ) → cond b (Some e.1) (cond a (Some n) rest) ≡ cond a (Some n) (cond b (Some e.1) rest)
-    apart true true h k' g rest = absurd (let t : is_eq (key_cmp k e.0) ≡ true = is_same k.items e.0.items (sym (same_text q k.items h) ∙ same_text q e.0.items k') in cc)
+    apart : (a b : Bool) → is_key q k ≡ a → is_key q e.0 ≡ b → key_eq k e.0 ≡ false → (rest : Option ℕ) → cond b (Some e.1) (cond a (Some n) rest) ≡ cond a (Some n) (cond b (Some e.1) rest)
+    apart true true h k' g rest =
+        absurd (false≢true (sym g ∙ (bytes_eq-Decides k.items e.0.items).1 (sym ((bytes_eq-Decides q k.items).0 h) ∙ (bytes_eq-Decides q e.0.items).0 k')))
     apart true false h k' g rest = refl
     apart false true h k' g rest = refl
     apart false false h k' g rest = refl
 
-    by_order : (o : Ordering) → key_cmp k e.0 ≡ o → lookup (is_key q) (insert_entry key_cmp es k n) ≡ cond (is_key q k) (Some n) (lookup (is_key q) es)
-        → lookup (is_key q) (match_ordering o ((k, n) ∷ e ∷ es) ((e.0, n) ∷ es) (e ∷ insert_entry key_cmp es k n)) ≡ cond (is_key q k) (Some n) (cond (is_key q e.0) (Some e.1) (lookup (is_key q) es))
-    by_order Less o h = refl
-    by_order Equal o h = over (is_key q k) (is_key q e.0) (Some n) (Some e.1) (lookup (is_key q) es) (ap (λ (t : List ℕ). is_eq (slice_cmp nat_cmp q t)) (same_text k.items e.0.items (ap is_eq o)))
-    by_order Greater o h = ap (cond (is_key q e.0) (Some e.1)) h ∙ apart (is_key q k) (is_key q e.0) refl refl (ap is_eq o) (lookup (is_key q) es)
+    by_equal : (b : Bool) → key_eq k e.0 ≡ b → lookup (is_key q) (insert_entry key_eq es k n) ≡ cond (is_key q k) (Some n) (lookup (is_key q) es)
+        → lookup (is_key q) (cond b ((e.0, n) ∷ es) (e ∷ insert_entry key_eq es k n)) ≡ cond (is_key q k) (Some n) (cond (is_key q e.0) (Some e.1) (lookup (is_key q) es))
+    by_equal true h rest = over (is_key q k) (is_key q e.0) (Some n) (Some e.1) (lookup (is_key q) es) (ap (bytes_eq q) ((bytes_eq-Decides k.items e.0.items).0 h))
+    by_equal false h rest = ap (cond (is_key q e.0) (Some e.1)) rest ∙ apart (is_key q k) (is_key q e.0) refl refl h (lookup (is_key q) es)
 
 -- ---- one more name
 
@@ -74,21 +79,35 @@ new_if false None n h = refl
 new_if false (Some k) n h = refl
 new_if true (Some k) n h = absurd (false≢true (sym (h refl)))
 
-place_is : (numbers : BTreeMap Key ℕ) (names : List (List ℕ)) (name q : List ℕ) (b : Bool) → AreNumbers numbers names → is_some (number_in numbers name) ≡ b → bytes_eq name q ≡ true → is_some (position (λ n. bytes_eq n q) names) ≡ b
+place_is : (numbers : Numbers) (names : List (List ℕ)) (name q : List ℕ) (b : Bool) → AreNumbers numbers names → is_some (number_in numbers name) ≡ b → bytes_eq name q ≡ true → is_some (position (λ n. bytes_eq n q) names) ≡ b
 place_is numbers names name q b are known same =
     ap is_some (sym (are q)) ∙ ap (λ (n : List ℕ). is_some (number_in numbers n)) (sym ((bytes_eq-Decides name q).0 same)) ∙ known
 
 -- a name that stands before changes no number
-pub known_name : (numbers : BTreeMap Key ℕ) (name : List ℕ) → is_some (number_in numbers name) ≡ true
+pub known_name : (numbers : Numbers) (name : List ℕ) → is_some (number_in numbers name) ≡ true
     → (names : List (List ℕ)) → AreNumbers numbers names → AreNumbers numbers (names ++ name ∷ [])
 known_name numbers name known names are q =
     are q
     ∙ known_if (bytes_eq name q) (position (λ n. bytes_eq n q) names) (length names) (place_is numbers names name q true are known)
     ∙ sym (position_push (λ n. bytes_eq n q) names name)
 
+turned : (a b : Bool) → (a ≡ true → b ≡ true) → (b ≡ true → a ≡ true) → a ≡ b
+turned true b f g = sym (f refl)
+turned false true f g = g refl
+turned false false f g = refl
+
+eq_sym : (a b : List ℕ) → bytes_eq a b ≡ bytes_eq b a
+eq_sym a b =
+    turned (bytes_eq a b) (bytes_eq b a) (λ h. (bytes_eq-Decides b a).1 (sym ((bytes_eq-Decides a b).0 h)))
+    (λ h. (bytes_eq-Decides a b).1 (sym ((bytes_eq-Decides b a).0 h)))
+
+-- a key of a name answers as the name does
+key_is : (q name : List ℕ) (k : Key) → k.items ≡ name → is_key q k ≡ bytes_eq name q
+key_is q name k is = ap (bytes_eq q) is ∙ eq_sym q name
+
 -- a new name has the next number
-pub new_name : (old new : BTreeMap Key ℕ) (k : Key) (name : List ℕ) (number : ℕ) → is_some (number_in old name) ≡ false
-    → new.entries ≡ insert_entry key_cmp old.entries k number → k.items ≡ name
+pub new_name : (old new : Numbers) (k : Key) (name : List ℕ) (number : ℕ) → is_some (number_in old name) ≡ false
+    → new.entries ≡ insert_entry key_eq old.entries k number → k.items ≡ name
     → (names : List (List ℕ)) → AreNumbers old names → length names ≡ number → AreNumbers new (names ++ name ∷ [])
 new_name old new k name number unknown entries is names are size q =
     ap (lookup (is_key q)) entries
@@ -100,11 +119,11 @@ new_name old new k name number unknown entries is names are size q =
     ∙ sym (position_push (λ n. bytes_eq n q) names name)
 
 -- the number of a name in a list of what has names
-pub number_is : {X : Type 0} (name_of : X → List ℕ) (xs : List X) (numbers : BTreeMap Key ℕ) (q : List ℕ) → AreNumbers numbers (map name_of xs) → number_in numbers q ≡ position (λ x. bytes_eq (name_of x) q) xs
+pub number_is : {X : Type 0} (name_of : X → List ℕ) (xs : List X) (numbers : Numbers) (q : List ℕ) → AreNumbers numbers (map name_of xs) → number_in numbers q ≡ position (λ x. bytes_eq (name_of x) q) xs
 number_is name_of xs numbers q are = are q ∙ position-map (λ n. bytes_eq n q) name_of xs
 
 -- the numbers with one more of what has names
-pub numbers_push : {X : Type 0} (name_of : X → List ℕ) (xs ys : List X) (x : X) (name : List ℕ) (number : ℕ) (old new : BTreeMap Key ℕ) → AreNumbers old (map name_of xs) → name ≡ name_of x → number ≡ length xs → ys ≡ xs ++ x ∷ []
+pub numbers_push : {X : Type 0} (name_of : X → List ℕ) (xs ys : List X) (x : X) (name : List ℕ) (number : ℕ) (old new : Numbers) → AreNumbers old (map name_of xs) → name ≡ name_of x → number ≡ length xs → ys ≡ xs ++ x ∷ []
     → ((names : List (List ℕ)) → AreNumbers old names → length names ≡ number → AreNumbers new (names ++ name ∷ [])) → AreNumbers new (map name_of ys)
 numbers_push name_of xs ys x name number old new are is size more step =
     subst (AreNumbers new) (ap (λ (n : List ℕ). map name_of xs ++ n ∷ []) is ∙ sym (map-append name_of xs (x ∷ [])) ∙ ap (map name_of) (sym more))

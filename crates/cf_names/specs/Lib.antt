@@ -1,3 +1,4 @@
 pub mod Attaches
+pub mod Hash
 pub mod Indexed
 pub mod Numbers

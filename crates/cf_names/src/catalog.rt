@@ -2,6 +2,7 @@ ghost use Rattle.std.specs.Prelude.{◌≡◌, [], ◌∷◌, ◌++◌, ◌<◌,
 ghost use Rattle.config_rules.specs.Declared.{attr_number, device_number, has_attach};
 ghost use Rattle.cf_names.specs.Attaches.{attaches_of};
 
+use crate::hash::NameHash;
 use crate::index::{Index, add_number};
 use crate::numbers::{add_name, number_in};
 use cf_types::{Attach, Attr, Declared, Device, List, Memory};
@@ -28,8 +29,8 @@ impl Model for Catalog {
 }
 
 impl Catalog {
-    /// Nothing is declared. It takes no memory.
-    pub fn make(alloc: Global) -> Catalog
+    /// Nothing is declared; what will be is found by this hash of its name. It takes no memory.
+    pub fn make(alloc: Global, hash: NameHash) -> Catalog
         ensures { result ≡ record { attrs = []; devices = []; attaches = [] } }
     {
         Catalog {
@@ -38,7 +39,7 @@ impl Catalog {
                 devices: List::make(alloc),
                 attaches: List::make(alloc),
             },
-            index: Index::make(alloc),
+            index: Index::make(alloc, hash),
         }
     }
 

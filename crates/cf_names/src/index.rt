@@ -1,7 +1,9 @@
 ghost use Rattle.std.specs.Prelude.{◌≡◌, ◌==◌, ℕ, [], ◌∷◌, ◌++◌, OnOk, if◌then◌else◌};
 ghost use Rattle.cf_names.specs.Attaches.{numbers_at};
+ghost use Rattle.cf_names.specs.Numbers.{AreNumbers};
 
-use crate::numbers::Numbers;
+use crate::hash::NameHash;
+use crate::numbers::{Numbers, no_numbers};
 use cf_types::{List, Memory};
 use std::alloc::Global;
 use std::collections::BTreeMap;
@@ -20,16 +22,16 @@ pub struct Index {
 
 impl Index {
     /// No number.
-    pub fn make(alloc: Global) -> Index
-        ensures attrs { result.attrs.entries ≡ [] }
-        ensures devices { result.devices.entries ≡ [] }
-        ensures attaches { result.attaches.entries ≡ [] }
+    pub fn make(alloc: Global, hash: NameHash) -> Index
+        ensures attrs { AreNumbers result.attrs [] }
+        ensures devices { AreNumbers result.devices [] }
+        ensures attaches { AreNumbers result.attaches [] }
         ensures of_devices { result.of_devices.entries ≡ [] }
     {
         Index {
-            attrs: BTreeMap::new(alloc),
-            devices: BTreeMap::new(alloc),
-            attaches: BTreeMap::new(alloc),
+            attrs: no_numbers(alloc, hash),
+            devices: no_numbers(alloc, hash),
+            attaches: no_numbers(alloc, hash),
             of_devices: BTreeMap::new(alloc),
         }
     }

@@ -2,8 +2,10 @@
 #![tactic(auto)]
 
 mod catalog;
+mod hash;
 mod index;
 mod numbers;
 
 pub use catalog::Catalog;
-pub use numbers::{Numbers, add_name, number_in};
+pub use hash::{HashKey, NameHash};
+pub use numbers::{Numbers, add_name, no_numbers, number_in};

@@ -1,12 +1,20 @@
 ghost use Rattle.std.specs.Prelude.{◌≡◌, ℕ, List, [], ◌∷◌, ◌++◌, OnOk, length};
 ghost use Rattle.cf_names.specs.Numbers.{AreNumbers, number_in};
 
+use crate::hash::NameHash;
 use cf_types::Memory;
+use indexmap::IndexMap;
 use std::alloc::Global;
-use std::collections::BTreeMap;
 
-/// For each of some names the number of the first that is the same.
-pub type Numbers = BTreeMap<Vec<u8>, usize>;
+/// Names in the order in which they come, each with its number: that of the first that is the same.
+pub type Numbers = IndexMap<Vec<u8>, usize, NameHash>;
+
+/// No name yet. It takes no memory.
+pub fn no_numbers(alloc: Global, hash: NameHash) -> Numbers
+    ensures { AreNumbers result [] }
+{
+    IndexMap::with_hasher(alloc, hash)
+}
 
 /// The number of a name.
 pub fn number_in(numbers: &Numbers, name: &[u8]) -> Option<usize>

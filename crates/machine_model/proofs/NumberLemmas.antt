@@ -1,19 +1,14 @@
 -- Names that are looked up in a map: what differs among them.
-use Rattle.std.proofs.Common.{◌≡◌, ℕ, ◌+◌, ◌<◌, ◌||◌, Bool, true, false, not, ◌&&◌, List, [], ◌∷◌, ◌++◌, length, get_or, take, drop, zero, suc, map, Vec, refl, ap, sym, ◌∙◌, subst, arith}
+use Rattle.std.proofs.Common.{◌≡◌, ℕ, ◌+◌, ◌<◌, ◌||◌, Bool, true, false, not, ◌&&◌, List, [], ◌∷◌, ◌++◌, length, get_or, take, drop, zero, suc, map, refl, ap, sym, ◌∙◌, subst, arith}
 use Rattle.std.specs.Prelude.{bytes_eq, is_some}
 use Rattle.std.specs.List.{list_any}
-use Rattle.std.specs.BTreeMap.{BTreeMap}
-use Rattle.std.specs.Global.{Global}
 use Rattle.std.proofs.lemmas.List.{length-map, length-take-le, map_more}
 use Rattle.std.proofs.lemmas.List.Folds.{list_any-append}
 use Rattle.std.proofs.lemmas.Bool.{and_right}
 use Rattle.cf_types.proofs.PlaceLemmas.{position_found}
 use Rattle.config_rules.specs.MachineText.{differ, is_one}
 use Rattle.config_rules.proofs.MachineLaws.{differ_push}
-use Rattle.cf_names.specs.Numbers.{AreNumbers, number_in}
-
-abbrev Key : Type 0
-Key = Vec ℕ Global
+use Rattle.cf_names.specs.Numbers.{AreNumbers, Numbers, number_in}
 
 one_more : (a b c : Bool) → a ≡ true → (b || (a || c)) ≡ true
 one_more true true c h = refl
@@ -37,22 +32,22 @@ names_split f [] i x h is = absurd (omega arith)
 names_split f (y ∷ xs) zero x h is = ap (λ z. f z ∷ map f xs) is
 names_split f (y ∷ xs) (suc i) x h is = ap (λ zs. f y ∷ zs) (names_split f xs i x (omega arith) is)
 
-pub seen_before : (numbers : BTreeMap Key ℕ) (names : List (List ℕ)) (name : List ℕ) (b : Bool) → AreNumbers numbers names → is_some (number_in numbers name) ≡ b → list_any (λ n. bytes_eq n name) names ≡ b
+pub seen_before : (numbers : Numbers) (names : List (List ℕ)) (name : List ℕ) (b : Bool) → AreNumbers numbers names → is_some (number_in numbers name) ≡ b → list_any (λ n. bytes_eq n name) names ≡ b
 seen_before numbers names name b are e = sym (position_found (λ n. bytes_eq n name) names) ∙ ap is_some (sym (are name)) ∙ e
 
 -- the next of a list is known
-pub not_apart : {X : Type 0} (f : X → List ℕ) (xs : List X) (i : ℕ) (x : X) (numbers : BTreeMap Key ℕ) → i < length xs → x ≡ get_or xs i x → AreNumbers numbers (map f (take i xs)) → is_some (number_in numbers (f x)) ≡ true → differ (map f xs) ≡ false
+pub not_apart : {X : Type 0} (f : X → List ℕ) (xs : List X) (i : ℕ) (x : X) (numbers : Numbers) → i < length xs → x ≡ get_or xs i x → AreNumbers numbers (map f (take i xs)) → is_some (number_in numbers (f x)) ≡ true → differ (map f xs) ≡ false
 not_apart f xs i x numbers h is are known =
     ap differ (sym (names_split f xs i x h is)) ∙ differ_twice (map f (take i xs)) (f x) (map f (drop (suc i) xs)) (seen_before numbers (map f (take i xs)) (f x) true are known)
 
 -- the next of a list is new
-pub apart_more : {X : Type 0} (f : X → List ℕ) (xs : List X) (i : ℕ) (x : X) (numbers : BTreeMap Key ℕ) → i < length xs → x ≡ get_or xs i x → AreNumbers numbers (map f (take i xs)) → differ (map f (take i xs)) ≡ true
+pub apart_more : {X : Type 0} (f : X → List ℕ) (xs : List X) (i : ℕ) (x : X) (numbers : Numbers) → i < length xs → x ≡ get_or xs i x → AreNumbers numbers (map f (take i xs)) → differ (map f (take i xs)) ≡ true
     → is_some (number_in numbers (f x)) ≡ false → differ (map f (take (i + 1) xs)) ≡ true
 apart_more f xs i x numbers h is are apart unknown =
     ap differ (map_more f xs i x h) ∙ ap (λ y. differ (map f (take i xs) ++ f y ∷ [])) (sym is)
     ∙ differ_push (map f (take i xs)) (f x) apart (seen_before numbers (map f (take i xs)) (f x) false are unknown)
 
-pub numbers_more : {X : Type 0} (f : X → List ℕ) (xs : List X) (i : ℕ) (x : X) (old new : BTreeMap Key ℕ) → i < length xs → x ≡ get_or xs i x → AreNumbers old (map f (take i xs))
+pub numbers_more : {X : Type 0} (f : X → List ℕ) (xs : List X) (i : ℕ) (x : X) (old new : Numbers) → i < length xs → x ≡ get_or xs i x → AreNumbers old (map f (take i xs))
     → ((names : List (List ℕ)) → AreNumbers old names → length names ≡ i → AreNumbers new (names ++ f x ∷ [])) → AreNumbers new (map f (take (i + 1) xs))
 numbers_more f xs i x old new h is are step =
     let size : length (map f (take i xs)) ≡ i = length-map (take i xs) f ∙ length-take-le i xs (omega arith) in

@@ -1,5 +1,6 @@
 pub mod Found
 pub mod Indexed
 pub mod Left
+pub mod Names
 pub use Rattle.config_rules.specs.Formed
 pub use Rattle.config_rules.specs.MachineText

@@ -12,7 +12,7 @@ use crate::locator::{FoundValue, count_located, given_values, names_differ};
 use crate::lookup::{attach_number, interface_number, spot_number};
 use crate::spot::{make_spot, spot_fault};
 use crate::word::{are_marks, are_policies, differ, is_free_name, match_value, spells};
-use cf_names::add_name;
+use cf_names::{NameHash, add_name};
 use cf_types::code::machine as code;
 use cf_types::{List, MatchLine, Memory, Spot, StyleLine, Text};
 use machine_text::LineStop;
@@ -20,12 +20,18 @@ use std::alloc::Global;
 use std::mem;
 
 /// Whether the name is free, and no locator or mark stands twice.
-fn is_spot(alloc: Global, name: &[u8], found: &[FoundValue], marks: &[Text]) -> Result<bool, Memory>
+fn is_spot(
+    alloc: Global,
+    hash: NameHash,
+    name: &[u8],
+    found: &[FoundValue],
+    marks: &[Text],
+) -> Result<bool, Memory>
     ensures value { IfOk result (λ fits. fits ≡ is_spot name.now (map given_of found.now) marks.now) }
     ensures not_empty { IfOk result (λ fits. IsTrue fits → 1 ≤ length name.now) }
     ensures not_long { IfOk result (λ fits. IsTrue fits → length name.now ≤ 63) }
 {
-    let apart = names_differ(alloc, found)?;
+    let apart = names_differ(alloc, hash, found)?;
     Ok(is_free_name(name) && apart && are_marks(marks) && differ(marks))
 }
 
@@ -61,7 +67,7 @@ fn add_spot(
         Some(found) => found,
         None => return Err(LineStop::Code(code::BAD_LINE)),
     };
-    if !is_spot(alloc, name, found.items(), marks)? {
+    if !is_spot(alloc, index.hash, name, found.items(), marks)? {
         return Err(LineStop::Code(code::BAD_LINE));
     }
     if let Some(code) = spot_fault(index, draft, name, parent, attr, found.items()) {

@@ -5,10 +5,9 @@ ghost use Rattle.config_rules.specs.MachineText.{differ, located_value, is_locat
 ghost use Rattle.machine_model.specs.Found.{given_of, names_of};
 
 use crate::word::ranged;
-use cf_names::{add_name, number_in};
+use cf_names::{NameHash, add_name, no_numbers, number_in};
 use cf_types::{List, Memory, Text};
 use std::alloc::Global;
-use std::collections::BTreeMap;
 
 /// A value that a spot gives for a locator, `None` where the number is out of its range.
 #[derive(Drop)]
@@ -93,10 +92,10 @@ pub fn count_located(words: &[Text]) -> usize
 }
 
 /// Whether no name stands twice.
-fn differ_by_name(alloc: Global, found: &[FoundValue]) -> Result<bool, Memory>
+fn differ_by_name(alloc: Global, hash: NameHash, found: &[FoundValue]) -> Result<bool, Memory>
     ensures { IfOk result (λ apart. apart ≡ differ (names_of found.now)) }
 {
-    let mut seen = BTreeMap::new(alloc);
+    let mut seen = no_numbers(alloc, hash);
     for (i, value) in found.iter().enumerate() {
         if number_in(&seen, value.name.items()).is_some() {
             return Ok(false);
@@ -107,8 +106,8 @@ fn differ_by_name(alloc: Global, found: &[FoundValue]) -> Result<bool, Memory>
 }
 
 /// Whether no locator stands twice.
-pub fn names_differ(alloc: Global, found: &[FoundValue]) -> Result<bool, Memory>
+pub fn names_differ(alloc: Global, hash: NameHash, found: &[FoundValue]) -> Result<bool, Memory>
     ensures { IfOk result (λ apart. apart ≡ differ (map (λ g. g.name) (map given_of found.now))) }
 {
-    differ_by_name(alloc, found)
+    differ_by_name(alloc, hash, found)
 }

@@ -9,10 +9,11 @@ ghost use Rattle.machine_model.specs.Left.{Gives};
 use crate::draft::Draft;
 use crate::index::{Index, index_of};
 use crate::line::add_line;
+use crate::names::name_hash;
+use cf_names::{NameHash, no_numbers};
 use cf_types::{Attach, List, Machine, Memory, Policy, Tables};
 use machine_text::{Line, LineStop, MachineStop, records};
 use std::alloc::Global;
-use std::collections::BTreeMap;
 
 /// One policy for each attachment.
 fn no_policies(alloc: Global, attaches: &[Attach]) -> Result<List<Policy>, Memory>
@@ -44,7 +45,7 @@ fn read_with(alloc: Global, index: &Index, lines: &[Line]) -> Result<Machine, Ma
 {
     let mut draft = Draft {
         machine: no_machine(alloc, index.tables)?,
-        numbers: BTreeMap::new(alloc),
+        numbers: no_numbers(alloc, index.hash),
     };
     for line in lines {
         match add_line(alloc, index, &mut draft, line.words.items()) {
@@ -63,12 +64,17 @@ fn read_with(alloc: Global, index: &Index, lines: &[Line]) -> Result<Machine, Ma
 }
 
 /// The machine that these lines describe, by the names of the tables.
-fn read_lines(alloc: Global, tables: &Tables, lines: &[Line]) -> Result<Machine, MachineStop>
+fn read_lines(
+    alloc: Global,
+    hash: NameHash,
+    tables: &Tables,
+    lines: &[Line],
+) -> Result<Machine, MachineStop>
     requires { CountedTables tables.now }
     ensures gives { Gives (after_lines tables.now (map word_line lines.now) (no_machine tables.now)) result }
     ensures few_spots { IfOk result (λ m. length m.spots ≤ 1024) }
 {
-    let index = index_of(alloc, tables)?;
+    let index = index_of(alloc, hash, tables)?;
     read_with(alloc, &index, lines)
 }
 
@@ -83,7 +89,7 @@ pub fn read_machine(alloc: Global, text: &[u8], tables: &Tables) -> Result<Machi
     ensures few_spots { IfOk result (λ m. length m.spots ≤ 1024) }
 {
     match records(alloc, text) {
-        Ok(lines) => read_lines(alloc, tables, lines.items()),
+        Ok(lines) => read_lines(alloc, name_hash(tables, text), tables, lines.items()),
         Err(stop) => Err(stop),
     }
 }
