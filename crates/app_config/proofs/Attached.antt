@@ -18,7 +18,10 @@ use Rattle.run_rules.specs.declared.world.Placing.{Placing}
 use Rattle.run_rules.specs.declared.world.Placing.TheVariants.{Nowhere, Queued, PutOff, Pushed}
 use Rattle.run_rules.specs.declared.world.Setup.{Setup}
 use Rattle.run_rules.specs.World.{World, Caller, caller_at, has_ended, nobody, offered_by, opening, policy_of, scan_of}
-use Rattle.run_rules.specs.Deeds.{Deed, Choice, Search, EndScan, BeginInterrupts, Finalise, EndCaller, Ended, Does}
+use Rattle.run_rules.specs.declared.deed.Deed.{Deed}
+use Rattle.run_rules.specs.declared.deed.Deed.TheVariants.{Search, EndScan, BeginInterrupts, Finalise, EndCaller}
+use Rattle.run_rules.specs.declared.deed.Choice.{Choice}
+use Rattle.run_rules.specs.declared.deed.Choice.TheVariants.{Ended, Does}
 use Rattle.run_rules.specs.Next.{by_activity, finalise, next, next_boot, next_scan, on_top}
 use Rattle.run_rules.specs.After.{after, arrived, attached, finaliser_done, finaliser_placed, finaliser_placing, list_moved, listed, moved_top, place_finaliser, place_scan, released, same_key, scan_placed, scan_placing, settled, show_spot, under_top, with_stack}
 use Rattle.run_rules.specs.Run.{Boot, Run, event_of, printed}
@@ -29,7 +32,7 @@ use Rattle.app_config.specs.Summary.{attaches}
 
 -- the deeds of a boot
 abbrev is_of_boot : Deed → Bool
-is_of_boot (Search p to got) = true
+is_of_boot (Search p spot to got) = true
 is_of_boot (EndScan p) = true
 is_of_boot BeginInterrupts = true
 is_of_boot (Finalise s spot got listed anew) = true
@@ -131,7 +134,7 @@ calm_attached w a b calm =
     let p : Policy = policy_of w.setup a.row in
     let come : World = listed w a in
     let placed : World = place_finaliser (finaliser_placing p (has_ended come 0)) come 0 w.next in
-    calm_scan (scan_placing p (offered_by w.setup a.row) placed.phase b) placed a.parent w.next
+    calm_scan (scan_placing p (offered_by w.setup a.row) placed.interrupts_on b) placed a.parent w.next
     (calm_finaliser (finaliser_placing p (has_ended come 0)) come w.next calm)
 
 calm_arrived : (w : World) (got : Option Arrival) (b : Bool) → Calm w → Calm (arrived w 0 got b)
@@ -159,9 +162,9 @@ calm_released w which rest calm =
 
 calm_after : (w : World) (d : Deed) → is_of_boot d ≡ true → Calm w → Calm (after w 0 d)
 unfolding after
-calm_after w (Search p to got) of_boot calm = calm_arrived (with_stack w 0 (moved_top to (caller_at w 0).stack)) got true (calm_stack w (moved_top to (caller_at w 0).stack) calm)
+calm_after w (Search p spot to got) of_boot calm = calm_arrived (with_stack w 0 (moved_top to (caller_at w 0).stack)) got true (calm_stack w (moved_top to (caller_at w 0).stack) calm)
 calm_after w (EndScan p) of_boot calm = calm_released w (key.Parent p) (under_top (caller_at w 0).stack) calm
-calm_after w BeginInterrupts of_boot calm = calm_released (record w { phase = true }) key.Interrupts (caller_at w 0).stack calm
+calm_after w BeginInterrupts of_boot calm = calm_released (record w { interrupts_on = true }) key.Interrupts (caller_at w 0).stack calm
 calm_after w (Finalise s spot got place anew) of_boot calm =
     calm_done (list_moved (arrived (show_spot w spot) 0 got false) place anew (is_some spot)) place (is_some spot)
     (calm_moved (arrived (show_spot w spot) 0 got false) place anew (is_some spot) (calm_arrived (show_spot w spot) got false (calm_shown w spot calm)))
@@ -196,7 +199,7 @@ some_named f (Some a) = refl
 
 after_many : (w : World) (d : Deed) → is_of_boot d ≡ true → length (after w 0 d).live ≡ length w.live + one_if (attaches (event_of w 0 d))
 unfolding after released event_of printed
-after_many w (Search p to got) of_boot =
+after_many w (Search p spot to got) of_boot =
     arrived_many (with_stack w 0 (moved_top to (caller_at w 0).stack)) got true ∙ ap (λ b. length w.live + one_if b) (sym (some_named _ got))
 after_many w (EndScan p) of_boot = omega arith
 after_many w BeginInterrupts of_boot = omega arith

@@ -47,7 +47,7 @@ both_are w k f p parent s lt =
     ∙ ap (λ (c : Caller). record m { deferred = put_off_too p w.deferred parent s; callers = slice_set (slice_set w.callers k one) k (searched_too p c s) }) (caller_here m k one lt)
     ∙ ap (λ (cs : List Caller). record m { deferred = put_off_too p w.deferred parent s; callers = cs }) (set_again w.callers k one (searched_too p one s))
 
-phase_stays : (w : World) (k : ℕ) (f : Placing) (s : ℕ) → (place_finaliser f w k s).phase ≡ w.phase
+phase_stays : (w : World) (k : ℕ) (f : Placing) (s : ℕ) → (place_finaliser f w k s).interrupts_on ≡ w.interrupts_on
 phase_stays w k Nowhere s = refl
 phase_stays w k Queued s = refl
 phase_stays w k PutOff s = refl
@@ -56,7 +56,7 @@ phase_stays w k Pushed s = refl
 -- the world once a device has come
 pub attached_is : (w v : World) (k : ℕ) (a : Arrival) (may_defer : Bool) (f p : Placing) → k < length w.callers
     → f ≡ finaliser_placing (policy_of w.setup a.row) (has_ended w 0)
-    → p ≡ scan_placing (policy_of w.setup a.row) (offered_by w.setup a.row) w.phase may_defer
+    → p ≡ scan_placing (policy_of w.setup a.row) (offered_by w.setup a.row) w.interrupts_on may_defer
     → v ≡ record (listed w a) {
       finalisers = called_too f w.finalisers w.next;
       deferred = put_off_too p w.deferred a.parent w.next;
@@ -67,7 +67,7 @@ unfolding attached listed finaliser_placed scan_placed
 attached_is w v k a may_defer f p lt finaliser scan is =
     is ∙ sym (both_are (listed w a) k f p a.parent w.next lt)
     ∙ ap (λ (x : Placing). place_scan x (place_finaliser f (listed w a) k w.next) k a.parent w.next) scan
-    ∙ ap (λ (x : Placing). place_scan (scan_placing (policy_of w.setup a.row) (offered_by w.setup a.row) w.phase may_defer) (place_finaliser x (listed w a) k w.next) k a.parent w.next) finaliser
+    ∙ ap (λ (x : Placing). place_scan (scan_placing (policy_of w.setup a.row) (offered_by w.setup a.row) w.interrupts_on may_defer) (place_finaliser x (listed w a) k w.next) k a.parent w.next) finaliser
     ∙ sym (ap (λ (b : Bool). place_scan (scan_placing (policy_of w.setup a.row) (offered_by w.setup a.row) b may_defer)
     (place_finaliser (finaliser_placing (policy_of w.setup a.row) (has_ended w 0)) (listed w a) k w.next) k a.parent w.next)
     (phase_stays (listed w a) k (finaliser_placing (policy_of w.setup a.row) (has_ended w 0)) w.next))

@@ -5,11 +5,12 @@ use Rattle.std.specs.List.{AllByRecursion, Contains, list_any}
 use Rattle.std.specs.Option.{option_map_or}
 use Rattle.run_rules.specs.declared.world.Dev.{Dev}
 use Rattle.run_rules.specs.declared.world.Setup.{Setup}
-use Rattle.run_rules.specs.World.{World, device_at, device_on, frame_serial, has, holds_in, is_live, is_pinned, is_under, name_of, policy_of, serial_of}
-use Rattle.cf_types.specs.declared.machine.Command.{Command}
-use Rattle.run_rules.specs.declared.event.Reply.TheVariants.{Busy}
-use Rattle.run_rules.specs.Deeds.{Deed, Answer, Drop, EndCaller, Unplug, Does}
-use Rattle.run_rules.specs.Next.{closing, command_deed, first_held, deed_by_kind, hindered, next_sleep, is_hindrance, name_at, unless_hindered, unplugging}
+use Rattle.run_rules.specs.World.{World, device_at, device_on, frame_serial, has, holds_in, is_live, is_pinned, is_under, policy_of, serial_of}
+use Rattle.run_rules.specs.declared.deed.Refusal.TheVariants.{Busy}
+use Rattle.run_rules.specs.declared.deed.Deed.{Deed}
+use Rattle.run_rules.specs.declared.deed.Deed.TheVariants.{Refuse, Drop, EndCaller, Unplug}
+use Rattle.run_rules.specs.declared.deed.Choice.TheVariants.{Does}
+use Rattle.run_rules.specs.Next.{closing, first_held, hindered, next_sleep, unless_hindered, unplugging}
 use Rattle.run_rules.specs.Sound.{EachLater, IsApart}
 use Rattle.run_rules.proofs.Devices.{all_both, all_imp}
 use Rattle.run_sound.specs.Kept.{Kept}
@@ -122,17 +123,12 @@ hindered_by w m s k forced are = ap serial_of (hindered_is w m s k forced are)
 
 -- ---- who is in the way, by its serial
 
-pub busy_with : (w : World) (k s x : ℕ) (said : Command) (forced : Bool) (deed : Deed) → Kept w → Some x ≡ serial_of (hindered w s k forced)
-    → unless_hindered w k said s forced deed ≡ Answer said (Busy (name_at w x))
-unfolding hindered
-busy_with w k s x said forced deed kept e = cases (find (is_hindrance w s k forced) w.live) refl e
+pub busy_with : (w : World) (k s x : ℕ) (forced : Bool) (deed : Deed) → Some x ≡ serial_of (hindered w s k forced) → unless_hindered w k s forced deed ≡ Refuse (Busy x)
+busy_with w k s x forced deed e = cases (hindered w s k forced) e
   where
-    cases : (o : Option Dev) → find (is_hindrance w s k forced) w.live ≡ o → Some x ≡ serial_of o → option_map_or (λ d. Answer said (Busy (name_of w.setup d))) o deed ≡ Answer said (Busy (name_at w x))
-    cases None h is = absurd cc
-    cases (Some d) h is =
-        let same : x ≡ d.serial = cc in
-        let here : device_at w.live x ≡ Some d = ap (device_at w.live) same ∙ at_found w (is_hindrance w s k forced) d kept h in
-        sym (ap (λ (o : Option Dev). Answer said (Busy (option_map_or (name_of w.setup) o []))) here)
+    cases : (o : Option Dev) → Some x ≡ serial_of o → option_map_or (λ (d : Dev). Refuse (Busy d.serial)) o deed ≡ Refuse (Busy x)
+    cases None is = absurd cc
+    cases (Some d) is = let same : d.serial ≡ x = cc in ap (λ n. Refuse (Busy n)) same
 
 -- ---- what stands on a spot, by its serial
 
@@ -143,19 +139,13 @@ stands_live live x s e = cases (device_on live x) refl e
     cases None h is = absurd cc
     cases (Some d) h is = let same : s ≡ d.serial = cc in ap (is_live live) same ∙ contained_live live d (found_contained (λ d. d.spot == x) live d h)
 
-pub unplugs : (w : World) (k x s : ℕ) (said : Command) → Some s ≡ serial_of (device_on w.live x) → unplugging w k said x ≡ unless_hindered w k said s true (Unplug said x (Some s))
-unplugs w k x s said e = cases (device_on w.live x) e
+pub unplugs : (w : World) (k x s : ℕ) → Some s ≡ serial_of (device_on w.live x) → unplugging w k x ≡ unless_hindered w k s true (Unplug x (Some s))
+unplugs w k x s e = cases (device_on w.live x) e
   where
     cases : (o : Option Dev) → Some s ≡ serial_of o
-        → option_map_or (λ d. unless_hindered w k said d.serial true (Unplug said x (Some d.serial))) o (Unplug said x None) ≡ unless_hindered w k said s true (Unplug said x (Some s))
+        → option_map_or (λ d. unless_hindered w k d.serial true (Unplug x (Some d.serial))) o (Unplug x None) ≡ unless_hindered w k s true (Unplug x (Some s))
     cases None is = absurd cc
-    cases (Some d) is = let same : d.serial ≡ s = cc in ap (λ n. unless_hindered w k said n true (Unplug said x (Some n))) same
-
--- ---- a command by its kind
-
-pub command_is : (w : World) (k number : ℕ) (said kind : Command) (d : Deed) → said ≡ kind → deed_by_kind w k number said kind ≡ d → command_deed w k number said ≡ d
-unfolding command_deed
-command_is w k number said kind d is does = ap (deed_by_kind w k number said) is ∙ does
+    cases (Some d) is = let same : d.serial ≡ s = cc in ap (λ n. unless_hindered w k n true (Unplug x (Some n))) same
 
 -- ---- after the last command
 

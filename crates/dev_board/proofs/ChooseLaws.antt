@@ -4,20 +4,20 @@ use Rattle.std.specs.List.{slice_index_or}
 use Rattle.run_rules.specs.declared.world.Frame.{Frame}
 use Rattle.run_rules.specs.World.{World, caller_at, has_ended, nobody}
 use Rattle.run_rules.specs.declared.world.Wait.TheVariants as wait
-use Rattle.run_rules.specs.Deeds as deeds
-use Rattle.run_rules.specs.Deeds.{Ended, Waits}
+use Rattle.run_rules.specs.declared.deed.Choice.{Choice}
+use Rattle.run_rules.specs.declared.deed.Choice.TheVariants.{Ended, Waits}
 use Rattle.run_rules.specs.Next.{by_activity, next, on_top}
 use Rattle.scan_engine.specs.Frames.{top_of}
 use Rattle.dev_board.specs.declared.caller.CallerState.{CallerState}
 use Rattle.dev_board.specs.View.{caller_of, callers_of}
 use Rattle.dev_board.proofs.CallerLaws.{at_is}
 
-on_frames : (w : World) (k : ℕ) (st : List Frame) (f : Frame) (c : deeds.Choice) → Some f ≡ top_of st → ((rest : List Frame) → on_top w k (f ∷ rest) ≡ c) → on_top w k st ≡ c
+on_frames : (w : World) (k : ℕ) (st : List Frame) (f : Frame) (c : Choice) → Some f ≡ top_of st → ((rest : List Frame) → on_top w k (f ∷ rest) ≡ c) → on_top w k st ≡ c
 on_frames w k [] f c top does = absurd cc
 on_frames w k (g ∷ rest) f c top does = let same : g ≡ f = cc in ap (λ (h : Frame). on_top w k (h ∷ rest)) same ∙ does rest
 
 -- the frame on top decides
-pub on_frame : (w : World) (cs : List CallerState) (k : ℕ) (x : CallerState) (f : Frame) (c : deeds.Choice) → w.callers ≡ callers_of cs → k < length cs → x ≡ slice_index_or cs k x → Some f ≡ top_of x.stack.frames
+pub on_frame : (w : World) (cs : List CallerState) (k : ℕ) (x : CallerState) (f : Frame) (c : Choice) → w.callers ≡ callers_of cs → k < length cs → x ≡ slice_index_or cs k x → Some f ≡ top_of x.stack.frames
     → ((rest : List Frame) → on_top w k (f ∷ rest) ≡ c) → on_top w k (caller_at w k).stack ≡ c
 on_frame w cs k x f c all lt is top does =
     ap (λ callers. on_top w k (slice_index_or callers k nobody).stack) all ∙ ap (λ c. on_top w k c.stack) (sym (at_is caller_of cs k x nobody lt is)) ∙ on_frames w k x.stack.frames f c top does

@@ -1,9 +1,8 @@
 -- What a commit changes is the world after the deed.
-use Rattle.std.proofs.Common.{◌≡◌, ◌<◌, ℕ, Bool, true, false, not, List, [], ◌∷◌, ◌++◌, length, slice_set, is_some, Option, Some, None, refl, sym, ◌∙◌, ap, arith}
-use Rattle.std.specs.Prelude.{IsTrue}
+use Rattle.std.proofs.Common.{◌≡◌, ◌<◌, ◌^◌, ◌-◌, ℕ, Bool, true, false, not, List, [], ◌∷◌, ◌++◌, length, slice_set, is_some, Option, Some, None, refl, sym, ◌∙◌, ap, arith}
+use Rattle.std.specs.Prelude.{IsTrue, IfSome}
 use Rattle.std.specs.List.{slice_index_or}
 use Rattle.std.proofs.lemmas.List.{length-map}
-use Rattle.run_rules.specs.declared.world.Activity.TheVariants as activity
 use Rattle.run_rules.specs.declared.world.Arrival.{Arrival}
 use Rattle.run_rules.specs.declared.world.Frame.{Frame}
 use Rattle.run_rules.specs.declared.world.Frame.TheVariants.{Scan, Finaliser}
@@ -13,9 +12,10 @@ use Rattle.run_rules.specs.declared.world.Placing.TheVariants.{Nowhere, Queued, 
 use Rattle.run_rules.specs.declared.world.Position.{Position}
 use Rattle.run_rules.specs.declared.world.Setup.{Setup}
 use Rattle.run_rules.specs.World.{World, Caller, caller_at, has_ended, nobody, policy_of, offered_by}
-use Rattle.run_rules.specs.Deeds.{Search, EndScan, BeginInterrupts, Finalise, EndCaller}
+use Rattle.run_rules.specs.declared.deed.Deed.TheVariants.{Search, EndScan, BeginInterrupts, Finalise}
 use Rattle.run_rules.specs.After.{after, released, under_top, moved_top, with_stack, arrived, attached, listed, finaliser_placed, scan_placed, finaliser_placing, scan_placing, place_finaliser, place_scan, show_spot, list_moved, finaliser_done}
 use Rattle.defer_queue.specs.Queue.{others_of}
+use Rattle.run_sound.specs.Coming.{IsCall, IsCalled}
 use Rattle.scan_engine.specs.Frames.{is_scanning}
 use Rattle.dev_board.specs.declared.caller.CallerState.{CallerState}
 use Rattle.dev_board.specs.declared.parts.Core.{Core}
@@ -27,7 +27,7 @@ use Rattle.dev_board.proofs.CallerLaws.{at_is, settled_frames, set_again, set_ow
 abbrev pub with_callers : World → List Caller → World
 with_callers w cs = record w { callers = cs }
 
--- ---- a scan is over, interrupts work, the boot is over
+-- ---- a scan is over, interrupts work
 
 pub scan_over : (w v : World) (k p : ℕ)
     → v ≡ record w { deferred = others_of w.deferred (key.Parent p); callers = slice_set w.callers k (framed (caller_at w k) (released_frames w.deferred (key.Parent p) ++ under_top (caller_at w k).stack)) }
@@ -37,19 +37,13 @@ scan_over w v k p is = is
 
 pub phase_comes : (w v : World) (k : ℕ)
     → v ≡ record w {
-      phase = true;
+      interrupts_on = true;
       deferred = others_of w.deferred key.Interrupts;
       callers = slice_set w.callers k (framed (caller_at w k) (released_frames w.deferred key.Interrupts ++ (caller_at w k).stack));
     }
     → v ≡ after w k BeginInterrupts
 unfolding after released
 phase_comes w v k is = is
-
-pub caller_over : (w v : World) (k : ℕ)
-    → v ≡ with_callers w (slice_set w.callers k (record { over = (caller_at w k).over; doing = activity.Ended; stack = (caller_at w k).stack }))
-    → v ≡ after w k EndCaller
-unfolding after
-caller_over w v k is = is
 
 -- ---- a scan moves
 
@@ -69,11 +63,11 @@ moved_is c to (Scan s only wanted from ∷ fs) h = settled_frames c (Scan s only
 moved_is c to (Finaliser s ∷ fs) h = absurd cc
 
 -- then what was found comes
-pub searched : (w m v : World) (k p : ℕ) (to : Position) (got : Option Arrival) → IsTrue (is_scanning (caller_at w k).stack)
+pub searched : (w m v : World) (k p spot : ℕ) (to : Position) (got : Option Arrival) → IsTrue (is_scanning (caller_at w k).stack)
     → m ≡ with_callers w (slice_set w.callers k (stacked (caller_at w k) (moved_top to (caller_at w k).stack)))
-    → v ≡ arrived m k got true → v ≡ after w k (Search p to got)
+    → v ≡ arrived m k got true → v ≡ after w k (Search p spot to got)
 unfolding after
-searched w m v k p to got scans moved came =
+searched w m v k p spot to got scans moved came =
     let stands : m ≡ with_stack w k (moved_top to (caller_at w k).stack) =
     moved ∙ ap (λ (c : Caller). with_callers w (slice_set w.callers k c)) (sym (moved_is (caller_at w k) to (caller_at w k).stack scans)) in
     came ∙ ap (λ (x : World). arrived x k got true) stands
@@ -110,8 +104,8 @@ arrived_unseen w h k (Some a) may_defer =
     let pol = policy_of w.setup a.row in
     let off = offered_by w.setup a.row in
     let x : World = place_finaliser (finaliser_placing pol (has_ended (listed w a) 0)) (listed w a) k w.next in
-    ap (λ (v : World). place_scan (scan_placing pol off v.phase may_defer) v k a.parent w.next) (finaliser_unseen (listed w a) h k (finaliser_placing pol (has_ended (listed w a) 0)) w.next)
-    ∙ scan_unseen x h k (scan_placing pol off x.phase may_defer) a.parent w.next
+    ap (λ (v : World). place_scan (scan_placing pol off v.interrupts_on may_defer) v k a.parent w.next) (finaliser_unseen (listed w a) h k (finaliser_placing pol (has_ended (listed w a) 0)) w.next)
+    ∙ scan_unseen x h k (scan_placing pol off x.interrupts_on may_defer) a.parent w.next
 
 shown_is : (w : World) (shown : Option ℕ) → show_spot w shown ≡ record w { hidden = shown_now w.hidden shown }
 shown_is w None = refl
@@ -154,3 +148,18 @@ caller_same s old new k x lt same is =
     let here : callers_of new.callers.items ≡ callers_of old.callers.items = ap (λ (v : World). v.callers) same in
     let there : k < length new.callers.items = omega (arith, lt, ap length here, length-map new.callers.items caller_of, length-map old.callers.items caller_of) in
     at_is caller_of new.callers.items k x nobody there is ∙ ap (λ (cs : List Caller). slice_index_or cs k nobody) here
+
+-- ---- a finaliser that is called
+
+-- its place in the boot's list is there
+pub place_low : (w : World) (k s : ℕ) (listed : Option ℕ) (anew : Bool) → length w.finalisers < 2 ^ 64 → IsCalled w k s listed anew → IfSome listed (λ place. place < 2 ^ 64 - 1)
+place_low w k s None anew few called = tt
+place_low w k s (Some place) false few called = omega (arith, few, called.3, called.4)
+place_low w k s (Some place) true few called = omega (arith, called.3)
+
+-- or its frame is on top, and without a spot nothing comes
+pub frame_there : (w : World) (k s : ℕ) (shown : Option ℕ) (got : Option Arrival) (listed : Option ℕ) (anew : Bool) → IsCall w k s shown got listed anew → listed ≡ None → shown ≡ None
+    → (0 < length (caller_at w k).stack) × (got ≡ None)
+frame_there w k s None got None anew call a b = (rw call.called.1 (omega arith), call.came)
+frame_there w k s None got (Some place) anew call a b = absurd cc
+frame_there w k s (Some x) got listed anew call a b = absurd cc

@@ -1,36 +1,33 @@
--- What a work needs is there where it is chosen, and what it leaves is the world after its deed.
-use Rattle.std.proofs.Common.{◌≡◌, ◌≢◌, ◌<◌, ◌≤◌, ◌^◌, ◌-◌, ℕ, zero, suc, false, List, [], ◌∷◌, length, Option, Some, None, refl, sym, ◌∙◌, ap, arith}
+-- What a deed needs is there where it is chosen, and what it leaves is the world after its deed.
+use Rattle.std.proofs.Common.{◌≡◌, ◌≢◌, ◌<◌, ◌≤◌, ◌^◌, ◌-◌, ℕ, zero, suc, Bool, true, false, List, [], ◌∷◌, length, Option, Some, None, refl, sym, ◌∙◌, ap, arith}
 use Rattle.std.specs.Prelude.{IsTrue, IfSome, OnOk, OnErr}
 use Rattle.std.specs.declared.result.Result.{Result}
 use Rattle.std.specs.declared.result.Result.TheVariants.{Ok, Err}
 use Rattle.std.specs.List.{AllByRecursion}
 use Rattle.cf_types.specs.Locators.{locators_at}
-use Rattle.cf_types.specs.declared.machine.Command.{Command}
-use Rattle.cf_types.specs.declared.machine.Command.TheVariants as command
 use Rattle.cf_types.specs.declared.machine.Given.{Given}
 use Rattle.cf_types.specs.declared.tables.Attr.{Attr}
 use Rattle.cf_types.specs.declared.tables.Place.TheVariants.{At}
 use Rattle.run_rules.specs.declared.world.Activity.TheVariants as activity
 use Rattle.run_rules.specs.declared.world.Dev.{Dev}
 use Rattle.run_rules.specs.declared.world.Frame.{Frame}
-use Rattle.run_rules.specs.declared.world.Frame.TheVariants.{Scan}
 use Rattle.run_rules.specs.declared.world.Setup.{Setup}
-use Rattle.run_rules.specs.declared.world.Wanted.{Wanted}
-use Rattle.run_rules.specs.World.{World, Caller, caller_at, children, is_live, start}
-use Rattle.run_rules.specs.After.{doing, pushed, settled, with_caller}
-use Rattle.run_rules.specs.Deeds.{Open, Close, Drop, Detach, Unplug, Sleep, Wake, Free, Rescan, Does}
-use Rattle.run_rules.specs.Next.{next, next_sleep, next_wake}
-use Rattle.run_sound.specs.Commands.{IsRescanFrame}
+use Rattle.run_rules.specs.World.{World, Caller, caller_at, children, is_live}
+use Rattle.run_rules.specs.After.{doing, given_by, pushed, settled, with_caller}
+use Rattle.run_rules.specs.declared.deed.Deed.{Deed}
+use Rattle.run_rules.specs.declared.deed.Deed.TheVariants.{Search, EndScan, BeginInterrupts, Finalise, EndCaller, Drop, Refuse, Open, Close, Start, Done, Detach, Free, Rescan, BeginPower, Sleep, Wake, EndPower, Plug, Unplug, Tell}
+use Rattle.run_rules.specs.declared.world.Arrival.{Arrival}
+use Rattle.run_rules.specs.declared.world.Position.{Position}
+use Rattle.run_rules.specs.declared.deed.Choice.TheVariants.{Does}
+use Rattle.run_rules.specs.Next.{command_of, next, next_sleep, next_wake}
+use Rattle.run_sound.specs.Commands.{IsOnly}
 use Rattle.run_sound.specs.Kept.{Kept, MayRun}
 use Rattle.run_sound.proofs.Callers.{caller_here}
 use Rattle.run_sound.proofs.Members.{contained_live, found_contained, found_from_end}
 use Rattle.run_sound.proofs.Reasons.{has_command_reason}
 use Rattle.run_sound.proofs.ScriptLaws.{between_script, over_low}
 use Rattle.detach_engine.proofs.FreeLaws.{next_free_alone}
-use Rattle.dev_board.specs.declared.work.Work.{Work}
-use Rattle.dev_board.specs.declared.work.Work.TheVariants as work
-use Rattle.dev_board.specs.Effects.{IsKnown, MayDo, takes_memory}
-use Rattle.dev_board.specs.Works.{deed_by, wanted_by}
+use Rattle.dev_board.specs.Effects.{IsKnown, MayDo, is_of_frame, is_plain}
 use Rattle.dev_board.proofs.CallerLaws.{set_again}
 use Rattle.dev_board.proofs.InputLaws.{by_recursion}
 
@@ -66,27 +63,32 @@ free_may w k of kept e =
     let why = has_command_reason w k (Free of) e in
     (why.live, next_free_alone w k of kept.sound.devices kept.sound.condemned why.last)
 
-pub may_do : (w : World) (k : ℕ) (said : Command) (x : Work) → MayRun w.setup → Kept w → next w k ≡ Does (deed_by w said x) → MayDo w k x
-may_do w k said (work.Open of) may kept e =
-    let why = has_command_reason w k (Open said of) e in
-    let script = between_script w k (Open said of) kept e why.begins.between in
+pub may_do : (w : World) (k : ℕ) (d : Deed) → MayRun w.setup → Kept w → next w k ≡ Does d → MayDo w k d
+may_do w k (Open s sole) may kept e =
+    let why = has_command_reason w k (Open s sole) e in
+    let script = between_script w k (Open s sole) kept e why.begins.between in
     ((script.0, omega (arith, script.1, may.few_scripts)), why.free)
-may_do w k said (work.Close of) may kept e = (has_command_reason w k (Close said of) e).held
-may_do w k said (work.Drop of) may kept e = (has_command_reason w k (Drop of) e).held
-may_do w k said (work.Detach of) may kept e = (has_command_reason w k (Detach said of) e).named.live
-may_do w k said (work.Unplug spot (Some of)) may kept e = (has_command_reason w k (Unplug said spot (Some of)) e).live
-may_do w k said (work.Unplug spot None) may kept e = tt
-may_do w k said (work.Sleep of) may kept e = let why = has_command_reason w k (Sleep of) e in slept w.live why.target of why.dev why.last why.serial
-may_do w k said (work.Wake of) may kept e = let why = has_command_reason w k (Wake of) e in woken w.live why.target of why.below why.dev why.first why.serial
-may_do w k said (work.Free of) may kept e = free_may w k of kept e
-may_do w k said (work.Refuse why) may kept e = tt
-may_do w k said (work.Start ticket) may kept e = tt
-may_do w k said (work.Rescan of only) may kept e = tt
-may_do w k said (work.BeginPower kind of) may kept e = tt
-may_do w k said (work.Plug spot) may kept e = tt
-may_do w k said work.Tell may kept e = tt
-may_do w k said (work.EndPower of end) may kept e = tt
-may_do w k said work.End may kept e = tt
+may_do w k (Close s) may kept e = (has_command_reason w k (Close s) e).held
+may_do w k (Drop s) may kept e = (has_command_reason w k (Drop s) e).held
+may_do w k (Detach s) may kept e = (has_command_reason w k (Detach s) e).named.live
+may_do w k (Unplug x (Some s)) may kept e = (has_command_reason w k (Unplug x (Some s)) e).live
+may_do w k (Unplug x None) may kept e = tt
+may_do w k (Sleep s) may kept e = let why = has_command_reason w k (Sleep s) e in slept w.live why.target s why.dev why.last why.serial
+may_do w k (Wake s) may kept e = let why = has_command_reason w k (Wake s) e in woken w.live why.target s why.below why.dev why.first why.serial
+may_do w k (Free s) may kept e = free_may w k s kept e
+may_do w k (Search p spot to got) may kept e = tt
+may_do w k (EndScan p) may kept e = tt
+may_do w k BeginInterrupts may kept e = tt
+may_do w k (Finalise s shown got listed anew) may kept e = tt
+may_do w k EndCaller may kept e = tt
+may_do w k (Refuse why) may kept e = tt
+may_do w k (Start ticket) may kept e = tt
+may_do w k (Done ticket) may kept e = tt
+may_do w k (Rescan s only) may kept e = tt
+may_do w k (BeginPower kind s) may kept e = tt
+may_do w k (EndPower end) may kept e = tt
+may_do w k (Plug x) may kept e = tt
+may_do w k Tell may kept e = tt
 
 -- a script is short
 pub over_fits : (w : World) (k : ℕ) → MayRun w.setup → Kept w → (caller_at w k).over < 2 ^ 32 - 1
@@ -102,39 +104,66 @@ few_in (x ∷ xs) (suc a) h = few_in xs a h.1
 pub few_locators : (s : Setup) (a : ℕ) → MayRun s → length (locators_at s.tables.attrs (At a)) ≤ 16
 few_locators s a may = few_in s.tables.attrs a (by_recursion (λ x. length x.locs ≤ 16) s.tables.attrs may.tables.counted.locators)
 
-known_of : (w : World) (d : Dev) (said : Command) (of a : ℕ) (name : List ℕ) (attr : Option (List ℕ)) (given : List Given) (ws : List Wanted)
-    → said ≡ command.Rescan name attr given → IsRescanFrame w d attr given (Scan of (Some a) ws start) → IsKnown w.setup said a
-known_of w d said of a name None given ws words frame = absurd cc
-known_of w d said of a name (Some n) given ws words frame =
-    let same : a ≡ frame.0 = cc in
-    rw (words, same, frame.4) refl
+known_of : (w : World) (d : Dev) (a : ℕ) (attr : Option (List ℕ)) (given : List Given) → IsOnly w d attr given (Some a) → IsKnown w.setup given a
+known_of w d a None given scope = absurd cc
+known_of w d a (Some n) given scope =
+    let same : a ≡ scope.0 = cc in
+    rw (same, scope.4) refl
 
-pub known_given : (w : World) (k : ℕ) (said : Command) (of : ℕ) (only : Option ℕ) → next w k ≡ Does (deed_by w said (work.Rescan of only)) → IfSome only (IsKnown w.setup said)
-known_given w k said of None e = tt
-known_given w k said of (Some a) e =
-    let ws : List Wanted = wanted_by w said (Some a) in
-    let why = has_command_reason w k (Rescan said (Scan of (Some a) ws start)) e in
-    known_of w why.named.dev said of a why.name why.attr why.given ws why.words why.frame
+pub known_given : (w : World) (k of : ℕ) (only : Option ℕ) → next w k ≡ Does (Rescan of only) → IfSome only (IsKnown w.setup (given_by (command_of w k)))
+known_given w k of None e = tt
+known_given w k of (Some a) e =
+    let why = has_command_reason w k (Rescan of (Some a)) e in
+    rw (why.begins.command, why.words) (known_of w why.named.dev a why.attr why.given why.scope)
 
-pub unplug_may : (w : World) (k spot : ℕ) (of : Option ℕ) → MayDo w k (work.Unplug spot of) → IfSome of (λ s. IsTrue (is_live w.live s))
+pub unplug_may : (w : World) (k spot : ℕ) (of : Option ℕ) → MayDo w k (Unplug spot of) → IfSome of (λ s. IsTrue (is_live w.live s))
 unplug_may w k spot None h = tt
 unplug_may w k spot (Some s) h = h
 
--- a work of no other kind takes no memory
-pub plain_is : (x : Work) → ((of : ℕ) → x ≢ work.Open of) → ((of : ℕ) (only : Option ℕ) → x ≢ work.Rescan of only) → ((spot : ℕ) (of : Option ℕ) → x ≢ work.Unplug spot of) → takes_memory x ≡ false
-plain_is (work.Open of) a b c = absurd (a of refl)
-plain_is (work.Rescan of only) a b c = absurd (b of only refl)
-plain_is (work.Unplug spot of) a b c = absurd (c spot of refl)
-plain_is (work.Close of) a b c = refl
-plain_is (work.Drop of) a b c = refl
-plain_is (work.Detach of) a b c = refl
-plain_is (work.Sleep of) a b c = refl
-plain_is (work.Wake of) a b c = refl
-plain_is (work.Free of) a b c = refl
-plain_is (work.Refuse why) a b c = refl
-plain_is (work.Start ticket) a b c = refl
-plain_is (work.BeginPower kind of) a b c = refl
-plain_is (work.Plug spot) a b c = refl
-plain_is work.Tell a b c = refl
-plain_is (work.EndPower of end) a b c = refl
-plain_is work.End a b c = refl
+-- which deeds are left
+pub command_is_left : (d : Deed) → ((p spot : ℕ) (to : Position) (got : Option Arrival) → d ≢ Search p spot to got) → ((p : ℕ) → d ≢ EndScan p) → d ≢ BeginInterrupts
+    → ((s : ℕ) (shown : Option ℕ) (got : Option Arrival) (listed : Option ℕ) (anew : Bool) → d ≢ Finalise s shown got listed anew) → is_of_frame d ≡ false
+command_is_left (Search p spot to got) a b c f = absurd (a p spot to got refl)
+command_is_left (EndScan p) a b c f = absurd (b p refl)
+command_is_left BeginInterrupts a b c f = absurd (c refl)
+command_is_left (Finalise s shown got listed anew) a b c f = absurd (f s shown got listed anew refl)
+command_is_left EndCaller a b c f = refl
+command_is_left (Drop s) a b c f = refl
+command_is_left (Refuse why) a b c f = refl
+command_is_left (Open s sole) a b c f = refl
+command_is_left (Close s) a b c f = refl
+command_is_left (Start ticket) a b c f = refl
+command_is_left (Done ticket) a b c f = refl
+command_is_left (Detach s) a b c f = refl
+command_is_left (Free s) a b c f = refl
+command_is_left (Rescan s only) a b c f = refl
+command_is_left (BeginPower kind s) a b c f = refl
+command_is_left (Sleep s) a b c f = refl
+command_is_left (Wake s) a b c f = refl
+command_is_left (EndPower end) a b c f = refl
+command_is_left (Plug x) a b c f = refl
+command_is_left (Unplug x of) a b c f = refl
+command_is_left Tell a b c f = refl
+
+pub plain_is_left : (d : Deed) → is_of_frame d ≡ false → ((s : ℕ) (sole : Bool) → d ≢ Open s sole) → ((s : ℕ) (only : Option ℕ) → d ≢ Rescan s only) → ((x : ℕ) (of : Option ℕ) → d ≢ Unplug x of) → is_plain d ≡ true
+plain_is_left (Search p spot to got) h a b c = absurd cc
+plain_is_left (EndScan p) h a b c = absurd cc
+plain_is_left BeginInterrupts h a b c = absurd cc
+plain_is_left (Finalise s shown got listed anew) h a b c = absurd cc
+plain_is_left EndCaller h a b c = refl
+plain_is_left (Drop s) h a b c = refl
+plain_is_left (Refuse why) h a b c = refl
+plain_is_left (Open s sole) h a b c = absurd (a s sole refl)
+plain_is_left (Close s) h a b c = refl
+plain_is_left (Start ticket) h a b c = refl
+plain_is_left (Done ticket) h a b c = refl
+plain_is_left (Detach s) h a b c = refl
+plain_is_left (Free s) h a b c = refl
+plain_is_left (Rescan s only) h a b c = absurd (b s only refl)
+plain_is_left (BeginPower kind s) h a b c = refl
+plain_is_left (Sleep s) h a b c = refl
+plain_is_left (Wake s) h a b c = refl
+plain_is_left (EndPower end) h a b c = refl
+plain_is_left (Plug x) h a b c = refl
+plain_is_left (Unplug x of) h a b c = absurd (c x of refl)
+plain_is_left Tell h a b c = refl

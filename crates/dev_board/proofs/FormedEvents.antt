@@ -1,5 +1,5 @@
 -- Each event that a caller does next is formed, and the devices that it names are live.
-use Rattle.std.proofs.Common.{◌≡◌, ◌<◌, ◌^◌, ℕ, zero, suc, ◌+◌, ◌-◌, ◌==◌, Bool, true, false, ◌&&◌, ◌||◌, cond, List, [], ◌∷◌, length, map, find, is_some, option_map, slice_get, Option, Some, None, refl, sym, ◌∙◌, ap, subst, inl, inr, arith, eqb-true}
+use Rattle.std.proofs.Common.{◌≡◌, ◌<◌, ◌^◌, ℕ, zero, suc, ◌+◌, ◌-◌, ◌==◌, Bool, true, false, ◌&&◌, ◌||◌, cond, List, [], ◌∷◌, length, map, find, is_some, option_map, slice_get, Option, Some, None, refl, sym, ◌∙◌, subst, inl, inr, arith, eqb-true}
 use Rattle.std.specs.Prelude.{⊤, All, IfSome, IsTrue}
 use Rattle.std.specs.List.{AllByRecursion, slice_index_or}
 use Rattle.std.specs.Option.{option_map_or}
@@ -10,6 +10,7 @@ use Rattle.cf_types.specs.declared.machine.Command.TheVariants as command
 use Rattle.cf_types.specs.declared.machine.Given.{Given}
 use Rattle.cf_types.specs.declared.machine.Ticket.{Ticket}
 use Rattle.config_rules.specs.ScriptText.{FormedCommand, FormedScript}
+use Rattle.run_rules.specs.declared.event.Act.TheVariants as act
 use Rattle.run_rules.specs.declared.event.DepthName.{DepthName}
 use Rattle.run_rules.specs.declared.event.PowerKind.{PowerKind}
 use Rattle.run_rules.specs.declared.event.PowerKind.TheVariants as kind
@@ -22,9 +23,12 @@ use Rattle.run_rules.specs.declared.world.Position.{Position}
 use Rattle.run_rules.specs.declared.world.Ref.{Ref}
 use Rattle.run_rules.specs.declared.world.Setup.{Setup}
 use Rattle.run_rules.specs.World.{World, caller_at, children, device_at, device_named, device_on, driver_name, driver_of, has, has_ended, holds_in, is_condemned, is_held, is_live, is_pinned, name_of, offered_by, parent_name, policy_of, root_name, unit_name}
-use Rattle.run_rules.specs.Deeds.{Deed, Choice, Search, Finalise, Drop, Answer, Open, Close, Start, Done, Detach, Free, Rescan, BeginPower, Sleep, Wake, EndPower, Plug, Unplug, Tell, Does, Ended, Waits}
+use Rattle.run_rules.specs.declared.deed.Deed.{Deed}
+use Rattle.run_rules.specs.declared.deed.Deed.TheVariants.{Search, EndScan, BeginInterrupts, Finalise, EndCaller, Drop, Refuse, Open, Close, Start, Done, Detach, Free, Rescan, BeginPower, Sleep, Wake, EndPower, Plug, Unplug, Tell}
+use Rattle.run_rules.specs.declared.deed.Choice.{Choice}
+use Rattle.run_rules.specs.declared.deed.Choice.TheVariants.{Does}
 use Rattle.run_rules.specs.Next.{attr_named, command_deed, command_of, has_nothing, hindered, is_hindrance, is_power, name_at, next, next_sleep, next_wake, on_device, on_held, powering, rescan_of, spot_named, suspending, telling, unless_hindered, waking, wanted_of}
-use Rattle.run_rules.specs.Run.{depth_name, event_of, got_name, list_names, power_name, printed, told, tree_names}
+use Rattle.run_rules.specs.Run.{answered, depth_name, end_of, event_of, got_name, list_names, power_name, printed, reply_of, told, tree_names}
 use Rattle.run_rules.specs.Tree.{tree_below}
 use Rattle.run_rules.specs.Lines.{IsDeviceName, IsFormed, IsFormedAct, IsFormedName, MayClose, MayDetach, MayEndPower, MayGet, MayOpen, MayPlug, MayPower, MayRescan, MayStart, MayTell, MayUnplug}
 use Rattle.run_rules.proofs.Devices.{all_both}
@@ -37,29 +41,24 @@ use Rattle.run_sound.specs.Kept.{Kept, MayRun}
 use Rattle.run_sound.specs.Scripts.{IsAmid}
 use Rattle.run_sound.proofs.Arrivals.{finalise_comes, none_shown, search_comes}
 use Rattle.run_sound.proofs.Callers.{all_filter, doing_so}
-use Rattle.run_sound.proofs.Members.{all_flat_of, contained_live, each_mapped, found_contained, found_from_end, found_of, of_each}
+use Rattle.run_sound.proofs.Members.{all_flat_of, contained_live, each_mapped, found_contained, found_from_end, found_of}
 use Rattle.config_rules.proofs.Parts.{cond_both}
 use Rattle.run_sound.proofs.Reasons.{option_both, has_command_reason, has_reason}
 use Rattle.run_sound.proofs.References.{amid_later}
 use Rattle.run_sound.proofs.ScriptLaws.{amid_said, doer_low}
 use Rattle.dev_board.specs.Arrivals.{MayArrive}
-use Rattle.dev_board.specs.Events.{AreLive, IsLive}
-use Rattle.dev_board.specs.Plans.{deed_of, got_of}
-use Rattle.dev_board.specs.Sayings.{EndsLive, IsInForce, MaySay, RefusesLive}
+use Rattle.dev_board.specs.Events.{IsLive}
+use Rattle.dev_board.specs.Publishing.{got_of}
+use Rattle.dev_board.specs.Sayings.{EndsLive, HasRow, MayBeTold, RefusesLive}
 use Rattle.dev_board.specs.Scripted.{FormedScripts}
-use Rattle.dev_board.specs.Works.{deed_by, end_of, reply_of}
-use Rattle.dev_board.specs.declared.plan.Plan.{Plan}
-use Rattle.dev_board.specs.declared.plan.Plan.TheVariants as plan
-use Rattle.dev_board.specs.declared.work.PowerEnd.{PowerEnd}
-use Rattle.dev_board.specs.declared.work.PowerEnd.TheVariants as ends
-use Rattle.dev_board.specs.declared.work.Refusal.{Refusal}
-use Rattle.dev_board.specs.declared.work.Refusal.TheVariants as refusal
-use Rattle.dev_board.specs.declared.work.Work.{Work}
-use Rattle.dev_board.specs.declared.work.Work.TheVariants as work
+use Rattle.run_rules.specs.declared.deed.PowerEnd.{PowerEnd}
+use Rattle.run_rules.specs.declared.deed.PowerEnd.TheVariants as ends
+use Rattle.run_rules.specs.declared.deed.Refusal.{Refusal}
+use Rattle.run_rules.specs.declared.deed.Refusal.TheVariants as refusal
 use Rattle.dev_board.proofs.FormedNames.{driver_written}
 use Rattle.dev_board.proofs.InputLaws.{bounded}
 use Rattle.dev_board.proofs.LateLaws.{any_found}
-use Rattle.dev_board.proofs.StepLaws.{called_live, framed_live, plan_arrives}
+use Rattle.dev_board.proofs.StepLaws.{called_live, deed_arrives, framed_live}
 
 -- ---- names
 
@@ -167,72 +166,97 @@ Fits (command.Plug name) r = MayPlug r
 Fits (command.Unplug name) r = MayUnplug r
 
 -- the reply of a deed is one of its command's
-abbrev FitsDeed : Deed → Type 0
-FitsDeed (Answer said r) = Fits said r
-FitsDeed (Open said s) = Fits said reply.Ok
-FitsDeed (Close said s) = Fits said reply.Ok
-FitsDeed (Start said t) = Fits said reply.Ok
-FitsDeed (Detach said s) = Fits said reply.Ok
-FitsDeed (Rescan said f) = Fits said reply.Ok
-FitsDeed (BeginPower said what s) = Fits said reply.Ok
-FitsDeed (Plug said x) = Fits said reply.Ok
-FitsDeed (Unplug said x of) = Fits said reply.Ok
-FitsDeed (Tell said) = Fits said reply.Ok
-FitsDeed (EndPower s r) = MayEndPower r
-FitsDeed _ = ⊤
+abbrev FitsDeed : World → Command → Deed → Type 0
+FitsDeed w said (Refuse why) = Fits said (reply_of w why)
+FitsDeed w said (Open s sole) = Fits said reply.Ok
+FitsDeed w said (Close s) = Fits said reply.Ok
+FitsDeed w said (Start ticket) = Fits said reply.Ok
+FitsDeed w said (Detach s) = Fits said reply.Ok
+FitsDeed w said (Rescan s only) = Fits said reply.Ok
+FitsDeed w said (BeginPower kind s) = Fits said reply.Ok
+FitsDeed w said (Plug x) = Fits said reply.Ok
+FitsDeed w said (Unplug x of) = Fits said reply.Ok
+FitsDeed w said Tell = Fits said reply.Ok
+FitsDeed w said _ = ⊤
 
-by_if : (b : Bool) (x y : Deed) → FitsDeed x → FitsDeed y → FitsDeed (cond b x y)
-by_if b x y p q = cond_both FitsDeed b x y (λ e. p) (λ e. q)
+by_if : (w : World) (said : Command) (b : Bool) (x y : Deed) → FitsDeed w said x → FitsDeed w said y → FitsDeed w said (cond b x y)
+by_if w said b x y p q = cond_both (FitsDeed w said) b x y (λ e. p) (λ e. q)
 
-by_option : {A : Type 0} (f : A → Deed) (o : Option A) (d : Deed) → ((a : A) → o ≡ Some a → FitsDeed (f a)) → FitsDeed d → FitsDeed (option_map_or f o d)
-by_option f o d p q = option_both FitsDeed f o d p (λ e. q)
+by_option : {A : Type 0} (w : World) (said : Command) (f : A → Deed) (o : Option A) (d : Deed) → ((a : A) → o ≡ Some a → FitsDeed w said (f a)) → FitsDeed w said d → FitsDeed w said (option_map_or f o d)
+by_option w said f o d p q = option_both (FitsDeed w said) f o d p (λ e. q)
 
-device_fits : (w : World) (said : Command) (name : List ℕ) (body : Dev → Deed) → ((d : Dev) → FitsDeed (body d)) → Fits said reply.Gone → Fits said reply.NoDevice
-    → FitsDeed (on_device w said name body)
-device_fits w said name body each gone none = by_option _ (device_named w.setup w.live name) _ (λ d e. by_if (is_condemned d) _ _ gone (each d)) none
+-- who is found is live, and so has a name
+found_named : (w : World) (test : Dev → Bool) (d : Dev) → AllNamed w → find test w.live ≡ Some d → IsDeviceName (name_at w d.serial)
+found_named w test d named e = live_named w d.serial named (contained_live w.live d (found_contained test w.live d e))
 
-held_fits : (w : World) (k : ℕ) (said : Command) (name : List ℕ) (body : Dev → Deed) → ((d : Dev) → FitsDeed (body d)) → Fits said reply.NotHeld → FitsDeed (on_held w k said name body)
-held_fits w k said name body each none = by_option _ (device_named w.setup w.live name) _ (λ d e. by_if (is_held w k d.serial) _ _ (each d) none) none
+device_fits : (w : World) (said : Command) (name : List ℕ) (body : Dev → Deed) → ((d : Dev) → FitsDeed w said (body d)) → Fits said reply.Gone → Fits said reply.NoDevice
+    → FitsDeed w said (on_device w name body)
+device_fits w said name body each gone none = by_option w said _ (device_named w.setup w.live name) _ (λ d e. by_if w said (is_condemned d) _ _ gone (each d)) none
 
-hindered_fits : (w : World) (k : ℕ) (said : Command) (s : ℕ) (forced : Bool) (deed : Deed) → AllNamed w → ((n : List ℕ) → IsDeviceName n → Fits said (reply.Busy n)) → FitsDeed deed
-    → FitsDeed (unless_hindered w k said s forced deed)
+held_fits : (w : World) (k : ℕ) (said : Command) (name : List ℕ) (body : Dev → Deed) → ((d : Dev) → FitsDeed w said (body d)) → Fits said reply.NotHeld → FitsDeed w said (on_held w k name body)
+held_fits w k said name body each none = by_option w said _ (device_named w.setup w.live name) _ (λ d e. by_if w said (is_held w k d.serial) _ _ (each d) none) none
+
+hindered_fits : (w : World) (k : ℕ) (said : Command) (s : ℕ) (forced : Bool) (deed : Deed) → AllNamed w → ((n : List ℕ) → IsDeviceName n → Fits said (reply.Busy n)) → FitsDeed w said deed
+    → FitsDeed w said (unless_hindered w k s forced deed)
 unfolding hindered
 hindered_fits w k said s forced deed named busy rest =
-    by_option _ (find (is_hindrance w s k forced) w.live) _ (λ x e. busy (name_of w.setup x) (found_of (Named w) (is_hindrance w s k forced) w.live x named e)) rest
+    by_option w said _ (find (is_hindrance w s k forced) w.live) _ (λ x e. busy (name_at w x.serial) (found_named w (is_hindrance w s k forced) x named e)) rest
 
-telling_fits : (w : World) (said : Command) (name : Option (List ℕ)) → Fits said reply.Ok → Fits said reply.NoDevice → FitsDeed (telling w said name)
+telling_fits : (w : World) (said : Command) (name : Option (List ℕ)) → Fits said reply.Ok → Fits said reply.NoDevice → FitsDeed w said (telling w name)
 telling_fits w said None fine none = fine
-telling_fits w said (Some name) fine none = by_option _ (device_named w.setup w.live name) _ (λ d e. fine) none
+telling_fits w said (Some name) fine none = by_option w said _ (device_named w.setup w.live name) _ (λ d e. fine) none
 
 rescan_fits : (w : World) (d : Dev) (said : Command) (attr : Option (List ℕ)) (given : List Given) → Fits said reply.Ok → Fits said reply.BadLocator → Fits said reply.BadAttribute
-    → FitsDeed (rescan_of w said d attr given)
+    → FitsDeed w said (rescan_of w d attr given)
 unfolding rescan_of
 rescan_fits w d said None given fine locator attribute = fine
 rescan_fits w d said (Some name) given fine locator attribute =
-    by_option _ (attr_named w name) _
-    (λ a e. by_if (has (offered_by w.setup d.row) a) _ _ (by_option _ (wanted_of _ given) _ (λ wanted g. fine) locator) attribute) attribute
+    by_option w said _ (attr_named w name) _
+    (λ a e. by_if w said (has (offered_by w.setup d.row) a) _ _ (by_option w said _ (wanted_of _ given) _ (λ wanted g. fine) locator) attribute) attribute
 
-command_fits : (w : World) (k n : ℕ) (said : Command) → AllNamed w → FitsDeed (command_deed w k n said)
+command_fits : (w : World) (k n : ℕ) (said : Command) → AllNamed w → FitsDeed w said (command_deed w k n said)
 unfolding command_deed
-command_fits w k n (command.OpenDev name) named = device_fits w _ name _ (λ d. by_if (is_held w k d.serial) _ _ tt tt) tt tt
-command_fits w k n (command.CloseDev name) named = held_fits w k _ name _ (λ d. tt) tt
-command_fits w k n (command.Io name value) named = held_fits w k _ name _ (λ d. by_if d.asleep _ _ tt tt) tt
-command_fits w k n (command.Detach name) named = device_fits w _ name _ (λ d. hindered_fits w k _ d.serial false _ named (λ n h. h) tt) tt tt
+command_fits w k n (command.OpenDev name) named =
+    let c : Command = command.OpenDev name in
+    device_fits w c name _ (λ d. by_if w c (is_held w k d.serial) _ _ tt tt) tt tt
+command_fits w k n (command.CloseDev name) named =
+    let c : Command = command.CloseDev name in
+    held_fits w k c name _ (λ d. tt) tt
+command_fits w k n (command.Io name value) named =
+    let c : Command = command.Io name value in
+    held_fits w k c name _ (λ d. by_if w c d.asleep _ _ tt tt) tt
+command_fits w k n (command.Detach name) named =
+    let c : Command = command.Detach name in
+    device_fits w c name _ (λ d. hindered_fits w k c d.serial false _ named (λ n h. h) tt) tt tt
 command_fits w k n (command.Rescan name attr given) named =
-    by_option _ (device_named w.setup w.live name) _
-    (λ d e. by_if (is_condemned d) _ _ tt
-    (by_if (is_pinned w d.serial) _ _ (found_of (Named w) _ w.live d named e)
-    (by_if d.asleep _ _ tt
-    (by_if ((policy_of w.setup d.row).norescan || has_nothing (offered_by w.setup d.row)) _ _ tt
-    (rescan_fits w d _ attr given tt tt tt))))) tt
-command_fits w k n (command.ListDev name) named = telling_fits w _ name tt tt
-command_fits w k n (command.TreeDev name) named = telling_fits w _ name tt tt
-command_fits w k n (command.Suspend name) named = device_fits w _ name _ (λ d. tt) tt tt
-command_fits w k n (command.Resume name) named = device_fits w _ name _ (λ d. tt) tt tt
-command_fits w k n (command.ResumeTree name) named = device_fits w _ name _ (λ d. tt) tt tt
-command_fits w k n (command.Plug name) named = by_option _ (spot_named w name) _ (λ x e. tt) tt
+    let c : Command = command.Rescan name attr given in
+    by_option w c _ (device_named w.setup w.live name) _
+    (λ d e. by_if w c (is_condemned d) _ _ tt
+    (by_if w c (is_pinned w d.serial) _ _ (found_named w _ d named e)
+    (by_if w c d.asleep _ _ tt
+    (by_if w c ((policy_of w.setup d.row).norescan || has_nothing (offered_by w.setup d.row)) _ _ tt
+    (rescan_fits w d c attr given tt tt tt))))) tt
+command_fits w k n (command.ListDev name) named =
+    let c : Command = command.ListDev name in
+    telling_fits w c name tt tt
+command_fits w k n (command.TreeDev name) named =
+    let c : Command = command.TreeDev name in
+    telling_fits w c name tt tt
+command_fits w k n (command.Suspend name) named =
+    let c : Command = command.Suspend name in
+    device_fits w c name _ (λ d. tt) tt tt
+command_fits w k n (command.Resume name) named =
+    let c : Command = command.Resume name in
+    device_fits w c name _ (λ d. tt) tt tt
+command_fits w k n (command.ResumeTree name) named =
+    let c : Command = command.ResumeTree name in
+    device_fits w c name _ (λ d. tt) tt tt
+command_fits w k n (command.Plug name) named =
+    let c : Command = command.Plug name in
+    by_option w c _ (spot_named w name) _ (λ x e. tt) tt
 command_fits w k n (command.Unplug name) named =
-    by_option _ (spot_named w name) _ (λ x e. by_option _ (device_on w.live x) _ (λ d f. hindered_fits w k _ d.serial true _ named (λ n h. h) tt) tt) tt
+    let c : Command = command.Unplug name in
+    by_option w c _ (spot_named w name) _ (λ x e. by_option w c _ (device_on w.live x) _ (λ d f. hindered_fits w k c d.serial true _ named (λ n h. h) tt) tt) tt
 
 -- the line of a formed command is formed
 told_formed : (w : World) (said : Command) (r : Reply) → AllNamed w → FormedCommand said → Fits said r → IsFormedAct (told w said r)
@@ -254,36 +278,36 @@ told_formed w (command.Unplug name) r named formed fits = (formed.names 0 [] (om
 
 -- ---- power
 
-abbrev FitsChoice : Choice → Type 0
-FitsChoice (Does d) = FitsDeed d
-FitsChoice (Waits why) = ⊤
-FitsChoice Ended = ⊤
+-- the reply of a power command that ends is one of its own
+abbrev FitsChoice : World → Choice → Type 0
+FitsChoice w (Does (EndPower end)) = MayEndPower (end_of w end)
+FitsChoice w _ = ⊤
 
-choice_if : (b : Bool) (x y : Choice) → FitsChoice x → FitsChoice y → FitsChoice (cond b x y)
-choice_if b x y p q = cond_both FitsChoice b x y (λ e. p) (λ e. q)
+choice_if : (w : World) (b : Bool) (x y : Choice) → FitsChoice w x → FitsChoice w y → FitsChoice w (cond b x y)
+choice_if w b x y p q = cond_both (FitsChoice w) b x y (λ e. p) (λ e. q)
 
-choice_option : {A : Type 0} (f : A → Choice) (o : Option A) (c : Choice) → ((a : A) → o ≡ Some a → FitsChoice (f a)) → FitsChoice c → FitsChoice (option_map_or f o c)
-choice_option f o c p q = option_both FitsChoice f o c p (λ e. q)
+choice_option : {A : Type 0} (w : World) (f : A → Choice) (o : Option A) (c : Choice) → ((a : A) → o ≡ Some a → FitsChoice w (f a)) → FitsChoice w c → FitsChoice w (option_map_or f o c)
+choice_option w f o c p q = option_both (FitsChoice w) f o c p (λ e. q)
 
-sleep_there : (w : World) (target : ℕ) (d : Dev) → AllNamed w → next_sleep w.live target ≡ Some d → Named w d
+sleep_there : (w : World) (target : ℕ) (d : Dev) → AllNamed w → next_sleep w.live target ≡ Some d → IsDeviceName (name_at w d.serial)
 unfolding next_sleep
-sleep_there w target d named e = of_each (Named w) w.live d named (found_from_end _ w.live d e)
+sleep_there w target d named e = live_named w d.serial named (contained_live w.live d (found_from_end _ w.live d e))
 
-powering_fits : (w : World) (what : PowerKind) (target : ℕ) → AllNamed w → FitsChoice (powering w what target)
+powering_fits : (w : World) (what : PowerKind) (target : ℕ) → AllNamed w → FitsChoice w (powering w what target)
 unfolding suspending waking
 powering_fits w kind.Suspend target named =
-    choice_option _ (next_sleep w.live target) _
-    (λ d e. choice_if (is_pinned w d.serial) _ _ tt
-    (choice_if (policy_of w.setup d.row).nopower _ _ (sleep_there w target d named e)
-    (choice_if (policy_of w.setup d.row).failsuspend _ _ (sleep_there w target d named e) tt))) tt
-powering_fits w kind.Resume target named = choice_option _ (next_wake w.live target false) _ (λ d e. tt) tt
-powering_fits w kind.ResumeTree target named = choice_option _ (next_wake w.live target true) _ (λ d e. tt) tt
+    choice_option w _ (next_sleep w.live target) _
+    (λ d e. choice_if w (is_pinned w d.serial) _ _ tt
+    (choice_if w (policy_of w.setup d.row).nopower _ _ (sleep_there w target d named e)
+    (choice_if w (policy_of w.setup d.row).failsuspend _ _ (sleep_there w target d named e) tt))) tt
+powering_fits w kind.Resume target named = choice_option w _ (next_wake w.live target false) _ (λ d e. tt) tt
+powering_fits w kind.ResumeTree target named = choice_option w _ (next_wake w.live target true) _ (λ d e. tt) tt
 
-end_fits : (w : World) (k s : ℕ) (r : Reply) → AllNamed w → EndsPower w k s r → MayEndPower r
-end_fits w k s r named why =
+end_fits : (w : World) (k : ℕ) (end : PowerEnd) → AllNamed w → EndsPower w k end → MayEndPower (end_of w end)
+end_fits w k end named why =
     elim why.why [
       | inl gone ↦ rw gone.1 tt
-      | inr on ↦ subst FitsChoice on.1 (powering_fits w why.kind s named)
+      | inr on ↦ subst (FitsChoice w) on.1 (powering_fits w why.kind why.target named)
     ]
 
 -- ---- the command in force
@@ -318,18 +342,18 @@ pub record IsPowerEnd (w : World) (k : ℕ) : Type 0 where
   pub name : List ℕ
   pub said : command_of w k ≡ Some (power_command what name)
 
-pub power_end : (w : World) (k s : ℕ) (r : Reply) → Kept w → EndsPower w k s r → IsPowerEnd w k
-power_end w k s r kept why =
+pub power_end : (w : World) (k : ℕ) (end : PowerEnd) → Kept w → EndsPower w k end → IsPowerEnd w k
+power_end w k end kept why =
     let amid = amid_of (command_of w k) why.amid (amid_said w k kept (amid_later w k kept.ranges (λ e. busy (sym why.amid ∙ e)) (λ e. runs (sym why.amid ∙ e)))) in
     record { what = why.kind; name = amid.0; said = amid.1 }
   where
-    busy : activity.Power why.kind s ≡ activity.Idle → ⊥
+    busy : activity.Power why.kind why.target ≡ activity.Idle → ⊥
     busy e = cc
 
-    runs : activity.Power why.kind s ≡ activity.Ended → ⊥
+    runs : activity.Power why.kind why.target ≡ activity.Ended → ⊥
     runs e = cc
 
-    amid_of : (c : Option Command) → (caller_at w k).doing ≡ activity.Power why.kind s → IsAmid (caller_at w k).doing c → (name : List ℕ) × (c ≡ Some (power_command why.kind name))
+    amid_of : (c : Option Command) → (caller_at w k).doing ≡ activity.Power why.kind why.target → IsAmid (caller_at w k).doing c → (name : List ℕ) × (c ≡ Some (power_command why.kind name))
     amid_of c e h = subst (λ a. IsAmid a c) e h
 
 -- ---- the devices that a deed names are live
@@ -362,28 +386,19 @@ call_live w k s (Some place) false kept calls goes called =
 call_live w k s (Some place) true kept calls goes called =
     called_live w s (Some place) true kept calls (subst (λ j. has_ended w j ≡ false) called.0 goes) (subst (λ j. IsCalled w j s (Some place) true) called.0 called)
 
--- the device whose finaliser a caller calls is live
-pub frame_live : (w : World) (k : ℕ) (x : Plan) → Kept w → CallsDevices w → next w k ≡ Does (deed_of x) → AreLive w.live x
-frame_live w k (plan.Search parent moved got) kept calls chosen = tt
-frame_live w k (plan.EndScan of) kept calls chosen = tt
-frame_live w k plan.BeginInterrupts kept calls chosen = tt
-frame_live w k (plan.Finalise of shown got listed anew) kept calls chosen =
-    call_live w k of listed anew kept calls (doing_so w k (Finalise of shown got listed anew) chosen).unended (has_reason w k (Finalise of shown got listed anew) chosen).called
-frame_live w k plan.EndCaller kept calls chosen = tt
-
--- and the row of what comes is there
-pub frame_row : (w : World) (k : ℕ) (x : Plan) → MayRun w.setup → Kept w → next w k ≡ Does (deed_of x) → IfSome (got_of x) (λ a. a.row < length w.setup.tables.rows)
-frame_row w k x may kept chosen = cases (got_of x) (plan_arrives w k x may kept chosen)
+-- the row of what comes is there
+row_there : (w : World) (k : ℕ) (d : Deed) → MayRun w.setup → Kept w → next w k ≡ Does d → HasRow w.setup (got_of d)
+row_there w k d may kept chosen = cases (got_of d) (deed_arrives w k d may kept chosen)
   where
-    cases : (got : Option Arrival) → IfSome got (MayArrive w.setup w.live) → IfSome got (λ a. a.row < length w.setup.tables.rows)
+    cases : (got : Option Arrival) → IfSome got (MayArrive w.setup w.live) → HasRow w.setup got
     cases None h = tt
     cases (Some a) h = h.row
 
--- ---- what is printed is formed
+-- ---- what comes has a name
 
-searched_named : (w : World) (k p : ℕ) (to : Position) (got : Option Arrival) → MayRun w.setup → Kept w → next w k ≡ Does (Search p to got) → IfSome (got_name w.setup got) IsDeviceName
-searched_named w k p to None may kept chosen = tt
-searched_named w k p to (Some a) may kept chosen = let come = search_comes w k p to a may kept chosen in row_named w.setup a.row a.unit may come.row come.small
+searched_named : (w : World) (k p spot : ℕ) (to : Position) (got : Option Arrival) → MayRun w.setup → Kept w → next w k ≡ Does (Search p spot to got) → IfSome (got_name w.setup got) IsDeviceName
+searched_named w k p spot to None may kept chosen = tt
+searched_named w k p spot to (Some a) may kept chosen = let come = search_comes w k p spot to a may kept chosen in row_named w.setup a.row a.unit may come.row come.small
 
 final_named : (w : World) (k s : ℕ) (shown : Option ℕ) (got : Option Arrival) (listed : Option ℕ) (anew : Bool) → MayRun w.setup → Kept w → next w k ≡ Does (Finalise s shown got listed anew)
     → MayGet (is_some shown) (got_name w.setup got)
@@ -393,76 +408,7 @@ final_named w k s (Some x) None listed anew may kept chosen = tt
 final_named w k s (Some x) (Some a) listed anew may kept chosen =
     let come = finalise_comes w k s x a listed anew may kept chosen in row_named w.setup a.row a.unit may come.row come.small
 
-frame_printed : (w : World) (k : ℕ) (x : Plan) → MayRun w.setup → Kept w → CallsDevices w → next w k ≡ Does (deed_of x) → IsFormedAct (printed w k (deed_of x))
-unfolding printed
-frame_printed w k (plan.Search parent moved got) may kept calls chosen = (parent_known w parent (all_named w may kept), searched_named w k parent moved got may kept chosen)
-frame_printed w k (plan.EndScan of) may kept calls chosen = parent_known w of (all_named w may kept)
-frame_printed w k plan.BeginInterrupts may kept calls chosen = tt
-frame_printed w k (plan.Finalise of shown got listed anew) may kept calls chosen =
-    (live_known w of (all_named w may kept) (frame_live w k (plan.Finalise of shown got listed anew) kept calls chosen), final_named w k of shown got listed anew may kept chosen)
-frame_printed w k plan.EndCaller may kept calls chosen = tt
-
--- the line of a command that begins
-begun_formed : (w : World) (k : ℕ) (said : Command) (d : Deed) (r : Reply) → AllNamed w → FormedScripts w.setup → Begins w k said d → (FitsDeed d → Fits said r) → IsFormedAct (told w said r)
-begun_formed w k said d r named scripts b fits =
-    told_formed w said r named (said_formed w k said scripts b.command) (fits (subst FitsDeed b.deed (command_fits w k ((caller_at w k).over + 1) said named)))
-
-power_formed : (w : World) (k s : ℕ) (r : Reply) → AllNamed w → FormedScripts w.setup → Kept w → EndsPower w k s r → IsFormedName (power_name (command_of w k)) × MayEndPower r
-power_formed w k s r named scripts kept why =
-    let it = power_end w k s r kept why in
-    (subst (λ (c : Option Command). IsFormedName (power_name c)) (sym it.said) (power_known it.what it.name (said_formed w k (power_command it.what it.name) scripts it.said)), end_fits w k s r named why)
-
-work_printed : (w : World) (k : ℕ) (said : Command) (x : Work) → AllNamed w → FormedScripts w.setup → Kept w → next w k ≡ Does (deed_by w said x) → IsFormedAct (printed w k (deed_by w said x))
-unfolding printed
-work_printed w k said (work.Refuse why) named scripts kept chosen =
-    begun_formed w k said _ (reply_of w why) named scripts (has_command_reason w k (Answer said (reply_of w why)) chosen) (λ fits. fits)
-work_printed w k said (work.Open of) named scripts kept chosen = begun_formed w k said _ reply.Ok named scripts (has_command_reason w k (Open said of) chosen).begins (λ fits. fits)
-work_printed w k said (work.Close of) named scripts kept chosen = begun_formed w k said _ reply.Ok named scripts (has_command_reason w k (Close said of) chosen).begins (λ fits. fits)
-work_printed w k said (work.Start ticket) named scripts kept chosen =
-    begun_formed w k said _ reply.Ok named scripts (has_command_reason w k (Start said ticket) chosen).begins (λ fits. fits)
-work_printed w k said (work.Detach of) named scripts kept chosen = begun_formed w k said _ reply.Ok named scripts (has_command_reason w k (Detach said of) chosen).begins (λ fits. fits)
-work_printed w k said (work.Rescan of only) named scripts kept chosen =
-    begun_formed w k said _ reply.Ok named scripts (has_command_reason w k (deed_by w said (work.Rescan of only)) chosen).begins (λ fits. fits)
-work_printed w k said (work.BeginPower what of) named scripts kept chosen =
-    begun_formed w k said _ reply.Ok named scripts (has_command_reason w k (BeginPower said what of) chosen).begins (λ fits. fits)
-work_printed w k said (work.Plug spot) named scripts kept chosen = begun_formed w k said _ reply.Ok named scripts (has_command_reason w k (Plug said spot) chosen).begins (λ fits. fits)
-work_printed w k said (work.Unplug spot None) named scripts kept chosen =
-    begun_formed w k said _ reply.Ok named scripts (has_command_reason w k (Unplug said spot None) chosen).begins (λ fits. fits)
-work_printed w k said (work.Unplug spot (Some of)) named scripts kept chosen =
-    begun_formed w k said _ reply.Ok named scripts (has_command_reason w k (Unplug said spot (Some of)) chosen).begins (λ fits. fits)
-work_printed w k said work.Tell named scripts kept chosen = begun_formed w k said _ reply.Ok named scripts (has_command_reason w k (Tell said) chosen).begins (λ fits. fits)
-work_printed w k said (work.Free of) named scripts kept chosen = live_known w of named (has_command_reason w k (Free of) chosen).live
-work_printed w k said (work.Sleep of) named scripts kept chosen = live_known w of named (sleeper_live w k of (has_command_reason w k (Sleep of) chosen))
-work_printed w k said (work.Wake of) named scripts kept chosen = live_known w of named (waker_live w k of (has_command_reason w k (Wake of) chosen))
-work_printed w k said (work.EndPower of end) named scripts kept chosen =
-    power_formed w k of (end_of w end) named scripts kept (has_command_reason w k (EndPower of (end_of w end)) chosen)
-work_printed w k said (work.Drop of) named scripts kept chosen = live_known w of named (has_command_reason w k (Drop of) chosen).live
-work_printed w k said work.End named scripts kept chosen = tt
-
-drop_printed : (w : World) (k s : ℕ) → MayRun w.setup → Kept w → next w k ≡ Does (Drop s) → IsFormedAct (printed w k (Drop s))
-unfolding printed
-drop_printed w k s may kept chosen = live_known w s (all_named w may kept) (has_command_reason w k (Drop s) chosen).live
-
-done_printed : (w : World) (k : ℕ) (t : Ticket) → MayRun w.setup → Kept w → next w k ≡ Does (Done t) → IsFormedAct (printed w k (Done t))
-unfolding printed
-done_printed w k t may kept chosen = live_known w t.serial (all_named w may kept) (transfer_live w k t kept chosen)
-
--- ---- the events are formed
-
-event_formed : (w : World) (k : ℕ) (d : Deed) → MayRun w.setup → Kept w → next w k ≡ Does d → IsFormedAct (printed w k d) → IsFormed (event_of w k d)
-unfolding event_of
-event_formed w k d may kept chosen formed = record { caller = doer_low w k d may kept chosen; act = formed }
-
-pub frame_formed : (w : World) (k : ℕ) (x : Plan) → MayRun w.setup → Kept w → CallsDevices w → next w k ≡ Does (deed_of x) → IsFormed (event_of w k (deed_of x))
-frame_formed w k x may kept calls chosen = event_formed w k (deed_of x) may kept chosen (frame_printed w k x may kept calls chosen)
-
-pub work_formed : (w : World) (k : ℕ) (said : Command) (x : Work) → MayRun w.setup → FormedScripts w.setup → Kept w → next w k ≡ Does (deed_by w said x) → IsFormed (event_of w k (deed_by w said x))
-work_formed w k said x may scripts kept chosen = event_formed w k (deed_by w said x) may kept chosen (work_printed w k said x (all_named w may kept) scripts kept chosen)
-
-pub done_formed : (w : World) (k : ℕ) (t : Ticket) → MayRun w.setup → Kept w → next w k ≡ Does (Done t) → IsFormed (event_of w k (Done t))
-done_formed w k t may kept chosen = event_formed w k (Done t) may kept chosen (done_printed w k t may kept chosen)
-
--- ---- what a work names
+-- ---- what a deed names
 
 busy_named : (said : Command) (n : List ℕ) → Fits said (reply.Busy n) → IsDeviceName n
 busy_named (command.OpenDev name) n h = absurd h
@@ -496,30 +442,95 @@ end_live w ends.Gone fits = tt
 end_live w (ends.NotSupported s) fits = named_live w s fits
 end_live w (ends.Failed s) fits = named_live w s fits
 
-is_said : (w : World) (k s : ℕ) (r : Reply) (said : Command) → Kept w → EndsPower w k s r → command_of w k ≡ Some said → is_power said ≡ true
-is_said w k s r said kept why e =
-    let it = power_end w k s r kept why in
-    ap is_power (same_Some said (power_command it.what it.name) (sym e ∙ it.said)) ∙ power_is it.what it.name
+-- what ends is a power command
+power_said : (w : World) (k : ℕ) (end : PowerEnd) → Kept w → EndsPower w k end → option_map_or is_power (command_of w k) false ≡ true
+power_said w k end kept why = let it = power_end w k end kept why in rw it.said (power_is it.what it.name)
 
--- a work that comes next may be told
-pub may_say : (w : World) (k : ℕ) (said : Command) (x : Work) → MayRun w.setup → Kept w → next w k ≡ Does (deed_by w said x) → IsInForce w k said x → MaySay w.live said x
-may_say w k said (work.Refuse why) may kept chosen force =
-    let b : Begins w k said (Answer said (reply_of w why)) = has_command_reason w k (Answer said (reply_of w why)) chosen in
-    refusal_live w said why (subst FitsDeed b.deed (command_fits w k ((caller_at w k).over + 1) said (all_named w may kept)))
-may_say w k said (work.Open of) may kept chosen force = tt
-may_say w k said (work.Close of) may kept chosen force = tt
-may_say w k said (work.Start ticket) may kept chosen force = tt
-may_say w k said (work.Detach of) may kept chosen force = tt
-may_say w k said (work.Rescan of only) may kept chosen force = tt
-may_say w k said (work.BeginPower what of) may kept chosen force = tt
-may_say w k said (work.Plug spot) may kept chosen force = tt
-may_say w k said (work.Unplug spot of) may kept chosen force = tt
-may_say w k said work.Tell may kept chosen force = tt
-may_say w k said (work.Free of) may kept chosen force = (has_command_reason w k (Free of) chosen).live
-may_say w k said (work.Sleep of) may kept chosen force = sleeper_live w k of (has_command_reason w k (Sleep of) chosen)
-may_say w k said (work.Wake of) may kept chosen force = waker_live w k of (has_command_reason w k (Wake of) chosen)
-may_say w k said (work.EndPower of end) may kept chosen force =
-    let why : EndsPower w k of (end_of w end) = has_command_reason w k (EndPower of (end_of w end)) chosen in
-    (end_live w end (end_fits w k of (end_of w end) (all_named w may kept) why), is_said w k of (end_of w end) said kept why force)
-may_say w k said (work.Drop of) may kept chosen force = (has_command_reason w k (Drop of) chosen).live
-may_say w k said work.End may kept chosen force = tt
+begun_fits : (w : World) (k : ℕ) (d : Deed) → AllNamed w → (b : Begins w k d) → FitsDeed w b.said d
+begun_fits w k d named b = subst (FitsDeed w b.said) b.deed (command_fits w k ((caller_at w k).over + 1) b.said named)
+
+-- a deed that comes next may be told
+pub may_be_told : (w : World) (k : ℕ) (d : Deed) → MayRun w.setup → Kept w → CallsDevices w → next w k ≡ Does d → MayBeTold w k d
+may_be_told w k (Search p spot to got) may kept calls chosen = row_there w k (Search p spot to got) may kept chosen
+may_be_told w k (EndScan p) may kept calls chosen = tt
+may_be_told w k BeginInterrupts may kept calls chosen = tt
+may_be_told w k (Finalise s shown got listed anew) may kept calls chosen = (
+  call_live w k s listed anew kept calls (doing_so w k (Finalise s shown got listed anew) chosen).unended (has_reason w k (Finalise s shown got listed anew) chosen).called,
+  row_there w k (Finalise s shown got listed anew) may kept chosen,
+)
+may_be_told w k EndCaller may kept calls chosen = tt
+may_be_told w k (Drop s) may kept calls chosen = (has_command_reason w k (Drop s) chosen).live
+may_be_told w k (Refuse why) may kept calls chosen =
+    let b : Begins w k (Refuse why) = has_command_reason w k (Refuse why) chosen in
+    refusal_live w b.said why (begun_fits w k (Refuse why) (all_named w may kept) b)
+may_be_told w k (Open s sole) may kept calls chosen = tt
+may_be_told w k (Close s) may kept calls chosen = tt
+may_be_told w k (Start ticket) may kept calls chosen = tt
+may_be_told w k (Done ticket) may kept calls chosen = transfer_live w k ticket kept chosen
+may_be_told w k (Detach s) may kept calls chosen = tt
+may_be_told w k (Free s) may kept calls chosen = (has_command_reason w k (Free s) chosen).live
+may_be_told w k (Rescan s only) may kept calls chosen = tt
+may_be_told w k (BeginPower kind s) may kept calls chosen = tt
+may_be_told w k (Sleep s) may kept calls chosen = sleeper_live w k s (has_command_reason w k (Sleep s) chosen)
+may_be_told w k (Wake s) may kept calls chosen = waker_live w k s (has_command_reason w k (Wake s) chosen)
+may_be_told w k (EndPower end) may kept calls chosen =
+    let why : EndsPower w k end = has_command_reason w k (EndPower end) chosen in
+    (end_live w end (end_fits w k end (all_named w may kept) why), power_said w k end kept why)
+may_be_told w k (Plug x) may kept calls chosen = tt
+may_be_told w k (Unplug x of) may kept calls chosen = tt
+may_be_told w k Tell may kept calls chosen = tt
+
+-- ---- what is printed is formed
+
+-- the line of a command that begins
+begun_formed : (w : World) (k : ℕ) (d : Deed) (r : Reply) → AllNamed w → FormedScripts w.setup → (b : Begins w k d) → Fits b.said r → IsFormedAct (answered w k r)
+begun_formed w k d r named scripts b fits =
+    subst (λ (c : Option Command). IsFormedAct (option_map_or (λ said. told w said r) c act.End)) (sym b.command)
+    (told_formed w b.said r named (said_formed w k b.said scripts b.command) fits)
+
+power_formed : (w : World) (k : ℕ) (end : PowerEnd) → AllNamed w → FormedScripts w.setup → Kept w → EndsPower w k end → IsFormedName (power_name (command_of w k)) × MayEndPower (end_of w end)
+power_formed w k end named scripts kept why =
+    let it = power_end w k end kept why in
+    (subst (λ (c : Option Command). IsFormedName (power_name c)) (sym it.said) (power_known it.what it.name (said_formed w k (power_command it.what it.name) scripts it.said)), end_fits w k end named why)
+
+deed_printed : (w : World) (k : ℕ) (d : Deed) → MayRun w.setup → FormedScripts w.setup → Kept w → CallsDevices w → next w k ≡ Does d → IsFormedAct (printed w k d)
+unfolding printed
+deed_printed w k (Search p spot to got) may scripts kept calls chosen = (parent_known w p (all_named w may kept), searched_named w k p spot to got may kept chosen)
+deed_printed w k (EndScan p) may scripts kept calls chosen = parent_known w p (all_named w may kept)
+deed_printed w k BeginInterrupts may scripts kept calls chosen = tt
+deed_printed w k (Finalise s shown got listed anew) may scripts kept calls chosen =
+    (live_known w s (all_named w may kept) (may_be_told w k (Finalise s shown got listed anew) may kept calls chosen).0, final_named w k s shown got listed anew may kept chosen)
+deed_printed w k EndCaller may scripts kept calls chosen = tt
+deed_printed w k (Drop s) may scripts kept calls chosen = live_known w s (all_named w may kept) (may_be_told w k (Drop s) may kept calls chosen)
+deed_printed w k (Refuse why) may scripts kept calls chosen =
+    let b : Begins w k (Refuse why) = (has_command_reason w k (Refuse why) chosen) in begun_formed w k (Refuse why) (reply_of w why) (all_named w may kept) scripts b (begun_fits w k (Refuse why) (all_named w may kept) b)
+deed_printed w k (Open s sole) may scripts kept calls chosen =
+    let b = (has_command_reason w k (Open s sole) chosen).begins in begun_formed w k (Open s sole) reply.Ok (all_named w may kept) scripts b (begun_fits w k (Open s sole) (all_named w may kept) b)
+deed_printed w k (Close s) may scripts kept calls chosen =
+    let b = (has_command_reason w k (Close s) chosen).begins in begun_formed w k (Close s) reply.Ok (all_named w may kept) scripts b (begun_fits w k (Close s) (all_named w may kept) b)
+deed_printed w k (Start ticket) may scripts kept calls chosen =
+    let b = (has_command_reason w k (Start ticket) chosen).begins in begun_formed w k (Start ticket) reply.Ok (all_named w may kept) scripts b (begun_fits w k (Start ticket) (all_named w may kept) b)
+deed_printed w k (Done ticket) may scripts kept calls chosen = live_known w ticket.serial (all_named w may kept) (transfer_live w k ticket kept chosen)
+deed_printed w k (Detach s) may scripts kept calls chosen =
+    let b = (has_command_reason w k (Detach s) chosen).begins in begun_formed w k (Detach s) reply.Ok (all_named w may kept) scripts b (begun_fits w k (Detach s) (all_named w may kept) b)
+deed_printed w k (Free s) may scripts kept calls chosen = live_known w s (all_named w may kept) (may_be_told w k (Free s) may kept calls chosen)
+deed_printed w k (Rescan s only) may scripts kept calls chosen =
+    let b = (has_command_reason w k (Rescan s only) chosen).begins in begun_formed w k (Rescan s only) reply.Ok (all_named w may kept) scripts b (begun_fits w k (Rescan s only) (all_named w may kept) b)
+deed_printed w k (BeginPower kind s) may scripts kept calls chosen =
+    let b = (has_command_reason w k (BeginPower kind s) chosen).begins in begun_formed w k (BeginPower kind s) reply.Ok (all_named w may kept) scripts b (begun_fits w k (BeginPower kind s) (all_named w may kept) b)
+deed_printed w k (Sleep s) may scripts kept calls chosen = live_known w s (all_named w may kept) (may_be_told w k (Sleep s) may kept calls chosen)
+deed_printed w k (Wake s) may scripts kept calls chosen = live_known w s (all_named w may kept) (may_be_told w k (Wake s) may kept calls chosen)
+deed_printed w k (EndPower end) may scripts kept calls chosen = power_formed w k end (all_named w may kept) scripts kept (has_command_reason w k (EndPower end) chosen)
+deed_printed w k (Plug x) may scripts kept calls chosen =
+    let b = (has_command_reason w k (Plug x) chosen).begins in begun_formed w k (Plug x) reply.Ok (all_named w may kept) scripts b (begun_fits w k (Plug x) (all_named w may kept) b)
+deed_printed w k (Unplug x None) may scripts kept calls chosen =
+    let b = (has_command_reason w k (Unplug x None) chosen).begins in begun_formed w k (Unplug x None) reply.Ok (all_named w may kept) scripts b (begun_fits w k (Unplug x None) (all_named w may kept) b)
+deed_printed w k (Unplug x (Some s)) may scripts kept calls chosen =
+    let b = (has_command_reason w k (Unplug x (Some s)) chosen).begins in begun_formed w k (Unplug x (Some s)) reply.Ok (all_named w may kept) scripts b (begun_fits w k (Unplug x (Some s)) (all_named w may kept) b)
+deed_printed w k Tell may scripts kept calls chosen =
+    let b = (has_command_reason w k Tell chosen).begins in begun_formed w k Tell reply.Ok (all_named w may kept) scripts b (begun_fits w k Tell (all_named w may kept) b)
+
+-- the event is formed
+pub deed_formed : (w : World) (k : ℕ) (d : Deed) → MayRun w.setup → FormedScripts w.setup → Kept w → CallsDevices w → next w k ≡ Does d → IsFormed (event_of w k d)
+unfolding event_of
+deed_formed w k d may scripts kept calls chosen = record { caller = doer_low w k d may kept chosen; act = deed_printed w k d may scripts kept calls chosen }

@@ -9,7 +9,7 @@ use Rattle.run_rules.specs.declared.world.Dev.{Dev}
 use Rattle.run_rules.specs.declared.world.Setup.{Setup}
 use Rattle.run_rules.specs.World.{World, caller_at, device_at, device_on, is_condemned, is_number, serial_of}
 use Rattle.run_rules.specs.After.{after, freed, freeing_target, over}
-use Rattle.run_rules.specs.Deeds.{Free as FreeDeed}
+use Rattle.run_rules.specs.declared.deed.Deed.TheVariants.{Free as FreeDeed}
 use Rattle.run_rules.specs.Next.{next_free}
 use Rattle.run_rules.specs.Search.{is_occupied}
 use Rattle.run_rules.specs.Sound.{EachLater, IsApart}

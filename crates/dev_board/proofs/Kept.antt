@@ -1,14 +1,14 @@
 -- A step of a caller keeps what a board keeps.
-use Rattle.std.proofs.Common.{◌≡◌, ◌&&◌, ℕ, Bool, true, false, not, find, None, List, [], ◌∷◌, ◌++◌, length, refl, sym, ◌∙◌, ap, subst, inl, inr, arith, length-append}
+use Rattle.std.proofs.Common.{◌≡◌, ◌&&◌, ℕ, Bool, true, false, not, find, None, List, [], ◌∷◌, ◌++◌, length, refl, sym, ap, subst, inl, inr, arith, length-append}
 use Rattle.std.specs.List.{AllByRecursion}
-use Rattle.cf_types.specs.declared.machine.Command.{Command}
 use Rattle.run_rules.specs.declared.event.Event.{Event}
 use Rattle.run_rules.specs.declared.world.Activity.{Activity}
 use Rattle.run_rules.specs.declared.world.Activity.TheVariants as activity
 use Rattle.run_rules.specs.declared.world.Dev.{Dev}
 use Rattle.run_rules.specs.declared.world.Setup.{Setup}
 use Rattle.run_rules.specs.World.{World, opening, has_ended, is_ended, is_held, caller_at}
-use Rattle.run_rules.specs.Deeds.{Deed, Does}
+use Rattle.run_rules.specs.declared.deed.Deed.{Deed}
+use Rattle.run_rules.specs.declared.deed.Choice.TheVariants.{Does}
 use Rattle.run_rules.specs.Next.{next}
 use Rattle.run_rules.specs.After.{after}
 use Rattle.run_rules.specs.Lines.{IsFormed}
@@ -16,25 +16,17 @@ use Rattle.run_rules.specs.Run.{Run, event_of}
 use Rattle.run_rules.proofs.Devices.{all_snoc}
 use Rattle.run_rules.proofs.Runs.{run_on}
 use Rattle.run_sound.specs.Calls.{CallsDevices}
-use Rattle.run_sound.specs.Holding.{opened_by, returned_by}
-use Rattle.run_sound.proofs.Calls.{IsRescan, calls_after}
-use Rattle.run_sound.proofs.Holding.{refs_same}
+use Rattle.run_sound.proofs.Calls.{calls_after}
 use Rattle.run_sound.proofs.RangesDeeds.{after_serials}
 use Rattle.run_sound.proofs.Steps.{kept_after}
 use Rattle.run_sound.specs.Kept.{Kept}
 use Rattle.dev_board.specs.declared.answer.LeaseStep.{LeaseStep}
 use Rattle.dev_board.specs.declared.answer.LeaseStep.TheVariants.{Keep}
 use Rattle.dev_board.specs.declared.parts.Core.{Core}
-use Rattle.dev_board.specs.declared.plan.Plan.{Plan}
-use Rattle.dev_board.specs.declared.plan.Plan.TheVariants as plan
-use Rattle.dev_board.specs.declared.work.Work.{Work}
-use Rattle.dev_board.specs.declared.work.Work.TheVariants as work
 use Rattle.dev_board.specs.Commits.{Performed}
-use Rattle.dev_board.specs.Plans.{deed_of}
 use Rattle.dev_board.specs.Stepping.{DoesNext}
 use Rattle.dev_board.specs.View.{Books, CoreKept, shown_of, world_of}
 use Rattle.dev_board.specs.Witness.{Witness, lease_step, told_did}
-use Rattle.dev_board.specs.Works.{deed_by}
 
 -- ---- the caller that boots
 
@@ -51,33 +43,8 @@ boot_idle w kept goes = elim kept.ranges.booting [ inl idle ↦ idle | inr ended
 
 -- ---- what is kept
 
-pub plan_scans : (x : Plan) → IsRescan (deed_of x)
-plan_scans (plan.Search parent moved got) = tt
-plan_scans (plan.EndScan of) = tt
-plan_scans plan.BeginInterrupts = tt
-plan_scans (plan.Finalise of shown got listed anew) = tt
-plan_scans plan.EndCaller = tt
-
-pub work_scans : (w : World) (said : Command) (x : Work) → IsRescan (deed_by w said x)
-work_scans w said (work.Open of) = tt
-work_scans w said (work.Close of) = tt
-work_scans w said (work.Drop of) = tt
-work_scans w said (work.Detach of) = tt
-work_scans w said (work.Sleep of) = tt
-work_scans w said (work.Wake of) = tt
-work_scans w said (work.Free of) = tt
-work_scans w said (work.Refuse why) = tt
-work_scans w said (work.Start ticket) = tt
-work_scans w said (work.Rescan of only) = tt
-work_scans w said (work.BeginPower kind of) = tt
-work_scans w said (work.Plug spot) = tt
-work_scans w said (work.Unplug spot of) = tt
-work_scans w said work.Tell = tt
-work_scans w said (work.EndPower of end) = tt
-work_scans w said work.End = tt
-
-pub kept_step : (s : Setup) (old new : Core) (k : ℕ) (d : Deed) → CoreKept s old → IsRescan d → next (world_of s old) k ≡ Does d → Performed s old new k d → Books s new → CoreKept s new
-kept_step s old new k d kept scans chosen did books =
+pub kept_step : (s : Setup) (old new : Core) (k : ℕ) (d : Deed) → CoreKept s old → next (world_of s old) k ≡ Does d → Performed s old new k d → Books s new → CoreKept s new
+kept_step s old new k d kept chosen did books =
     let w : World = world_of s old in
     let long : Run (opening s) (old.events.items ++ event_of w k d ∷ []) (after w k d) = run_on (opening s) old.events.items w k d kept.run chosen in
     let moved : Run (opening s) new.events.items (after w k d) = subst (λ (h : List Event). Run (opening s) h (after w k d)) (sym did.events) long in
@@ -85,7 +52,7 @@ kept_step s old new k d kept scans chosen did books =
     record {
       run = subst (λ (v : World). Run (opening s) new.events.items v) (sym did.world) moved;
       kept = subst Kept (sym did.world) (kept_after w k d kept.may kept.kept chosen);
-      calls = subst CallsDevices (sym did.world) (calls_after w k d kept.kept.ranges.counted scans kept.calls);
+      calls = subst CallsDevices (sym did.world) (calls_after w k d kept.kept.ranges.counted kept.calls);
       may = kept.may;
       scripts = kept.scripts;
       books = books;
@@ -94,20 +61,6 @@ kept_step s old new k d kept scans chosen did books =
     }
 
 -- ---- the witness
-
-opens_none : (x : Plan) → opened_by (deed_of x) ≡ None
-opens_none (plan.Search parent moved got) = refl
-opens_none (plan.EndScan of) = refl
-opens_none plan.BeginInterrupts = refl
-opens_none (plan.Finalise of shown got listed anew) = refl
-opens_none plan.EndCaller = refl
-
-returns_none : (x : Plan) → returned_by (deed_of x) ≡ None
-returns_none (plan.Search parent moved got) = refl
-returns_none (plan.EndScan of) = refl
-returns_none plan.BeginInterrupts = refl
-returns_none (plan.Finalise of shown got listed anew) = refl
-returns_none plan.EndCaller = refl
 
 never_found : {A : Type 0} (p : A → Bool) (xs : List A) → ((x : A) → p x ≡ false) → find p xs ≡ None
 never_found p [] h = refl
@@ -122,10 +75,6 @@ pub no_lease : (w v : World) (k : ℕ) → v.refs ≡ w.refs → lease_step w v 
 unfolding lease_step
 no_lease w v k same =
     rw (same, never_found (λ (d : Dev). is_held w k d.serial && not (is_held w k d.serial)) w.live (λ d. and_not (is_held w k d.serial))) refl
-
--- a scan, a finaliser and the boot leave them
-pub plan_keeps : (w v : World) (k : ℕ) (x : Plan) → v ≡ after w k (deed_of x) → lease_step w v k ≡ Keep
-plan_keeps w v k x is = no_lease w v k (ap (λ (u : World). u.refs) is ∙ refs_same w k (deed_of x) (opens_none x) (returns_none x))
 
 pub does_next : (s : Setup) (old new : Core) (k : ℕ) (d : Deed) (place : ℕ) (lease : LeaseStep) (told : Witness) → next (world_of s old) k ≡ Does d → Performed s old new k d
     → place ≡ length old.events.items → lease_step (world_of s old) (world_of s new) k ≡ lease → told ≡ told_did (opening s) k (length old.events.items) (event_of (world_of s old) k d) lease

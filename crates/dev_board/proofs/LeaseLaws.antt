@@ -3,10 +3,11 @@ use Rattle.std.proofs.Common.{◌≡◌, ◌≢◌, ◌==◌, ◌&&◌, ◌||◌
 use Rattle.std.specs.Option.{option_map_or}
 use Rattle.std.proofs.Math.Bool.{and-not_self}
 use Rattle.std.proofs.lemmas.Bool.{eqb-true}
-use Rattle.cf_types.specs.declared.machine.Command.{Command}
 use Rattle.run_rules.specs.declared.world.Dev.{Dev}
 use Rattle.run_rules.specs.World.{World, device_at, is_held, is_live}
-use Rattle.run_rules.specs.Deeds.{Deed, Open, Does}
+use Rattle.run_rules.specs.declared.deed.Deed.{Deed}
+use Rattle.run_rules.specs.declared.deed.Deed.TheVariants.{Search, EndScan, BeginInterrupts, Finalise, EndCaller, Drop, Refuse, Open, Close, Start, Done, Detach, Free, Rescan, BeginPower, Sleep, Wake, EndPower, Plug, Unplug, Tell}
+use Rattle.run_rules.specs.declared.deed.Choice.TheVariants.{Does}
 use Rattle.run_rules.specs.Next.{next}
 use Rattle.run_rules.specs.After.{after}
 use Rattle.run_rules.proofs.Turns.{find_same}
@@ -15,10 +16,7 @@ use Rattle.run_sound.proofs.Holding.{holds_opened, holds_returned, holds_same}
 use Rattle.run_sound.proofs.Spots.{other_way}
 use Rattle.dev_board.specs.declared.answer.LeaseStep.{LeaseStep}
 use Rattle.dev_board.specs.declared.answer.LeaseStep.TheVariants.{Keep, Take, Give}
-use Rattle.dev_board.specs.declared.work.Work.{Work}
-use Rattle.dev_board.specs.declared.work.Work.TheVariants as work
 use Rattle.dev_board.specs.Witness.{lease_step}
-use Rattle.dev_board.specs.Works.{deed_by}
 use Rattle.dev_board.proofs.GoneLaws.{found_there}
 
 find_never : (p : Dev → Bool) (live : List Dev) → ((d : Dev) → p d ≡ false) → find p live ≡ None
@@ -49,11 +47,11 @@ only_new : (s x : ℕ) (own : Bool) (held : Bool) → (s == x) ≡ own → (s �
 only_new s x true held e free = let is : s ≡ x = eqb-true s x e in rw (free is) (sym (eq-eqb x s (sym is)))
 only_new s x false held e free = and-not_self held ∙ sym (other_way s x e)
 
-pub lease_takes : (w : World) (k : ℕ) (said : Command) (s : ℕ) → next w k ≡ Does (Open said s) → lease_step w (after w k (Open said s)) k ≡ option_map_or (λ d. Take d.spot) (device_at w.live s) Keep
+pub lease_takes : (w : World) (k s : ℕ) (sole : Bool) → next w k ≡ Does (Open s sole) → lease_step w (after w k (Open s sole)) k ≡ option_map_or (λ d. Take d.spot) (device_at w.live s) Keep
 unfolding lease_step
-lease_takes w k said s e =
-    let more : HoldsMore w k (Open said s) s = holds_opened w k said s e in
-    rw (find_same (λ (x : Dev). is_held (after w k (Open said s)) k x.serial && not (is_held w k x.serial)) (λ (x : Dev). x.serial == s) w.live
+lease_takes w k s sole e =
+    let more : HoldsMore w k (Open s sole) s = holds_opened w k s sole e in
+    rw (find_same (λ (x : Dev). is_held (after w k (Open s sole)) k x.serial && not (is_held w k x.serial)) (λ (x : Dev). x.serial == s) w.live
     (λ x. ap (λ (h : Bool). h && not (is_held w k x.serial)) (more.holds x.serial) ∙ only_new s x.serial (s == x.serial) (is_held w k x.serial) refl (λ is. rw (← is) more.free)))
     (found_either w.live s (λ d. Take d.spot) _ Keep more.live)
 
@@ -77,43 +75,52 @@ lease_gives w k s d e back =
           (λ x. ap (λ (h : Bool). is_held w k x.serial && not h) (less.holds x.serial) ∙ only_gone s x.serial (s == x.serial) (is_held w k x.serial) refl (λ is. rw (← is) less.held)),
     ) refl
 
--- the works that open or close nothing
-opens_none : (w : World) (said : Command) (x : Work) → ((of : ℕ) → x ≢ work.Open of) → opened_by (deed_by w said x) ≡ None
-opens_none w said (work.Open of) a = absurd (a of refl)
-opens_none w said (work.Close of) a = refl
-opens_none w said (work.Drop of) a = refl
-opens_none w said (work.Detach of) a = refl
-opens_none w said (work.Sleep of) a = refl
-opens_none w said (work.Wake of) a = refl
-opens_none w said (work.Free of) a = refl
-opens_none w said (work.Refuse why) a = refl
-opens_none w said (work.Start ticket) a = refl
-opens_none w said (work.Rescan of only) a = refl
-opens_none w said (work.BeginPower kind of) a = refl
-opens_none w said (work.Plug spot) a = refl
-opens_none w said (work.Unplug spot of) a = refl
-opens_none w said work.Tell a = refl
-opens_none w said (work.EndPower of end) a = refl
-opens_none w said work.End a = refl
+-- the deeds that open or close nothing
+opens_none : (d : Deed) → ((s : ℕ) (sole : Bool) → d ≢ Open s sole) → opened_by d ≡ None
+opens_none (Search p spot to got) a = refl
+opens_none (EndScan p) a = refl
+opens_none BeginInterrupts a = refl
+opens_none (Finalise s shown got listed anew) a = refl
+opens_none EndCaller a = refl
+opens_none (Drop s) a = refl
+opens_none (Refuse why) a = refl
+opens_none (Open s sole) a = absurd (a s sole refl)
+opens_none (Close s) a = refl
+opens_none (Start ticket) a = refl
+opens_none (Done ticket) a = refl
+opens_none (Detach s) a = refl
+opens_none (Free s) a = refl
+opens_none (Rescan s only) a = refl
+opens_none (BeginPower kind s) a = refl
+opens_none (Sleep s) a = refl
+opens_none (Wake s) a = refl
+opens_none (EndPower end) a = refl
+opens_none (Plug x) a = refl
+opens_none (Unplug x of) a = refl
+opens_none Tell a = refl
 
-returns_none : (w : World) (said : Command) (x : Work) → ((of : ℕ) → x ≢ work.Close of) → ((of : ℕ) → x ≢ work.Drop of) → returned_by (deed_by w said x) ≡ None
-returns_none w said (work.Close of) a b = absurd (a of refl)
-returns_none w said (work.Drop of) a b = absurd (b of refl)
-returns_none w said (work.Open of) a b = refl
-returns_none w said (work.Detach of) a b = refl
-returns_none w said (work.Sleep of) a b = refl
-returns_none w said (work.Wake of) a b = refl
-returns_none w said (work.Free of) a b = refl
-returns_none w said (work.Refuse why) a b = refl
-returns_none w said (work.Start ticket) a b = refl
-returns_none w said (work.Rescan of only) a b = refl
-returns_none w said (work.BeginPower kind of) a b = refl
-returns_none w said (work.Plug spot) a b = refl
-returns_none w said (work.Unplug spot of) a b = refl
-returns_none w said work.Tell a b = refl
-returns_none w said (work.EndPower of end) a b = refl
-returns_none w said work.End a b = refl
+returns_none : (d : Deed) → ((s : ℕ) → d ≢ Close s) → ((s : ℕ) → d ≢ Drop s) → returned_by d ≡ None
+returns_none (Search p spot to got) a b = refl
+returns_none (EndScan p) a b = refl
+returns_none BeginInterrupts a b = refl
+returns_none (Finalise s shown got listed anew) a b = refl
+returns_none EndCaller a b = refl
+returns_none (Drop s) a b = absurd (b s refl)
+returns_none (Refuse why) a b = refl
+returns_none (Open s sole) a b = refl
+returns_none (Close s) a b = absurd (a s refl)
+returns_none (Start ticket) a b = refl
+returns_none (Done ticket) a b = refl
+returns_none (Detach s) a b = refl
+returns_none (Free s) a b = refl
+returns_none (Rescan s only) a b = refl
+returns_none (BeginPower kind s) a b = refl
+returns_none (Sleep s) a b = refl
+returns_none (Wake s) a b = refl
+returns_none (EndPower end) a b = refl
+returns_none (Plug x) a b = refl
+returns_none (Unplug x of) a b = refl
+returns_none Tell a b = refl
 
-pub work_keeps : (w : World) (k : ℕ) (said : Command) (x : Work) → ((of : ℕ) → x ≢ work.Open of) → ((of : ℕ) → x ≢ work.Close of) → ((of : ℕ) → x ≢ work.Drop of)
-    → lease_step w (after w k (deed_by w said x)) k ≡ Keep
-work_keeps w k said x a b c = lease_keeps w k (deed_by w said x) (opens_none w said x a) (returns_none w said x b c)
+pub deed_keeps : (w : World) (k : ℕ) (d : Deed) → ((s : ℕ) (sole : Bool) → d ≢ Open s sole) → ((s : ℕ) → d ≢ Close s) → ((s : ℕ) → d ≢ Drop s) → lease_step w (after w k d) k ≡ Keep
+deed_keeps w k d a b c = lease_keeps w k d (opens_none d a) (returns_none d b c)

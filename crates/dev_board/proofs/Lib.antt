@@ -5,7 +5,7 @@ pub mod LateLaws
 pub mod MarkLaws
 pub mod NameLaws
 pub mod SlotLaws
-pub mod WorkSlots
+pub mod DeedSlots
 pub mod LeaseLaws
 pub mod EffectLaws
 pub mod WantedLaws

@@ -10,7 +10,7 @@ use Rattle.cf_types.specs.declared.machine.Command.{Command}
 use Rattle.cf_types.specs.declared.machine.Ticket.{Ticket}
 use Rattle.run_rules.specs.declared.event.PowerKind.{PowerKind}
 use Rattle.run_rules.specs.declared.event.PowerKind.TheVariants as kind
-use Rattle.run_rules.specs.declared.event.Reply.TheVariants as reply
+use Rattle.run_rules.specs.declared.deed.PowerEnd.TheVariants as ends
 use Rattle.run_rules.specs.declared.world.Activity.{Activity}
 use Rattle.run_rules.specs.declared.world.Activity.TheVariants as activity
 use Rattle.run_rules.specs.declared.world.Dev.{Dev}
@@ -21,12 +21,13 @@ use Rattle.run_rules.specs.declared.world.Wait.TheVariants as wait
 use Rattle.run_rules.specs.declared.world.Ref.{Ref}
 use Rattle.run_rules.specs.World.{World, caller_at, device_at, has_ended, holds_in, is_ended, is_held, is_number, is_pinned, is_referred, policy_of}
 use Rattle.run_rules.specs.Sound.{IsFreed}
-use Rattle.run_rules.specs.Deeds as deeds
-use Rattle.run_rules.specs.Deeds.{BeginInterrupts, Deed, Does, Done, Drop, EndCaller, EndPower, Ended, Free, Waits, Wake}
+use Rattle.run_rules.specs.declared.deed.Choice.{Choice}
+use Rattle.run_rules.specs.declared.deed.Deed.{Deed}
+use Rattle.run_rules.specs.declared.deed.Deed.TheVariants.{BeginInterrupts, Done, Drop, EndCaller, EndPower, Free, Wake}
+use Rattle.run_rules.specs.declared.deed.Choice.TheVariants.{Does, Ended, Waits}
 use Rattle.run_rules.specs.Next.{by_activity, closing, command_deed, command_of, finalise, first_held, freeing, next, next_boot, next_command, next_free, next_sleep, next_wake, is_power, on_top, other_turn, powering, starting, suspending, waking}
 use Rattle.run_rules.proofs.Devices.{found_in}
 use Rattle.ref_ledger.specs.Slots.{Denial}
-use Rattle.run_sound.specs.Commands.{power_command}
 use Rattle.run_sound.specs.Kept.{Kept}
 use Rattle.run_sound.proofs.Callers.{clash, doing_so, not_ended}
 use Rattle.run_sound.proofs.Freeing.{is_numbered}
@@ -36,40 +37,32 @@ use Rattle.dev_board.specs.Shown.{Shown}
 use Rattle.dev_board.specs.Stepping.{DenialsAre, IsOfBoot, StepIs, WaitIs, kept_ticket, ticket_in}
 use Rattle.dev_board.specs.declared.stepped.Stepped.{Stepped}
 use Rattle.dev_board.specs.declared.stepped.Stepped.TheVariants as stepped
-use Rattle.dev_board.specs.Plans.{deed_of}
-use Rattle.dev_board.specs.declared.plan.Plan.{Plan}
-use Rattle.dev_board.specs.declared.plan.Plan.TheVariants as plan
-use Rattle.dev_board.specs.declared.work.Work.{Work}
-use Rattle.dev_board.specs.declared.work.Work.TheVariants as work
-use Rattle.dev_board.specs.Sayings.{IsInForce}
-use Rattle.dev_board.specs.Works.{deed_by, end_of}
-use Rattle.dev_board.proofs.FormedEvents.{power_end}
 use Rattle.dev_board.proofs.GoneLaws.{found_there, serial_found}
 use Rattle.dev_board.proofs.Kept.{boot_idle}
 
 -- ---- a caller that has not ended does something, or waits, but for no leases
 
-abbrev GoesOn : deeds.Choice → Type 0
+abbrev GoesOn : Choice → Type 0
 GoesOn Ended = ⊥
 GoesOn (Waits (wait.Leases of mask)) = ⊥
 GoesOn _ = ⊤
 
 -- the choice does so
-record Goes (c : deeds.Choice) : Type 0 where
+record Goes (c : Choice) : Type 0 where
   so : GoesOn c
 
 does : (d : Deed) → Goes (Does d)
 does d = record { so = tt }
 
-if_goes : (b : Bool) (x y : deeds.Choice) → Goes x → Goes y → Goes (cond b x y)
+if_goes : (b : Bool) (x y : Choice) → Goes x → Goes y → Goes (cond b x y)
 if_goes b x y p q = cond_both Goes b x y (λ e. p) (λ e. q)
 
-map_goes : {A : Type 0} (f : A → deeds.Choice) (o : Option A) (c : deeds.Choice) → ((a : A) → Goes (f a)) → Goes c → Goes (option_map_or f o c)
+map_goes : {A : Type 0} (f : A → Choice) (o : Option A) (c : Choice) → ((a : A) → Goes (f a)) → Goes c → Goes (option_map_or f o c)
 map_goes f o c p q = option_both Goes f o c (λ a e. p a) (λ e. q)
 
 boot_goes : (w : World) → Goes (next_boot w)
 unfolding next_boot
-boot_goes w = if_goes (not w.phase) _ _ (does _) (if_goes _ _ _ (does _) (if_goes w.again _ _ (does _) (does _)))
+boot_goes w = if_goes (not w.interrupts_on) _ _ (does _) (if_goes _ _ _ (does _) (if_goes w.pass_repeats _ _ (does _) (does _)))
 
 waits_turn : (j : ℕ) → Goes (Waits (wait.Power j))
 waits_turn j = record { so = tt }
@@ -82,7 +75,7 @@ waits_refs s = record { so = tt }
 
 start_goes : (w : World) (k : ℕ) (said : Command) → Goes (starting w k said)
 start_goes w k said =
-    map_goes (λ j. Waits (wait.Power j)) (cond (is_power said) (other_turn w.turn k) None) (Does (command_deed w k ((caller_at w k).over + 1) said)) (λ j. waits_turn j) (does _)
+    map_goes (λ j. Waits (wait.Power j)) (cond (is_power said) (other_turn w.power_owner k) None) (Does (command_deed w k ((caller_at w k).over + 1) said)) (λ j. waits_turn j) (does _)
 
 close_goes : (w : World) (k : ℕ) → Goes (closing w k)
 close_goes w k = map_goes (λ d. Does (Drop d.serial)) (first_held w k) (Does EndCaller) (λ d. does _) (does _)
@@ -99,13 +92,13 @@ top_goes w k [] = if_goes (k == 0) _ _ (boot_goes w) (command_goes w k)
 suspend_goes : (w : World) (target : ℕ) → Goes (suspending w target)
 unfolding suspending
 suspend_goes w target =
-    map_goes _ (next_sleep w.live target) (Does (EndPower target reply.Ok))
+    map_goes _ (next_sleep w.live target) (Does (EndPower ends.Done))
     (λ d. if_goes (is_pinned w d.serial) (Waits (wait.Scan d.serial)) _ (waits_scan d.serial)
     (if_goes (policy_of w.setup d.row).nopower _ _ (does _) (if_goes (policy_of w.setup d.row).failsuspend _ _ (does _) (does _)))) (does _)
 
 wake_goes : (w : World) (target : ℕ) (whole : Bool) → Goes (waking w target whole)
 unfolding waking
-wake_goes w target whole = map_goes (λ d. Does (Wake d.serial)) (next_wake w.live target whole) (Does (EndPower target reply.Ok)) (λ d. does _) (does _)
+wake_goes w target whole = map_goes (λ d. Does (Wake d.serial)) (next_wake w.live target whole) (Does (EndPower ends.Done)) (λ d. does _) (does _)
 
 power_goes : (w : World) (what : PowerKind) (target : ℕ) → Goes (powering w what target)
 power_goes w kind.Suspend target = suspend_goes w target
@@ -200,7 +193,7 @@ quiet_wait w k (wait.Leases of mask) live denied last kept e = absurd (subst Goe
 
 -- ---- the boot waits for nothing
 
-abbrev Acts : deeds.Choice → Type 0
+abbrev Acts : Choice → Type 0
 Acts (Does d) = ⊤
 Acts _ = ⊥
 
@@ -208,7 +201,7 @@ acts_if : (b : Bool) (x y : Deed) → Acts (cond b (Does x) (Does y))
 acts_if true x y = tt
 acts_if false x y = tt
 
-acts_or : (b : Bool) (x : Deed) (c : deeds.Choice) → Acts c → Acts (cond b (Does x) c)
+acts_or : (b : Bool) (x : Deed) (c : Choice) → Acts c → Acts (cond b (Does x) c)
 acts_or true x c p = tt
 acts_or false x c p = p
 
@@ -217,9 +210,9 @@ unfolding next_boot
 top_acts w (Scan p only wanted from ∷ rest) = tt
 top_acts w (Finaliser s ∷ rest) = tt
 top_acts w [] =
-    let again : Deed = finalise w (slice_index_or w.finalisers 0 0) (Some 0) true in
-    let one : Deed = finalise w (slice_index_or w.finalisers w.place 0) (Some w.place) false in
-    acts_or (not w.phase) BeginInterrupts _ (acts_or (nat_lt w.place (length w.finalisers)) one _ (acts_if w.again again EndCaller))
+    let pass_repeats : Deed = finalise w (slice_index_or w.finalisers 0 0) (Some 0) true in
+    let one : Deed = finalise w (slice_index_or w.finalisers w.next_finaliser 0) (Some w.next_finaliser) false in
+    acts_or (not w.interrupts_on) BeginInterrupts _ (acts_or (nat_lt w.next_finaliser (length w.finalisers)) one _ (acts_if w.pass_repeats pass_repeats EndCaller))
 
 boot_acts : (w : World) → Kept w → has_ended w 0 ≡ false → Acts (next w 0)
 unfolding next
@@ -254,50 +247,6 @@ of_boot b n (stepped.Transfer ticket told) kept is = boot_transfers b.world tick
 of_boot b n (stepped.Stopped first told) kept is = tt
 of_boot b n stepped.Closed kept is = tt
 of_boot b n stepped.Memory kept is = tt
-
--- ---- the command in force
-
-pub in_force : (w : World) (k : ℕ) (said : Command) (x : Work) → command_of w k ≡ Some said → IsInForce w k said x
-in_force w k said (work.EndPower of end) e = e
-in_force w k said (work.Open of) e = tt
-in_force w k said (work.Close of) e = tt
-in_force w k said (work.Drop of) e = tt
-in_force w k said (work.Detach of) e = tt
-in_force w k said (work.Sleep of) e = tt
-in_force w k said (work.Wake of) e = tt
-in_force w k said (work.Free of) e = tt
-in_force w k said (work.Refuse why) e = tt
-in_force w k said (work.Start ticket) e = tt
-in_force w k said (work.Rescan of only) e = tt
-in_force w k said (work.BeginPower kind of) e = tt
-in_force w k said (work.Plug spot) e = tt
-in_force w k said (work.Unplug spot of) e = tt
-in_force w k said work.Tell e = tt
-in_force w k said work.End e = tt
-
-none_some : (o : Option Command) (said : Command) → o ≡ None → o ≡ Some said → ⊥
-none_some o said none some = cc
-
--- where none is left no power command ends
-pub none_forces : (w : World) (k : ℕ) (said : Command) (x : Work) → Kept w → command_of w k ≡ None → next w k ≡ Does (deed_by w said x) → IsInForce w k said x
-none_forces w k said (work.EndPower of end) kept none e =
-    let it = power_end w k of (end_of w end) kept (has_command_reason w k (EndPower of (end_of w end)) e) in
-    absurd (none_some (command_of w k) (power_command it.what it.name) none it.said)
-none_forces w k said (work.Open of) kept none e = tt
-none_forces w k said (work.Close of) kept none e = tt
-none_forces w k said (work.Drop of) kept none e = tt
-none_forces w k said (work.Detach of) kept none e = tt
-none_forces w k said (work.Sleep of) kept none e = tt
-none_forces w k said (work.Wake of) kept none e = tt
-none_forces w k said (work.Free of) kept none e = tt
-none_forces w k said (work.Refuse why) kept none e = tt
-none_forces w k said (work.Start ticket) kept none e = tt
-none_forces w k said (work.Rescan of only) kept none e = tt
-none_forces w k said (work.BeginPower kind of) kept none e = tt
-none_forces w k said (work.Plug spot) kept none e = tt
-none_forces w k said (work.Unplug spot of) kept none e = tt
-none_forces w k said work.Tell kept none e = tt
-none_forces w k said work.End kept none e = tt
 
 -- ---- the end of a transfer is what its caller does next
 
@@ -341,34 +290,9 @@ next_kept w k t e = ap ticket_in (has_command_reason w k (Done t) e)
 same_deed : (d e : Deed) → Does d ≡ Does e → d ≡ e
 same_deed d e h = cc
 
-none_kept : (w : World) (k : ℕ) (d : Deed) → Kept w → next w k ≡ Does d → ((t : Ticket) → d ≡ Done t → ⊥) → kept_ticket w k ≡ None
+pub none_kept : (w : World) (k : ℕ) (d : Deed) → Kept w → next w k ≡ Does d → ((t : Ticket) → d ≡ Done t → ⊥) → kept_ticket w k ≡ None
 none_kept w k d kept chosen other = cases (kept_ticket w k) refl
   where
     cases : (o : Option Ticket) → kept_ticket w k ≡ o → kept_ticket w k ≡ None
     cases None e = e
     cases (Some t) e = absurd (other t (same_deed d (Done t) (sym chosen ∙ kept_next w k t kept e)))
-
-pub plan_unkept : (w : World) (k : ℕ) (x : Plan) → Kept w → next w k ≡ Does (deed_of x) → kept_ticket w k ≡ None
-plan_unkept w k (plan.Search parent moved got) kept e = none_kept w k _ kept e (λ t h. cc)
-plan_unkept w k (plan.EndScan of) kept e = none_kept w k _ kept e (λ t h. cc)
-plan_unkept w k plan.BeginInterrupts kept e = none_kept w k _ kept e (λ t h. cc)
-plan_unkept w k (plan.Finalise of shown got listed anew) kept e = none_kept w k _ kept e (λ t h. cc)
-plan_unkept w k plan.EndCaller kept e = none_kept w k _ kept e (λ t h. cc)
-
-pub work_unkept : (w : World) (k : ℕ) (said : Command) (x : Work) → Kept w → next w k ≡ Does (deed_by w said x) → kept_ticket w k ≡ None
-work_unkept w k said (work.Open of) kept e = none_kept w k _ kept e (λ t h. cc)
-work_unkept w k said (work.Close of) kept e = none_kept w k _ kept e (λ t h. cc)
-work_unkept w k said (work.Drop of) kept e = none_kept w k _ kept e (λ t h. cc)
-work_unkept w k said (work.Detach of) kept e = none_kept w k _ kept e (λ t h. cc)
-work_unkept w k said (work.Sleep of) kept e = none_kept w k _ kept e (λ t h. cc)
-work_unkept w k said (work.Wake of) kept e = none_kept w k _ kept e (λ t h. cc)
-work_unkept w k said (work.Free of) kept e = none_kept w k _ kept e (λ t h. cc)
-work_unkept w k said (work.Refuse why) kept e = none_kept w k _ kept e (λ t h. cc)
-work_unkept w k said (work.Start ticket) kept e = none_kept w k _ kept e (λ t h. cc)
-work_unkept w k said (work.Rescan of only) kept e = none_kept w k _ kept e (λ t h. cc)
-work_unkept w k said (work.BeginPower kind of) kept e = none_kept w k _ kept e (λ t h. cc)
-work_unkept w k said (work.EndPower of end) kept e = none_kept w k _ kept e (λ t h. cc)
-work_unkept w k said (work.Plug spot) kept e = none_kept w k _ kept e (λ t h. cc)
-work_unkept w k said (work.Unplug spot of) kept e = none_kept w k _ kept e (λ t h. cc)
-work_unkept w k said work.Tell kept e = none_kept w k _ kept e (λ t h. cc)
-work_unkept w k said work.End kept e = none_kept w k _ kept e (λ t h. cc)

@@ -1,25 +1,20 @@
 -- The locator values that a rescan wants.
 use Rattle.std.proofs.Common.{◌≡◌, ◌<◌, ◌≤◌, ◌-◌, ◌||◌, ◌==◌, ℕ, Bool, true, false, not, List, [], ◌∷◌, length, get_or, take, drop, map, is_some, Option, Some, None, option_and_then, refl, sym, ap, ◌∙◌, arith}
-use Rattle.std.specs.Prelude.{if◌then◌else◌, unwrap_or, bytes_eq, position}
+use Rattle.std.specs.Prelude.{if◌then◌else◌, bytes_eq, position}
 use Rattle.std.specs.List.{list_any}
 use Rattle.std.specs.Option.{option_map_or}
 use Rattle.cf_types.specs.declared.machine.Given.{Given}
 use Rattle.cf_types.specs.declared.tables.Locator.{Locator}
 use Rattle.cf_types.proofs.PlaceLemmas.{position-map}
 use Rattle.run_rules.specs.declared.world.Wanted.{Wanted}
-use Rattle.std.specs.declared.result.Result.TheVariants.{Ok, Err}
 use Rattle.cf_types.specs.Locators.{locators_at}
-use Rattle.cf_types.specs.declared.machine.Command.{Command}
 use Rattle.cf_types.specs.declared.tables.Place.TheVariants.{At}
-use Rattle.run_rules.specs.declared.event.Reply.TheVariants as reply
 use Rattle.run_rules.specs.declared.world.Dev.{Dev}
-use Rattle.run_rules.specs.declared.world.Frame.TheVariants.{Scan}
-use Rattle.run_rules.specs.World.{World, has, is_number, offered_by, start}
-use Rattle.run_rules.specs.Deeds.{Deed, Answer, Rescan}
+use Rattle.run_rules.specs.World.{World, has, is_number, offered_by}
+use Rattle.run_rules.specs.declared.deed.Deed.{Deed}
+use Rattle.run_rules.specs.declared.deed.Deed.TheVariants.{Refuse, Rescan}
 use Rattle.run_rules.specs.Next.{attr_named, locator_place, rescan_of, wanted_of}
-use Rattle.dev_board.specs.declared.work.Refusal.TheVariants.{BadAttribute, BadLocator}
-use Rattle.dev_board.specs.Choices.{rescan_or}
-use Rattle.dev_board.specs.Works.{given_by}
+use Rattle.run_rules.specs.declared.deed.Refusal.TheVariants.{BadAttribute, BadLocator}
 
 pub place_is : (locators : List Locator) (name : List ℕ) → locator_place (map (λ l. l.name) locators) name ≡ position (λ l. bytes_eq l.name name) locators
 place_is locators name = position-map (λ n. bytes_eq n name) (λ (l : Locator). l.name) locators
@@ -95,44 +90,37 @@ wanted_none names (g ∷ gs) few = absurd (omega (arith, few))
 
 -- ---- what is searched
 
-pub rescan_all : (w : World) (said : Command) (d : Dev) (attr : Option (List ℕ)) (given : List Given) → attr ≡ None → rescan_of w said d attr given ≡ rescan_or w said d (Ok None)
+pub rescan_all : (w : World) (d : Dev) (attr : Option (List ℕ)) (given : List Given) → attr ≡ None → rescan_of w d attr given ≡ Rescan d.serial None
 unfolding rescan_of
-rescan_all w said d attr given e = rw e refl
+rescan_all w d attr given e = rw e refl
 
 -- what is wanted of an attribute
 abbrev wanted_at : World → ℕ → List Given → Option (List Wanted)
 wanted_at w a given = wanted_of (map (λ l. l.name) (locators_at w.setup.tables.attrs (At a))) given
 
 -- a rescan of an attribute, by whether it is offered and by what is wanted of it
-abbrev rescan_attr : Command → Dev → ℕ → Bool → Option (List Wanted) → Deed
-rescan_attr said d a offered wanted =
-    if offered then option_map_or (λ ws. Rescan said (Scan d.serial (Some a) ws start)) wanted (Answer said reply.BadLocator) else Answer said reply.BadAttribute
+abbrev rescan_attr : Dev → ℕ → Bool → Option (List Wanted) → Deed
+rescan_attr d a offered wanted = if offered then option_map_or (λ ws. Rescan d.serial (Some a)) wanted (Refuse BadLocator) else Refuse BadAttribute
 
-rescan_named : (w : World) (said : Command) (d : Dev) (name : List ℕ) (given : List Given) (o : Option ℕ) → attr_named w name ≡ o
-    → rescan_of w said d (Some name) given ≡ option_map_or (λ a. rescan_attr said d a (has (offered_by w.setup d.row) a) (wanted_at w a given)) o (Answer said reply.BadAttribute)
+rescan_named : (w : World) (d : Dev) (name : List ℕ) (given : List Given) (o : Option ℕ) → attr_named w name ≡ o
+    → rescan_of w d (Some name) given ≡ option_map_or (λ a. rescan_attr d a (has (offered_by w.setup d.row) a) (wanted_at w a given)) o (Refuse BadAttribute)
 unfolding rescan_of
-rescan_named w said d name given o at =
-    ap (λ (x : Option ℕ). option_map_or (λ a. rescan_attr said d a (has (offered_by w.setup d.row) a) (wanted_at w a given)) x (Answer said reply.BadAttribute)) at
+rescan_named w d name given o at = ap (λ (x : Option ℕ). option_map_or (λ a. rescan_attr d a (has (offered_by w.setup d.row) a) (wanted_at w a given)) x (Refuse BadAttribute)) at
 
-pub unnamed : (w : World) (said : Command) (d : Dev) (name : List ℕ) (given : List Given) → attr_named w name ≡ None
-    → rescan_of w said d (Some name) given ≡ rescan_or w said d (Err BadAttribute)
-unnamed w said d name given at = rescan_named w said d name given None at
+pub unnamed : (w : World) (d : Dev) (name : List ℕ) (given : List Given) → attr_named w name ≡ None → rescan_of w d (Some name) given ≡ Refuse BadAttribute
+unnamed w d name given at = rescan_named w d name given None at
 
-pub unoffered : (w : World) (said : Command) (d : Dev) (name : List ℕ) (given : List Given) (a : ℕ) → attr_named w name ≡ Some a
-    → has (offered_by w.setup d.row) a ≡ false → rescan_of w said d (Some name) given ≡ rescan_or w said d (Err BadAttribute)
-unoffered w said d name given a at offered =
-    rescan_named w said d name given (Some a) at ∙ ap (λ (b : Bool). rescan_attr said d a b (wanted_at w a given)) offered
+pub unoffered : (w : World) (d : Dev) (name : List ℕ) (given : List Given) (a : ℕ) → attr_named w name ≡ Some a → has (offered_by w.setup d.row) a ≡ false
+    → rescan_of w d (Some name) given ≡ Refuse BadAttribute
+unoffered w d name given a at offered = rescan_named w d name given (Some a) at ∙ ap (λ (b : Bool). rescan_attr d a b (wanted_at w a given)) offered
 
-pub rescanned : (w : World) (said : Command) (d : Dev) (name : List ℕ) (given : List Given) (a : ℕ) (are : Bool) → attr_named w name ≡ Some a
-    → has (offered_by w.setup d.row) a ≡ true → is_some (wanted_at w a given) ≡ are → given_by said ≡ given
-    → rescan_of w said d (Some name) given ≡ rescan_or w said d (if are then Ok (Some a) else Err BadLocator)
-rescanned w said d name given a are at offered wanted is =
-    rescan_named w said d name given (Some a) at ∙ ap (λ (b : Bool). rescan_attr said d a b (wanted_at w a given)) offered
-    ∙ by_wanted (wanted_at w a given) are (ap (wanted_at w a) is) wanted
+pub rescanned : (w : World) (d : Dev) (name : List ℕ) (given : List Given) (a : ℕ) (are : Bool) → attr_named w name ≡ Some a
+    → has (offered_by w.setup d.row) a ≡ true → is_some (wanted_at w a given) ≡ are → rescan_of w d (Some name) given ≡ (if are then Rescan d.serial (Some a) else Refuse BadLocator)
+rescanned w d name given a are at offered wanted =
+    rescan_named w d name given (Some a) at ∙ ap (λ (b : Bool). rescan_attr d a b (wanted_at w a given)) offered ∙ by_wanted (wanted_at w a given) are wanted
   where
-    by_wanted : (o : Option (List Wanted)) (b : Bool) → wanted_at w a (given_by said) ≡ o → is_some o ≡ b
-        → rescan_attr said d a true o ≡ rescan_or w said d (if b then Ok (Some a) else Err BadLocator)
-    by_wanted None true e h = absurd cc
-    by_wanted None false e h = refl
-    by_wanted (Some ws) true e h = ap (λ (x : Option (List Wanted)). Rescan said (Scan d.serial (Some a) (unwrap_or x []) start)) (sym e)
-    by_wanted (Some ws) false e h = absurd cc
+    by_wanted : (o : Option (List Wanted)) (b : Bool) → is_some o ≡ b → rescan_attr d a true o ≡ (if b then Rescan d.serial (Some a) else Refuse BadLocator)
+    by_wanted None true h = absurd cc
+    by_wanted None false h = refl
+    by_wanted (Some ws) true h = refl
+    by_wanted (Some ws) false h = absurd cc

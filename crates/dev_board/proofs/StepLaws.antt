@@ -1,4 +1,4 @@
--- What is known of a plan.
+-- What is known of a deed.
 use Rattle.std.proofs.Common.{◌≡◌, ◌<◌, ◌||◌, ◌==◌, ℕ, zero, suc, Bool, true, false, List, [], ◌∷◌, length, Option, Some, None, subst, arith}
 use Rattle.std.specs.Prelude.{IsTrue, IfSome}
 use Rattle.run_rules.specs.declared.world.Setup.{Setup}
@@ -10,7 +10,9 @@ use Rattle.run_rules.specs.declared.world.Frame.{Frame}
 use Rattle.run_rules.specs.declared.world.Frame.TheVariants.{Finaliser}
 use Rattle.run_rules.specs.Sound.{Sound}
 use Rattle.run_rules.specs.World.{World, Caller, caller_at, has_ended, is_live, nobody}
-use Rattle.run_rules.specs.Deeds.{Does}
+use Rattle.run_rules.specs.declared.deed.Deed.{Deed}
+use Rattle.run_rules.specs.declared.deed.Deed.TheVariants.{Search, EndScan, BeginInterrupts, Finalise, EndCaller, Drop, Refuse, Open, Close, Start, Done, Detach, Free, Rescan, BeginPower, Sleep, Wake, EndPower, Plug, Unplug, Tell}
+use Rattle.run_rules.specs.declared.deed.Choice.TheVariants.{Does}
 use Rattle.run_rules.specs.Next.{next}
 use Rattle.run_rules.specs.After.{show_spot}
 use Rattle.run_sound.specs.Calls.{CallsDevices, IsOfDevice}
@@ -18,25 +20,39 @@ use Rattle.run_sound.specs.Coming.{MayCome, IsCalled}
 use Rattle.run_sound.specs.Kept.{MayRun, Kept}
 use Rattle.run_sound.proofs.Arrivals.{search_comes, finalise_comes, none_shown, top_known}
 use Rattle.run_sound.proofs.Callers.{all_or, not_ended}
-use Rattle.dev_board.specs.declared.plan.Plan.{Plan}
-use Rattle.dev_board.specs.declared.plan.Plan.TheVariants as plan
 use Rattle.dev_board.specs.Arrivals.{MayArrive}
-use Rattle.dev_board.specs.Plans.{deed_of, got_of}
+use Rattle.dev_board.specs.Publishing.{got_of}
 
 arrives : (s : Setup) (live : List Dev) (hidden : List ℕ) (p : ℕ) (a : Arrival) → MayCome s live hidden p a → MayArrive s live a
 arrives s live hidden p a may = record { known = rw may.parent may.known; unit = may.unit; bare = may.bare; spot = may.spot; row = may.row }
 
--- what comes by a plan may be listed
-pub plan_arrives : (w : World) (k : ℕ) (x : Plan) → MayRun w.setup → Kept w → next w k ≡ Does (deed_of x) → IfSome (got_of x) (MayArrive w.setup w.live)
-plan_arrives w k (plan.Search parent moved None) may kept chosen = tt
-plan_arrives w k (plan.Search parent moved (Some a)) may kept chosen = arrives w.setup w.live w.hidden parent a (search_comes w k parent moved a may kept chosen)
-plan_arrives w k (plan.EndScan of) may kept chosen = tt
-plan_arrives w k plan.BeginInterrupts may kept chosen = tt
-plan_arrives w k (plan.Finalise of shown None listed anew) may kept chosen = tt
-plan_arrives w k (plan.Finalise of None (Some a) listed anew) may kept chosen = absurd (none_shown w k of a listed anew chosen)
-plan_arrives w k (plan.Finalise of (Some x) (Some a) listed anew) may kept chosen =
-    arrives w.setup w.live (show_spot w (Some x)).hidden of a (finalise_comes w k of x a listed anew may kept chosen)
-plan_arrives w k plan.EndCaller may kept chosen = tt
+-- what comes by a deed may be listed
+pub deed_arrives : (w : World) (k : ℕ) (d : Deed) → MayRun w.setup → Kept w → next w k ≡ Does d → IfSome (got_of d) (MayArrive w.setup w.live)
+deed_arrives w k (Search p spot to None) may kept chosen = tt
+deed_arrives w k (Search p spot to (Some a)) may kept chosen = arrives w.setup w.live w.hidden p a (search_comes w k p spot to a may kept chosen)
+deed_arrives w k (EndScan p) may kept chosen = tt
+deed_arrives w k BeginInterrupts may kept chosen = tt
+deed_arrives w k (Finalise s shown None listed anew) may kept chosen = tt
+deed_arrives w k (Finalise s None (Some a) listed anew) may kept chosen = absurd (none_shown w k s a listed anew chosen)
+deed_arrives w k (Finalise s (Some x) (Some a) listed anew) may kept chosen =
+    arrives w.setup w.live (show_spot w (Some x)).hidden s a (finalise_comes w k s x a listed anew may kept chosen)
+deed_arrives w k EndCaller may kept chosen = tt
+deed_arrives w k (Drop s) may kept chosen = tt
+deed_arrives w k (Refuse why) may kept chosen = tt
+deed_arrives w k (Open s sole) may kept chosen = tt
+deed_arrives w k (Close s) may kept chosen = tt
+deed_arrives w k (Start ticket) may kept chosen = tt
+deed_arrives w k (Done ticket) may kept chosen = tt
+deed_arrives w k (Detach s) may kept chosen = tt
+deed_arrives w k (Free s) may kept chosen = tt
+deed_arrives w k (Rescan s only) may kept chosen = tt
+deed_arrives w k (BeginPower kind s) may kept chosen = tt
+deed_arrives w k (Sleep s) may kept chosen = tt
+deed_arrives w k (Wake s) may kept chosen = tt
+deed_arrives w k (EndPower end) may kept chosen = tt
+deed_arrives w k (Plug x) may kept chosen = tt
+deed_arrives w k (Unplug x of) may kept chosen = tt
+deed_arrives w k Tell may kept chosen = tt
 
 -- ---- the finaliser that is called
 

@@ -7,8 +7,9 @@ use Rattle.run_rules.specs.declared.world.Wait.{Wait}
 use Rattle.run_rules.specs.declared.world.Wait.TheVariants as wait
 use Rattle.run_rules.specs.World.{World, has_ended}
 use Rattle.run_rules.specs.After.{after}
-use Rattle.run_rules.specs.Deeds as deeds
-use Rattle.run_rules.specs.Deeds.{Deed, Does, Ended, Waits}
+use Rattle.run_rules.specs.declared.deed.Choice.{Choice}
+use Rattle.run_rules.specs.declared.deed.Deed.{Deed}
+use Rattle.run_rules.specs.declared.deed.Choice.TheVariants.{Does, Ended, Waits}
 use Rattle.run_rules.specs.Next.{next}
 use Rattle.run_rules.specs.Run.{event_of, played, taken}
 use Rattle.run_rules.proofs.Setups.{after_setup}
@@ -92,7 +93,7 @@ none_played b = record { world = refl; events = sym (append-nil b.events); stops
 
 -- ---- the setup stays
 
-taken_setup : (w : World) (k : ℕ) (c : deeds.Choice) → (taken w k c).1.setup ≡ w.setup
+taken_setup : (w : World) (k : ℕ) (c : Choice) → (taken w k c).1.setup ≡ w.setup
 taken_setup w k (Does d) = after_setup w k d
 taken_setup w k (Waits why) = refl
 taken_setup w k Ended = refl

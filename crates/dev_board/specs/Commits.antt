@@ -2,7 +2,8 @@
 use Rattle.std.specs.Prelude.{◌≡◌, ℕ, List, [], ◌∷◌, ◌++◌, length, ◌≤◌, ◌<◌, ◌==◌, not, filter, Option, Some, None, vec_len, vec_capacity}
 use Rattle.run_rules.specs.declared.world.Setup.{Setup}
 use Rattle.run_rules.specs.declared.world.Deferred.{Deferred}
-use Rattle.run_rules.specs.Deeds.{Deed}
+use Rattle.run_rules.specs.declared.deed.Deed.{Deed}
+use Rattle.run_rules.specs.declared.deed.Deed.TheVariants.{Search, EndScan, BeginInterrupts, Finalise}
 use Rattle.run_rules.specs.After.{after}
 use Rattle.run_rules.specs.Lines.{IsFormed}
 use Rattle.run_rules.specs.Run.{event_of}
@@ -10,20 +11,18 @@ use Rattle.dev_board.specs.View.{world_of}
 use Rattle.run_rules.specs.declared.world.Key.TheVariants as key
 use Rattle.defer_queue.specs.Queue.{entries_of}
 use Rattle.dev_board.specs.declared.parts.Core.{Core}
-use Rattle.dev_board.specs.declared.plan.Plan.{Plan}
-use Rattle.dev_board.specs.declared.plan.Plan.TheVariants as plan
 use Rattle.dev_board.specs.Arrivals.{state_at}
 
--- how many frames a plan may push
-abbrev pub frames_for : List Deferred → Plan → ℕ
-frames_for entries (plan.EndScan of) = length (entries_of entries (key.Parent of))
-frames_for entries plan.BeginInterrupts = length (entries_of entries key.Interrupts)
-frames_for entries (plan.Search parent moved got) = 2
-frames_for entries (plan.Finalise of shown got listed anew) = 2
-frames_for entries plan.EndCaller = 0
+-- how many frames a deed may push, beside the one of a rescan
+abbrev pub frames_for : List Deferred → Deed → ℕ
+frames_for entries (EndScan of) = length (entries_of entries (key.Parent of))
+frames_for entries BeginInterrupts = length (entries_of entries key.Interrupts)
+frames_for entries (Search parent spot moved got) = 2
+frames_for entries (Finalise of shown got listed anew) = 2
+frames_for entries _ = 0
 
-pub record HasRoom (c : Core) (k : ℕ) (x : Plan) : Type 0 where
-  pub frames : frames_for c.deferred x ≤ (state_at c.callers.items k).stack.room
+pub record HasRoom (c : Core) (k : ℕ) (d : Deed) : Type 0 where
+  pub frames : frames_for c.deferred d ≤ (state_at c.callers.items k).stack.room
   pub calls : vec_len c.finalisers < vec_capacity c.finalisers
   pub events : vec_len c.events < vec_capacity c.events
 

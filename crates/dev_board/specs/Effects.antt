@@ -1,35 +1,42 @@
--- What a work of a script needs of the world, and whether it takes memory.
-use Rattle.std.specs.Prelude.{◌≡◌, ⊤, ℕ, Bool, true, false, IsTrue, Some, is_some, map, []}
+-- What a deed of a script needs of the world, and which deeds take no memory.
+use Rattle.std.specs.Prelude.{◌≡◌, ⊤, ℕ, Bool, true, false, not, List, IsTrue, Some, is_some, map, []}
 use Rattle.cf_types.specs.Locators.{locators_at}
-use Rattle.cf_types.specs.declared.machine.Command.{Command}
+use Rattle.cf_types.specs.declared.machine.Given.{Given}
 use Rattle.cf_types.specs.declared.tables.Place.TheVariants.{At}
 use Rattle.run_rules.specs.Next.{wanted_of}
 use Rattle.run_rules.specs.declared.world.Setup.{Setup}
 use Rattle.run_rules.specs.World.{World, is_live, is_held, children}
+use Rattle.run_rules.specs.declared.deed.Deed.{Deed}
+use Rattle.run_rules.specs.declared.deed.Deed.TheVariants.{Search, EndScan, BeginInterrupts, Finalise, Open, Close, Drop, Detach, Unplug, Sleep, Wake, Free, Rescan}
 use Rattle.ref_ledger.specs.Refs.{IsHolder}
-use Rattle.dev_board.specs.declared.work.Work.{Work}
-use Rattle.dev_board.specs.declared.work.Work.TheVariants as work
-use Rattle.dev_board.specs.Works.{given_by}
 
--- the values that the command gives are of locators of the attribute, each of another
-abbrev pub IsKnown : Setup → Command → ℕ → Type 0
-IsKnown s said a = is_some (wanted_of (map (λ l. l.name) (locators_at s.tables.attrs (At a))) (given_by said)) ≡ true
+-- the values that a command gives are of locators of the attribute, each of another
+abbrev pub IsKnown : Setup → List Given → ℕ → Type 0
+IsKnown s given a = is_some (wanted_of (map (λ l. l.name) (locators_at s.tables.attrs (At a))) given) ≡ true
 
--- whether a work takes memory
-abbrev pub takes_memory : Work → Bool
-takes_memory (work.Open of) = true
-takes_memory (work.Rescan of only) = true
-takes_memory (work.Unplug spot of) = true
-takes_memory _ = false
+-- the deeds of frames
+abbrev pub is_of_frame : Deed → Bool
+is_of_frame (Search parent spot moved got) = true
+is_of_frame (EndScan of) = true
+is_of_frame BeginInterrupts = true
+is_of_frame (Finalise of shown got listed anew) = true
+is_of_frame _ = false
 
--- what a work needs of the world: that a device is held or not, lives, or has no children
-abbrev pub MayDo : World → ℕ → Work → Type 0
-MayDo w k (work.Open of) = IsHolder k × (is_held w k of ≡ false)
-MayDo w k (work.Close of) = is_held w k of ≡ true
-MayDo w k (work.Drop of) = is_held w k of ≡ true
-MayDo w k (work.Detach of) = IsTrue (is_live w.live of)
-MayDo w k (work.Unplug spot (Some of)) = IsTrue (is_live w.live of)
-MayDo w k (work.Sleep of) = IsTrue (is_live w.live of)
-MayDo w k (work.Wake of) = IsTrue (is_live w.live of)
-MayDo w k (work.Free of) = IsTrue (is_live w.live of) × (children w.live of ≡ [])
+-- the others that take no memory
+abbrev pub is_plain : Deed → Bool
+is_plain (Open of sole) = false
+is_plain (Rescan of only) = false
+is_plain (Unplug spot of) = false
+is_plain d = not (is_of_frame d)
+
+-- what such a deed needs of the world: that a device is held or not, lives, or has no children
+abbrev pub MayDo : World → ℕ → Deed → Type 0
+MayDo w k (Open of sole) = IsHolder k × (is_held w k of ≡ false)
+MayDo w k (Close of) = is_held w k of ≡ true
+MayDo w k (Drop of) = is_held w k of ≡ true
+MayDo w k (Detach of) = IsTrue (is_live w.live of)
+MayDo w k (Unplug spot (Some of)) = IsTrue (is_live w.live of)
+MayDo w k (Sleep of) = IsTrue (is_live w.live of)
+MayDo w k (Wake of) = IsTrue (is_live w.live of)
+MayDo w k (Free of) = IsTrue (is_live w.live of) × (children w.live of ≡ [])
 MayDo w k _ = ⊤

@@ -1,12 +1,10 @@
--- What the event of a plan is made of.
-use Rattle.std.specs.Prelude.{◌<◌, ⊤, ℕ, IsTrue, List, [], length}
+-- What the events of live devices are made of.
+use Rattle.std.specs.Prelude.{◌<◌, ℕ, IsTrue, List, [], length}
 use Rattle.std.specs.List.{AllByRecursion}
 use Rattle.std.specs.Option.{option_map_or}
 use Rattle.run_rules.specs.declared.world.Setup.{Setup}
 use Rattle.run_rules.specs.declared.world.Dev.{Dev}
 use Rattle.run_rules.specs.World.{device_at, is_live, name_of}
-use Rattle.dev_board.specs.declared.plan.Plan.{Plan}
-use Rattle.dev_board.specs.declared.plan.Plan.TheVariants as plan
 
 -- each live device came by a row of the tables
 abbrev pub HaveRows : Setup → List Dev → Type 0
@@ -14,14 +12,6 @@ HaveRows s live = AllByRecursion (λ d. d.row < length s.tables.rows) live
 
 abbrev pub IsLive : List Dev → ℕ → Type 0
 IsLive live x = IsTrue (is_live live x)
-
--- a finaliser that is called is of a live device
-abbrev pub AreLive : List Dev → Plan → Type 0
-AreLive live (plan.Finalise of shown got listed anew) = IsLive live of
-AreLive live (plan.Search parent moved got) = ⊤
-AreLive live (plan.EndScan of) = ⊤
-AreLive live plan.BeginInterrupts = ⊤
-AreLive live plan.EndCaller = ⊤
 
 -- the name of a live device
 abbrev pub name_live : Setup → List Dev → ℕ → List ℕ

@@ -1,7 +1,8 @@
 -- What the result of a transfer does to a board, by its answer.
 use Rattle.std.specs.Prelude.{◌≡◌, ◌≢◌, Some, None}
 use Rattle.cf_types.specs.declared.machine.Ticket.{Ticket}
-use Rattle.run_rules.specs.Deeds.{Does, Done}
+use Rattle.run_rules.specs.declared.deed.Choice.TheVariants.{Does}
+use Rattle.run_rules.specs.declared.deed.Deed.TheVariants.{Done}
 use Rattle.run_rules.specs.Next.{next}
 use Rattle.dev_board.specs.Shown.{Shown, began}
 use Rattle.dev_board.specs.Stepping.{DoesNext, kept_ticket}

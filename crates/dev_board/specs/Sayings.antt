@@ -1,19 +1,21 @@
--- What the events of scripts' callers are made of.
-use Rattle.std.specs.Prelude.{◌≡◌, ⊤, ℕ, true, List, Option, Some, None}
-use Rattle.cf_types.specs.declared.machine.Command.{Command}
+-- What the event of a deed is made of.
+use Rattle.std.specs.Prelude.{◌≡◌, ◌<◌, ⊤, ℕ, true, false, length, IfSome, List, Option, Some, None}
+use Rattle.std.specs.Option.{option_map_or}
+use Rattle.run_rules.specs.declared.deed.Deed.{Deed}
+use Rattle.run_rules.specs.declared.deed.Deed.TheVariants.{Search, Finalise, Drop, Refuse, Done, Free, Sleep, Wake, EndPower}
+use Rattle.run_rules.specs.declared.deed.PowerEnd.{PowerEnd}
+use Rattle.run_rules.specs.declared.deed.PowerEnd.TheVariants as ends
+use Rattle.run_rules.specs.declared.deed.Refusal.{Refusal}
+use Rattle.run_rules.specs.declared.deed.Refusal.TheVariants as refusal
 use Rattle.run_rules.specs.declared.event.Reply.{Reply}
 use Rattle.run_rules.specs.declared.event.Reply.TheVariants as reply
+use Rattle.run_rules.specs.declared.world.Arrival.{Arrival}
 use Rattle.run_rules.specs.declared.world.Dev.{Dev}
+use Rattle.run_rules.specs.declared.world.Setup.{Setup}
 use Rattle.run_rules.specs.World.{World}
 use Rattle.run_rules.specs.Next.{command_of, is_power}
+use Rattle.run_rules.specs.Run.{reply_of}
 use Rattle.dev_board.specs.Events.{IsLive}
-use Rattle.dev_board.specs.Works.{reply_of}
-use Rattle.dev_board.specs.declared.work.Refusal.{Refusal}
-use Rattle.dev_board.specs.declared.work.Refusal.TheVariants as refusal
-use Rattle.dev_board.specs.declared.work.PowerEnd.{PowerEnd}
-use Rattle.dev_board.specs.declared.work.PowerEnd.TheVariants as ends
-use Rattle.dev_board.specs.declared.work.Work.{Work}
-use Rattle.dev_board.specs.declared.work.Work.TheVariants as work
 
 -- the reply of a command: that of a refusal, or that it had its effect
 abbrev pub answer_by : World → Option Refusal → Reply
@@ -34,17 +36,19 @@ EndsLive live (ends.NotSupported s) = IsLive live s
 EndsLive live (ends.Failed s) = IsLive live s
 EndsLive live _ = ⊤
 
--- where a power command ends, it is the one in force
-abbrev pub IsInForce : World → ℕ → Command → Work → Type 0
-IsInForce w k said (work.EndPower of end) = command_of w k ≡ Some said
-IsInForce w k said _ = ⊤
+-- what comes has a row
+abbrev pub HasRow : Setup → Option Arrival → Type 0
+HasRow s got = IfSome got (λ a. a.row < length s.tables.rows)
 
--- the devices that the line of a work names are live, and what ends as a power command is one
-abbrev pub MaySay : List Dev → Command → Work → Type 0
-MaySay live said (work.Refuse why) = RefusesLive live why
-MaySay live said (work.Free of) = IsLive live of
-MaySay live said (work.Sleep of) = IsLive live of
-MaySay live said (work.Wake of) = IsLive live of
-MaySay live said (work.Drop of) = IsLive live of
-MaySay live said (work.EndPower of end) = EndsLive live end × (is_power said ≡ true)
-MaySay live said _ = ⊤
+-- the devices that the line of a deed names are live, what comes has a row, and what ends as a power command is one
+abbrev pub MayBeTold : World → ℕ → Deed → Type 0
+MayBeTold w k (Search p spot to got) = HasRow w.setup got
+MayBeTold w k (Finalise s shown got listed anew) = IsLive w.live s × HasRow w.setup got
+MayBeTold w k (Refuse why) = RefusesLive w.live why
+MayBeTold w k (Done ticket) = IsLive w.live ticket.serial
+MayBeTold w k (Free s) = IsLive w.live s
+MayBeTold w k (Sleep s) = IsLive w.live s
+MayBeTold w k (Wake s) = IsLive w.live s
+MayBeTold w k (Drop s) = IsLive w.live s
+MayBeTold w k (EndPower end) = EndsLive w.live end × (option_map_or is_power (command_of w k) false ≡ true)
+MayBeTold w k _ = ⊤

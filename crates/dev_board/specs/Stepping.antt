@@ -5,7 +5,9 @@ use Rattle.ref_ledger.specs.Slots.{Denial}
 use Rattle.run_rules.specs.declared.world.Dev.{Dev}
 use Rattle.run_rules.specs.declared.world.Wait.{Wait}
 use Rattle.run_rules.specs.declared.world.Wait.TheVariants as wait
-use Rattle.run_rules.specs.Deeds.{Deed, Does, Done, Free, Waits}
+use Rattle.run_rules.specs.declared.deed.Deed.{Deed}
+use Rattle.run_rules.specs.declared.deed.Deed.TheVariants.{Done, Free}
+use Rattle.run_rules.specs.declared.deed.Choice.TheVariants.{Does, Waits}
 use Rattle.run_rules.specs.declared.world.Activity.{Activity}
 use Rattle.run_rules.specs.declared.world.Activity.TheVariants as activity
 use Rattle.run_rules.specs.World.{World, caller_at, has_ended}
@@ -13,7 +15,7 @@ use Rattle.run_rules.specs.Next.{next}
 use Rattle.run_rules.specs.After.{after}
 use Rattle.run_rules.specs.Run.{event_of}
 use Rattle.dev_board.specs.Witness.{Witness, told_did, told_stop, told_transfer, lease_step}
-use Rattle.dev_board.specs.SlotWorks.{WaitsForLeases}
+use Rattle.dev_board.specs.SlotDeeds.{WaitsForLeases}
 use Rattle.dev_board.specs.Shown.{Shown, began}
 use Rattle.dev_board.specs.declared.stepped.Stepped.{Stepped}
 use Rattle.dev_board.specs.declared.stepped.Stepped.TheVariants as stepped

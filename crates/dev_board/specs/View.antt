@@ -30,12 +30,12 @@ world_of s c = record {
   refs = c.refs;
   absent = c.absent.items;
   hidden = c.hidden.items;
-  phase = c.phase;
-  turn = c.turn;
+  interrupts_on = c.interrupts_on;
+  power_owner = c.power_owner;
   deferred = c.deferred;
   finalisers = c.finalisers.items;
-  place = c.place;
-  again = c.again;
+  next_finaliser = c.next_finaliser;
+  pass_repeats = c.pass_repeats;
   callers = callers_of c.callers.items;
 }
 

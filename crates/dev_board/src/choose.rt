@@ -2,37 +2,25 @@
 ghost use Rattle.std.specs.Prelude.{◌≡◌, ◌≤◌, ◌<◌, ◌-◌, ℕ, List, [], ◌∷◌, false, not, ◌&&◌, ◌==◌, Some, None, IfOk, length, option_copied, slice_get, slice_index_or, if◌then◌else◌};
 ghost use Rattle.run_rules.specs.Next as next;
 ghost use Rattle.run_rules.specs.World.{caller_at, has_ended};
-ghost use Rattle.run_rules.specs.Deeds.{Does};
+ghost use Rattle.run_rules.specs.declared.deed.Choice.TheVariants.{Does};
 ghost use Rattle.run_rules.specs.declared.world.Frame as frames;
 ghost use Rattle.run_rules.specs.declared.world.Setup as from;
 ghost use Rattle.attr_graph.specs.Graphs.{IsGraphOf, declared_by};
 ghost use Rattle.run_sound.specs.Kept.{Kept, MayRun};
-ghost use Rattle.dev_board.specs.Choosing.{choice_of};
 ghost use Rattle.dev_board.specs.Input.{Bounded};
-ghost use Rattle.dev_board.specs.Plans.{deed_of};
 ghost use Rattle.dev_board.specs.View.{world_of, Books};
 
-use crate::busy::is_ended;
-use crate::choice::Choice;
+use crate::activity::is_ended;
 use crate::command::plan_command;
 use crate::freeing::{plan_closing, plan_free};
 use crate::parts::Core;
-use crate::plan::{Plan, plan_boot, plan_call, plan_scan};
+use crate::plan::{plan_boot, plan_call, plan_scan};
 use crate::power::plan_power;
+use crate::script::command_of;
 use attr_graph::Graph;
 use cf_types::{Command, Memory};
-use run_rules::{Activity, Frame, Setup, Wait};
+use run_rules::{Activity, Choice, Deed, Frame, Setup, Wait};
 use std::alloc::Global;
-
-/// The next command of the caller of a script, of which so many are over.
-pub fn command_at(setup: &Setup, caller: u8, over: u32) -> Option<&Command>
-    ensures { slice_get (slice_index_or setup.now.scripts (caller - 1) []) over ≡ option_copied result }
-{
-    match setup.scripts.items().get(caller.saturating_sub(1) as usize) {
-        Some(script) => script.items().get(over as usize),
-        None => None,
-    }
-}
 
 /// Whether a command is one of pmf(9).
 fn is_power(said: &Command) -> bool
@@ -56,10 +44,10 @@ fn other_turn(turn: Option<u8>, caller: u8) -> Option<u8>
 
 /// The caller that a command waits for.
 fn waits_for(core: &Core, caller: u8, said: &Command) -> Option<u8>
-    ensures { (if next.is_power said.now then next.other_turn core.now.turn caller else None) ≡ result }
+    ensures { (if next.is_power said.now then next.other_turn core.now.power_owner caller else None) ≡ result }
 {
     if is_power(said) {
-        other_turn(core.turn, caller)
+        other_turn(core.power_owner, caller)
     } else {
         None
     }
@@ -79,14 +67,14 @@ fn plan_start(
     requires kept { Kept (world_of setup.now core.now) }
     requires caller { caller < length core.now.callers.items }
     requires said { next.command_of (world_of setup.now core.now) caller ≡ Some said.now }
-    ensures { IfOk result (λ does. next.starting (world_of setup.now core.now) caller said.now ≡ choice_of (world_of setup.now core.now) caller does) }
+    ensures { IfOk result (λ does. next.starting (world_of setup.now core.now) caller said.now ≡ does) }
 {
     match waits_for(core, caller, said) {
         Some(other) => Ok(Choice::Waits(Wait::Power(other))),
         None => {
             let number = core.callers[caller as usize].over + 1;
-            let work = plan_command(alloc, graph, setup, core, caller, number, said)?;
-            Ok(Choice::Does(work))
+            let deed = plan_command(alloc, graph, setup, core, caller, number, said)?;
+            Ok(Choice::Does(deed))
         }
     }
 }
@@ -105,22 +93,21 @@ fn plan_next(
     requires kept { Kept (world_of setup.now core.now) }
     requires caller { caller < length core.now.callers.items }
     requires script { 1 ≤ caller }
-    ensures { IfOk result (λ does. next.next_command (world_of setup.now core.now) caller ≡ choice_of (world_of setup.now core.now) caller does) }
+    ensures { IfOk result (λ does. next.next_command (world_of setup.now core.now) caller ≡ does) }
 {
-    let over = core.callers[caller as usize].over;
-    match command_at(setup, caller, over) {
+    match command_of(setup, core, caller) {
         Some(said) => plan_start(alloc, graph, setup, core, caller, said),
         None => Ok(plan_closing(core, caller)),
     }
 }
 
 /// What a frame on top leads to.
-fn plan_frame(graph: &Graph, setup: &Setup, core: &Core, frame: &Frame) -> Plan
+fn plan_frame(graph: &Graph, setup: &Setup, core: &Core, frame: &Frame) -> Deed
     requires graph { IsGraphOf (declared_by setup.now.tables) graph.now }
     requires bounded { Bounded setup.now }
     requires books { Books setup.now core.now }
     requires live { length core.now.tree.live ≤ 1024 }
-    ensures { (k : ℕ) (rest : List frames.Frame) → next.on_top (world_of setup.now core.now) k (frame.now ∷ rest) ≡ Does (deed_of result) }
+    ensures { (k : ℕ) (rest : List frames.Frame) → next.on_top (world_of setup.now core.now) k (frame.now ∷ rest) ≡ Does result }
 {
     match frame {
         Frame::Scan {
@@ -155,13 +142,13 @@ fn plan_stack(
     requires books { Books setup.now core.now }
     requires caller { caller < length core.now.callers.items }
     requires goes { has_ended (world_of setup.now core.now) caller ≡ false }
-    ensures { IfOk result (λ does. next.on_top (world_of setup.now core.now) caller (caller_at (world_of setup.now core.now) caller).stack ≡ choice_of (world_of setup.now core.now) caller does) }
+    ensures { IfOk result (λ does. next.on_top (world_of setup.now core.now) caller (caller_at (world_of setup.now core.now) caller).stack ≡ does) }
 {
     match core.callers[caller as usize].stack.top() {
-        Some(frame) => Ok(Choice::Scan(plan_frame(graph, setup, core, frame))),
+        Some(frame) => Ok(Choice::Does(plan_frame(graph, setup, core, frame))),
         None => {
             if caller == 0 {
-                Ok(Choice::Scan(plan_boot(graph, setup, core)))
+                Ok(Choice::Does(plan_boot(graph, setup, core)))
             } else {
                 plan_next(alloc, graph, setup, core, caller)
             }
@@ -184,11 +171,11 @@ fn plan_activity(
     requires books { Books setup.now core.now }
     requires caller { caller < length core.now.callers.items }
     requires goes { has_ended (world_of setup.now core.now) caller ≡ false }
-    ensures { IfOk result (λ does. next.by_activity (world_of setup.now core.now) caller doing ≡ choice_of (world_of setup.now core.now) caller does) }
+    ensures { IfOk result (λ does. next.by_activity (world_of setup.now core.now) caller doing ≡ does) }
 {
     match doing {
         Activity::Ended => Ok(Choice::Ended),
-        Activity::Transfer(ticket) => Ok(Choice::Transfer(ticket)),
+        Activity::Transfer(ticket) => Ok(Choice::Does(Deed::Done(ticket))),
         Activity::Frees(_) => Ok(plan_free(core, caller)),
         Activity::Power(kind, target) => Ok(plan_power(setup, core, kind, target)),
         Activity::Scans => plan_stack(alloc, graph, setup, core, caller),
@@ -218,7 +205,7 @@ pub fn choose(
     requires kept { Kept (world_of setup.now core.now) }
     requires books { Books setup.now core.now }
     requires caller { caller < length core.now.callers.items }
-    ensures { IfOk result (λ does. next.next (world_of setup.now core.now) caller ≡ choice_of (world_of setup.now core.now) caller does) }
+    ensures { IfOk result (λ does. next.next (world_of setup.now core.now) caller ≡ does) }
 {
     if is_ended(core, caller) {
         return Ok(Choice::Ended);

@@ -1,24 +1,25 @@
-//! What a plan changes.
+//! What a deed changes.
 ghost use Rattle.std.specs.Prelude.{◌≡◌, ◌≤◌, ◌<◌, ◌-◌, ◌^◌, ◌||◌, ◌&&◌, not, is_some, ℕ, IsTrue, IfSome, OnOk, OnErr, None, length, vec_len, vec_capacity};
 ghost use Rattle.run_rules.specs.After as after;
 ghost use Rattle.run_rules.specs.World.{caller_at};
-ghost use Rattle.run_rules.specs.Deeds as deed;
+ghost use Rattle.run_rules.specs.declared.deed.Deed.TheVariants as deeds;
 ghost use Rattle.run_rules.specs.declared.world.Activity.TheVariants.{Scans};
 ghost use Rattle.attr_graph.specs.Graphs.{IsGraphOf, declared_by};
-ghost use Rattle.run_sound.specs.Coming.{HasReason};
+ghost use Rattle.run_rules.specs.declared.deed.Choice.TheVariants.{Does};
+ghost use Rattle.run_rules.specs.Next.{next};
+ghost use Rattle.run_sound.specs.Kept.{Kept, MayRun};
 ghost use Rattle.scan_engine.specs.Frames.{is_scanning};
 ghost use Rattle.dev_board.specs.Arrivals.{MayArrive, state_at};
 ghost use Rattle.dev_board.specs.Commits.{HasRoom, shown_now};
 ghost use Rattle.dev_board.specs.Input.{Bounded};
-ghost use Rattle.dev_board.specs.Plans.{deed_of, got_of};
 ghost use Rattle.dev_board.specs.View.{world_of, Books, SameAside};
 
-use crate::arrive::arrive;
+use crate::attach::arrive;
+use crate::effect::do_command;
 use crate::parts::Core;
-use crate::plan::Plan;
 use attr_graph::Graph;
 use cf_types::Memory;
-use run_rules::{Activity, Arrival, Key, Position, Setup};
+use run_rules::{Arrival, Deed, Key, Position, Setup};
 use std::alloc::Global;
 
 /// A turn of a scan: the scan moves, and what was found comes.
@@ -40,7 +41,7 @@ fn search(
     requires frame_room { 2 ≤ (state_at core.old.callers.items caller).stack.room }
     requires call_room { vec_len core.old.finalisers < vec_capacity core.old.finalisers }
     requires top { IsTrue (is_scanning (state_at core.old.callers.items caller).stack.frames) }
-    ensures ok { (parent : ℕ) → OnOk result (world_of setup.now core.new ≡ after.after (world_of setup.now core.old) caller (deed.Search parent moved got)) }
+    ensures ok { (parent spot : ℕ) → OnOk result (world_of setup.now core.new ≡ after.after (world_of setup.now core.old) caller (deeds.Search parent spot moved got)) }
     ensures err { OnErr result (world_of setup.now core.new ≡ world_of setup.now core.old) }
     ensures books { Books setup.now core.new }
     ensures aside { SameAside core.old core.new }
@@ -65,10 +66,10 @@ fn show(hidden: &mut Vec<u16>, spot: Option<u16>)
 }
 
 /// Whether one of this pass answered 1, with this call.
-fn goes_again(shown: Option<u16>, anew: bool, again: bool) -> bool
-    ensures { (is_some shown || (not anew && again)) ≡ result }
+fn goes_again(shown: Option<u16>, anew: bool, pass_repeats: bool) -> bool
+    ensures { (is_some shown || (not anew && pass_repeats)) ≡ result }
 {
-    shown.is_some() || (!anew && again)
+    shown.is_some() || (!anew && pass_repeats)
 }
 
 /// A call of a finaliser: the late spot that it found is shown, what comes there comes, and the boot's list goes on, or
@@ -95,7 +96,7 @@ fn finalise(
     requires low { (state_at core.old.callers.items caller).doing ≡ Scans → (state_at core.old.callers.items caller).over < 2 ^ 32 - 1 }
     requires place { IfSome listed (λ place. place < 2 ^ 64 - 1) }
     requires frame { listed ≡ None → shown ≡ None → (0 < length (state_at core.old.callers.items caller).stack.frames) × (got ≡ None) }
-    ensures ok { (of : ℕ) → OnOk result (world_of setup.now core.new ≡ after.after (world_of setup.now core.old) caller (deed.Finalise of shown got listed anew)) }
+    ensures ok { (of : ℕ) → OnOk result (world_of setup.now core.new ≡ after.after (world_of setup.now core.old) caller (deeds.Finalise of shown got listed anew)) }
     ensures err { OnErr result (world_of setup.now core.new ≡ world_of setup.now core.old) }
     ensures books { Books setup.now core.new }
     ensures aside { SameAside core.old core.new }
@@ -104,8 +105,8 @@ fn finalise(
     show(&mut core.hidden, shown);
     match listed {
         Some(place) => {
-            core.place = place + 1;
-            core.again = goes_again(shown, anew, core.again);
+            core.next_finaliser = place + 1;
+            core.pass_repeats = goes_again(shown, anew, core.pass_repeats);
         }
         None => {
             if shown.is_none() {
@@ -116,54 +117,47 @@ fn finalise(
     Ok(())
 }
 
-/// Does what is planned. At `Memory` all is as before.
+/// Does the deed that the caller chose. At `Memory` all is as before.
 pub fn commit(
     alloc: Global,
     graph: &Graph,
     setup: &Setup,
     core: &mut Core,
     caller: u8,
-    plan: Plan,
+    deed: Deed,
 ) -> Result<(), Memory>
     requires graph { IsGraphOf (declared_by setup.now.tables) graph.now }
+    requires may { MayRun setup.now }
     requires bounded { Bounded setup.now }
     requires books { Books setup.now core.old }
+    requires kept { Kept (world_of setup.now core.old) }
     requires caller { caller < length core.old.callers.items }
-    requires reason { HasReason (world_of setup.now core.old) caller (deed_of plan) }
-    requires may { IfSome (got_of plan) (MayArrive setup.now core.old.tree.live) }
+    requires chosen { next (world_of setup.now core.old) caller ≡ Does deed }
     requires next { core.old.tree.next < 2 ^ 64 - 1 }
-    requires room { HasRoom core.old caller plan }
-    requires low { (state_at core.old.callers.items caller).doing ≡ Scans → (state_at core.old.callers.items caller).over < 2 ^ 32 - 1 }
-    ensures ok { OnOk result (world_of setup.now core.new ≡ after.after (world_of setup.now core.old) caller (deed_of plan)) }
+    requires room { HasRoom core.old caller deed }
+    ensures ok { OnOk result (world_of setup.now core.new ≡ after.after (world_of setup.now core.old) caller deed) }
     ensures err { OnErr result (world_of setup.now core.new ≡ world_of setup.now core.old) }
     ensures books { Books setup.now core.new }
     ensures aside { SameAside core.old core.new }
 {
-    match plan {
-        Plan::Search {
-            parent: _,
-            moved,
-            got,
-        } => search(alloc, graph, setup, core, caller, moved, got),
-        Plan::EndScan { of } => {
+    match deed {
+        Deed::Search { moved, got, .. } => search(alloc, graph, setup, core, caller, moved, got),
+        Deed::EndScan { of } => {
             core.callers[caller as usize].end_scan(alloc, &mut core.deferred, Key::Parent(of));
             Ok(())
         }
-        Plan::BeginInterrupts => {
-            core.phase = true;
+        Deed::BeginInterrupts => {
+            core.interrupts_on = true;
             core.callers[caller as usize].release(alloc, &mut core.deferred, Key::Interrupts);
             Ok(())
         }
-        Plan::Finalise {
-            of: _,
+        Deed::Finalise {
             shown,
             got,
             listed,
             anew,
+            ..
         } => finalise(alloc, graph, setup, core, caller, shown, got, listed, anew),
-        Plan::EndCaller => {
-            core.callers[caller as usize].doing = Activity::Ended;
-            Ok(())
-        }
+        _ => do_command(alloc, setup, core, caller, deed),
     }
 }

@@ -1,7 +1,7 @@
 //! A condemned device goes. See config_detach(9).
 ghost use Rattle.std.specs.Prelude.{◌≡◌, ◌<◌, ◌-◌, ◌^◌, [], length, IsTrue};
 ghost use Rattle.run_rules.specs.After as rule;
-ghost use Rattle.run_rules.specs.Deeds as deed;
+ghost use Rattle.run_rules.specs.declared.deed.Deed.TheVariants as deed;
 ghost use Rattle.run_rules.specs.World as world;
 ghost use Rattle.dev_board.specs.Arrivals.{state_at};
 ghost use Rattle.run_rules.specs.Sound.{HasSoundDevices};
@@ -9,9 +9,9 @@ ghost use Rattle.dev_board.specs.Events.{HaveRows};
 ghost use Rattle.dev_board.specs.Input.{Bounded};
 ghost use Rattle.dev_board.specs.View.{world_of, Books, SameAside};
 
-use crate::busy::finish;
-use crate::marks::set_rows;
+use crate::activity::finish;
 use crate::parts::Core;
+use crate::row_liveness::set_rows;
 use crate::spots::driver_of;
 use run_rules::{Activity, Setup};
 

@@ -5,19 +5,16 @@ ghost use Rattle.run_rules.specs.Next as next;
 ghost use Rattle.run_rules.specs.Sound.{EachLater};
 ghost use Rattle.run_rules.specs.World.{is_live};
 ghost use Rattle.run_rules.specs.declared.world.Setup as from;
-ghost use Rattle.dev_board.specs.Choosing.{choice_of};
 ghost use Rattle.dev_board.specs.View.{world_of};
 
-use crate::choice::Choice;
 use crate::parts::Core;
-use crate::work::Work;
 use detach_engine::next_free;
-use run_rules::Wait;
+use run_rules::{Choice, Deed, Wait};
 
 /// How a detachment goes on: what was condemned last is freed once nobody holds it.
 #[tactic(auto, unfolding(run_rules::specs::Next::freeing))]
 pub fn plan_free(core: &Core, caller: u8) -> Choice
-    ensures { (s : from.Setup) → next.freeing (world_of s core.now) caller ≡ choice_of (world_of s core.now) caller result }
+    ensures { (s : from.Setup) → next.freeing (world_of s core.now) caller ≡ result }
 {
     match next_free(&core.tree, caller) {
         None => Choice::Ended,
@@ -25,7 +22,7 @@ pub fn plan_free(core: &Core, caller: u8) -> Choice
             if core.refs.refers(serial) {
                 Choice::Waits(Wait::Refs(serial))
             } else {
-                Choice::Does(Work::Free { of: serial })
+                Choice::Does(Deed::Free { of: serial })
             }
         }
     }
@@ -35,10 +32,10 @@ pub fn plan_free(core: &Core, caller: u8) -> Choice
 pub fn plan_closing(core: &Core, caller: u8) -> Choice
     requires later { EachLater (λ d e. d.serial < e.serial) core.now.tree.live }
     requires lives { AllByRecursion (λ r. IsTrue (is_live core.now.tree.live r.serial)) core.now.refs }
-    ensures { (s : from.Setup) → next.closing (world_of s core.now) caller ≡ choice_of (world_of s core.now) caller result }
+    ensures { (s : from.Setup) → next.closing (world_of s core.now) caller ≡ result }
 {
     match core.refs.first_held(caller) {
-        Some(serial) => Choice::Does(Work::Drop { of: serial }),
-        None => Choice::Does(Work::End),
+        Some(serial) => Choice::Does(Deed::Drop { of: serial }),
+        None => Choice::Does(Deed::EndCaller),
     }
 }

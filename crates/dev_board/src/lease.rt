@@ -1,18 +1,16 @@
-//! What the work of a script's caller means for its leases.
+//! What a deed means for the leases of its caller.
 ghost use Rattle.std.specs.Prelude.{◌≡◌, ℕ};
-ghost use Rattle.cf_types.specs.declared.machine.Command.{Command};
 ghost use Rattle.run_rules.specs.After.{after};
-ghost use Rattle.run_rules.specs.Deeds.{Does};
+ghost use Rattle.run_rules.specs.declared.deed.Choice.TheVariants.{Does};
 ghost use Rattle.run_rules.specs.Next.{next};
 ghost use Rattle.run_rules.specs.World.{World, device_at};
 ghost use Rattle.std.specs.Option.{option_map_or};
 ghost use Rattle.dev_board.specs.declared.answer.LeaseStep.TheVariants.{Keep, Take, Give};
 ghost use Rattle.dev_board.specs.Witness.{lease_step};
-ghost use Rattle.dev_board.specs.Works.{deed_by};
 
 use crate::answer::LeaseStep;
 use crate::parts::Core;
-use crate::work::Work;
+use run_rules::Deed;
 
 /// The slot of a device is taken.
 fn take_of(core: &Core, of: u64) -> LeaseStep
@@ -34,14 +32,14 @@ fn give_of(core: &Core, of: u64) -> LeaseStep
     }
 }
 
-/// The slot that a work takes or gives back, on a board that has not done it yet: it opens a device, or closes one.
-pub fn lease_of(core: &Core, work: Work) -> LeaseStep
-    ensures { (w : World) (k : ℕ) (said : Command) → w.live ≡ core.now.tree.live → next w k ≡ Does (deed_by w said work) → lease_step w (after w k (deed_by w said work)) k ≡ result }
+/// The slot that a deed takes or gives back, on a board that has not done it yet: it opens a device, or closes one.
+pub fn lease_of(core: &Core, deed: Deed) -> LeaseStep
+    ensures { (w : World) (k : ℕ) → w.live ≡ core.now.tree.live → next w k ≡ Does deed → lease_step w (after w k deed) k ≡ result }
 {
-    match work {
-        Work::Open { of } => take_of(core, of),
-        Work::Close { of } => give_of(core, of),
-        Work::Drop { of } => give_of(core, of),
+    match deed {
+        Deed::Open { of, .. } => take_of(core, of),
+        Deed::Close { of } => give_of(core, of),
+        Deed::Drop { of } => give_of(core, of),
         _ => LeaseStep::Keep,
     }
 }

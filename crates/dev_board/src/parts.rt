@@ -27,15 +27,15 @@ pub struct Core {
     pub absent: Vec<u16>,
     pub hidden: Vec<u16>,
     /// Whether interrupts work.
-    pub phase: bool,
+    pub interrupts_on: bool,
     /// The caller in whose hands the power commands are.
-    pub turn: Option<u8>,
+    pub power_owner: Option<u8>,
     /// The scans that were put off.
     pub deferred: Deferred,
     /// The devices with a finaliser, the place in this list, and whether one of this pass answered 1.
     pub finalisers: Vec<u64>,
-    pub place: u64,
-    pub again: bool,
+    pub next_finaliser: u64,
+    pub pass_repeats: bool,
     /// Caller 0, which boots, and then the caller of each script.
     pub callers: Vec<CallerState>,
     pub stops: u64,
@@ -104,12 +104,12 @@ pub fn begin(alloc: Global, setup: &Setup) -> Result<Core, Memory>
         refs: Refs::make(alloc),
         absent,
         hidden,
-        phase: false,
-        turn: None,
+        interrupts_on: false,
+        power_owner: None,
         deferred: Deferred::make(alloc),
         finalisers: Vec::new(alloc),
-        place: 0,
-        again: false,
+        next_finaliser: 0,
+        pass_repeats: false,
         callers,
         stops: 0,
         stopped: None,

@@ -1,12 +1,11 @@
 //! What a caller does next.
 ghost use Rattle.std.specs.Prelude.{◌≡◌, ◌≤◌, ◌<◌, Some, true, false, length, slice_index_or};
-ghost use Rattle.run_rules.specs.Deeds.{Does};
+ghost use Rattle.run_rules.specs.declared.deed.Choice.TheVariants.{Does};
 ghost use Rattle.run_rules.specs.Next.{next_scan, next_boot, finalise};
 ghost use Rattle.run_rules.specs.Search as rule;
 ghost use Rattle.attr_graph.specs.Graphs.{IsGraphOf, declared_by};
 ghost use Rattle.run_sound.specs.Kept.{Kept};
 ghost use Rattle.dev_board.specs.Input.{Bounded};
-ghost use Rattle.dev_board.specs.Plans.{deed_of};
 ghost use Rattle.dev_board.specs.View.{world_of, Books};
 
 use crate::due::due_turn;
@@ -15,32 +14,7 @@ use crate::parts::Core;
 use crate::search::arrival;
 use crate::spots::place_of;
 use attr_graph::Graph;
-use run_rules::{Arrival, Position, Setup, Turn, Wanted};
-
-/// What is done next. A finaliser that is called from the boot's list has its place there, and whether a new pass begins
-/// with it.
-#[derive(Clone, Copy)]
-pub enum Plan {
-    /// A turn of a scan: the position after it, and what comes.
-    Search {
-        parent: u64,
-        moved: Position,
-        got: Option<Arrival>,
-    },
-    EndScan {
-        of: u64,
-    },
-    BeginInterrupts,
-    /// A finaliser is called: the late spot that it shows, if there is one, and what comes there.
-    Finalise {
-        of: u64,
-        shown: Option<u16>,
-        got: Option<Arrival>,
-        listed: Option<u64>,
-        anew: bool,
-    },
-    EndCaller,
-}
+use run_rules::{Deed, Position, Setup, Turn, Wanted};
 
 /// The position after a turn: behind it, or at the first pair of the same row.
 #[tactic(auto, unfolding(run_rules::specs::Search::after_turn))]
@@ -73,17 +47,18 @@ pub fn plan_scan(
     only: Option<u32>,
     filter: &[Wanted],
     position: Position,
-) -> Plan
+) -> Deed
     requires graph { IsGraphOf (declared_by setup.now.tables) graph.now }
     requires bounded { Bounded setup.now }
     requires books { Books setup.now core.now }
     requires live { length core.now.tree.live ≤ 1024 }
-    ensures { next_scan setup.now core.now.tree.live core.now.absent.items core.now.hidden.items serial only filter.now position ≡ deed_of result }
+    ensures { next_scan setup.now core.now.tree.live core.now.absent.items core.now.hidden.items serial only filter.now position ≡ result }
 {
     match due_turn(graph, setup, core, serial, only, filter, position) {
-        None => Plan::EndScan { of: serial },
-        Some(turn) => Plan::Search {
+        None => Deed::EndScan { of: serial },
+        Some(turn) => Deed::Search {
             parent: serial,
+            spot: turn.at.spot,
             moved: after_turn(turn),
             got: arrival(graph, setup, core, serial, turn.place, turn.at.spot),
         },
@@ -99,22 +74,22 @@ pub fn plan_call(
     serial: u64,
     listed: Option<u64>,
     anew: bool,
-) -> Plan
+) -> Deed
     requires graph { IsGraphOf (declared_by setup.now.tables) graph.now }
     requires bounded { Bounded setup.now }
     requires books { Books setup.now core.now }
     requires live { length core.now.tree.live ≤ 1024 }
-    ensures { finalise (world_of setup.now core.now) serial listed anew ≡ deed_of result }
+    ensures { finalise (world_of setup.now core.now) serial listed anew ≡ result }
 {
     match shown_by(graph, setup, core, serial) {
-        None => Plan::Finalise {
+        None => Deed::Finalise {
             of: serial,
             shown: None,
             got: None,
             listed,
             anew,
         },
-        Some(spot) => Plan::Finalise {
+        Some(spot) => Deed::Finalise {
             of: serial,
             shown: Some(spot),
             got: arrival(graph, setup, core, serial, place_of(setup, spot), spot),
@@ -126,23 +101,23 @@ pub fn plan_call(
 
 /// What the boot does without a frame: interrupts first, then the finalisers, in passes until none answers 1. See
 /// autoconf(9).
-pub fn plan_boot(graph: &Graph, setup: &Setup, core: &Core) -> Plan
+pub fn plan_boot(graph: &Graph, setup: &Setup, core: &Core) -> Deed
     requires graph { IsGraphOf (declared_by setup.now.tables) graph.now }
     requires bounded { Bounded setup.now }
     requires books { Books setup.now core.now }
     requires live { length core.now.tree.live ≤ 1024 }
-    requires called { core.now.again ≡ true → 0 < length core.now.finalisers.items }
-    ensures { next_boot (world_of setup.now core.now) ≡ Does (deed_of result) }
+    requires called { core.now.pass_repeats ≡ true → 0 < length core.now.finalisers.items }
+    ensures { next_boot (world_of setup.now core.now) ≡ Does result }
 {
-    if !core.phase {
-        return Plan::BeginInterrupts;
+    if !core.interrupts_on {
+        return Deed::BeginInterrupts;
     }
-    if core.place < core.finalisers.len() as u64 {
-        let serial = core.finalisers[core.place as usize];
-        return plan_call(graph, setup, core, serial, Some(core.place), false);
+    if core.next_finaliser < core.finalisers.len() as u64 {
+        let serial = core.finalisers[core.next_finaliser as usize];
+        return plan_call(graph, setup, core, serial, Some(core.next_finaliser), false);
     }
-    if core.again {
+    if core.pass_repeats {
         return plan_call(graph, setup, core, core.finalisers[0], Some(0), true);
     }
-    Plan::EndCaller
+    Deed::EndCaller
 }

@@ -1,6 +1,7 @@
 //! The result of a transfer, over the parts of a board.
 ghost use Rattle.std.specs.Prelude.{◌≡◌, IfOk, None, OnErr, OnOk, Some, length};
-ghost use Rattle.run_rules.specs.Deeds.{Does, Done};
+ghost use Rattle.run_rules.specs.declared.deed.Choice.TheVariants.{Does};
+ghost use Rattle.run_rules.specs.declared.deed.Deed.TheVariants.{Done};
 ghost use Rattle.run_rules.specs.Next.{next};
 ghost use Rattle.run_rules.specs.Run.{event_of};
 ghost use Rattle.run_rules.specs.World.{opening};
@@ -14,13 +15,13 @@ ghost use Rattle.dev_board.specs.Witness.{told_did};
 ghost use Rattle.dev_board.specs.declared.answer.LeaseStep.TheVariants.{Keep};
 
 use crate::answer::LeaseStep;
+use crate::deed_event::deed_event;
 use crate::effect::finish_transfer;
 use crate::parts::{Core, append};
 use crate::posted::Posted;
 use crate::told::Told;
-use crate::work_event::done_event;
 use cf_types::{Memory, Ticket};
-use run_rules::{Activity, Setup};
+use run_rules::{Activity, Deed, Setup};
 use std::alloc::Global;
 
 /// The transfer that a caller is in the middle of.
@@ -58,7 +59,7 @@ fn end_transfer(
     ensures books { Books setup.now core.new }
 {
     core.events.reserve(1)?;
-    let event = done_event(alloc, setup, core, ticket.caller, ticket)?;
+    let event = deed_event(alloc, setup, core, ticket.caller, Deed::Done(ticket))?;
     let place = core.events.len() as u64;
     let told = Told::of_event(setup, ticket.caller, place, &event, LeaseStep::Keep);
     finish_transfer(core, ticket.caller);

@@ -6,16 +6,13 @@ ghost use Rattle.run_rules.specs.World as world;
 ghost use Rattle.run_rules.specs.declared.world.Activity.TheVariants as activity;
 ghost use Rattle.run_rules.specs.declared.world.Setup as from;
 ghost use Rattle.run_sound.specs.Kept.{Kept};
-ghost use Rattle.dev_board.specs.Choosing.{choice_of};
 ghost use Rattle.dev_board.specs.View.{world_of};
 
-use crate::choice::Choice;
 use crate::hindered::is_pinned;
 use crate::parts::Core;
 use crate::spots::policy_of;
-use crate::work::{PowerEnd, Work};
 use pmf_order::{next_sleep, next_wake};
-use run_rules::{Dev, PowerKind, Setup, Wait};
+use run_rules::{Choice, Deed, Dev, PowerEnd, PowerKind, Setup, Wait};
 
 /// Whether a device lives.
 fn is_live(core: &Core, serial: u64) -> bool
@@ -41,24 +38,18 @@ fn sleeper(core: &Core, target: u64) -> Option<Dev>
 fn plan_sleep(setup: &Setup, core: &Core, target: u64, device: Dev) -> Choice
     requires there { world.device_at core.now.tree.live device.serial ≡ Some device }
     requires next { next.next_sleep core.now.tree.live target ≡ Some device }
-    ensures { (k : ℕ) → next.suspending (world_of setup.now core.now) target ≡ choice_of (world_of setup.now core.now) k result }
+    ensures { next.suspending (world_of setup.now core.now) target ≡ result }
 {
     if is_pinned(core, device.serial) {
         return Choice::Waits(Wait::Scan(device.serial));
     }
     let policy = policy_of(setup, device.row);
     if policy.nopower {
-        Choice::Does(Work::EndPower {
-            of: target,
-            end: PowerEnd::NotSupported(device.serial),
-        })
+        Choice::Does(Deed::EndPower(PowerEnd::NotSupported(device.serial)))
     } else if policy.failsuspend {
-        Choice::Does(Work::EndPower {
-            of: target,
-            end: PowerEnd::Failed(device.serial),
-        })
+        Choice::Does(Deed::EndPower(PowerEnd::Failed(device.serial)))
     } else {
-        Choice::Does(Work::Sleep { of: device.serial })
+        Choice::Does(Deed::Sleep { of: device.serial })
     }
 }
 
@@ -67,14 +58,11 @@ fn plan_sleep(setup: &Setup, core: &Core, target: u64, device: Dev) -> Choice
 fn plan_suspend(setup: &Setup, core: &Core, target: u64) -> Choice
     requires kept { Kept (world_of setup.now core.now) }
     requires live { IsTrue (world.is_live core.now.tree.live target) }
-    ensures { (k : ℕ) → next.suspending (world_of setup.now core.now) target ≡ choice_of (world_of setup.now core.now) k result }
+    ensures { next.suspending (world_of setup.now core.now) target ≡ result }
 {
     match sleeper(core, target) {
         Some(device) => plan_sleep(setup, core, target, device),
-        None => Choice::Does(Work::EndPower {
-            of: target,
-            end: PowerEnd::Done,
-        }),
+        None => Choice::Does(Deed::EndPower(PowerEnd::Done)),
     }
 }
 
@@ -82,27 +70,21 @@ fn plan_suspend(setup: &Setup, core: &Core, target: u64) -> Choice
 #[tactic(auto, unfolding(run_rules::specs::Next::waking))]
 fn plan_wake(core: &Core, target: u64, whole: bool) -> Choice
     requires live { IsTrue (world.is_live core.now.tree.live target) }
-    ensures { (s : from.Setup) (k : ℕ) → next.waking (world_of s core.now) target whole ≡ choice_of (world_of s core.now) k result }
+    ensures { (s : from.Setup) → next.waking (world_of s core.now) target whole ≡ result }
 {
     match next_wake(&core.tree, target, whole) {
-        Some(serial) => Choice::Does(Work::Wake { of: serial }),
-        None => Choice::Does(Work::EndPower {
-            of: target,
-            end: PowerEnd::Done,
-        }),
+        Some(serial) => Choice::Does(Deed::Wake { of: serial }),
+        None => Choice::Does(Deed::EndPower(PowerEnd::Done)),
     }
 }
 
 /// How a power command goes on.
 pub fn plan_power(setup: &Setup, core: &Core, kind: PowerKind, target: u64) -> Choice
     requires kept { Kept (world_of setup.now core.now) }
-    ensures { (k : ℕ) → next.by_activity (world_of setup.now core.now) k (activity.Power kind target) ≡ choice_of (world_of setup.now core.now) k result }
+    ensures { (k : ℕ) → next.by_activity (world_of setup.now core.now) k (activity.Power kind target) ≡ result }
 {
     if !is_live(core, target) {
-        return Choice::Does(Work::EndPower {
-            of: target,
-            end: PowerEnd::Gone,
-        });
+        return Choice::Does(Deed::EndPower(PowerEnd::Gone));
     }
     match kind {
         PowerKind::Suspend => plan_suspend(setup, core, target),

@@ -1,27 +1,25 @@
 //! What a rescan searches, or why it does not begin. See drvctl(8).
 ghost use Rattle.std.specs.Prelude.{◌≡◌, ◌≤◌, ◌∷◌, true, Some, length, map, is_some};
 ghost use Rattle.std.specs.List.{list_any};
-ghost use Rattle.cf_types.specs.declared.machine.Command.{Command};
+ghost use Rattle.run_rules.specs.declared.deed.Deed.TheVariants.{Rescan};
 ghost use Rattle.run_rules.specs.declared.world.Dev.{Dev};
 ghost use Rattle.attr_graph.specs.Graphs.{IsGraphOf, declared_by};
 ghost use Rattle.run_rules.specs.Next as next;
 ghost use Rattle.run_rules.specs.Next.{has_nothing, rescan_of, rescanning, wanted_of};
 ghost use Rattle.run_rules.specs.World as world;
 ghost use Rattle.run_rules.specs.World.{World, is_number, offered_by};
-ghost use Rattle.dev_board.specs.Choices.{deed_or, rescan_or};
+ghost use Rattle.dev_board.specs.Choices.{or_refused};
 ghost use Rattle.dev_board.specs.View.{world_of};
-ghost use Rattle.dev_board.specs.Works.{given_by};
 
 use crate::hindered::is_pinned;
 use crate::named::attr_named;
 use crate::parts::Core;
+use crate::rescan_filter::locator_place;
 use crate::spots::{driver_of, has, policy_of};
-use crate::wanted::locator_place;
-use crate::work::{Refusal, Work};
 use attr_graph::Graph;
 use cf_types::{Given, Locator, Name, Place};
 use locator_rules::locators_at;
-use run_rules::{Dev, Setup};
+use run_rules::{Deed, Dev, Refusal, Setup};
 use scan_engine::offered;
 
 /// Whether a locator that is given has this place.
@@ -80,7 +78,7 @@ fn attr_of(
     given: &[Given],
 ) -> Result<Option<u32>, Refusal>
     requires few { length setup.now.tables.attrs ≤ 65536 }
-    ensures { (w : World) (said : Command) (d : Dev) → w.setup ≡ setup.now → offered_by w.setup d.row ≡ offers.now → given_by said ≡ given.now → rescan_of w said d (Some name.now) given.now ≡ rescan_or w said d result }
+    ensures { (w : World) (d : Dev) → w.setup ≡ setup.now → offered_by w.setup d.row ≡ offers.now → rescan_of w d (Some name.now) given.now ≡ or_refused (Rescan d.serial) result }
 {
     match attr_named(setup, name) {
         None => Err(Refusal::BadAttribute),
@@ -104,7 +102,7 @@ fn only_of(
     given: &[Given],
 ) -> Result<Option<u32>, Refusal>
     requires few { length setup.now.tables.attrs ≤ 65536 }
-    ensures { (w : World) (said : Command) (d : Dev) → w.setup ≡ setup.now → offered_by w.setup d.row ≡ offers.now → given_by said ≡ given.now → rescan_of w said d attr.now given.now ≡ rescan_or w said d result }
+    ensures { (w : World) (d : Dev) → w.setup ≡ setup.now → offered_by w.setup d.row ≡ offers.now → rescan_of w d attr.now given.now ≡ or_refused (Rescan d.serial) result }
 {
     match attr {
         None => Ok(None),
@@ -120,11 +118,11 @@ pub fn plan_search(
     device: Dev,
     attr: &Option<Name>,
     given: &[Given],
-) -> Result<Work, Refusal>
+) -> Result<Deed, Refusal>
     requires graph { IsGraphOf (declared_by setup.now.tables) graph.now }
     requires few { length setup.now.tables.attrs ≤ 65536 }
     requires there { world.device_at core.now.tree.live device.serial ≡ Some device }
-    ensures { (said : Command) → given_by said ≡ given.now → rescanning (world_of setup.now core.now) said device attr.now given.now ≡ deed_or (world_of setup.now core.now) said result }
+    ensures { rescanning (world_of setup.now core.now) device attr.now given.now ≡ or_refused (λ deed. deed) result }
 {
     if is_pinned(core, device.serial) {
         return Err(Refusal::Busy(device.serial));
@@ -137,7 +135,7 @@ pub fn plan_search(
         return Err(Refusal::NoRescan);
     }
     let only = only_of(setup, offers, attr, given)?;
-    Ok(Work::Rescan {
+    Ok(Deed::Rescan {
         of: device.serial,
         only,
     })

@@ -1,32 +1,34 @@
-//! What the works of scripts' callers do to the slots of spots.
-ghost use Rattle.std.specs.Prelude.{◌≡◌, ◌≢◌, ◌<◌, ◌≤◌, ℕ, IfErr, OnErr, OnOk, Some, false, length, slice_get, slice_set};
+//! What deeds do to the slots of spots.
+ghost use Rattle.std.specs.Prelude.{◌≡◌, ◌≢◌, ◌<◌, ◌≤◌, ◌-◌, ◌^◌, ℕ, IfErr, OnErr, OnOk, Some, false, length, slice_get, slice_set};
 ghost use Rattle.std.specs.Option.{option_map_or};
 ghost use Rattle.ref_ledger.specs.declared.state.SlotState.TheVariants.{Free, Condemned};
 ghost use Rattle.run_rules.specs.After as rule;
-ghost use Rattle.run_rules.specs.Deeds as deed;
-ghost use Rattle.run_rules.specs.Deeds.{Does};
+ghost use Rattle.run_rules.specs.declared.deed.Deed.TheVariants as deeds;
+ghost use Rattle.run_rules.specs.declared.deed.Choice.TheVariants.{Does};
 ghost use Rattle.run_rules.specs.Next.{next};
 ghost use Rattle.run_sound.specs.Kept.{Kept, MayRun};
-ghost use Rattle.dev_board.specs.SlotWorks as work_slots;
-ghost use Rattle.dev_board.specs.SlotWorks.{HaltIs, IsDenied, LatelyCondemned, SlotsLag, WaitsForLeases};
+ghost use Rattle.dev_board.specs.SlotDeeds as slot_deeds;
+ghost use Rattle.dev_board.specs.SlotDeeds.{HaltIs, IsDenied, LatelyCondemned, SlotsLag, WaitsForLeases};
 ghost use Rattle.dev_board.specs.Input.{Bounded};
-ghost use Rattle.dev_board.specs.Works.{deed_by};
-ghost use Rattle.dev_board.specs.declared.work.Work.TheVariants as works;
+ghost use Rattle.attr_graph.specs.Graphs.{IsGraphOf, declared_by};
+ghost use Rattle.dev_board.specs.Commits.{HasRoom};
+ghost use Rattle.dev_board.specs.Publishing as publishing;
+ghost use Rattle.dev_board.specs.Publishing.{SlotReady, published};
 ghost use Rattle.run_rules.specs.World as world;
 ghost use Rattle.dev_board.specs.Agreement.{slots_of};
 ghost use Rattle.dev_board.specs.View.{world_of, Books, SameAside};
 
-use crate::effect::do_work;
+use crate::commit::commit;
 use crate::freed::free;
 use crate::parts::Core;
-use crate::work::Work;
-use cf_types::{Command, Memory};
+use attr_graph::Graph;
+use cf_types::Memory;
 use dev_tree::DevTree;
 use ref_ledger::{Bury, Slots};
-use run_rules::{Setup, Wait};
+use run_rules::{Arrival, Deed, Setup, Wait};
 use std::alloc::Global;
 
-/// Why a work was not done.
+/// Why a deed was not done.
 #[derive(Clone, Copy)]
 pub enum Halt {
     Memory,
@@ -88,9 +90,9 @@ pub fn free_with<S: Slots>(
     requires books { Books setup.now core.old }
     requires kept { Kept (world_of setup.now core.old) }
     requires caller { caller < length core.old.callers.items }
-    requires chosen { next (world_of setup.now core.old) caller ≡ Does (deed.Free of) }
+    requires chosen { next (world_of setup.now core.old) caller ≡ Does (deeds.Free of) }
     requires agree { S.states slots.old ≡ slots_of (world_of setup.now core.old) }
-    ensures freed { OnOk result (world_of setup.now core.new ≡ rule.after (world_of setup.now core.old) caller (deed.Free of)) }
+    ensures freed { OnOk result (world_of setup.now core.new ≡ rule.after (world_of setup.now core.old) caller (deeds.Free of)) }
     ensures quiet { OnOk result ((S.denials slots.new ≡ S.denials slots.old) × (S.last_denial slots.new ≡ S.last_denial slots.old)) }
     ensures same { OnErr result (core.new ≡ core.old) }
     ensures waits { IfErr result (λ wait. WaitsForLeases core.old.tree.live of (S.denials slots.old) wait (S.denials slots.new) (S.last_denial slots.new)) }
@@ -110,13 +112,13 @@ pub fn free_with<S: Slots>(
     }
 }
 
-/// The device that a work condemns, with all that is below it.
-fn condemned_by(work: Work) -> Option<u64>
-    ensures { result ≡ work_slots.condemned_by work }
+/// The device that a deed condemns, with all that is below it.
+fn condemned_by(deed: Deed) -> Option<u64>
+    ensures { result ≡ slot_deeds.condemned_by deed }
 {
-    match work {
-        Work::Detach { of } => Some(of),
-        Work::Unplug { spot: _, of } => of,
+    match deed {
+        Deed::Detach { of } => Some(of),
+        Deed::Unplug { of, .. } => of,
         _ => None,
     }
 }
@@ -135,25 +137,53 @@ fn condemn_too<S: Slots>(slots: &mut S, setup: &Setup, core: &Core, target: Opti
     }
 }
 
-/// Does a work that frees nothing, and condemns the slots that it condemns. At `Memory` all is as before.
+/// The device that comes by a deed.
+fn got_of(deed: Deed) -> Option<Arrival>
+    ensures { result ≡ publishing.got_of deed }
+{
+    match deed {
+        Deed::Search { got, .. } => got,
+        Deed::Finalise { got, .. } => got,
+        _ => None,
+    }
+}
+
+/// Publishes the slot of a device that comes.
+fn publish<S: Slots>(slots: &mut S, got: Option<Arrival>)
+    requires { SlotReady got (S.states slots.old) }
+    ensures states { S.states slots.new ≡ published got (S.states slots.old) }
+    ensures denials { S.denials slots.new ≡ S.denials slots.old }
+    ensures last { S.last_denial slots.new ≡ S.last_denial slots.old }
+{
+    match got {
+        Some(arrival) => slots.publish(arrival.spot),
+        None => {}
+    }
+}
+
+/// Does a deed that frees nothing; the slot of what came is published, and those of what it condemns are condemned. At
+/// `Memory` all is as before.
 fn do_with<S: Slots>(
     alloc: Global,
+    graph: &Graph,
     setup: &Setup,
     core: &mut Core,
     caller: u8,
-    said: &Command,
-    work: Work,
+    deed: Deed,
     slots: &mut S,
 ) -> Result<(), Memory>
+    requires graph { IsGraphOf (declared_by setup.now.tables) graph.now }
     requires may { MayRun setup.now }
     requires bounded { Bounded setup.now }
     requires books { Books setup.now core.old }
     requires kept { Kept (world_of setup.now core.old) }
     requires caller { caller < length core.old.callers.items }
-    requires chosen { next (world_of setup.now core.old) caller ≡ Does (deed_by (world_of setup.now core.old) said.now work) }
+    requires chosen { next (world_of setup.now core.old) caller ≡ Does deed }
     requires agree { S.states slots.old ≡ slots_of (world_of setup.now core.old) }
-    requires other { (of : ℕ) → work ≢ works.Free of }
-    ensures done { OnOk result (world_of setup.now core.new ≡ rule.after (world_of setup.now core.old) caller (deed_by (world_of setup.now core.old) said.now work)) }
+    requires next { core.old.tree.next < 2 ^ 64 - 1 }
+    requires room { HasRoom core.old caller deed }
+    requires other { (of : ℕ) → deed ≢ deeds.Free of }
+    ensures done { OnOk result (world_of setup.now core.new ≡ rule.after (world_of setup.now core.old) caller deed) }
     ensures same { OnErr result (world_of setup.now core.new ≡ world_of setup.now core.old) }
     ensures agree { S.states slots.new ≡ slots_of (world_of setup.now core.new) }
     ensures denials { S.denials slots.new ≡ S.denials slots.old }
@@ -161,43 +191,47 @@ fn do_with<S: Slots>(
     ensures books { Books setup.now core.new }
     ensures aside { SameAside core.old core.new }
 {
-    do_work(alloc, setup, core, caller, said, work)?;
-    condemn_too(slots, setup, core, condemned_by(work));
+    commit(alloc, graph, setup, core, caller, deed)?;
+    publish(slots, got_of(deed));
+    condemn_too(slots, setup, core, condemned_by(deed));
     Ok(())
 }
 
-/// Does a work that the caller chose, with its slots; or memory runs out, or callers hold the slot of the device that
+/// Does a deed that the caller chose, with its slots; or memory runs out, or callers hold the slot of the device that
 /// is to be freed, and nothing changes but the denials.
-pub fn run_work<S: Slots>(
+pub fn run_deed<S: Slots>(
     alloc: Global,
+    graph: &Graph,
     setup: &Setup,
     core: &mut Core,
     caller: u8,
-    said: &Command,
-    work: Work,
+    deed: Deed,
     slots: &mut S,
 ) -> Result<(), Halt>
+    requires graph { IsGraphOf (declared_by setup.now.tables) graph.now }
     requires may { MayRun setup.now }
     requires bounded { Bounded setup.now }
     requires books { Books setup.now core.old }
     requires kept { Kept (world_of setup.now core.old) }
     requires caller { caller < length core.old.callers.items }
-    requires chosen { next (world_of setup.now core.old) caller ≡ Does (deed_by (world_of setup.now core.old) said.now work) }
+    requires chosen { next (world_of setup.now core.old) caller ≡ Does deed }
     requires agree { S.states slots.old ≡ slots_of (world_of setup.now core.old) }
-    ensures done { OnOk result (world_of setup.now core.new ≡ rule.after (world_of setup.now core.old) caller (deed_by (world_of setup.now core.old) said.now work)) }
+    requires next { core.old.tree.next < 2 ^ 64 - 1 }
+    requires room { HasRoom core.old caller deed }
+    ensures done { OnOk result (world_of setup.now core.new ≡ rule.after (world_of setup.now core.old) caller deed) }
     ensures quiet { OnOk result ((S.denials slots.new ≡ S.denials slots.old) × (S.last_denial slots.new ≡ S.last_denial slots.old)) }
     ensures same { OnErr result (world_of setup.now core.new ≡ world_of setup.now core.old) }
-    ensures halt { IfErr result (λ why. HaltIs core.old.tree.live work (S.denials slots.old) (S.last_denial slots.old) why (S.denials slots.new) (S.last_denial slots.new)) }
+    ensures halt { IfErr result (λ why. HaltIs core.old.tree.live deed (S.denials slots.old) (S.last_denial slots.old) why (S.denials slots.new) (S.last_denial slots.new)) }
     ensures agree { S.states slots.new ≡ slots_of (world_of setup.now core.new) }
     ensures books { Books setup.now core.new }
     ensures aside { SameAside core.old core.new }
 {
-    match work {
-        Work::Free { of } => match free_with(setup, core, caller, of, slots) {
+    match deed {
+        Deed::Free { of } => match free_with(setup, core, caller, of, slots) {
             Ok(()) => Ok(()),
             Err(wait) => Err(Halt::Waits(wait)),
         },
-        _ => match do_with(alloc, setup, core, caller, said, work, slots) {
+        _ => match do_with(alloc, graph, setup, core, caller, deed, slots) {
             Ok(()) => Ok(()),
             Err(_) => Err(Halt::Memory),
         },

@@ -1,16 +1,17 @@
 //! Turns of callers over slots that nobody holds. See drvctl(8).
 ghost use Rattle.std.specs.Prelude.{◌≡◌, ◌≤◌, ◌∷◌, [], None, OnErr, OnOk, length};
 ghost use Rattle.std.specs.List.{AllByRecursion};
-ghost use Rattle.run_rules.specs.Deeds.{Does, Done};
+ghost use Rattle.run_rules.specs.declared.deed.Choice.TheVariants.{Does};
+ghost use Rattle.run_rules.specs.declared.deed.Deed.TheVariants.{Done};
 ghost use Rattle.run_rules.specs.Next.{next};
 ghost use Rattle.dev_board.specs.Agreement.{slots_of};
 ghost use Rattle.dev_board.specs.Playing.{Plays, PlaysSome};
 
 use crate::board::Board;
+use crate::command_act::answer_for;
 use crate::io_result::IoResult;
 use crate::posted::Posted;
 use crate::stepped::Stepped;
-use crate::told_act::answer_for;
 use cf_types::{Memory, Ticket};
 use ref_ledger::PlainSlots;
 

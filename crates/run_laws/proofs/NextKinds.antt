@@ -4,7 +4,6 @@ use Rattle.std.specs.Option.{option_map_or}
 use Rattle.cf_types.specs.declared.machine.Command.{Command}
 use Rattle.cf_types.specs.declared.machine.Command.TheVariants as command
 use Rattle.cf_types.specs.declared.machine.Given.{Given}
-use Rattle.run_rules.specs.declared.event.Reply.TheVariants as reply
 use Rattle.run_rules.specs.declared.event.PowerKind.{PowerKind}
 use Rattle.run_rules.specs.declared.event.PowerKind.TheVariants as kind
 use Rattle.run_rules.specs.declared.world.Dev.{Dev}
@@ -14,7 +13,11 @@ use Rattle.run_rules.specs.declared.world.Activity.{Activity}
 use Rattle.run_rules.specs.declared.world.Activity.TheVariants as activity
 use Rattle.run_rules.specs.declared.world.Wait.TheVariants as wait
 use Rattle.run_rules.specs.World.{World, has_ended, is_referred, is_live, caller_at}
-use Rattle.run_rules.specs.Deeds.{Deed, Choice, Free, EndPower, Ended, Waits, Does}
+use Rattle.run_rules.specs.declared.deed.Deed.{Deed}
+use Rattle.run_rules.specs.declared.deed.Deed.TheVariants.{Free, EndPower}
+use Rattle.run_rules.specs.declared.deed.PowerEnd.TheVariants as ends
+use Rattle.run_rules.specs.declared.deed.Choice.{Choice}
+use Rattle.run_rules.specs.declared.deed.Choice.TheVariants.{Ended, Waits, Does}
 use Rattle.run_rules.specs.Next.{next, next_scan, next_boot, finalise, next_free, freeing, suspending, waking, powering, rescan_of, command_deed, next_command, on_top, by_activity}
 
 -- whether the choice is to free, and what
@@ -65,10 +68,10 @@ power_none w kind.Suspend target = search steps
 power_none w kind.Resume target = search steps
 power_none w kind.ResumeTree target = search steps
 
-rescan_none : (w : World) (said : Command) (d : Dev) (attr : Option (List ℕ)) (given : List Given) → FreesNone (Does (rescan_of w said d attr given))
+rescan_none : (w : World) (d : Dev) (attr : Option (List ℕ)) (given : List Given) → FreesNone (Does (rescan_of w d attr given))
 unfolding rescan_of
-rescan_none w said d None given = search steps
-rescan_none w said d (Some name) given = search steps
+rescan_none w d None given = search steps
+rescan_none w d (Some name) given = search steps
 
 command_none : (w : World) (k n : ℕ) (c : Command) → FreesNone (Does (command_deed w k n c))
 unfolding command_deed
@@ -124,7 +127,7 @@ activity_free : (w : World) (k s : ℕ) (a : Activity) → frees (by_activity w 
 activity_free w k s activity.Ended e = absurd cc
 activity_free w k s (activity.Transfer ticket) e = absurd cc
 activity_free w k s (activity.Frees target) e = freeing_free w k s e
-activity_free w k s (activity.Power p target) e = absurd (never (cond (is_live w.live target) (powering w p target) (Does (EndPower target reply.Gone))) s (none_if (is_live w.live target) (powering w p target) (Does (EndPower target reply.Gone)) (power_none w p target) (record { none = refl })) e)
+activity_free w k s (activity.Power p target) e = absurd (never (cond (is_live w.live target) (powering w p target) (Does (EndPower ends.Gone))) s (none_if (is_live w.live target) (powering w p target) (Does (EndPower ends.Gone)) (power_none w p target) (record { none = refl })) e)
 activity_free w k s activity.Scans e = absurd (never (on_top w k (caller_at w k).stack) s (top_none w k (caller_at w k).stack) e)
 activity_free w k s activity.Idle e = absurd (never (on_top w k (caller_at w k).stack) s (top_none w k (caller_at w k).stack) e)
 

@@ -7,7 +7,8 @@ use Rattle.run_rules.specs.declared.world.Setup.{Setup}
 use Rattle.run_rules.specs.declared.world.Dev.{Dev}
 use Rattle.run_rules.specs.declared.world.Position.{Position}
 use Rattle.run_rules.specs.World.{World, opening, root_name, name_of, unit_name, parent_name, device_at}
-use Rattle.run_rules.specs.Deeds.{Deed, Search, EndScan, BeginInterrupts, EndCaller}
+use Rattle.run_rules.specs.declared.deed.Deed.{Deed}
+use Rattle.run_rules.specs.declared.deed.Deed.TheVariants.{Search, EndScan, BeginInterrupts, EndCaller}
 use Rattle.run_rules.specs.declared.world.Arrival.{Arrival}
 use Rattle.run_rules.specs.After.{after, new_device}
 use Rattle.run_rules.specs.Run.{event_of, printed}
@@ -44,19 +45,19 @@ parent_lives h w p named = cases (device_at w.live p) refl
 
 -- ---- a device comes
 
-pub named_attach : (h : List Event) (w : World) (k p : ℕ) (to : Position) (a : Arrival) → AreNamed h w
-    → AreNamed (h ++ event_of w k (Search p to (Some a)) ∷ []) (after w k (Search p to (Some a)))
+pub named_attach : (h : List Event) (w : World) (k p spot : ℕ) (to : Position) (a : Arrival) → AreNamed h w
+    → AreNamed (h ++ event_of w k (Search p spot to (Some a)) ∷ []) (after w k (Search p spot to (Some a)))
 unfolding event_of printed
-named_attach h w k p to a named =
-    let e : Event = event_of w k (Search p to (Some a)) in
+named_attach h w k p spot to a named =
+    let e : Event = event_of w k (Search p spot to (Some a)) in
     let here : lives (h ++ e ∷ []) (unit_name w.setup a.row a.unit) ≡ true = lives_attached h e _ (same_bytes (unit_name w.setup a.row a.unit)) in
-    rw (after_setup w k (Search p to (Some a)), live_attach w k p to a)
+    rw (after_setup w k (Search p spot to (Some a)), live_attach w k p spot to a)
     (all_snoc (λ d. lives (h ++ e ∷ []) (name_of w.setup d) ≡ true) w.live (new_device w a)
     (all_imp (λ d. lives h (name_of w.setup d) ≡ true) _ (λ d is. lives_kept h e (name_of w.setup d) refl is) w.live named) here)
 
-pub lawful_attach : (h : List Event) (w : World) (k p : ℕ) (to : Position) (a : Arrival) → AreNamed h w → ParentLives h (event_of w k (Search p to (Some a)))
+pub lawful_attach : (h : List Event) (w : World) (k p spot : ℕ) (to : Position) (a : Arrival) → AreNamed h w → ParentLives h (event_of w k (Search p spot to (Some a)))
 unfolding event_of printed
-lawful_attach h w k p to a named x is = parent_lives h w p named
+lawful_attach h w k p spot to a named x is = parent_lives h w p named
 
 -- ---- the other deeds of a boot
 
@@ -66,8 +67,8 @@ named_same h w k d live none named =
 
 named_step : (h : List Event) (w : World) (k : ℕ) (d : Deed) → IsQuiet d → AreNamed h w → AreNamed (h ++ event_of w k d ∷ []) (after w k d)
 unfolding event_of printed
-named_step h w k (Search p to None) quiet named = named_same h w k (Search p to None) (live_pass w k p to) refl named
-named_step h w k (Search p to (Some a)) quiet named = named_attach h w k p to a named
+named_step h w k (Search p spot to None) quiet named = named_same h w k (Search p spot to None) (live_pass w k p spot to) refl named
+named_step h w k (Search p spot to (Some a)) quiet named = named_attach h w k p spot to a named
 named_step h w k (EndScan p) quiet named = named_same h w k (EndScan p) (live_scan w k p) refl named
 named_step h w k BeginInterrupts quiet named = named_same h w k BeginInterrupts (live_phase w k) refl named
 named_step h w k EndCaller quiet named = named_same h w k EndCaller (live_end w k) refl named
@@ -75,8 +76,8 @@ named_step h w k _ quiet named = absurd quiet
 
 lawful_step : (h : List Event) (w : World) (k : ℕ) (d : Deed) → IsQuiet d → AreNamed h w → ParentLives h (event_of w k d)
 unfolding event_of printed
-lawful_step h w k (Search p to None) quiet named = λ x is. absurd cc
-lawful_step h w k (Search p to (Some a)) quiet named = lawful_attach h w k p to a named
+lawful_step h w k (Search p spot to None) quiet named = λ x is. absurd cc
+lawful_step h w k (Search p spot to (Some a)) quiet named = lawful_attach h w k p spot to a named
 lawful_step h w k (EndScan p) quiet named = λ x is. absurd cc
 lawful_step h w k BeginInterrupts quiet named = λ x is. absurd cc
 lawful_step h w k EndCaller quiet named = λ x is. absurd cc

@@ -76,7 +76,7 @@ target_test w k _ = true
 
 abbrev pub caller_test : World → ℕ → Bool
 caller_test w k =
-    same_bool (is_number w.turn k) (is_power (caller_at w k).doing)
+    same_bool (is_number w.power_owner k) (is_power (caller_at w k).doing)
     && (holds_transfer w k (caller_at w k).doing && (ended_test w k (caller_at w k) && (frames_test k (caller_at w k) && target_test w k (caller_at w k).doing)))
 
 abbrev pub is_idle : Activity → Bool
@@ -94,7 +94,7 @@ abbrev pub boot_test : World → Bool
 boot_test w =
     list_all (λ d. not d.asleep) w.live
     && (list_all (λ d. is_nobody d.condemned) w.live
-    && (is_empty w.refs && (is_nobody w.turn && (list_all unbegun_test (others w.callers) && list_all (λ s. is_live w.live s) w.finalisers))))
+    && (is_empty w.refs && (is_nobody w.power_owner && (list_all unbegun_test (others w.callers) && list_all (λ s. is_live w.live s) w.finalisers))))
 
 abbrev pub is_parent_key : Key → Bool
 is_parent_key key.Interrupts = false
@@ -102,7 +102,7 @@ is_parent_key (key.Parent p) = true
 
 -- callers that are named are there
 abbrev pub range_test : World → Bool
-range_test w = option_map_or (λ j. nat_lt j (length w.callers)) w.turn true && list_all (λ r. nat_lt r.caller (length w.callers)) w.refs
+range_test w = option_map_or (λ j. nat_lt j (length w.callers)) w.power_owner true && list_all (λ r. nat_lt r.caller (length w.callers)) w.refs
 
 abbrev pub sound_test : World → Bool
 sound_test w =
@@ -113,7 +113,7 @@ sound_test w =
     && (list_all (λ c. list_all (λ f. is_known w (frame_serial f)) c.stack) w.callers
     && (list_all (λ e. is_live w.live e.child && parent_test w e.key) w.deferred
     && ((range_test w && list_all (caller_test w) (below (length w.callers)))
-    && ((not w.phase || list_all (λ e. is_parent_key e.key) w.deferred)
+    && ((not w.interrupts_on || list_all (λ e. is_parent_key e.key) w.deferred)
     && (is_ended (caller_at w 0).doing || boot_test w))))))))
 
 -- ---- lists
@@ -242,12 +242,12 @@ caller_in : (w : World) (k : ℕ) → caller_test w k ≡ true → IsSoundCaller
 caller_in w k h =
     let c : Caller = caller_at w k in
     let e1 : Bool = ended_test w k c && (frames_test k c && target_test w k c.doing) in
-    let a = and_both (same_bool (is_number w.turn k) (is_power c.doing)) (holds_transfer w k c.doing && e1) h in
+    let a = and_both (same_bool (is_number w.power_owner k) (is_power c.doing)) (holds_transfer w k c.doing && e1) h in
     let b = and_both (holds_transfer w k c.doing) e1 a.1 in
     let d = and_both (ended_test w k c) (frames_test k c && target_test w k c.doing) b.1 in
     let f = and_both (frames_test k c) (target_test w k c.doing) d.1 in
     record {
-      turn = same_is (is_number w.turn k) (is_power c.doing) a.0;
+      turn = same_is (is_number w.power_owner k) (is_power c.doing) a.0;
       transfer = λ t e. subst (λ (x : Activity). holds_transfer w k x ≡ true) e b.0;
       ended = λ e.
           let left = and_both (is_empty c.stack) (list_all (λ r. not (r.caller == k)) w.refs)
@@ -274,9 +274,9 @@ caller_past w k h le =
     let is : caller_at w k ≡ nobody = get_or_past w.callers k nobody le in
     let doing : (caller_at w k).doing ≡ activity.Ended = ap (λ (c : Caller). c.doing) is in
     let bare : (caller_at w k).stack ≡ [] = ap (λ (c : Caller). c.stack) is in
-    let a = and_both (option_map_or (λ j. nat_lt j (length w.callers)) w.turn true) (list_all (λ r. nat_lt r.caller (length w.callers)) w.refs) h in
+    let a = and_both (option_map_or (λ j. nat_lt j (length w.callers)) w.power_owner true) (list_all (λ r. nat_lt r.caller (length w.callers)) w.refs) h in
     record {
-      turn = (λ e. absurd (turn_past w.turn (length w.callers) k a.0 le e), λ e. absurd (no_power (caller_at w k).doing doing e));
+      turn = (λ e. absurd (turn_past w.power_owner (length w.callers) k a.0 le e), λ e. absurd (no_power (caller_at w k).doing doing e));
       transfer = λ t e. absurd (no_transfer (caller_at w k).doing t doing e);
       ended = λ e. (
         bare,
@@ -312,16 +312,16 @@ unbegun_from c h =
 boot_from : (w : World) → boot_test w ≡ true → IsSoundBoot w
 boot_from w h =
     let d1 : Bool = list_all unbegun_test (others w.callers) && list_all (λ s. is_live w.live s) w.finalisers in
-    let a = and_both (list_all (λ d. not d.asleep) w.live) (list_all (λ d. is_nobody d.condemned) w.live && (is_empty w.refs && (is_nobody w.turn && d1))) h in
-    let b = and_both (list_all (λ d. is_nobody d.condemned) w.live) (is_empty w.refs && (is_nobody w.turn && d1)) a.1 in
-    let c = and_both (is_empty w.refs) (is_nobody w.turn && d1) b.1 in
-    let d = and_both (is_nobody w.turn) d1 c.1 in
+    let a = and_both (list_all (λ d. not d.asleep) w.live) (list_all (λ d. is_nobody d.condemned) w.live && (is_empty w.refs && (is_nobody w.power_owner && d1))) h in
+    let b = and_both (list_all (λ d. is_nobody d.condemned) w.live) (is_empty w.refs && (is_nobody w.power_owner && d1)) a.1 in
+    let c = and_both (is_empty w.refs) (is_nobody w.power_owner && d1) b.1 in
+    let d = and_both (is_nobody w.power_owner) d1 c.1 in
     let e = and_both (list_all unbegun_test (others w.callers)) (list_all (λ s. is_live w.live s) w.finalisers) d.1 in
     record {
       awake = all_from (λ x. not x.asleep) (λ x. IsTrue (not x.asleep)) (λ x t. t) w.live a.0;
       spared = all_from (λ x. is_nobody x.condemned) (λ x. x.condemned ≡ None) (λ x t. nobody_is x.condemned t) w.live b.0;
       no_refs = empty_is w.refs c.0;
-      no_turn = nobody_is w.turn d.0;
+      no_turn = nobody_is w.power_owner d.0;
       waiting = all_from unbegun_test IsUnbegun unbegun_from (others w.callers) e.0;
       finalisers = all_from (λ s. is_live w.live s) (λ s. IsTrue (is_live w.live s)) (λ s t. t) w.finalisers e.1;
     }
@@ -343,7 +343,7 @@ parent_key_is (key.Parent p) h e = cc
 pub sound_from : (w : World) → sound_test w ≡ true → Sound w
 sound_from w h =
     let h9 : Bool = is_ended (caller_at w 0).doing || boot_test w in
-    let h8 : Bool = not w.phase || list_all (λ e. is_parent_key e.key) w.deferred in
+    let h8 : Bool = not w.interrupts_on || list_all (λ e. is_parent_key e.key) w.deferred in
     let h7 : Bool = range_test w && list_all (caller_test w) (below (length w.callers)) in
     let h6 : Bool = list_all (λ e. is_live w.live e.child && parent_test w e.key) w.deferred in
     let h5 : Bool = list_all (λ c. list_all (λ f. is_known w (frame_serial f)) c.stack) w.callers in
@@ -377,8 +377,8 @@ sound_from w h =
           (λ c t. all_from (λ f. is_known w (frame_serial f)) (λ f. IsTrue (is_known w (frame_serial f))) (λ f u. u) c.stack t) w.callers e.0;
       deferred = all_from (λ e. is_live w.live e.child && parent_test w e.key) (IsSoundlyDeferred w) (λ e t. deferred_from w e.key e.child t) w.deferred f.0;
       callers = caller_from w g.0;
-      phase = λ p. all_from (λ e. is_parent_key e.key) (λ e. e.key ≢ key.Interrupts) (λ e t. parent_key_is e.key t) w.deferred
-          (given w.phase (list_all (λ e. is_parent_key e.key) w.deferred) i.0 p);
+      interrupts_on = λ p. all_from (λ e. is_parent_key e.key) (λ e. e.key ≢ key.Interrupts) (λ e t. parent_key_is e.key t) w.deferred
+          (given w.interrupts_on (list_all (λ e. is_parent_key e.key) w.deferred) i.0 p);
       boot = boot_if w (caller_at w 0).doing i.1;
     }
 

@@ -59,12 +59,12 @@ good = record {
   refs = [];
   absent = [];
   hidden = [];
-  phase = true;
-  turn = None;
+  interrupts_on = true;
+  power_owner = None;
   deferred = [];
   finalisers = [];
-  place = 0;
-  again = false;
+  next_finaliser = 0;
+  pass_repeats = false;
   callers = ended ∷ idle ∷ idle ∷ [];
 }
 
@@ -167,17 +167,17 @@ deferred_alone : Sound (record good { deferred = record { key = key.Parent 1; ch
 deferred_alone h = not_either h.deferred.0.1
 
 still_queued : Sound (record good { deferred = record { key = key.Interrupts; child = 2 } ∷ [] }) → ⊥
-still_queued h = (h.phase refl).0 refl
+still_queued h = (h.interrupts_on refl).0 refl
 
 -- ---- callers
 
-turn_of_idle : Sound (record good { turn = Some 1 }) → ⊥
+turn_of_idle : Sound (record good { power_owner = Some 1 }) → ⊥
 turn_of_idle h = not_either ((h.callers 1).turn.0 refl)
 
 power_without_turn : Sound (record good { callers = ended ∷ doing (activity.Power kind.Suspend 2) ∷ idle ∷ [] }) → ⊥
 power_without_turn h = not_either ((h.callers 1).turn.1 refl)
 
-turn_of_nobody : Sound (record good { turn = Some 9 }) → ⊥
+turn_of_nobody : Sound (record good { power_owner = Some 9 }) → ⊥
 turn_of_nobody h = not_either ((h.callers 9).turn.0 refl)
 
 transfer_unheld : Sound (record good { callers = ended ∷ doing (activity.Transfer (record { caller = 1; number = 1; serial = 2; slot = 1; bad = false; value = 0 })) ∷ idle ∷ [] }) → ⊥
@@ -210,7 +210,7 @@ idle_with_frame h = clash ((h.callers 1).frames refl (λ e. bare (scan_of 2) [] 
 -- ---- while the boot goes on
 
 abbrev booting : World
-booting = record good { phase = false; callers = record { over = 0; doing = activity.Idle; stack = scan_of 2 ∷ scan_of 1 ∷ scan_of 0 ∷ [] } ∷ idle ∷ idle ∷ [] }
+booting = record good { interrupts_on = false; callers = record { over = 0; doing = activity.Idle; stack = scan_of 2 ∷ scan_of 1 ∷ scan_of 0 ∷ [] } ∷ idle ∷ idle ∷ [] }
 
 booting_is_sound : Sound booting
 unfolding lineage is_under is_pinned

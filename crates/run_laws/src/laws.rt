@@ -1,7 +1,8 @@
 //! Laws of every run; nothing here runs.
 ghost use Rattle.std.specs.Prelude.{◌≡◌, ℕ, false, List};
 ghost use Rattle.run_rules.specs.World.{World, is_referred, opening};
-ghost use Rattle.run_rules.specs.Deeds.{Does, Free};
+ghost use Rattle.run_rules.specs.declared.deed.Deed.TheVariants.{Free};
+ghost use Rattle.run_rules.specs.declared.deed.Choice.TheVariants.{Does};
 ghost use Rattle.run_rules.specs.Next.{next};
 ghost use Rattle.run_laws.specs.Parents.{QuietRun, ParentsLive};
 ghost use Rattle.run_rules.specs.declared.world.Setup.{Setup};

@@ -6,7 +6,8 @@ use Rattle.run_rules.specs.World.{World, has_ended, policy_of, offered_by, calle
 use Rattle.run_rules.specs.declared.world.Arrival.{Arrival}
 use Rattle.run_rules.specs.declared.world.Placing.{Placing}
 use Rattle.run_rules.specs.declared.world.Placing.TheVariants.{Nowhere, Queued, PutOff, Pushed}
-use Rattle.run_rules.specs.Deeds.{Deed, Search, EndScan, BeginInterrupts, Finalise, EndCaller, Drop, Answer, Open, Close, Start, Done, Detach, Free, Rescan, BeginPower, Sleep, Wake, EndPower, Plug, Unplug, Tell}
+use Rattle.run_rules.specs.declared.deed.Deed.{Deed}
+use Rattle.run_rules.specs.declared.deed.Deed.TheVariants.{Search, EndScan, BeginInterrupts, Finalise, EndCaller, Drop, Refuse, Open, Close, Start, Done, Detach, Free, Rescan, BeginPower, Sleep, Wake, EndPower, Plug, Unplug, Tell}
 use Rattle.run_rules.specs.After.{place_finaliser, place_scan, finaliser_placing, scan_placing, finaliser_placed, scan_placed, listed, attached, arrived, released, show_spot, list_moved, finaliser_done, freeing_target, freed, over, after, with_stack, moved_top}
 use Rattle.run_rules.specs.Run.{Run}
 
@@ -25,7 +26,7 @@ scan_setup Pushed w k parent s = refl
 attached_setup : (w : World) (k : ℕ) (a : Arrival) (may_defer : Bool) → (attached w k a may_defer).setup ≡ w.setup
 unfolding attached scan_placed finaliser_placed listed
 attached_setup w k a may_defer =
-    scan_setup (scan_placing (policy_of w.setup a.row) (offered_by w.setup a.row) (finaliser_placed (policy_of w.setup a.row) (listed w a) k w.next).phase may_defer)
+    scan_setup (scan_placing (policy_of w.setup a.row) (offered_by w.setup a.row) (finaliser_placed (policy_of w.setup a.row) (listed w a) k w.next).interrupts_on may_defer)
     (finaliser_placed (policy_of w.setup a.row) (listed w a) k w.next) k a.parent w.next
     ∙ finaliser_setup (finaliser_placing (policy_of w.setup a.row) (has_ended (listed w a) 0)) (listed w a) k w.next
 
@@ -53,7 +54,7 @@ freed_setup w k s false = refl
 -- nor does a deed
 pub after_setup : (w : World) (k : ℕ) (d : Deed) → (after w k d).setup ≡ w.setup
 unfolding after released
-after_setup w k (Search p to got) = arrived_setup (with_stack w k (moved_top to (caller_at w k).stack)) k got true
+after_setup w k (Search p spot to got) = arrived_setup (with_stack w k (moved_top to (caller_at w k).stack)) k got true
 after_setup w k (EndScan p) = refl
 after_setup w k BeginInterrupts = refl
 after_setup w k (Finalise s spot got listed anew) =
@@ -63,22 +64,22 @@ after_setup w k (Finalise s spot got listed anew) =
     ∙ shown_setup w spot
 after_setup w k EndCaller = refl
 after_setup w k (Drop s) = refl
-after_setup w k (Answer said reply) = refl
-after_setup w k (Open said s) = refl
-after_setup w k (Close said s) = refl
-after_setup w k (Start said ticket) = refl
+after_setup w k (Refuse why) = refl
+after_setup w k (Open s sole) = refl
+after_setup w k (Close s) = refl
+after_setup w k (Start ticket) = refl
 after_setup w k (Done ticket) = refl
-after_setup w k (Detach said s) = refl
+after_setup w k (Detach s) = refl
 after_setup w k (Free s) = freed_setup w k s (freeing_target (caller_at w k).doing s)
-after_setup w k (Rescan said frame) = refl
-after_setup w k (BeginPower said kind s) = refl
+after_setup w k (Rescan s only) = refl
+after_setup w k (BeginPower kind s) = refl
 after_setup w k (Sleep s) = refl
 after_setup w k (Wake s) = refl
-after_setup w k (EndPower s reply) = refl
-after_setup w k (Plug said x) = refl
-after_setup w k (Unplug said x None) = refl
-after_setup w k (Unplug said x (Some s)) = refl
-after_setup w k (Tell said) = refl
+after_setup w k (EndPower end) = refl
+after_setup w k (Plug x) = refl
+after_setup w k (Unplug x None) = refl
+after_setup w k (Unplug x (Some s)) = refl
+after_setup w k Tell = refl
 
 -- so none of a run does
 pub run_setup : (w : World) (h : List Event) (v : World) → Run w h v → v.setup ≡ w.setup

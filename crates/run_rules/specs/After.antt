@@ -1,6 +1,14 @@
 -- The world after a deed. What a line does not name stays.
-use Rattle.std.specs.Prelude.{ℕ, ◌+◌, Bool, true, false, not, ◌&&◌, ◌||◌, ◌==◌, if◌then◌else◌, List, [], ◌∷◌, ◌++◌, map, filter, slice_set, Option, Some, None, is_some}
+use Rattle.std.specs.Prelude.{ℕ, ◌+◌, Bool, true, false, not, ◌&&◌, ◌||◌, ◌==◌, if◌then◌else◌, List, [], ◌∷◌, ◌++◌, map, filter, slice_set, Option, Some, None, is_some, unwrap_or}
+use Rattle.std.specs.Option.{option_map_or}
+use Rattle.cf_types.specs.Locators.{locators_at}
+use Rattle.cf_types.specs.declared.machine.Command.{Command}
+use Rattle.cf_types.specs.declared.machine.Command.TheVariants as command
+use Rattle.cf_types.specs.declared.machine.Given.{Given}
 use Rattle.cf_types.specs.declared.machine.Policy.{Policy}
+use Rattle.cf_types.specs.declared.tables.Place.TheVariants.{At}
+use Rattle.run_rules.specs.declared.world.Setup.{Setup}
+use Rattle.run_rules.specs.declared.world.Wanted.{Wanted}
 use Rattle.run_rules.specs.declared.world.Dev.{Dev}
 use Rattle.run_rules.specs.declared.world.Ref.{Ref}
 use Rattle.run_rules.specs.declared.world.Frame.{Frame}
@@ -12,9 +20,10 @@ use Rattle.run_rules.specs.declared.world.Placing.TheVariants.{Nowhere, Queued, 
 use Rattle.run_rules.specs.declared.world.Key.TheVariants as key
 use Rattle.run_rules.specs.declared.world.Activity.{Activity}
 use Rattle.run_rules.specs.declared.world.Activity.TheVariants as activity
-use Rattle.run_rules.specs.World.{World, Caller, is_under, policy_of, offered_by, caller_at, has_ended, scan_of}
-use Rattle.run_rules.specs.Next.{has_nothing}
-use Rattle.run_rules.specs.Deeds.{Deed, Search, EndScan, BeginInterrupts, Finalise, EndCaller, Drop, Answer, Open, Close, Start, Done, Detach, Free, Rescan, BeginPower, Sleep, Wake, EndPower, Plug, Unplug, Tell}
+use Rattle.run_rules.specs.World.{World, Caller, is_under, policy_of, offered_by, caller_at, has_ended, scan_of, start}
+use Rattle.run_rules.specs.Next.{command_of, has_nothing, wanted_of}
+use Rattle.run_rules.specs.declared.deed.Deed.{Deed}
+use Rattle.run_rules.specs.declared.deed.Deed.TheVariants.{Search, EndScan, BeginInterrupts, Finalise, EndCaller, Drop, Refuse, Open, Close, Start, Done, Detach, Free, Rescan, BeginPower, Sleep, Wake, EndPower, Plug, Unplug, Tell}
 use Rattle.run_rules.specs.declared.world.Arrival.{Arrival}
 
 abbrev pub with_caller : World → ℕ → Caller → World
@@ -69,9 +78,9 @@ place_finaliser PutOff w k s = w
 place_finaliser Pushed w k s = pushed w k (Finaliser s)
 
 unfoldable pub scan_placing : Policy → List ℕ → Bool → Bool → Placing
-scan_placing p offered phase may_defer =
+scan_placing p offered interrupts_on may_defer =
     if has_nothing offered then Nowhere
-    else (if p.interrupts && not phase then Queued else (if p.defer && may_defer then PutOff else Pushed))
+    else (if p.interrupts && not interrupts_on then Queued else (if p.defer && may_defer then PutOff else Pushed))
 
 abbrev pub place_scan : Placing → World → ℕ → ℕ → ℕ → World
 place_scan Nowhere w k parent s = w
@@ -85,7 +94,7 @@ finaliser_placed p w k s = place_finaliser (finaliser_placing p (has_ended w 0))
 
 -- by the policy of its attachment and by what it offers its scan joins the interrupts queue, is put off on the parent, or is pushed
 unfoldable pub scan_placed : Policy → List ℕ → World → ℕ → ℕ → ℕ → Bool → World
-scan_placed p offered w k parent s may_defer = place_scan (scan_placing p offered w.phase may_defer) w k parent s
+scan_placed p offered w k parent s may_defer = place_scan (scan_placing p offered w.interrupts_on may_defer) w k parent s
 
 unfoldable pub attached : World → ℕ → Arrival → Bool → World
 attached w k a may_defer =
@@ -120,7 +129,7 @@ show_spot w (Some x) = record w { hidden = filter (λ y. not (y == x)) w.hidden 
 -- the place in the boot's list moves on, an answer 1 sets the mark, and a new pass clears it first
 abbrev pub list_moved : World → Option ℕ → Bool → Bool → World
 list_moved w None anew answer = w
-list_moved w (Some place) anew answer = record w { place = place + 1; again = answer || (not anew && w.again) }
+list_moved w (Some place) anew answer = record w { next_finaliser = place + 1; pass_repeats = answer || (not anew && w.pass_repeats) }
 
 -- a frame goes at answer 0
 abbrev pub finaliser_done : World → ℕ → Option ℕ → Bool → World
@@ -156,28 +165,47 @@ abbrev pub freeing_target : Activity → ℕ → Bool
 freeing_target (activity.Frees target) s = target == s
 freeing_target _ s = false
 
+-- ---- rescans: after drvctl(8)
+
+-- the locator values that a command gives, and those that the caller's command does
+abbrev pub given_in : Command → List Given
+given_in (command.Rescan device attr given) = given
+given_in _ = []
+
+abbrev pub given_by : Option Command → List Given
+given_by said = option_map_or given_in said []
+
+-- those that a rescan of an attribute wants by them
+abbrev pub wanted_by : Setup → List Given → Option ℕ → List Wanted
+wanted_by s given None = []
+wanted_by s given (Some a) = unwrap_or (wanted_of (map (λ l. l.name) (locators_at s.tables.attrs (At a))) given) []
+
+-- the scan of a rescan, by what its caller's command gives
+abbrev pub rescan_frame : World → ℕ → ℕ → Option ℕ → Frame
+rescan_frame w k s only = Scan s only (wanted_by w.setup (given_by (command_of w k)) only) start
+
 unfoldable pub after : World → ℕ → Deed → World
-after w k (Search p to got) = arrived (with_stack w k (moved_top to (caller_at w k).stack)) k got true
+after w k (Search p spot to got) = arrived (with_stack w k (moved_top to (caller_at w k).stack)) k got true
 after w k (EndScan p) = released w k (key.Parent p) (under_top (caller_at w k).stack)
-after w k BeginInterrupts = released (record w { phase = true }) k key.Interrupts (caller_at w k).stack
+after w k BeginInterrupts = released (record w { interrupts_on = true }) k key.Interrupts (caller_at w k).stack
 after w k (Finalise s spot got listed anew) =
     finaliser_done (list_moved (arrived (show_spot w spot) k got false) listed anew (is_some spot)) k listed (is_some spot)
 after w k EndCaller = doing w k activity.Ended
 after w k (Drop s) = unreferred w k s
-after w k (Answer said reply) = over w k
-after w k (Open said s) = over (record w { refs = w.refs ++ record { serial = s; caller = k } ∷ [] }) k
-after w k (Close said s) = over (unreferred w k s) k
-after w k (Start said ticket) = doing w k (activity.Transfer ticket)
+after w k (Refuse why) = over w k
+after w k (Open s sole) = over (record w { refs = w.refs ++ record { serial = s; caller = k } ∷ [] }) k
+after w k (Close s) = over (unreferred w k s) k
+after w k (Start ticket) = doing w k (activity.Transfer ticket)
 after w k (Done ticket) = over w k
-after w k (Detach said s) = doing (condemned w k s) k (activity.Frees s)
+after w k (Detach s) = doing (condemned w k s) k (activity.Frees s)
 after w k (Free s) = if freeing_target (caller_at w k).doing s then over (freed w s) k else freed w s
-after w k (Rescan said frame) = pushed (doing w k activity.Scans) k frame
-after w k (BeginPower said kind s) = doing (record w { turn = Some k }) k (activity.Power kind s)
+after w k (Rescan s only) = pushed (doing w k activity.Scans) k (rescan_frame w k s only)
+after w k (BeginPower kind s) = doing (record w { power_owner = Some k }) k (activity.Power kind s)
 after w k (Sleep s) = marked w s true
 after w k (Wake s) = marked w s false
-after w k (EndPower s reply) = over (record w { turn = None }) k
-after w k (Plug said x) = over (record w { absent = filter (λ y. not (y == x)) w.absent }) k
-after w k (Unplug said x None) = over (record w { absent = x ∷ filter (λ y. not (y == x)) w.absent }) k
-after w k (Unplug said x (Some s)) =
+after w k (EndPower end) = over (record w { power_owner = None }) k
+after w k (Plug x) = over (record w { absent = filter (λ y. not (y == x)) w.absent }) k
+after w k (Unplug x None) = over (record w { absent = x ∷ filter (λ y. not (y == x)) w.absent }) k
+after w k (Unplug x (Some s)) =
     doing (condemned (record w { absent = x ∷ filter (λ y. not (y == x)) w.absent }) k s) k (activity.Frees s)
-after w k (Tell said) = over w k
+after w k Tell = over w k

@@ -1,6 +1,5 @@
 pub mod World
 pub mod Search
-pub mod Deeds
 pub mod Next
 pub mod After
 pub mod Tree

@@ -10,7 +10,6 @@ use Rattle.cf_types.specs.declared.machine.Command.TheVariants as command
 use Rattle.cf_types.specs.declared.machine.Given.{Given}
 use Rattle.cf_types.specs.declared.machine.Spot.{Spot}
 use Rattle.cf_types.specs.declared.machine.Ticket.{Ticket}
-use Rattle.run_rules.specs.declared.event.Reply.TheVariants as reply
 use Rattle.run_rules.specs.declared.event.PowerKind.{PowerKind}
 use Rattle.run_rules.specs.declared.event.PowerKind.TheVariants as kind
 use Rattle.run_rules.specs.declared.world.Dev.{Dev}
@@ -22,10 +21,15 @@ use Rattle.run_rules.specs.declared.world.Wait.TheVariants as wait
 use Rattle.run_rules.specs.declared.world.Activity.{Activity}
 use Rattle.run_rules.specs.declared.world.Activity.TheVariants as activity
 use Rattle.run_rules.specs.declared.world.Setup.{Setup}
-use Rattle.run_rules.specs.World.{World, has, is_number, serial_of, device_at, device_on, is_live, is_under, name_of, device_named, policy_of, offered_by, is_pinned, is_held, is_referred, is_condemned, caller_at, has_ended, start}
+use Rattle.run_rules.specs.World.{World, has, is_number, serial_of, device_at, device_on, is_live, is_under, name_of, device_named, policy_of, offered_by, is_pinned, is_held, is_referred, is_condemned, caller_at, has_ended}
 use Rattle.cf_types.specs.Numbers.{below}
 use Rattle.run_rules.specs.Search.{winner_at, unit_of, due, after_turn}
-use Rattle.run_rules.specs.Deeds.{Deed, Choice, Search, EndScan, BeginInterrupts, Finalise, EndCaller, Drop, Answer, Open, Close, Start, Done, Detach, Free, Rescan, BeginPower, Sleep, Wake, EndPower, Plug, Unplug, Tell, Ended, Waits, Does}
+use Rattle.run_rules.specs.declared.deed.Deed.{Deed}
+use Rattle.run_rules.specs.declared.deed.Deed.TheVariants.{Search, EndScan, BeginInterrupts, Finalise, EndCaller, Drop, Refuse, Open, Close, Start, Done, Detach, Free, Rescan, BeginPower, Sleep, Wake, EndPower, Plug, Unplug, Tell}
+use Rattle.run_rules.specs.declared.deed.Refusal.TheVariants as refusal
+use Rattle.run_rules.specs.declared.deed.PowerEnd.TheVariants as ends
+use Rattle.run_rules.specs.declared.deed.Choice.{Choice}
+use Rattle.run_rules.specs.declared.deed.Choice.TheVariants.{Ended, Waits, Does}
 use Rattle.run_rules.specs.declared.world.Arrival.{Arrival}
 
 abbrev pub name_at : World → ℕ → List ℕ
@@ -40,7 +44,7 @@ arrival s live p place x =
 
 unfoldable pub next_scan : Setup → List Dev → List ℕ → List ℕ → ℕ → Option ℕ → List Wanted → Position → Deed
 next_scan s live absent hidden p only wanted from =
-    option_map_or (λ t. Search p (after_turn t) (arrival s live p t.place t.at.spot)) (due s live absent hidden p only wanted from) (EndScan p)
+    option_map_or (λ t. Search p t.at.spot (after_turn t) (arrival s live p t.place t.at.spot)) (due s live absent hidden p only wanted from) (EndScan p)
 
 -- ---- finalisers: after autoconf(9); that each call shows one late spot is this project's profile
 
@@ -71,9 +75,9 @@ finalise w s listed anew =
 
 unfoldable pub next_boot : World → Choice
 next_boot w =
-    if not w.phase then Does BeginInterrupts
-    else (if nat_lt w.place (length w.finalisers) then Does (finalise w (slice_index_or w.finalisers w.place 0) (Some w.place) false)
-    else (if w.again then Does (finalise w (slice_index_or w.finalisers 0 0) (Some 0) true)
+    if not w.interrupts_on then Does BeginInterrupts
+    else (if nat_lt w.next_finaliser (length w.finalisers) then Does (finalise w (slice_index_or w.finalisers w.next_finaliser 0) (Some w.next_finaliser) false)
+    else (if w.pass_repeats then Does (finalise w (slice_index_or w.finalisers 0 0) (Some 0) true)
     else Does EndCaller))
 
 -- ---- freeing: after autoconf(9), children before their parent; that it waits for references is this project's profile
@@ -102,13 +106,13 @@ unfoldable pub suspending : World → ℕ → Choice
 suspending w target =
     option_map_or (λ d.
     if is_pinned w d.serial then Waits (wait.Scan d.serial)
-    else (if (policy_of w.setup d.row).nopower then Does (EndPower target (reply.NotSupported (name_of w.setup d)))
-    else (if (policy_of w.setup d.row).failsuspend then Does (EndPower target (reply.SuspendFailed (name_of w.setup d)))
+    else (if (policy_of w.setup d.row).nopower then Does (EndPower (ends.NotSupported d.serial))
+    else (if (policy_of w.setup d.row).failsuspend then Does (EndPower (ends.Failed d.serial))
     else Does (Sleep d.serial))))
-    (next_sleep w.live target) (Does (EndPower target reply.Ok))
+    (next_sleep w.live target) (Does (EndPower ends.Done))
 
 unfoldable pub waking : World → ℕ → Bool → Choice
-waking w target whole = option_map_or (λ d. Does (Wake d.serial)) (next_wake w.live target whole) (Does (EndPower target reply.Ok))
+waking w target whole = option_map_or (λ d. Does (Wake d.serial)) (next_wake w.live target whole) (Does (EndPower ends.Done))
 
 abbrev pub powering : World → PowerKind → ℕ → Choice
 powering w kind.Suspend target = suspending w target
@@ -128,20 +132,20 @@ unfoldable pub hindered : World → ℕ → ℕ → Bool → Option Dev
 hindered w s k forced = find (is_hindrance w s k forced) w.live
 
 -- busy with what stands in the way, or what follows
-abbrev pub unless_hindered : World → ℕ → Command → ℕ → Bool → Deed → Deed
-unless_hindered w k said s forced deed = option_map_or (λ x. Answer said (reply.Busy (name_of w.setup x))) (hindered w s k forced) deed
+abbrev pub unless_hindered : World → ℕ → ℕ → Bool → Deed → Deed
+unless_hindered w k s forced deed = option_map_or (λ x. Refuse (refusal.Busy x.serial)) (hindered w s k forced) deed
 
 -- no device, gone, or what follows
-abbrev pub on_device : World → Command → List ℕ → (Dev → Deed) → Deed
-on_device w said name body =
-    option_map_or (λ d. if is_condemned d then Answer said reply.Gone else body d)
-    (device_named w.setup w.live name) (Answer said reply.NoDevice)
+abbrev pub on_device : World → List ℕ → (Dev → Deed) → Deed
+on_device w name body =
+    option_map_or (λ d. if is_condemned d then Refuse refusal.Gone else body d)
+    (device_named w.setup w.live name) (Refuse refusal.NoDevice)
 
 -- not held, or what follows; a condemned device that the caller holds is as good as another
-abbrev pub on_held : World → ℕ → Command → List ℕ → (Dev → Deed) → Deed
-on_held w k said name body =
-    option_map_or (λ d. if is_held w k d.serial then body d else Answer said reply.NotHeld)
-    (device_named w.setup w.live name) (Answer said reply.NotHeld)
+abbrev pub on_held : World → ℕ → List ℕ → (Dev → Deed) → Deed
+on_held w k name body =
+    option_map_or (λ d. if is_held w k d.serial then body d else Refuse refusal.NotHeld)
+    (device_named w.setup w.live name) (Refuse refusal.NotHeld)
 
 abbrev pub ticket_of : World → ℕ → ℕ → Dev → ℕ → Ticket
 ticket_of w k number d value = record {
@@ -169,67 +173,63 @@ wanted_of names (g ∷ gs) =
 abbrev pub attr_named : World → List ℕ → Option ℕ
 attr_named w name = position (λ a. bytes_eq a.name name) w.setup.tables.attrs
 
--- bad attribute, bad locator, or the frame of the rescan
-unfoldable pub rescan_of : World → Command → Dev → Option (List ℕ) → List Given → Deed
-rescan_of w said d None given = Rescan said (Scan d.serial None [] start)
-rescan_of w said d (Some name) given =
+-- bad attribute, bad locator, or the rescan
+unfoldable pub rescan_of : World → Dev → Option (List ℕ) → List Given → Deed
+rescan_of w d None given = Rescan d.serial None
+rescan_of w d (Some name) given =
     option_map_or (λ a.
     if has (offered_by w.setup d.row) a
-    then option_map_or (λ wanted. Rescan said (Scan d.serial (Some a) wanted start))
-    (wanted_of (map (λ l. l.name) (locators_at w.setup.tables.attrs (At a))) given) (Answer said reply.BadLocator)
-    else Answer said reply.BadAttribute)
-    (attr_named w name) (Answer said reply.BadAttribute)
+    then option_map_or (λ wanted. Rescan d.serial (Some a))
+    (wanted_of (map (λ l. l.name) (locators_at w.setup.tables.attrs (At a))) given) (Refuse refusal.BadLocator)
+    else Refuse refusal.BadAttribute)
+    (attr_named w name) (Refuse refusal.BadAttribute)
 
 abbrev pub has_nothing : List ℕ → Bool
 has_nothing [] = true
 has_nothing (x ∷ xs) = false
 
 -- busy with the device itself, asleep, no rescan, or what follows
-abbrev pub rescanning : World → Command → Dev → Option (List ℕ) → List Given → Deed
-rescanning w said d attr given =
-    if is_pinned w d.serial then Answer said (reply.Busy (name_of w.setup d))
-    else (if d.asleep then Answer said reply.Asleep
-    else (if (policy_of w.setup d.row).norescan || has_nothing (offered_by w.setup d.row) then Answer said reply.NoRescan
-    else rescan_of w said d attr given))
+abbrev pub rescanning : World → Dev → Option (List ℕ) → List Given → Deed
+rescanning w d attr given =
+    if is_pinned w d.serial then Refuse (refusal.Busy d.serial)
+    else (if d.asleep then Refuse refusal.Asleep
+    else (if (policy_of w.setup d.row).norescan || has_nothing (offered_by w.setup d.row) then Refuse refusal.NoRescan
+    else rescan_of w d attr given))
 
 abbrev pub spot_named : World → List ℕ → Option ℕ
 spot_named w name = position (λ x. bytes_eq x.name name) w.setup.machine.spots
 
 -- the spot is absent from now on, and what stood there goes with its subtree, unless something in it is busy
-abbrev pub unplugging : World → ℕ → Command → ℕ → Deed
-unplugging w k said x =
-    option_map_or (λ d. unless_hindered w k said d.serial true (Unplug said x (Some d.serial))) (device_on w.live x) (Unplug said x None)
+abbrev pub unplugging : World → ℕ → ℕ → Deed
+unplugging w k x =
+    option_map_or (λ d. unless_hindered w k d.serial true (Unplug x (Some d.serial))) (device_on w.live x) (Unplug x None)
 
 -- no device, or its names; a condemned device is told of too
-abbrev pub telling : World → Command → Option (List ℕ) → Deed
-telling w said None = Tell said
-telling w said (Some name) = option_map_or (λ d. Tell said) (device_named w.setup w.live name) (Answer said reply.NoDevice)
+abbrev pub telling : World → Option (List ℕ) → Deed
+telling w None = Tell
+telling w (Some name) = option_map_or (λ d. Tell) (device_named w.setup w.live name) (Refuse refusal.NoDevice)
 
--- the deed of the command that was said, by its kind: the first reply whose condition holds, or what it does
-abbrev pub deed_by_kind : World → ℕ → ℕ → Command → Command → Deed
--- references and transfers: this project's profile
-deed_by_kind w k number said (command.OpenDev name) =
-    on_device w said name (λ d. if is_held w k d.serial then Answer said reply.HeldAlready else Open said d.serial)
-deed_by_kind w k number said (command.CloseDev name) = on_held w k said name (λ d. Close said d.serial)
-deed_by_kind w k number said (command.Io name value) =
-    on_held w k said name (λ d. if d.asleep then Answer said reply.Asleep else Start said (ticket_of w k number d value))
--- detaching, searching again and listing: after drvctl(8); the replies and their order are this project's profile
-deed_by_kind w k number said (command.Detach name) =
-    on_device w said name (λ d. unless_hindered w k said d.serial false (Detach said d.serial))
-deed_by_kind w k number said (command.Rescan name attr given) = on_device w said name (λ d. rescanning w said d attr given)
-deed_by_kind w k number said (command.ListDev name) = telling w said name
-deed_by_kind w k number said (command.TreeDev name) = telling w said name
--- power: after drvctl(8) and pmf(9)
-deed_by_kind w k number said (command.Suspend name) = on_device w said name (λ d. BeginPower said kind.Suspend d.serial)
-deed_by_kind w k number said (command.Resume name) = on_device w said name (λ d. BeginPower said kind.Resume d.serial)
-deed_by_kind w k number said (command.ResumeTree name) = on_device w said name (λ d. BeginPower said kind.ResumeTree d.serial)
--- spots: this project's profile
-deed_by_kind w k number said (command.Plug name) = option_map_or (λ x. Plug said x) (spot_named w name) (Answer said reply.NoSpot)
-deed_by_kind w k number said (command.Unplug name) = option_map_or (unplugging w k said) (spot_named w name) (Answer said reply.NoSpot)
-
--- the deed of a command; it carries the command, whose line it prints
+-- the deed of a command of this number: the first reply whose condition holds, or what it does
 unfoldable pub command_deed : World → ℕ → ℕ → Command → Deed
-command_deed w k number said = deed_by_kind w k number said said
+-- references and transfers: this project's profile
+command_deed w k number (command.OpenDev name) =
+    on_device w name (λ d. if is_held w k d.serial then Refuse refusal.HeldAlready else Open d.serial false)
+command_deed w k number (command.CloseDev name) = on_held w k name (λ d. Close d.serial)
+command_deed w k number (command.Io name value) =
+    on_held w k name (λ d. if d.asleep then Refuse refusal.Asleep else Start (ticket_of w k number d value))
+-- detaching, searching again and listing: after drvctl(8); the replies and their order are this project's profile
+command_deed w k number (command.Detach name) =
+    on_device w name (λ d. unless_hindered w k d.serial false (Detach d.serial))
+command_deed w k number (command.Rescan name attr given) = on_device w name (λ d. rescanning w d attr given)
+command_deed w k number (command.ListDev name) = telling w name
+command_deed w k number (command.TreeDev name) = telling w name
+-- power: after drvctl(8) and pmf(9)
+command_deed w k number (command.Suspend name) = on_device w name (λ d. BeginPower kind.Suspend d.serial)
+command_deed w k number (command.Resume name) = on_device w name (λ d. BeginPower kind.Resume d.serial)
+command_deed w k number (command.ResumeTree name) = on_device w name (λ d. BeginPower kind.ResumeTree d.serial)
+-- spots: this project's profile
+command_deed w k number (command.Plug name) = option_map_or (λ x. Plug x) (spot_named w name) (Refuse refusal.NoSpot)
+command_deed w k number (command.Unplug name) = option_map_or (unplugging w k) (spot_named w name) (Refuse refusal.NoSpot)
 
 abbrev pub is_power : Command → Bool
 is_power (command.Suspend name) = true
@@ -252,7 +252,7 @@ command_of w k = slice_get (slice_index_or w.setup.scripts (k - 1) []) (caller_a
 -- a power command waits while another caller has the power turn
 abbrev pub starting : World → ℕ → Command → Choice
 starting w k said =
-    option_map_or (λ j. Waits (wait.Power j)) (if is_power said then other_turn w.turn k else None)
+    option_map_or (λ j. Waits (wait.Power j)) (if is_power said then other_turn w.power_owner k else None)
     (Does (command_deed w k ((caller_at w k).over + 1) said))
 
 -- after its last command a caller returns what it holds, and then it ends
@@ -273,7 +273,7 @@ abbrev pub by_activity : World → ℕ → Activity → Choice
 by_activity w k activity.Ended = Ended
 by_activity w k (activity.Transfer ticket) = Does (Done ticket)
 by_activity w k (activity.Frees target) = freeing w k
-by_activity w k (activity.Power kind target) = if is_live w.live target then powering w kind target else Does (EndPower target reply.Gone)
+by_activity w k (activity.Power kind target) = if is_live w.live target then powering w kind target else Does (EndPower ends.Gone)
 by_activity w k activity.Scans = on_top w k (caller_at w k).stack
 by_activity w k activity.Idle = on_top w k (caller_at w k).stack
 

@@ -1,6 +1,7 @@
 -- What is printed of a deed, and the runs of events.
 use Rattle.std.specs.Prelude.{◌≡◌, ℕ, ◌+◌, true, if◌then◌else◌, ◌==◌, List, [], ◌∷◌, ◌++◌, length, map, Option, Some, None, is_some, option_map, ◌%◌, ◌^◌}
 use Rattle.std.specs.List.{AllByRecursion}
+use Rattle.std.specs.Option.{option_map_or}
 use Rattle.cf_types.specs.declared.machine.Command.{Command}
 use Rattle.cf_types.specs.declared.machine.Command.TheVariants as command
 use Rattle.cf_types.specs.declared.machine.Ticket.{Ticket}
@@ -19,7 +20,14 @@ use Rattle.run_rules.specs.Tree.{tree_below}
 use Rattle.run_rules.specs.World.{World, children, name_of, unit_name, parent_name, device_named, caller_at, has_ended}
 use Rattle.run_rules.specs.Next.{next, command_of, name_at}
 use Rattle.run_rules.specs.After.{after}
-use Rattle.run_rules.specs.Deeds.{Deed, Choice, Search, EndScan, BeginInterrupts, Finalise, EndCaller, Drop, Answer, Open, Close, Start, Done, Detach, Free, Rescan, BeginPower, Sleep, Wake, EndPower, Plug, Unplug, Tell, Does}
+use Rattle.run_rules.specs.declared.deed.Deed.{Deed}
+use Rattle.run_rules.specs.declared.deed.Deed.TheVariants.{Search, EndScan, BeginInterrupts, Finalise, EndCaller, Drop, Refuse, Open, Close, Start, Done, Detach, Free, Rescan, BeginPower, Sleep, Wake, EndPower, Plug, Unplug, Tell}
+use Rattle.run_rules.specs.declared.deed.Refusal.{Refusal}
+use Rattle.run_rules.specs.declared.deed.Refusal.TheVariants as refusal
+use Rattle.run_rules.specs.declared.deed.PowerEnd.{PowerEnd}
+use Rattle.run_rules.specs.declared.deed.PowerEnd.TheVariants as ends
+use Rattle.run_rules.specs.declared.deed.Choice.{Choice}
+use Rattle.run_rules.specs.declared.deed.Choice.TheVariants.{Does}
 use Rattle.run_rules.specs.declared.world.Arrival.{Arrival}
 
 -- the number of a caller's next event
@@ -47,6 +55,26 @@ tree_names w None = Some (map (depth_name w.setup) (tree_below (length w.live) w
 tree_names w (Some name) =
     option_map (λ d. map (depth_name w.setup) ((0, d) ∷ tree_below (length w.live) w.live 1 d.serial)) (device_named w.setup w.live name)
 
+-- the reply of a refusal; a device is named as it is live
+abbrev pub reply_of : World → Refusal → Reply
+reply_of w refusal.NoDevice = reply.NoDevice
+reply_of w refusal.Gone = reply.Gone
+reply_of w refusal.HeldAlready = reply.HeldAlready
+reply_of w refusal.NotHeld = reply.NotHeld
+reply_of w refusal.Asleep = reply.Asleep
+reply_of w (refusal.Busy s) = reply.Busy (name_at w s)
+reply_of w refusal.NoRescan = reply.NoRescan
+reply_of w refusal.BadAttribute = reply.BadAttribute
+reply_of w refusal.BadLocator = reply.BadLocator
+reply_of w refusal.NoSpot = reply.NoSpot
+
+-- and that with which a power command ends
+abbrev pub end_of : World → PowerEnd → Reply
+end_of w ends.Done = reply.Ok
+end_of w ends.Gone = reply.Gone
+end_of w (ends.NotSupported s) = reply.NotSupported (name_at w s)
+end_of w (ends.Failed s) = reply.SuspendFailed (name_at w s)
+
 -- the line of a command with its reply
 abbrev pub told : World → Command → Reply → Act
 told w (command.OpenDev name) r = act.OpenDev name r
@@ -69,28 +97,32 @@ power_name (Some (command.Resume name)) = name
 power_name (Some (command.ResumeTree name)) = name
 power_name _ = []
 
+-- the line of its caller's command; a caller with none left has but its end to tell
+abbrev pub answered : World → ℕ → Reply → Act
+answered w k r = option_map_or (λ said. told w said r) (command_of w k) act.End
+
 unfoldable pub printed : World → ℕ → Deed → Act
-printed w k (Search p to got) = act.Found (parent_name w.setup w.live p) (got_name w.setup got)
+printed w k (Search p spot to got) = act.Found (parent_name w.setup w.live p) (got_name w.setup got)
 printed w k (EndScan p) = act.ScanEnd (parent_name w.setup w.live p)
 printed w k BeginInterrupts = act.Interrupts
 printed w k (Finalise s spot got listed anew) = act.Final (name_at w s) (is_some spot) (got_name w.setup got)
 printed w k EndCaller = act.End
 printed w k (Drop s) = act.DropRef (name_at w s)
-printed w k (Answer said r) = told w said r
-printed w k (Open said s) = told w said reply.Ok
-printed w k (Close said s) = told w said reply.Ok
-printed w k (Start said ticket) = told w said reply.Ok
+printed w k (Refuse why) = answered w k (reply_of w why)
+printed w k (Open s sole) = answered w k reply.Ok
+printed w k (Close s) = answered w k reply.Ok
+printed w k (Start ticket) = answered w k reply.Ok
 printed w k (Done ticket) = act.IoDone (name_at w ticket.serial) (answer_of ticket)
-printed w k (Detach said s) = told w said reply.Ok
+printed w k (Detach s) = answered w k reply.Ok
 printed w k (Free s) = act.Free (name_at w s)
-printed w k (Rescan said frame) = told w said reply.Ok
-printed w k (BeginPower said kind s) = told w said reply.Ok
+printed w k (Rescan s only) = answered w k reply.Ok
+printed w k (BeginPower kind s) = answered w k reply.Ok
 printed w k (Sleep s) = act.Sleep (name_at w s)
 printed w k (Wake s) = act.Wake (name_at w s)
-printed w k (EndPower s r) = act.PowerEnd (power_name (command_of w k)) r
-printed w k (Plug said x) = told w said reply.Ok
-printed w k (Unplug said x of) = told w said reply.Ok
-printed w k (Tell said) = told w said reply.Ok
+printed w k (EndPower end) = act.PowerEnd (power_name (command_of w k)) (end_of w end)
+printed w k (Plug x) = answered w k reply.Ok
+printed w k (Unplug x of) = answered w k reply.Ok
+printed w k Tell = answered w k reply.Ok
 
 unfoldable pub event_of : World → ℕ → Deed → Event
 event_of w k deed = record { caller = k; number = number_of w k; act = printed w k deed }

@@ -91,7 +91,7 @@ IsFreed w k s = AllByRecursion (λ d. d.serial ≡ s → d.condemned ≡ Some k)
 -- a caller: it has the power turn exactly in a power command, it holds what its transfer is on, it has nothing left when it has ended,
 -- it has frames only while it scans, if it does not boot, and what it frees is live and condemned by it
 pub record IsSoundCaller (w : World) (k : ℕ) : Type 0 where
-  pub turn : IsTrue (is_number w.turn k) ↔ IsTrue (is_power (caller_at w k).doing)
+  pub turn : IsTrue (is_number w.power_owner k) ↔ IsTrue (is_power (caller_at w k).doing)
   pub transfer : (t : Ticket) → (caller_at w k).doing ≡ activity.Transfer t → is_held w k t.serial ≡ true
   pub ended : (caller_at w k).doing ≡ activity.Ended → ((caller_at w k).stack ≡ []) × AllByRecursion (λ r. r.caller ≢ k) w.refs
   pub frames : IsTrue (not (k == 0)) → (caller_at w k).stack ≢ [] → (caller_at w k).doing ≡ activity.Scans
@@ -111,7 +111,7 @@ pub record IsSoundBoot (w : World) : Type 0 where
   pub awake : AllByRecursion (λ d. IsTrue (not d.asleep)) w.live
   pub spared : AllByRecursion (λ d. d.condemned ≡ None) w.live
   pub no_refs : w.refs ≡ []
-  pub no_turn : w.turn ≡ None
+  pub no_turn : w.power_owner ≡ None
   pub waiting : AllByRecursion IsUnbegun (others w.callers)
   pub finalisers : AllByRecursion (λ s. IsTrue (is_live w.live s)) w.finalisers
 
@@ -123,5 +123,5 @@ pub record Sound (w : World) : Type 0 where
   pub frames : AllByRecursion (λ c. AllByRecursion (λ f. IsTrue (is_known w (frame_serial f))) c.stack) w.callers
   pub deferred : AllByRecursion (IsSoundlyDeferred w) w.deferred
   pub callers : (k : ℕ) → IsSoundCaller w k
-  pub phase : IsTrue w.phase → AllByRecursion (λ e. e.key ≢ key.Interrupts) w.deferred
+  pub interrupts_on : IsTrue w.interrupts_on → AllByRecursion (λ e. e.key ≢ key.Interrupts) w.deferred
   pub boot : (caller_at w 0).doing ≢ activity.Ended → IsSoundBoot w

@@ -39,15 +39,15 @@ pub record World : Type 0 where
   pub absent : List ℕ
   pub hidden : List ℕ
   -- whether interrupts work
-  pub phase : Bool
+  pub interrupts_on : Bool
   -- the caller in whose hands the power commands are
-  pub turn : Option ℕ
+  pub power_owner : Option ℕ
   -- the scans that were put off, in that order
   pub deferred : List Deferred
   -- the boot's list of devices with a finaliser, the place in it, and whether one of this pass answered 1
   pub finalisers : List ℕ
-  pub place : ℕ
-  pub again : Bool
+  pub next_finaliser : ℕ
+  pub pass_repeats : Bool
   -- caller 0, which boots, and then the caller of each script
   pub callers : List Caller
 
@@ -213,11 +213,11 @@ opening s = record {
   refs = [];
   absent = absent_spots s;
   hidden = late_spots s;
-  phase = false;
-  turn = None;
+  interrupts_on = false;
+  power_owner = None;
   deferred = [];
   finalisers = [];
-  place = 0;
-  again = false;
+  next_finaliser = 0;
+  pass_repeats = false;
   callers = beginning (scan_of 0 ∷ []) ∷ map (λ script. beginning []) s.scripts;
 }

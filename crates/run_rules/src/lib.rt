@@ -1,9 +1,11 @@
 //! What a run of the machine means: the types of events and of the world; its definitions stand in specs/.
 #![tactic(auto)]
 
+mod deed;
 mod event;
 mod world;
 
+pub use deed::{Choice, Deed, PowerEnd, Refusal};
 pub use event::{Act, DepthName, Event, IoAnswer, PowerKind, Reply};
 pub use world::{
     Activity, Arrival, Deferred, Dev, Frame, Key, ParentRef, Placing, Position, Ref, Setup, Turn,

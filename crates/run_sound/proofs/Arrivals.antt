@@ -19,7 +19,8 @@ use Rattle.run_rules.specs.declared.world.Turn.{Turn}
 use Rattle.run_rules.specs.declared.world.Wanted.{Wanted}
 use Rattle.run_rules.specs.World.{World, Caller, caller_at, device_at, frame_serial, has, has_ended, is_live, nobody}
 use Rattle.run_rules.specs.Search.{bus_turns, turns_of, child_spots, due, free_after, is_before, is_child, is_due, is_indirect, is_occupied, is_taken, parent_ref, scan_places, spot_of, turns, turns_at, unit_of, winner_at}
-use Rattle.run_rules.specs.Deeds.{Search, Finalise, Does}
+use Rattle.run_rules.specs.declared.deed.Deed.TheVariants.{Search, Finalise}
+use Rattle.run_rules.specs.declared.deed.Choice.TheVariants.{Does}
 use Rattle.run_rules.specs.Next.{arrival, hangs_below, late_spot, next, place_of_spot}
 use Rattle.run_rules.specs.After.{show_spot}
 use Rattle.run_rules.specs.Sound.{Sound, is_known}
@@ -185,9 +186,9 @@ shown_inside w k s x got listed anew call = late_found w (device_at w.live s) x 
 
 -- ---- what comes may come
 
-pub search_comes : (w : World) (k p : ℕ) (to : Position) (a : Arrival) → MayRun w.setup → Kept w → next w k ≡ Does (Search p to (Some a)) → MayCome w.setup w.live w.hidden p a
-search_comes w k p to a may kept e =
-    let t : IsTurn w k p to (Some a) = has_reason w k (Search p to (Some a)) e in
+pub search_comes : (w : World) (k p spot : ℕ) (to : Position) (a : Arrival) → MayRun w.setup → Kept w → next w k ≡ Does (Search p spot to (Some a)) → MayCome w.setup w.live w.hidden p a
+search_comes w k p spot to a may kept e =
+    let t : IsTurn w k p spot to (Some a) = has_reason w k (Search p spot to (Some a)) e in
     comes w w.hidden p t.turn.place t.turn.at.spot a may kept t.came (top_known w k (Scan p t.only t.wanted t.from) t.rest kept.sound t.stack)
     (due_free w.setup w.live w.absent w.hidden p t.only t.wanted t.from t.turn t.is_due) (due_seen w.setup w.live w.absent w.hidden p t.only t.wanted t.from t.turn t.is_due)
     (due_inside w.setup w.live w.absent w.hidden p t.only t.wanted t.from t.turn t.is_due)
@@ -209,8 +210,8 @@ pub none_shown : (w : World) (k s : ℕ) (a : Arrival) (listed : Option ℕ) (an
 none_shown w k s a listed anew e = quiet_call w k s a listed anew (has_reason w k (Finalise s None (Some a) listed anew) e)
 
 -- what is brought to a spot stands there
-pub turn_spot : (w : World) (k p : ℕ) (to : Position) (a : Arrival) (t : IsTurn w k p to (Some a)) → a.spot ≡ t.turn.at.spot
-turn_spot w k p to a t = (brings w.setup w.live p t.turn.place t.turn.at.spot a t.came).at
+pub turn_spot : (w : World) (k p spot : ℕ) (to : Position) (a : Arrival) (t : IsTurn w k p spot to (Some a)) → a.spot ≡ t.turn.at.spot
+turn_spot w k p spot to a t = (brings w.setup w.live p t.turn.place t.turn.at.spot a t.came).at
 
 pub shown_spot : (w : World) (k s x : ℕ) (a : Arrival) (listed : Option ℕ) (anew : Bool) → IsCall w k s (Some x) (Some a) listed anew → a.spot ≡ x
 shown_spot w k s x a listed anew call = (brings w.setup w.live s (place_of_spot w x) x a call.came).at

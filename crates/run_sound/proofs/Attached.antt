@@ -93,7 +93,7 @@ pub old_known : (w : World) (k : ℕ) → Sound w → AllByRecursion (λ f. IsTr
 old_known w k sound = all_or (λ (c : Caller). AllByRecursion (λ f. IsTrue (is_known w (frame_serial f))) c.stack) w.callers k nobody sound.frames tt
 
 pub sound_pushed : (w : World) (k : ℕ) (f : Frame) → Sound w → IsScanner w k → IsTrue (is_known w (frame_serial f)) → IsSpared w.live (frame_serial f) → Sound (pushed w k f)
-sound_pushed w k f sound who known spared = sound_stack w k (f ∷ (caller_at w k).stack) w.deferred w.phase sound who.doer may sound.phase
+sound_pushed w k f sound who known spared = sound_stack w k (f ∷ (caller_at w k).stack) w.deferred w.interrupts_on sound who.doer may sound.interrupts_on
   where
     pins : (s : ℕ) → (frame_serial f == s || pins_of (caller_at w k).stack s) ≡ true → (is_pinned w s ≡ true) ⊎ IsSpared w.live s
     pins s h = elim (or_cases (frame_serial f == s) (pins_of (caller_at w k).stack s) h) [
@@ -130,10 +130,10 @@ put_off_pins w e spared s h =
     never : false ≡ true → ⊥
     never h = cc
 
-sound_put_off : (w : World) (k : ℕ) (e : Deferred) → Sound w → IsDoer w k → IsSpared w.live e.child → IsSoundlyDeferred w e → (IsTrue w.phase → e.key ≢ key.Interrupts) → Sound (record w { deferred = w.deferred ++ e ∷ [] })
+sound_put_off : (w : World) (k : ℕ) (e : Deferred) → Sound w → IsDoer w k → IsSpared w.live e.child → IsSoundlyDeferred w e → (IsTrue w.interrupts_on → e.key ≢ key.Interrupts) → Sound (record w { deferred = w.deferred ++ e ∷ [] })
 sound_put_off w k e sound doer spared put on =
-    sound_beside w k (w.deferred ++ e ∷ []) w.finalisers w.hidden w.place w.again sound doer (put_off_pins w e spared) (all_snoc (IsSoundlyDeferred w) w.deferred e sound.deferred put)
-    (λ phase. all_snoc (λ (d : Deferred). d.key ≢ key.Interrupts) w.deferred e (sound.phase phase) (on phase))
+    sound_beside w k (w.deferred ++ e ∷ []) w.finalisers w.hidden w.next_finaliser w.pass_repeats sound doer (put_off_pins w e spared) (all_snoc (IsSoundlyDeferred w) w.deferred e sound.deferred put)
+    (λ interrupts_on. all_snoc (λ (d : Deferred). d.key ≢ key.Interrupts) w.deferred e (sound.interrupts_on interrupts_on) (on interrupts_on))
     (λ goes. (sound.boot (not_ended w 0 goes)).finalisers)
 
 -- ---- what is known of the device whose work is placed
@@ -155,7 +155,7 @@ finaliser_new Nowhere w k s new = record { new = new; scans = λ p h. h }
 finaliser_new PutOff w k s new = record { new = new; scans = λ p h. h }
 finaliser_new Queued w k s new = record {
   new = record {
-    sound = sound_beside w k w.deferred (w.finalisers ++ s ∷ []) w.hidden w.place w.again new.sound new.who.doer (λ s h. inl (pinned_by_entry w s h)) new.sound.deferred new.sound.phase
+    sound = sound_beside w k w.deferred (w.finalisers ++ s ∷ []) w.hidden w.next_finaliser w.pass_repeats new.sound new.who.doer (λ s h. inl (pinned_by_entry w s h)) new.sound.deferred new.sound.interrupts_on
         (λ goes. all_snoc (λ x. IsTrue (is_live w.live x)) w.finalisers s (new.sound.boot (not_ended w 0 goes)).finalisers new.live);
     who = record { doer = record { there = new.who.doer.there; unended = new.who.doer.unended; alone = new.who.doer.alone }; scans = new.who.scans };
     live = new.live;
@@ -173,9 +173,9 @@ finaliser_new Pushed w k s new = record {
   scans = λ p h. scanned_pushed w k p (Finaliser s) h;
 }
 
-queued_before : (p : Policy) (offered : List ℕ) (phase may_defer : Bool) → scan_placing p offered phase may_defer ≡ Queued → phase ≡ false
+queued_before : (p : Policy) (offered : List ℕ) (interrupts_on may_defer : Bool) → scan_placing p offered interrupts_on may_defer ≡ Queued → interrupts_on ≡ false
 unfolding scan_placing
-queued_before p offered phase may_defer e = nothing (has_nothing offered) e
+queued_before p offered interrupts_on may_defer e = nothing (has_nothing offered) e
   where
     rest : (b : Bool) → (if b then PutOff else Pushed) ≡ Queued → ⊥
     rest true h = cc
@@ -186,13 +186,13 @@ queued_before p offered phase may_defer e = nothing (has_nothing offered) e
     waits true true h = absurd (rest (p.defer && may_defer) h)
     waits false true h = absurd (rest (p.defer && may_defer) h)
 
-    nothing : (b : Bool) → (if b then Nowhere else (if p.interrupts && not phase then Queued else (if p.defer && may_defer then PutOff else Pushed))) ≡ Queued → phase ≡ false
+    nothing : (b : Bool) → (if b then Nowhere else (if p.interrupts && not interrupts_on then Queued else (if p.defer && may_defer then PutOff else Pushed))) ≡ Queued → interrupts_on ≡ false
     nothing true h = absurd cc
-    nothing false h = waits p.interrupts phase h
+    nothing false h = waits p.interrupts interrupts_on h
 
-put_off_may : (p : Policy) (offered : List ℕ) (phase may_defer : Bool) → scan_placing p offered phase may_defer ≡ PutOff → may_defer ≡ true
+put_off_may : (p : Policy) (offered : List ℕ) (interrupts_on may_defer : Bool) → scan_placing p offered interrupts_on may_defer ≡ PutOff → may_defer ≡ true
 unfolding scan_placing
-put_off_may p offered phase may_defer e = nothing (has_nothing offered) e
+put_off_may p offered interrupts_on may_defer e = nothing (has_nothing offered) e
   where
     rest : (d m : Bool) → (if d && m then PutOff else Pushed) ≡ PutOff → m ≡ true
     rest d true h = refl
@@ -203,9 +203,9 @@ put_off_may p offered phase may_defer e = nothing (has_nothing offered) e
     waits true h = absurd cc
     waits false h = rest p.defer may_defer h
 
-    nothing : (b : Bool) → (if b then Nowhere else (if p.interrupts && not phase then Queued else (if p.defer && may_defer then PutOff else Pushed))) ≡ PutOff → may_defer ≡ true
+    nothing : (b : Bool) → (if b then Nowhere else (if p.interrupts && not interrupts_on then Queued else (if p.defer && may_defer then PutOff else Pushed))) ≡ PutOff → may_defer ≡ true
     nothing true h = absurd cc
-    nothing false h = waits (p.interrupts && not phase) h
+    nothing false h = waits (p.interrupts && not interrupts_on) h
 
 -- what a step of a frame leaves
 pub record StaysSound (v : World) (k : ℕ) : Type 0 where
@@ -215,11 +215,11 @@ pub record StaysSound (v : World) (k : ℕ) : Type 0 where
 same_scanner : (w : World) (k : ℕ) (e : Deferred) → IsScanner w k → IsScanner (record w { deferred = w.deferred ++ e ∷ [] }) k
 same_scanner w k e who = record { doer = record { there = who.doer.there; unended = who.doer.unended; alone = who.doer.alone }; scans = who.scans }
 
-scan_new : (c : Placing) (w : World) (k parent s : ℕ) → IsNew w k s → (c ≡ Queued → w.phase ≡ false) → (c ≡ PutOff → is_scanned w parent ≡ true) → StaysSound (place_scan c w k parent s) k
+scan_new : (c : Placing) (w : World) (k parent s : ℕ) → IsNew w k s → (c ≡ Queued → w.interrupts_on ≡ false) → (c ≡ PutOff → is_scanned w parent ≡ true) → StaysSound (place_scan c w k parent s) k
 scan_new Nowhere w k parent s new before may = record { sound = new.sound; who = new.who }
 scan_new Queued w k parent s new before may =
     let e : Deferred = record { key = key.Interrupts; child = s } in
-    record { sound = sound_put_off w k e new.sound new.who.doer new.spared (new.live, tt) (λ on. clash w.phase on (before refl)); who = same_scanner w k e new.who }
+    record { sound = sound_put_off w k e new.sound new.who.doer new.spared (new.live, tt) (λ on. clash w.interrupts_on on (before refl)); who = same_scanner w k e new.who }
 scan_new PutOff w k parent s new before may =
     let e : Deferred = record { key = key.Parent parent; child = s } in
     record { sound = sound_put_off w k e new.sound new.who.doer new.spared (new.live, may refl) (λ on same. cc); who = same_scanner w k e new.who }
@@ -231,7 +231,7 @@ scan_new Pushed w k parent s new before may = record {
 placed_stays : (p : Policy) (offered : List ℕ) (u v : World) (k parent s : ℕ) (may_defer : Bool) → IsPlacedNew u v k s → (may_defer ≡ true → is_scanned u parent ≡ true) → StaysSound (scan_placed p offered v k parent s may_defer) k
 unfolding scan_placed
 placed_stays p offered u v k parent s may_defer placed may =
-    scan_new (scan_placing p offered v.phase may_defer) v k parent s placed.new (queued_before p offered v.phase may_defer) (λ e. placed.scans parent (may (put_off_may p offered v.phase may_defer e)))
+    scan_new (scan_placing p offered v.interrupts_on may_defer) v k parent s placed.new (queued_before p offered v.interrupts_on may_defer) (λ e. placed.scans parent (may (put_off_may p offered v.interrupts_on may_defer e)))
 
 finaliser_stays : (p : Policy) (u : World) (k s : ℕ) → IsNew u k s → IsPlacedNew u (finaliser_placed p u k s) k s
 unfolding finaliser_placed

@@ -8,7 +8,8 @@ use Rattle.run_rules.specs.declared.world.Wait.TheVariants as wait
 use Rattle.run_rules.specs.declared.world.Activity.{Activity}
 use Rattle.run_rules.specs.declared.world.Activity.TheVariants as activity
 use Rattle.run_rules.specs.World.{World, Caller, caller_at, frame_serial, has_ended, is_ended, is_pinned, nobody}
-use Rattle.run_rules.specs.Deeds.{Deed, Ended, Waits, Does}
+use Rattle.run_rules.specs.declared.deed.Deed.{Deed}
+use Rattle.run_rules.specs.declared.deed.Choice.TheVariants.{Ended, Waits, Does}
 use Rattle.run_rules.specs.Next.{next, by_activity}
 use Rattle.run_rules.specs.After.{with_caller}
 

@@ -1,6 +1,6 @@
 -- Each finaliser that is before a caller is of a device, after each deed.
 use Rattle.std.proofs.Common.{◌≡◌, ◌<◌, ℕ, Bool, true, false, List, [], ◌∷◌, ◌++◌, map, Option, Some, None, refl, is_some}
-use Rattle.std.specs.Prelude.{⊤, filter, if◌then◌else◌}
+use Rattle.std.specs.Prelude.{filter, if◌then◌else◌}
 use Rattle.std.specs.List.{AllByRecursion}
 use Rattle.run_rules.specs.declared.world.Setup.{Setup}
 use Rattle.run_rules.specs.declared.world.Activity.{Activity}
@@ -15,8 +15,9 @@ use Rattle.run_rules.specs.declared.world.Placing.{Placing}
 use Rattle.run_rules.specs.declared.world.Placing.TheVariants.{Nowhere, Queued, PutOff, Pushed}
 use Rattle.run_rules.specs.declared.world.Position.{Position}
 use Rattle.run_rules.specs.World.{World, Caller, beginning, caller_at, nobody, opening, scan_of, policy_of, offered_by, has_ended}
-use Rattle.run_rules.specs.Deeds.{Deed, Search, EndScan, BeginInterrupts, Finalise, EndCaller, Drop, Answer, Open, Close, Start, Done, Detach, Free, Rescan, BeginPower, Sleep, Wake, EndPower, Plug, Unplug, Tell}
-use Rattle.run_rules.specs.After.{after, settled, with_stack, doing, over, under_top, moved_top, released, arrived, attached, listed, finaliser_placed, scan_placed, finaliser_placing, scan_placing, place_finaliser, place_scan, show_spot, list_moved, finaliser_done, same_key, freed, freeing_target}
+use Rattle.run_rules.specs.declared.deed.Deed.{Deed}
+use Rattle.run_rules.specs.declared.deed.Deed.TheVariants.{Search, EndScan, BeginInterrupts, Finalise, EndCaller, Drop, Refuse, Open, Close, Start, Done, Detach, Free, Rescan, BeginPower, Sleep, Wake, EndPower, Plug, Unplug, Tell}
+use Rattle.run_rules.specs.After.{after, settled, with_stack, doing, over, under_top, moved_top, released, arrived, attached, listed, finaliser_placed, scan_placed, finaliser_placing, scan_placing, place_finaliser, place_scan, show_spot, list_moved, finaliser_done, same_key, freed, freeing_target, rescan_frame}
 use Rattle.run_sound.specs.Calls.{IsOfDevice, CallsDevices}
 use Rattle.run_sound.proofs.Callers.{all_set, all_or, all_append}
 
@@ -87,7 +88,7 @@ arrived_so w k (Some a) may_defer low h =
     let pol = policy_of w.setup a.row in
     let f = finaliser_placing pol (has_ended (listed w a) 0) in
     let x : World = place_finaliser f (listed w a) k w.next in
-    scan_so x k (scan_placing pol (offered_by w.setup a.row) x.phase may_defer) a.parent w.next (finaliser_so (listed w a) k f w.next low h)
+    scan_so x k (scan_placing pol (offered_by w.setup a.row) x.interrupts_on may_defer) a.parent w.next (finaliser_so (listed w a) k f w.next low h)
 
 shown_next : (w : World) (shown : Option ℕ) → (show_spot w shown).next ≡ w.next
 shown_next w None = refl
@@ -110,40 +111,35 @@ freed_so : (v : World) (k : ℕ) (b : Bool) → CallsDevices v → CallsDevices 
 freed_so v k true h = over_so v k h
 freed_so v k false h = h
 
--- the frame of a rescan is a scan
-abbrev pub IsRescan : Deed → Type 0
-IsRescan (Rescan said f) = IsOfDevice f
-IsRescan _ = ⊤
-
-pub calls_after : (w : World) (k : ℕ) (d : Deed) → 0 < w.next → IsRescan d → CallsDevices w → CallsDevices (after w k d)
+pub calls_after : (w : World) (k : ℕ) (d : Deed) → 0 < w.next → CallsDevices w → CallsDevices (after w k d)
 unfolding after
-calls_after w k (Search p to got) low is h =
+calls_after w k (Search p spot to got) low h =
     arrived_so (with_stack w k (moved_top to (caller_at w k).stack)) k got true low (stacked w k (moved_top to (caller_at w k).stack) h (each_moved to (caller_at w k).stack (each_of w k h)))
-calls_after w k (EndScan p) low is h = released_so w k (key.Parent p) (under_top (caller_at w k).stack) h (each_under (caller_at w k).stack (each_of w k h))
-calls_after w k BeginInterrupts low is h = released_so (record w { phase = true }) k key.Interrupts (caller_at w k).stack h (each_of w k h)
-calls_after w k (Finalise s shown got listed anew) low is h =
+calls_after w k (EndScan p) low h = released_so w k (key.Parent p) (under_top (caller_at w k).stack) h (each_under (caller_at w k).stack (each_of w k h))
+calls_after w k BeginInterrupts low h = released_so (record w { interrupts_on = true }) k key.Interrupts (caller_at w k).stack h (each_of w k h)
+calls_after w k (Finalise s shown got listed anew) low h =
     ended_so (list_moved (arrived (show_spot w shown) k got false) listed anew (is_some shown)) k listed (is_some shown)
     (moved_so (arrived (show_spot w shown) k got false) listed anew (is_some shown)
     (arrived_so (show_spot w shown) k got false (rw (shown_next w shown) low) (shown_so w shown h)))
-calls_after w k EndCaller low is h = done_so w k activity.Ended h
-calls_after w k (Drop s) low is h = h
-calls_after w k (Answer said r) low is h = over_so w k h
-calls_after w k (Open said s) low is h = over_so w k h
-calls_after w k (Close said s) low is h = over_so w k h
-calls_after w k (Start said t) low is h = done_so w k (activity.Transfer t) h
-calls_after w k (Done t) low is h = over_so w k h
-calls_after w k (Detach said s) low is h = done_so w k (activity.Frees s) h
-calls_after w k (Free s) low is h = freed_so (freed w s) k (freeing_target (caller_at w k).doing s) h
-calls_after w k (Rescan said f) low is h =
-    stacked (doing w k activity.Scans) k (f ∷ (caller_at (doing w k activity.Scans) k).stack) (done_so w k activity.Scans h) (is, each_of (doing w k activity.Scans) k (done_so w k activity.Scans h))
-calls_after w k (BeginPower said what s) low is h = done_so w k (activity.Power what s) h
-calls_after w k (Sleep s) low is h = h
-calls_after w k (Wake s) low is h = h
-calls_after w k (EndPower s r) low is h = over_so w k h
-calls_after w k (Plug said x) low is h = over_so w k h
-calls_after w k (Unplug said x None) low is h = over_so w k h
-calls_after w k (Unplug said x (Some s)) low is h = done_so w k (activity.Frees s) h
-calls_after w k (Tell said) low is h = over_so w k h
+calls_after w k EndCaller low h = done_so w k activity.Ended h
+calls_after w k (Drop s) low h = h
+calls_after w k (Refuse why) low h = over_so w k h
+calls_after w k (Open s sole) low h = over_so w k h
+calls_after w k (Close s) low h = over_so w k h
+calls_after w k (Start t) low h = done_so w k (activity.Transfer t) h
+calls_after w k (Done t) low h = over_so w k h
+calls_after w k (Detach s) low h = done_so w k (activity.Frees s) h
+calls_after w k (Free s) low h = freed_so (freed w s) k (freeing_target (caller_at w k).doing s) h
+calls_after w k (Rescan s only) low h =
+    stacked (doing w k activity.Scans) k (rescan_frame w k s only ∷ (caller_at (doing w k activity.Scans) k).stack) (done_so w k activity.Scans h) (tt, each_of (doing w k activity.Scans) k (done_so w k activity.Scans h))
+calls_after w k (BeginPower what s) low h = done_so w k (activity.Power what s) h
+calls_after w k (Sleep s) low h = h
+calls_after w k (Wake s) low h = h
+calls_after w k (EndPower end) low h = over_so w k h
+calls_after w k (Plug x) low h = over_so w k h
+calls_after w k (Unplug x None) low h = over_so w k h
+calls_after w k (Unplug x (Some s)) low h = done_so w k (activity.Frees s) h
+calls_after w k Tell low h = over_so w k h
 
 each_beginning : {A : Type 0} (scripts : List A) → AllByRecursion (λ (c : Caller). Each c.stack) (map (λ script. beginning []) scripts)
 each_beginning [] = tt

@@ -16,9 +16,9 @@ pub record Places (w v : World) : Type 0 where
   pub next : v.next ≡ w.next
   pub absent : v.absent ≡ w.absent
   pub hidden : v.hidden ≡ w.hidden
-  pub phase : v.phase ≡ w.phase
-  pub place : v.place ≡ w.place
-  pub again : v.again ≡ w.again
+  pub interrupts_on : v.interrupts_on ≡ w.interrupts_on
+  pub place : v.next_finaliser ≡ w.next_finaliser
+  pub pass_repeats : v.pass_repeats ≡ w.pass_repeats
   pub no_less : length w.finalisers ≤ length v.finalisers
   pub one_more : length v.finalisers ≤ length w.finalisers + 1
   pub callers : length v.callers ≡ length w.callers
@@ -31,9 +31,9 @@ other_places w deferred finalisers callers no_less one_more same = record {
   next = refl;
   absent = refl;
   hidden = refl;
-  phase = refl;
+  interrupts_on = refl;
   place = refl;
-  again = refl;
+  pass_repeats = refl;
   no_less = no_less;
   one_more = one_more;
   callers = same;
@@ -78,9 +78,9 @@ pub record Comes (w v : World) (a : Arrival) : Type 0 where
   pub next : v.next ≡ w.next + 1
   pub absent : v.absent ≡ w.absent
   pub hidden : v.hidden ≡ w.hidden
-  pub phase : v.phase ≡ w.phase
-  pub place : v.place ≡ w.place
-  pub again : v.again ≡ w.again
+  pub interrupts_on : v.interrupts_on ≡ w.interrupts_on
+  pub place : v.next_finaliser ≡ w.next_finaliser
+  pub pass_repeats : v.pass_repeats ≡ w.pass_repeats
   pub no_less : length w.finalisers ≤ length v.finalisers
   pub one_more : length v.finalisers ≤ length w.finalisers + 1
   pub callers : length v.callers ≡ length w.callers
@@ -93,9 +93,9 @@ come_placed w u v a f s = record {
   next = s.places.next ∙ f.next;
   absent = s.places.absent ∙ f.absent;
   hidden = s.places.hidden ∙ f.hidden;
-  phase = s.places.phase ∙ f.phase;
+  interrupts_on = s.places.interrupts_on ∙ f.interrupts_on;
   place = s.places.place ∙ f.place;
-  again = s.places.again ∙ f.again;
+  pass_repeats = s.places.pass_repeats ∙ f.pass_repeats;
   no_less = rw s.finalisers f.no_less;
   one_more = rw s.finalisers f.one_more;
   callers = s.places.callers ∙ f.callers;
@@ -107,4 +107,4 @@ attached_comes w k a may_defer =
     let p : Policy = policy_of w.setup a.row in
     let u : World = place_finaliser (finaliser_placing p (has_ended (listed w a) 0)) (listed w a) k w.next in
     come_placed w u _ a (finaliser_places (finaliser_placing p (has_ended (listed w a) 0)) (listed w a) k w.next)
-    (scan_places (scan_placing p (offered_by w.setup a.row) u.phase may_defer) u k a.parent w.next)
+    (scan_places (scan_placing p (offered_by w.setup a.row) u.interrupts_on may_defer) u k a.parent w.next)

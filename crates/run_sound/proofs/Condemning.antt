@@ -4,14 +4,14 @@ use Rattle.std.proofs.lemmas.Option.{same_Some}
 use Rattle.std.specs.Prelude.{IsTrue, filter}
 use Rattle.std.specs.List.{AllByRecursion, Contains}
 use Rattle.std.proofs.lemmas.Bool.{cases_Bool}
-use Rattle.cf_types.specs.declared.machine.Command.{Command}
 use Rattle.cf_types.specs.declared.machine.Ticket.{Ticket}
 use Rattle.run_rules.specs.declared.world.Dev.{Dev}
 use Rattle.run_rules.specs.declared.world.Frame.{Frame}
 use Rattle.run_rules.specs.declared.world.Activity.TheVariants as activity
 use Rattle.run_rules.specs.declared.world.Ref.{Ref}
 use Rattle.run_rules.specs.World.{World, Caller, is_live, is_under, is_held, is_pinned, is_number, is_condemned, policy_of, frame_serial, caller_at}
-use Rattle.run_rules.specs.Deeds.{Detach, Unplug, Does}
+use Rattle.run_rules.specs.declared.deed.Deed.TheVariants.{Detach, Unplug}
+use Rattle.run_rules.specs.declared.deed.Choice.TheVariants.{Does}
 use Rattle.run_rules.specs.Next.{next, hindered, is_hindrance}
 use Rattle.run_rules.specs.After.{after, with_condemner, condemned, doing}
 use Rattle.run_rules.specs.Sound.{IsSoundlyCondemned, IsSoundlyAsleep, is_known, is_power, IsFreed, Sound}
@@ -162,32 +162,32 @@ module _ (w : World) (k s : ℕ) (sound : Sound w) (at : IsLater w k) (idle : ((
             (rw at.no_frames tt);
         deferred = deferred_kept doomed w still_live (same_scans u k frees at.no_frames at.no_frames) w.deferred sound.deferred;
         callers = λ j. record {
-          turn = caller_each (λ c. IsTrue (is_number w.turn j) ↔ IsTrue (is_power c.doing)) u k j frees at.there
-              (λ same. rw same (λ h. clash (is_number w.turn k) h (no_turn w k sound (between_power (caller_at w k).doing idle)), λ h. absurd cc)) (λ other. (sound.callers j).turn);
+          turn = caller_each (λ c. IsTrue (is_number w.power_owner j) ↔ IsTrue (is_power c.doing)) u k j frees at.there
+              (λ same. rw same (λ h. clash (is_number w.power_owner k) h (no_turn w k sound (between_power (caller_at w k).doing idle)), λ h. absurd cc)) (λ other. (sound.callers j).turn);
           transfer = caller_each (λ c. (t : Ticket) → c.doing ≡ activity.Transfer t → is_held w j t.serial ≡ true) u k j frees at.there (λ same t e. absurd cc) (λ other. (sound.callers j).transfer);
           ended = caller_each (λ c. c.doing ≡ activity.Ended → (c.stack ≡ []) × AllByRecursion (λ r. r.caller ≢ j) w.refs) u k j frees at.there (λ same e. absurd cc) (λ other. (sound.callers j).ended);
           frames = caller_each (λ c. IsTrue (not (j == 0)) → c.stack ≢ [] → c.doing ≡ activity.Scans) u k j frees at.there (λ same z some. absurd (some at.no_frames)) (λ other. (sound.callers j).frames);
           target = caller_each (λ c. (t : ℕ) → c.doing ≡ activity.Frees t → IsFreed doomed j t) u k j frees at.there (λ same. rw same own_target) (λ other t e. other_target j t ((sound.callers j).target t e));
         };
-        phase = sound.phase;
+        interrupts_on = sound.interrupts_on;
         boot = λ goes. absurd (goes (boots_not u k frees at.later at.booted));
       }
 
 -- ---- the deeds
 
-pub sound_detach : (w : World) (k : ℕ) (said : Command) (s : ℕ) → Sound w → next w k ≡ Does (Detach said s) → Sound (after w k (Detach said s))
+pub sound_detach : (w : World) (k s : ℕ) → Sound w → next w k ≡ Does (Detach s) → Sound (after w k (Detach s))
 unfolding after
-sound_detach w k said s sound chosen =
-    let why = has_command_reason w k (Detach said s) chosen in
+sound_detach w k s sound chosen =
+    let why = has_command_reason w k (Detach s) chosen in
     let at = why.begins.between in
-    sound_condemned w k s sound (between_later w k (Detach said s) chosen at) at.idle why.named.live (unhindered w s k false why.free)
+    sound_condemned w k s sound (between_later w k (Detach s) chosen at) at.idle why.named.live (unhindered w s k false why.free)
 
-pub sound_unplug : (w : World) (k : ℕ) (said : Command) (x s : ℕ) → Sound w → next w k ≡ Does (Unplug said x (Some s)) → Sound (after w k (Unplug said x (Some s)))
+pub sound_unplug : (w : World) (k x s : ℕ) → Sound w → next w k ≡ Does (Unplug x (Some s)) → Sound (after w k (Unplug x (Some s)))
 unfolding after
-sound_unplug w k said x s sound chosen =
-    let why = has_command_reason w k (Unplug said x (Some s)) chosen in
+sound_unplug w k x s sound chosen =
+    let why = has_command_reason w k (Unplug x (Some s)) chosen in
     let at = why.begins.between in
-    let here = between_later w k (Unplug said x (Some s)) chosen at in
+    let here = between_later w k (Unplug x (Some s)) chosen at in
     let absent : List ℕ = x ∷ filter (λ y. not (y == x)) w.absent in
     let u : World = record w { absent = absent } in
     sound_condemned u k s (sound_absent w absent sound here.booted) (later_held w k w.refs absent here) at.idle why.live

@@ -19,7 +19,9 @@ use Rattle.run_rules.specs.declared.world.Wanted.{Wanted}
 use Rattle.run_rules.specs.World.{World, Caller, caller_at, has, has_ended, offered_by, policy_of, scan_of, start}
 use Rattle.run_rules.specs.After.{after, attached, doing, finaliser_placed, finaliser_placing, listed, moved_top, new_device, place_finaliser, place_scan, released, same_key, scan_placed, scan_placing, show_spot, under_top, with_stack}
 use Rattle.run_sound.specs.Left.{boot_left, free_spots, scan_left, spot_worth, turns_left, whole_scan}
-use Rattle.run_rules.specs.Deeds.{Does, Deed, Search, EndScan, BeginInterrupts, Finalise, EndCaller, Drop, Answer, Open, Close, Start, Done, Detach, Free, Rescan, BeginPower, Sleep, Wake, EndPower, Plug, Unplug, Tell}
+use Rattle.run_rules.specs.declared.deed.Deed.{Deed}
+use Rattle.run_rules.specs.declared.deed.Deed.TheVariants.{Search, EndScan, BeginInterrupts, Finalise, EndCaller, Drop, Refuse, Open, Close, Start, Done, Detach, Free, Rescan, BeginPower, Sleep, Wake, EndPower, Plug, Unplug, Tell}
+use Rattle.run_rules.specs.declared.deed.Choice.TheVariants.{Does}
 use Rattle.run_rules.specs.Next.{next}
 use Rattle.run_rules.proofs.Setups.{after_setup}
 use Rattle.run_sound.specs.Coming.{HasReason, IsCalled, IsTurn}
@@ -110,7 +112,7 @@ placed_adds : (n : ℕ) (booted : Bool) (p : Policy) (offered : List ℕ) (w : W
 unfolding scan_placed finaliser_placing
 placed_adds n true p offered w parent s may_defer goes lt = absurd cc
 placed_adds n false p offered w parent s may_defer goes lt =
-    called_adds n p.finaliser (scan_placing p offered (place_finaliser (cond p.finaliser (cond false Pushed Queued) Nowhere) w 0 s).phase may_defer) w parent s s lt
+    called_adds n p.finaliser (scan_placing p offered (place_finaliser (cond p.finaliser (cond false Pushed Queued) Nowhere) w 0 s).interrupts_on may_defer) w parent s s lt
 
 attached_adds : (n : ℕ) (w : World) (a : Arrival) (may_defer : Bool) → 0 < length w.callers → has_ended w 0 ≡ false → AddsScan n w (attached w 0 a may_defer)
 unfolding attached finaliser_placed listed
@@ -146,8 +148,8 @@ hidden_falls (y ∷ ys) x h = cases (λ k. hidden_falls ys x k) (y == x) h
 
 abbrev left : ℕ → World → ℕ
 left n w =
-    frames_left n (caller_at w 0).stack + waiting n w.deferred + spot_worth n * free_spots w.live n + (length w.finalisers - w.place) + cond w.again n 0 + n * length w.hidden
-    + cond w.phase 0 1 + cond (has_ended w 0) 0 1
+    frames_left n (caller_at w 0).stack + waiting n w.deferred + spot_worth n * free_spots w.live n + (length w.finalisers - w.next_finaliser) + cond w.pass_repeats n 0 + n * length w.hidden
+    + cond w.interrupts_on 0 1 + cond (has_ended w 0) 0 1
 
 left_is : (w : World) (n : ℕ) → length w.setup.machine.spots ≡ n → boot_left w ≡ left n w
 unfolding boot_left
@@ -185,23 +187,23 @@ record Prepares (n : ℕ) (w u : World) : Type 0 where
   work : frames_left n (caller_at u 0).stack + waiting n u.deferred ≤ frames_left n (caller_at w 0).stack + waiting n w.deferred + whole_scan n
   live : u.live ≡ w.live
   finalisers : u.finalisers ≡ w.finalisers
-  place : u.place ≡ w.place
-  again : u.again ≡ w.again
-  phase : u.phase ≡ w.phase
+  place : u.next_finaliser ≡ w.next_finaliser
+  pass_repeats : u.pass_repeats ≡ w.pass_repeats
+  interrupts_on : u.interrupts_on ≡ w.interrupts_on
   hidden : length u.hidden ≤ length w.hidden
 
 come_falls : (n : ℕ) (w u v : World) (a : Arrival) → Prepares n w u → Comes u v a → AddsScan n u v → FitsIn u.setup u.live u.hidden (new_device u a) → length u.setup.machine.spots ≡ n
     → has_ended w 0 ≡ false → left n v < left n w
 come_falls n w u v a pre is adds fits same goes =
     let free : spot_worth n * free_spots v.live n + spot_worth n ≤ spot_worth n * free_spots w.live n = rw pre.live at (worth_falls u v n a is fits same) in
-    let place : v.place ≡ w.place = is.place ∙ pre.place in
-    let again : v.again ≡ w.again = is.again ∙ pre.again in
-    let phase : v.phase ≡ w.phase = is.phase ∙ pre.phase in
+    let place : v.next_finaliser ≡ w.next_finaliser = is.place ∙ pre.place in
+    let pass_repeats : v.pass_repeats ≡ w.pass_repeats = is.pass_repeats ∙ pre.pass_repeats in
+    let interrupts_on : v.interrupts_on ≡ w.interrupts_on = is.interrupts_on ∙ pre.interrupts_on in
     let called : length u.finalisers ≡ length w.finalisers = ap length pre.finalisers in
     let hidden : length v.hidden ≤ length w.hidden = rw is.hidden pre.hidden in
-    rw (place, again, phase, goes)
-    (turn_sum (whole_scan n) (frames_left n (caller_at w 0).stack) (waiting n w.deferred) (spot_worth n * free_spots w.live n) (length w.finalisers) w.place (cond w.again n 0) (n * length w.hidden)
-    (cond w.phase 0 1)
+    rw (place, pass_repeats, interrupts_on, goes)
+    (turn_sum (whole_scan n) (frames_left n (caller_at w 0).stack) (waiting n w.deferred) (spot_worth n * free_spots w.live n) (length w.finalisers) w.next_finaliser (cond w.pass_repeats n 0) (n * length w.hidden)
+    (cond w.interrupts_on 0 1)
     (frames_left n (caller_at v 0).stack) (waiting n v.deferred) (spot_worth n * free_spots v.live n) (length v.finalisers) (n * length v.hidden) (cond (has_ended v 0) 0 1)
     (at_most_one (has_ended v 0)) (omega (arith, pre.work, adds.work)) free (omega (arith, is.one_more, called)) (product_le n (length v.hidden) (length w.hidden) hidden))
 
@@ -209,7 +211,7 @@ come_falls n w u v a pre is adds fits same goes =
 
 -- the boot's list moves on: its place, and whether one of this pass answered 1
 abbrev moved_on : World → ℕ → Bool → World
-moved_on v place again = record v { place = place; again = again }
+moved_on v place pass_repeats = record v { next_finaliser = place; pass_repeats = pass_repeats }
 
 -- the world in which the spot is shown
 abbrev seen : World → ℕ → World
@@ -219,20 +221,20 @@ hidden_less : (n : ℕ) (w : World) (x : ℕ) → has w.hidden x ≡ true → n 
 hidden_less n w x h = product n (length (unhidden w.hidden x)) (length w.hidden) (hidden_falls w.hidden x h)
 
 next_falls : (n : ℕ) (w v : World) (x : ℕ) (a : Arrival) → has w.hidden x ≡ true → Comes (seen w x) v a → AddsScan n (seen w x) v
-    → FitsIn w.setup w.live (seen w x).hidden (new_device w a) → length w.setup.machine.spots ≡ n → has_ended w 0 ≡ false → left n (moved_on v (w.place + 1) true) < left n w
+    → FitsIn w.setup w.live (seen w x).hidden (new_device w a) → length w.setup.machine.spots ≡ n → has_ended w 0 ≡ false → left n (moved_on v (w.next_finaliser + 1) true) < left n w
 next_falls n w v x a was is adds fits same goes =
-    rw (is.phase, is.hidden, goes)
-    (next_sum (whole_scan n) n (frames_left n (caller_at w 0).stack) (waiting n w.deferred) (spot_worth n * free_spots w.live n) (length w.finalisers) w.place (cond w.again n 0) (n * length w.hidden)
-    (cond w.phase 0 1)
+    rw (is.interrupts_on, is.hidden, goes)
+    (next_sum (whole_scan n) n (frames_left n (caller_at w 0).stack) (waiting n w.deferred) (spot_worth n * free_spots w.live n) (length w.finalisers) w.next_finaliser (cond w.pass_repeats n 0) (n * length w.hidden)
+    (cond w.interrupts_on 0 1)
     (frames_left n (caller_at v 0).stack) (waiting n v.deferred) (spot_worth n * free_spots v.live n) (length v.finalisers) (n * length (unhidden w.hidden x)) (cond (has_ended v 0) 0 1)
     (at_most_one (has_ended v 0)) adds.work (worth_falls (seen w x) v n a is fits same) is.one_more (hidden_less n w x was))
 
 anew_falls : (n : ℕ) (w v : World) (x : ℕ) (a : Arrival) → has w.hidden x ≡ true → Comes (seen w x) v a → AddsScan n (seen w x) v
     → FitsIn w.setup w.live (seen w x).hidden (new_device w a) → length w.setup.machine.spots ≡ n → has_ended w 0 ≡ false
-    → w.again ≡ true → length w.finalisers ≤ n → left n (moved_on v (0 + 1) true) < left n w
-anew_falls n w v x a was is adds fits same goes again few =
-    rw (is.phase, is.hidden, goes, again)
-    (anew_sum (whole_scan n) n (frames_left n (caller_at w 0).stack) (waiting n w.deferred) (spot_worth n * free_spots w.live n) (length w.finalisers) w.place (n * length w.hidden) (cond w.phase 0 1)
+    → w.pass_repeats ≡ true → length w.finalisers ≤ n → left n (moved_on v (0 + 1) true) < left n w
+anew_falls n w v x a was is adds fits same goes pass_repeats few =
+    rw (is.interrupts_on, is.hidden, goes, pass_repeats)
+    (anew_sum (whole_scan n) n (frames_left n (caller_at w 0).stack) (waiting n w.deferred) (spot_worth n * free_spots w.live n) (length w.finalisers) w.next_finaliser (n * length w.hidden) (cond w.interrupts_on 0 1)
     (frames_left n (caller_at v 0).stack) (waiting n v.deferred) (spot_worth n * free_spots v.live n) (length v.finalisers) (n * length (unhidden w.hidden x)) (cond (has_ended v 0) 0 1)
     (at_most_one (has_ended v 0)) adds.work (worth_falls (seen w x) v n a is fits same) is.one_more (hidden_less n w x was) few)
 
@@ -253,11 +255,11 @@ scan_ends n w which f rest lt goes e some =
     rw (e, stack_is u (begun w.deferred which ++ rest) lt, goes)
     (omega (arith, released_left n w.deferred which rest, frames_cons n f rest, some, at_most_one (has_ended (with_stack u 0 (begun w.deferred which ++ rest)) 0)))
 
-phase_falls : (n : ℕ) (w : World) → 0 < length w.callers → has_ended w 0 ≡ false → w.phase ≡ false
-    → left n (released (record w { phase = true }) 0 key.Interrupts (caller_at w 0).stack) < left n w
+phase_falls : (n : ℕ) (w : World) → 0 < length w.callers → has_ended w 0 ≡ false → w.interrupts_on ≡ false
+    → left n (released (record w { interrupts_on = true }) 0 key.Interrupts (caller_at w 0).stack) < left n w
 unfolding released
 phase_falls n w lt goes before =
-    let u : World = record w { phase = true; deferred = left_off w.deferred key.Interrupts } in
+    let u : World = record w { interrupts_on = true; deferred = left_off w.deferred key.Interrupts } in
     let fs : List Frame = begun w.deferred key.Interrupts ++ (caller_at w 0).stack in
     rw (stack_is u fs lt, goes, before) (omega (arith, released_left n w.deferred key.Interrupts (caller_at w 0).stack, at_most_one (has_ended (with_stack u 0 fs) 0)))
 
@@ -267,22 +269,22 @@ end_falls n w lt goes =
     rw (caller_here w 0 c lt, goes) (omega arith)
 
 -- a finaliser of the list shows no spot
-quiet_next : (n : ℕ) (w : World) → w.place < length w.finalisers → has_ended w 0 ≡ false → left n (moved_on w (w.place + 1) w.again) < left n w
+quiet_next : (n : ℕ) (w : World) → w.next_finaliser < length w.finalisers → has_ended w 0 ≡ false → left n (moved_on w (w.next_finaliser + 1) w.pass_repeats) < left n w
 quiet_next n w inside goes = omega (arith, inside)
 
-quiet_anew : (n : ℕ) (w : World) → length w.finalisers ≤ w.place → w.again ≡ true → 0 < length w.finalisers → length w.finalisers ≤ n → left n (moved_on w (0 + 1) false) < left n w
-quiet_anew n w past again some few = rw again (omega (arith, past, some, few))
+quiet_anew : (n : ℕ) (w : World) → length w.finalisers ≤ w.next_finaliser → w.pass_repeats ≡ true → 0 < length w.finalisers → length w.finalisers ≤ n → left n (moved_on w (0 + 1) false) < left n w
+quiet_anew n w past pass_repeats some few = rw pass_repeats (omega (arith, past, some, few))
 
 -- a finaliser shows one where nothing comes
 bare_top : (n : ℕ) (w : World) (x : ℕ) → has w.hidden x ≡ true → x < n → left n (seen w x) < left n w
 bare_top n w x was inside = omega (arith, hidden_less n w x was, inside)
 
-bare_next : (n : ℕ) (w : World) (x : ℕ) → has w.hidden x ≡ true → w.place < length w.finalisers → left n (moved_on (seen w x) (w.place + 1) true) < left n w
+bare_next : (n : ℕ) (w : World) (x : ℕ) → has w.hidden x ≡ true → w.next_finaliser < length w.finalisers → left n (moved_on (seen w x) (w.next_finaliser + 1) true) < left n w
 bare_next n w x was inside = omega (arith, hidden_less n w x was, inside)
 
-bare_anew : (n : ℕ) (w : World) (x : ℕ) → has w.hidden x ≡ true → length w.finalisers ≤ w.place → w.again ≡ true → 0 < length w.finalisers → length w.finalisers ≤ n
+bare_anew : (n : ℕ) (w : World) (x : ℕ) → has w.hidden x ≡ true → length w.finalisers ≤ w.next_finaliser → w.pass_repeats ≡ true → 0 < length w.finalisers → length w.finalisers ≤ n
     → left n (moved_on (seen w x) (0 + 1) true) < left n w
-bare_anew n w x was past again some few = rw again (omega (arith, hidden_less n w x was, past, some, few))
+bare_anew n w x was past pass_repeats some few = rw pass_repeats (omega (arith, hidden_less n w x was, past, some, few))
 
 -- ---- each deed
 
@@ -292,7 +294,7 @@ record Booting (n : ℕ) (w : World) : Type 0 where
   there : 0 < length w.callers
   goes : has_ended w 0 ≡ false
   few : length w.finalisers ≤ n
-  some : w.again ≡ true → 0 < length w.finalisers
+  some : w.pass_repeats ≡ true → 0 < length w.finalisers
 
 quiet_falls : (n : ℕ) (w : World) (s : ℕ) (listed : Option ℕ) (anew : Bool) → Booting n w → IsCalled w 0 s listed anew → left n (after w 0 (Finalise s None None listed anew)) < left n w
 unfolding after
@@ -300,14 +302,14 @@ quiet_falls n w s None anew b called =
     let e : (caller_at w 0).stack ≡ Finaliser s ∷ called.0 = called.1 in
     let less : frames_left n (under_top (caller_at w 0).stack) < frames_left n (caller_at w 0).stack = rw e (omega (arith, frames_cons n (Finaliser s) called.0)) in
     stack_falls n w (under_top (caller_at w 0).stack) b.there b.goes less
-quiet_falls n w s (Some place) false b called = let at : place ≡ w.place = called.3 in rw at (quiet_next n w called.4 b.goes)
+quiet_falls n w s (Some place) false b called = let at : place ≡ w.next_finaliser = called.3 in rw at (quiet_next n w called.4 b.goes)
 quiet_falls n w s (Some place) true b called = let at : place ≡ 0 = called.3 in rw at (quiet_anew n w called.4 called.6 (b.some called.6) b.few)
 
 bare_falls : (n : ℕ) (w : World) (s x : ℕ) (listed : Option ℕ) (anew : Bool) → Booting n w → IsCalled w 0 s listed anew → has w.hidden x ≡ true → x < n
     → left n (after w 0 (Finalise s (Some x) None listed anew)) < left n w
 unfolding after
 bare_falls n w s x None anew b called was inside = bare_top n w x was inside
-bare_falls n w s x (Some place) false b called was inside = let at : place ≡ w.place = called.3 in rw at (bare_next n w x was called.4)
+bare_falls n w s x (Some place) false b called was inside = let at : place ≡ w.next_finaliser = called.3 in rw at (bare_next n w x was called.4)
 bare_falls n w s x (Some place) true b called was inside = let at : place ≡ 0 = called.3 in rw at (bare_anew n w x was called.4 called.6 (b.some called.6) b.few)
 
 shown_prepares : (n : ℕ) (w : World) (x : ℕ) → Prepares n w (seen w x)
@@ -316,8 +318,8 @@ shown_prepares n w x = record {
   live = refl;
   finalisers = refl;
   place = refl;
-  again = refl;
-  phase = refl;
+  pass_repeats = refl;
+  interrupts_on = refl;
   hidden = fewer_hidden w.hidden x;
 }
 
@@ -327,15 +329,15 @@ unfolding after
 shows_falls n w s x a None anew b called was fits =
     come_falls n w (seen w x) (attached (seen w x) 0 a false) a (shown_prepares n w x) (attached_comes (seen w x) 0 a false) (attached_adds n (seen w x) a false b.there b.goes) fits b.spots b.goes
 shows_falls n w s x a (Some place) false b called was fits =
-    let at : place ≡ w.place = called.3 in
+    let at : place ≡ w.next_finaliser = called.3 in
     rw at (next_falls n w (attached (seen w x) 0 a false) x a was (attached_comes (seen w x) 0 a false) (attached_adds n (seen w x) a false b.there b.goes) fits b.spots b.goes)
 shows_falls n w s x a (Some place) true b called was fits =
     let at : place ≡ 0 = called.3 in
     rw at (anew_falls n w (attached (seen w x) 0 a false) x a was (attached_comes (seen w x) 0 a false) (attached_adds n (seen w x) a false b.there b.goes) fits b.spots b.goes called.6 b.few)
 
-pass_falls : (n : ℕ) (w : World) (p : ℕ) (to : Position) → Booting n w → (t : IsTurn w 0 p to None) → turns_left n to < turns_left n t.from → left n (after w 0 (Search p to None)) < left n w
+pass_falls : (n : ℕ) (w : World) (p spot : ℕ) (to : Position) → Booting n w → (t : IsTurn w 0 p spot to None) → turns_left n to < turns_left n t.from → left n (after w 0 (Search p spot to None)) < left n w
 unfolding after
-pass_falls n w p to b t less =
+pass_falls n w p spot to b t less =
     stack_falls n w (moved_top to (caller_at w 0).stack) b.there b.goes (moved_less n p t.only t.wanted to t.from (caller_at w 0).stack t.rest t.stack less)
 
 turn_prepares : (n : ℕ) (w : World) (to : Position) → 0 < length w.callers → Prepares n w (with_stack w 0 (moved_top to (caller_at w 0).stack))
@@ -344,8 +346,8 @@ turn_prepares n w to lt = record {
   live = refl;
   finalisers = refl;
   place = refl;
-  again = refl;
-  phase = refl;
+  pass_repeats = refl;
+  interrupts_on = refl;
   hidden = omega arith;
 }
 
@@ -356,9 +358,9 @@ stack_goes w fs lt goes =
     (λ ended. (settles (caller_at w 0).over (caller_at w 0).doing fs).goes (λ was. clash (has_ended w 0) (ended_is (caller_at w 0).doing was) goes)
     (sym (ap (λ (c : Caller). c.doing) (caller_here w 0 (stacked w 0 fs) lt)) ∙ ended))
 
-turn_falls : (n : ℕ) (w : World) (p : ℕ) (to : Position) (a : Arrival) → Booting n w → FitsIn w.setup w.live w.hidden (new_device w a) → left n (after w 0 (Search p to (Some a))) < left n w
+turn_falls : (n : ℕ) (w : World) (p spot : ℕ) (to : Position) (a : Arrival) → Booting n w → FitsIn w.setup w.live w.hidden (new_device w a) → left n (after w 0 (Search p spot to (Some a))) < left n w
 unfolding after
-turn_falls n w p to a b fits =
+turn_falls n w p spot to a b fits =
     let u : World = with_stack w 0 (moved_top to (caller_at w 0).stack) in
     let more : 0 < length u.callers = omega (arith, b.there, callers_kept w 0 (stacked w 0 (moved_top to (caller_at w 0).stack))) in
     come_falls n w u (attached u 0 a true) a (turn_prepares n w to b.there) (attached_comes u 0 a true)
@@ -366,8 +368,8 @@ turn_falls n w p to a b fits =
 
 deed_falls : (n : ℕ) (w : World) (d : Deed) → MayRun w.setup → Kept w → next w 0 ≡ Does d → Booting n w → IsBootDeed d → HasReason w 0 d → ComesFit w d → left n (after w 0 d) < left n w
 unfolding after
-deed_falls n w (Search p to None) may kept e b is why fits = pass_falls n w p to b why (rw b.spots at (lessens w 0 p to may why))
-deed_falls n w (Search p to (Some a)) may kept e b is why fits = turn_falls n w p to a b fits
+deed_falls n w (Search p spot to None) may kept e b is why fits = pass_falls n w p spot to b why (rw b.spots at (lessens w 0 p spot to may why))
+deed_falls n w (Search p spot to (Some a)) may kept e b is why fits = turn_falls n w p spot to a b fits
 deed_falls n w (EndScan p) may kept e b is why fits = scan_ends n w (key.Parent p) (Scan p why.only why.wanted why.from) why.rest b.there b.goes why.stack (omega arith)
 deed_falls n w BeginInterrupts may kept e b is why fits = phase_falls n w b.there b.goes why.before
 deed_falls n w (Finalise s None None listed anew) may kept e b is why fits = quiet_falls n w s listed anew b why.called
@@ -379,21 +381,21 @@ deed_falls n w (Finalise s (Some x) (Some a) listed anew) may kept e b is why fi
     shows_falls n w s x a listed anew b why.called (shown_inside w 0 s x (Some a) listed anew why).1 fits
 deed_falls n w EndCaller may kept e b is why fits = end_falls n w b.there b.goes
 deed_falls n w (Drop s) may kept e b is why fits = absurd is
-deed_falls n w (Answer said reply) may kept e b is why fits = absurd is
-deed_falls n w (Open said s) may kept e b is why fits = absurd is
-deed_falls n w (Close said s) may kept e b is why fits = absurd is
-deed_falls n w (Start said ticket) may kept e b is why fits = absurd is
+deed_falls n w (Refuse reply) may kept e b is why fits = absurd is
+deed_falls n w (Open s sole) may kept e b is why fits = absurd is
+deed_falls n w (Close s) may kept e b is why fits = absurd is
+deed_falls n w (Start ticket) may kept e b is why fits = absurd is
 deed_falls n w (Done ticket) may kept e b is why fits = absurd is
-deed_falls n w (Detach said s) may kept e b is why fits = absurd is
+deed_falls n w (Detach s) may kept e b is why fits = absurd is
 deed_falls n w (Free s) may kept e b is why fits = absurd is
-deed_falls n w (Rescan said frame) may kept e b is why fits = absurd is
-deed_falls n w (BeginPower said kind s) may kept e b is why fits = absurd is
+deed_falls n w (Rescan s only) may kept e b is why fits = absurd is
+deed_falls n w (BeginPower kind s) may kept e b is why fits = absurd is
 deed_falls n w (Sleep s) may kept e b is why fits = absurd is
 deed_falls n w (Wake s) may kept e b is why fits = absurd is
-deed_falls n w (EndPower s reply) may kept e b is why fits = absurd is
-deed_falls n w (Plug said x) may kept e b is why fits = absurd is
-deed_falls n w (Unplug said x of) may kept e b is why fits = absurd is
-deed_falls n w (Tell said) may kept e b is why fits = absurd is
+deed_falls n w (EndPower end) may kept e b is why fits = absurd is
+deed_falls n w (Plug x) may kept e b is why fits = absurd is
+deed_falls n w (Unplug x of) may kept e b is why fits = absurd is
+deed_falls n w Tell may kept e b is why fits = absurd is
 
 -- so the boot ends
 pub boot_falls : (w : World) (d : Deed) → MayRun w.setup → Kept w → next w 0 ≡ Does d → boot_left (after w 0 d) < boot_left w

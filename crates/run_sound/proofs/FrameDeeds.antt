@@ -13,14 +13,15 @@ use Rattle.run_rules.specs.declared.world.Deferred.{Deferred}
 use Rattle.run_rules.specs.declared.world.Key.{Key}
 use Rattle.run_rules.specs.declared.world.Key.TheVariants as key
 use Rattle.run_rules.specs.declared.world.Arrival.{Arrival}
-use Rattle.cf_types.specs.declared.machine.Command.{Command}
 use Rattle.run_rules.specs.declared.world.Activity.{Activity}
 use Rattle.run_rules.specs.declared.world.Activity.TheVariants as activity
 use Rattle.run_rules.specs.declared.world.Ref.{Ref}
 use Rattle.run_rules.specs.World.{World, Caller, caller_at, frame_serial, has_ended, is_ended, is_held, is_live, is_pinned, scan_of}
-use Rattle.run_rules.specs.Deeds.{Deed, Search, EndScan, BeginInterrupts, Finalise, EndCaller, Rescan, Does}
+use Rattle.run_rules.specs.declared.deed.Deed.{Deed}
+use Rattle.run_rules.specs.declared.deed.Deed.TheVariants.{Search, EndScan, BeginInterrupts, Finalise, EndCaller, Rescan}
+use Rattle.run_rules.specs.declared.deed.Choice.TheVariants.{Does}
 use Rattle.run_rules.specs.Next.{first_held, next}
-use Rattle.run_rules.specs.After.{after, arrived, doing, finaliser_done, list_moved, moved_top, released, same_key, show_spot, under_top, with_caller, with_stack}
+use Rattle.run_rules.specs.After.{after, arrived, doing, finaliser_done, list_moved, moved_top, released, same_key, show_spot, under_top, with_caller, with_stack, rescan_frame}
 use Rattle.run_rules.specs.Sound.{IsSoundlyDeferred, Sound, is_known, is_scan_of}
 use Rattle.run_rules.proofs.Devices.{all_imp, none_of}
 use Rattle.run_sound.specs.Coming.{IsCall, IsCalled, IsEnd, IsOver, IsPhase, IsScanEnd, IsTurn, MayCome}
@@ -53,7 +54,7 @@ boot_scanner w k d e boots = record { doer = doer w k d e; scans = λ later. abs
 sound_less : (w : World) (k : ℕ) (stack : List Frame) → Sound w → IsScanner w k → AllByRecursion (λ f. IsTrue (is_known w (frame_serial f))) stack
     → ((s : ℕ) → pins_of stack s ≡ true → pins_of (caller_at w k).stack s ≡ true)
     → ((p : ℕ) → list_any (is_scan_of p) (caller_at w k).stack ≡ true → list_any (is_scan_of p) stack ≡ true) → Sound (with_stack w k stack)
-sound_less w k stack sound who known pins scans = sound_stack w k stack w.deferred w.phase sound who.doer may sound.phase
+sound_less w k stack sound who known pins scans = sound_stack w k stack w.deferred w.interrupts_on sound who.doer may sound.interrupts_on
   where
     may : MayStack w k stack w.deferred
     may = record {
@@ -112,11 +113,11 @@ record Turned (w v : World) (k p : ℕ) : Type 0 where
   scanned : is_scanned v p ≡ true
   spared : IsSpared w.live p
 
-turned : (w : World) (k p : ℕ) (to : Position) (got : Option Arrival) → Sound w → next w k ≡ Does (Search p to got) → Turned w (with_stack w k (moved_top to (caller_at w k).stack)) k p
-turned w k p to got sound e =
-    let t : IsTurn w k p to got = has_reason w k (Search p to got) e in
+turned : (w : World) (k p spot : ℕ) (to : Position) (got : Option Arrival) → Sound w → next w k ≡ Does (Search p spot to got) → Turned w (with_stack w k (moved_top to (caller_at w k).stack)) k p
+turned w k p spot to got sound e =
+    let t : IsTurn w k p spot to got = has_reason w k (Search p spot to got) e in
     let top : Frame = Scan p t.only t.wanted t.from in
-    let who : IsScanner w k = topped_scanner w k (Search p to got) top t.rest sound e t.stack in
+    let who : IsScanner w k = topped_scanner w k (Search p spot to got) top t.rest sound e t.stack in
     let stack : List Frame = moved_top to (caller_at w k).stack in
     let is : stack ≡ Scan p t.only t.wanted to ∷ t.rest = turned_frames to p t.only t.wanted t.from t.rest (caller_at w k).stack t.stack in
     let c : Caller = stacked w k stack in
@@ -127,19 +128,19 @@ turned w k p to got sound e =
       spared = pinned_spared w p sound (topped_pinned w k top t.rest t.stack);
     }
 
-pub search_stays : (w : World) (k p : ℕ) (to : Position) (got : Option Arrival) → MayRun w.setup → Kept w → next w k ≡ Does (Search p to got) → StaysSound (after w k (Search p to got)) k
+pub search_stays : (w : World) (k p spot : ℕ) (to : Position) (got : Option Arrival) → MayRun w.setup → Kept w → next w k ≡ Does (Search p spot to got) → StaysSound (after w k (Search p spot to got)) k
 unfolding after
-search_stays w k p to None may kept e = (turned w k p to None kept.sound e).stays
-search_stays w k p to (Some a) may kept e =
-    let t = turned w k p to (Some a) kept.sound e in
-    let come : MayCome w.setup w.live w.hidden p a = search_comes w k p to a may kept e in
+search_stays w k p spot to None may kept e = (turned w k p spot to None kept.sound e).stays
+search_stays w k p spot to (Some a) may kept e =
+    let t = turned w k p spot to (Some a) kept.sound e in
+    let come : MayCome w.setup w.live w.hidden p a = search_comes w k p spot to a may kept e in
     let v : World = with_stack w k (moved_top to (caller_at w k).stack) in
     attached_stays v k a true t.stays.sound t.stays.who
     (record { counted = kept.ranges.counted; known = rw come.parent come.known; unit = come.unit; bare = come.bare; spared = rw come.parent t.spared })
     (λ m. rw come.parent t.scanned)
 
-pub sound_search : (w : World) (k p : ℕ) (to : Position) (got : Option Arrival) → MayRun w.setup → Kept w → next w k ≡ Does (Search p to got) → Sound (after w k (Search p to got))
-sound_search w k p to got may kept e = (search_stays w k p to got may kept e).sound
+pub sound_search : (w : World) (k p spot : ℕ) (to : Position) (got : Option Arrival) → MayRun w.setup → Kept w → next w k ≡ Does (Search p spot to got) → Sound (after w k (Search p spot to got))
+sound_search w k p spot to got may kept e = (search_stays w k p spot to got may kept e).sound
 
 -- ---- scans that were put off begin
 
@@ -162,13 +163,13 @@ begun_known w (e ∷ es) h = (live_is_known w e.child h.0.0, begun_known w es h.
 same_parent : (p : ℕ) (a b : Key) → a ≡ key.Parent p → b ≡ key.Parent p → same_key a b ≡ true
 same_parent p a b x y = rw (x, y) (eq-eqb p p refl)
 
-sound_released : (w : World) (k : ℕ) (phase : Bool) (which : Key) (rest : List Frame) → Sound w → IsScanner w k → AllByRecursion (λ f. IsTrue (is_known w (frame_serial f))) rest
+sound_released : (w : World) (k : ℕ) (interrupts_on : Bool) (which : Key) (rest : List Frame) → Sound w → IsScanner w k → AllByRecursion (λ f. IsTrue (is_known w (frame_serial f))) rest
     → ((s : ℕ) → pins_of rest s ≡ true → pins_of (caller_at w k).stack s ≡ true)
     → ((p : ℕ) → which ≢ key.Parent p → list_any (is_scan_of p) (caller_at w k).stack ≡ true → list_any (is_scan_of p) rest ≡ true)
-    → (IsTrue phase → AllByRecursion (λ e. e.key ≢ key.Interrupts) (filter (λ e. not (same_key e.key which)) w.deferred))
-    → Sound (released (record w { phase = phase }) k which rest)
+    → (IsTrue interrupts_on → AllByRecursion (λ e. e.key ≢ key.Interrupts) (filter (λ e. not (same_key e.key which)) w.deferred))
+    → Sound (released (record w { interrupts_on = interrupts_on }) k which rest)
 unfolding released
-sound_released w k phase which rest sound who known pins scans on = sound_stack w k stack left phase sound who.doer may on
+sound_released w k interrupts_on which rest sound who known pins scans on = sound_stack w k stack left interrupts_on sound who.doer may on
   where
     left : List Deferred
     left = filter (λ e. not (same_key e.key which)) w.deferred
@@ -216,10 +217,10 @@ unfolding after
 sound_end_scan w k p sound e =
     let t : IsScanEnd w k p = has_reason w k (EndScan p) e in
     let top : Frame = Scan p t.only t.wanted t.from in
-    sound_released w k w.phase (key.Parent p) (under_top (caller_at w k).stack) sound (topped_scanner w k (EndScan p) top t.rest sound e t.stack)
+    sound_released w k w.interrupts_on (key.Parent p) (under_top (caller_at w k).stack) sound (topped_scanner w k (EndScan p) top t.rest sound e t.stack)
     (under_known w (caller_at w k).stack (old_known w k sound)) (under_pins (caller_at w k).stack)
     (λ q differs. other_scans p q t.only t.wanted t.from t.rest (caller_at w k).stack t.stack differs)
-    (λ on. all_filter (λ (d : Deferred). d.key ≢ key.Interrupts) (λ d. not (same_key d.key (key.Parent p))) w.deferred (sound.phase on))
+    (λ on. all_filter (λ (d : Deferred). d.key ≢ key.Interrupts) (λ d. not (same_key d.key (key.Parent p))) w.deferred (sound.interrupts_on on))
 
 no_interrupts : (which : Key) → not (same_key which key.Interrupts) ≡ true → which ≢ key.Interrupts
 no_interrupts which h e = clash (not (same_key which key.Interrupts)) h (rw e refl)
@@ -246,9 +247,9 @@ called_scanner w k s d (Some place) false sound e called = boot_scanner w k d e 
 called_scanner w k s d (Some place) true sound e called = boot_scanner w k d e called.0
 
 -- other hidden spots, and another place in the boot
-sound_shown : (w : World) (k : ℕ) (hidden : List ℕ) (place : ℕ) (again : Bool) → Sound w → IsDoer w k → Sound (record w { hidden = hidden; place = place; again = again })
-sound_shown w k hidden place again sound who =
-    sound_beside w k w.deferred w.finalisers hidden place again sound who (λ s h. inl (pinned_by_entry w s h)) sound.deferred sound.phase (λ goes. (sound.boot (not_ended w 0 goes)).finalisers)
+sound_shown : (w : World) (k : ℕ) (hidden : List ℕ) (place : ℕ) (pass_repeats : Bool) → Sound w → IsDoer w k → Sound (record w { hidden = hidden; next_finaliser = place; pass_repeats = pass_repeats })
+sound_shown w k hidden place pass_repeats sound who =
+    sound_beside w k w.deferred w.finalisers hidden place pass_repeats sound who (λ s h. inl (pinned_by_entry w s h)) sound.deferred sound.interrupts_on (λ goes. (sound.boot (not_ended w 0 goes)).finalisers)
 
 shown_scanner : (w : World) (k : ℕ) (hidden : List ℕ) → IsScanner w k → IsScanner (record w { hidden = hidden }) k
 shown_scanner w k hidden who = record { doer = record { there = who.doer.there; unended = who.doer.unended; alone = who.doer.alone }; scans = who.scans }
@@ -256,7 +257,7 @@ shown_scanner w k hidden who = record { doer = record { there = who.doer.there; 
 -- the place in the boot's list moves on
 sound_list : (w : World) (k : ℕ) (listed : Option ℕ) (anew answer : Bool) → Sound w → IsDoer w k → Sound (list_moved w listed anew answer)
 sound_list w k None anew answer sound who = sound
-sound_list w k (Some place) anew answer sound who = sound_shown w k w.hidden (place + 1) (answer || (not anew && w.again)) sound who
+sound_list w k (Some place) anew answer sound who = sound_shown w k w.hidden (place + 1) (answer || (not anew && w.pass_repeats)) sound who
 
 answered : (w : World) (k : ℕ) (listed : Option ℕ) → Sound w → Sound (finaliser_done w k listed true)
 answered w k None sound = sound
@@ -274,7 +275,7 @@ sound_arrived w k s x got listed anew may kept e = cases got e
     shown o e =
         let call : IsCall w k s (Some x) o listed anew = has_reason w k (Finalise s (Some x) o listed anew) e in
         let who : IsScanner w k = called_scanner w k s (Finalise s (Some x) o listed anew) listed anew kept.sound e call.called in
-        record { sound = sound_shown w k v.hidden w.place w.again kept.sound who.doer; who = shown_scanner w k v.hidden who }
+        record { sound = sound_shown w k v.hidden w.next_finaliser w.pass_repeats kept.sound who.doer; who = shown_scanner w k v.hidden who }
 
     cases : (o : Option Arrival) → next w k ≡ Does (Finalise s (Some x) o listed anew) → StaysSound (arrived v k o false) k
     cases None e = shown None e
@@ -356,9 +357,9 @@ sound_between w k a sound who quiet was stack over =
       scans = λ later some. absurd (some stack);
       ended = λ is. (stack, over is);
     } in
-    sound_restacked w k c w.deferred w.phase w.finalisers w.hidden w.place w.again sound may
+    sound_restacked w k c w.deferred w.interrupts_on w.finalisers w.hidden w.next_finaliser w.pass_repeats sound may
     (λ s h. inl (elim (or_cases (pins_of (caller_at w k).stack s) (entries_pin w.deferred s) h) [ inl frame ↦ pinned_by_frame w k s frame | inr entry ↦ pinned_by_entry w s entry ]))
-    (same_put_off w k c w.deferred w.phase w.finalisers w.hidden w.place w.again refl sound.deferred) sound.phase (λ goes. (sound.boot (not_ended w 0 goes)).finalisers)
+    (same_put_off w k c w.deferred w.interrupts_on w.finalisers w.hidden w.next_finaliser w.pass_repeats refl sound.deferred) sound.interrupts_on (λ goes. (sound.boot (not_ended w 0 goes)).finalisers)
 
 pub sound_end : (w : World) (k : ℕ) → Sound w → next w k ≡ Does EndCaller → Sound (after w k EndCaller)
 unfolding after
@@ -379,22 +380,22 @@ scans_now w k who =
     }
 
 -- what is searched again is live, neither condemned nor asleep
-again_spared : (w : World) (k : ℕ) (said : Command) (f : Frame) → Sound w → SearchesAgain w k said f → IsSpared w.live (frame_serial f)
-again_spared w k said f sound again =
+again_spared : (w : World) (k s : ℕ) (only : Option ℕ) → Sound w → SearchesAgain w k s only → IsSpared w.live s
+again_spared w k s only sound again =
     let d : Dev = again.named.dev in
-    each_of (λ (e : Dev). e.serial ≡ frame_serial f → (e.condemned ≡ None) × (e.asleep ≡ false)) w.live
+    each_of (λ (e : Dev). e.serial ≡ s → (e.condemned ≡ None) × (e.asleep ≡ false)) w.live
     (λ e here same. let one : d ≡ e = one_serial w.setup w.live d e sound.devices.apart again.named.there here (again.named.serial ∙ sym same) in
     subst (λ (x : Dev). (x.condemned ≡ None) × (x.asleep ≡ false)) one (not_condemned d again.spared, again.awake))
 
-pub sound_rescan : (w : World) (k : ℕ) (said : Command) (f : Frame) → Sound w → next w k ≡ Does (Rescan said f) → Sound (after w k (Rescan said f))
+pub sound_rescan : (w : World) (k s : ℕ) (only : Option ℕ) → Sound w → next w k ≡ Does (Rescan s only) → Sound (after w k (Rescan s only))
 unfolding after
-sound_rescan w k said f sound e =
-    let again : SearchesAgain w k said f = has_command_reason w k (Rescan said f) e in
+sound_rescan w k s only sound e =
+    let again : SearchesAgain w k s only = has_command_reason w k (Rescan s only) e in
     let at : IsBetween w k = again.begins.between in
-    let who : IsDoer w k = doer w k (Rescan said f) e in
+    let who : IsDoer w k = doer w k (Rescan s only) e in
     let v : World = doing w k activity.Scans in
     let scans : Sound v = sound_between w k activity.Scans sound who refl (quiet_rests (caller_at w k).doing at.idle) at.no_frames (λ is. absurd (never is)) in
-    sound_pushed v k f scans (scans_now w k who) (live_is_known v (frame_serial f) again.named.live) (again_spared w k said f sound again)
+    sound_pushed v k (rescan_frame w k s only) scans (scans_now w k who) (live_is_known v s again.named.live) (again_spared w k s only sound again)
   where
     never : activity.Scans ≡ activity.Ended → ⊥
     never h = cc

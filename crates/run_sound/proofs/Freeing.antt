@@ -14,7 +14,8 @@ use Rattle.run_rules.specs.declared.world.Deferred.{Deferred}
 use Rattle.run_rules.specs.declared.world.Activity.TheVariants as activity
 use Rattle.run_rules.specs.declared.world.Ref.{Ref}
 use Rattle.run_rules.specs.World.{World, Caller, has, is_live, is_under, is_held, is_pinned, is_number, is_referred, frame_serial, parent_of, lineage, nobody, caller_at}
-use Rattle.run_rules.specs.Deeds.{Free, Does}
+use Rattle.run_rules.specs.declared.deed.Deed.TheVariants.{Free}
+use Rattle.run_rules.specs.declared.deed.Choice.TheVariants.{Does}
 use Rattle.run_rules.specs.Next.{next, next_free}
 use Rattle.run_rules.specs.After.{after, with_caller, freed, freeing_target, over}
 use Rattle.run_rules.specs.Sound.{IsApart, IsPlaced, HasSoundDevices, HasSoundRefs, IsSoundlyCondemned, IsSoundlyAsleep, is_known, IsSoundlyDeferred, is_power, IsFreed, Sound}
@@ -267,8 +268,8 @@ module _ (w : World) (k s : ℕ) (x : Dev) (sound : Sound w) (it : IsFreeable w 
           deferred = deferred_live later w (same_scans u k c at.no_frames new.no_frames) w.deferred
               (all_both (IsSoundlyDeferred w) (λ e. (e.child == s) ≡ false) (λ e. is_live later.live e.child ≡ true) (λ e h off. still_live e.child h.0 (eqb-false e.child s off)) w.deferred sound.deferred apart_from.1) sound.deferred;
           callers = λ j. record {
-            turn = caller_each (λ b. IsTrue (is_number w.turn j) ↔ IsTrue (is_power b.doing)) u k j c at.there
-                (λ same. rw same (λ h. clash (is_number w.turn k) h (no_turn w k sound (rw busy refl)), λ h. clash (is_power c.doing) h new.no_power)) (λ other. (sound.callers j).turn);
+            turn = caller_each (λ b. IsTrue (is_number w.power_owner j) ↔ IsTrue (is_power b.doing)) u k j c at.there
+                (λ same. rw same (λ h. clash (is_number w.power_owner k) h (no_turn w k sound (rw busy refl)), λ h. clash (is_power c.doing) h new.no_power)) (λ other. (sound.callers j).turn);
             transfer = caller_each (λ b. (t : Ticket) → b.doing ≡ activity.Transfer t → is_held w j t.serial ≡ true) u k j c at.there (λ same t e. absurd (new.no_transfer t e)) (λ other. (sound.callers j).transfer);
             ended = caller_each (λ b. b.doing ≡ activity.Ended → (b.stack ≡ []) × AllByRecursion (λ r. r.caller ≢ j) w.refs) u k j c at.there (λ same e. absurd (new.unended e)) (λ other. (sound.callers j).ended);
             frames = caller_each (λ b. IsTrue (not (j == 0)) → b.stack ≢ [] → b.doing ≡ activity.Scans) u k j c at.there (λ same z some. absurd (some new.no_frames)) (λ other. (sound.callers j).frames);
@@ -276,7 +277,7 @@ module _ (w : World) (k s : ℕ) (x : Dev) (sound : Sound w) (it : IsFreeable w 
                 (λ same t e. let left = new.target_left t e in rw same (new_target k t ((sound.callers k).target t (busy ∙ ap (λ (n : ℕ). activity.Frees n) (sym left.0))) left.1))
                 (λ other t e. new_target j t ((sound.callers j).target t e) (target_other j t e other));
           };
-          phase = sound.phase;
+          interrupts_on = sound.interrupts_on;
           boot = λ goes. absurd (goes (boots_not u k c at.later at.booted));
         }
 

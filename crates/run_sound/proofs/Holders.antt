@@ -4,7 +4,9 @@ use Rattle.std.specs.List.{AllByRecursion}
 use Rattle.run_rules.specs.declared.world.Setup.{Setup}
 use Rattle.run_rules.specs.declared.world.Ref.{Ref}
 use Rattle.run_rules.specs.World.{World}
-use Rattle.run_rules.specs.Deeds.{Deed, Search, EndScan, BeginInterrupts, Finalise, EndCaller, Drop, Answer, Open, Close, Start, Done, Detach, Free, Rescan, BeginPower, Sleep, Wake, EndPower, Plug, Unplug, Tell, Does}
+use Rattle.run_rules.specs.declared.deed.Deed.{Deed}
+use Rattle.run_rules.specs.declared.deed.Deed.TheVariants.{Search, EndScan, BeginInterrupts, Finalise, EndCaller, Drop, Refuse, Open, Close, Start, Done, Detach, Free, Rescan, BeginPower, Sleep, Wake, EndPower, Plug, Unplug, Tell}
+use Rattle.run_rules.specs.declared.deed.Choice.TheVariants.{Does}
 use Rattle.run_rules.specs.Next.{next}
 use Rattle.run_rules.specs.After.{after, given_back}
 use Rattle.run_rules.proofs.Devices.{all_snoc}
@@ -35,30 +37,30 @@ holders_less of k s refs h = all_filter (λ (r : Ref). IsOfScript of r.caller) (
 
 stay_holders : (w : World) (k : ℕ) (d : Deed) → InRange w → next w k ≡ Does d → AreHolders w.setup (after w k d).refs
 unfolding after
-stay_holders w k (Open said s) ranges e =
-    let at : IsBetween w k = (has_command_reason w k (Open said s) e).begins.between in
+stay_holders w k (Open s sole) ranges e =
+    let at : IsBetween w k = (has_command_reason w k (Open s sole) e).begins.between in
     all_snoc (λ (r : Ref). IsOfScript w.setup r.caller) w.refs (record { serial = s; caller = k }) ranges.holders
-    (of_script w k ranges at.later (doing_there w k (Open said s) e))
-stay_holders w k (Close said s) ranges e = holders_less w.setup k s w.refs ranges.holders
+    (of_script w k ranges at.later (doing_there w k (Open s sole) e))
+stay_holders w k (Close s) ranges e = holders_less w.setup k s w.refs ranges.holders
 stay_holders w k (Drop s) ranges e = holders_less w.setup k s w.refs ranges.holders
-stay_holders w k (Search p to got) ranges e = holders_same w k (Search p to got) (refs_same w k (Search p to got) refl refl) ranges
+stay_holders w k (Search p spot to got) ranges e = holders_same w k (Search p spot to got) (refs_same w k (Search p spot to got) refl refl) ranges
 stay_holders w k (EndScan p) ranges e = holders_same w k (EndScan p) (refs_same w k (EndScan p) refl refl) ranges
 stay_holders w k BeginInterrupts ranges e = holders_same w k BeginInterrupts (refs_same w k BeginInterrupts refl refl) ranges
 stay_holders w k (Finalise s shown got place anew) ranges e = holders_same w k (Finalise s shown got place anew) (refs_same w k (Finalise s shown got place anew) refl refl) ranges
 stay_holders w k EndCaller ranges e = holders_same w k EndCaller (refs_same w k EndCaller refl refl) ranges
-stay_holders w k (Answer said reply) ranges e = holders_same w k (Answer said reply) (refs_same w k (Answer said reply) refl refl) ranges
-stay_holders w k (Start said ticket) ranges e = holders_same w k (Start said ticket) (refs_same w k (Start said ticket) refl refl) ranges
+stay_holders w k (Refuse why) ranges e = holders_same w k (Refuse why) (refs_same w k (Refuse why) refl refl) ranges
+stay_holders w k (Start ticket) ranges e = holders_same w k (Start ticket) (refs_same w k (Start ticket) refl refl) ranges
 stay_holders w k (Done ticket) ranges e = holders_same w k (Done ticket) (refs_same w k (Done ticket) refl refl) ranges
-stay_holders w k (Detach said s) ranges e = holders_same w k (Detach said s) (refs_same w k (Detach said s) refl refl) ranges
+stay_holders w k (Detach s) ranges e = holders_same w k (Detach s) (refs_same w k (Detach s) refl refl) ranges
 stay_holders w k (Free s) ranges e = holders_same w k (Free s) (refs_same w k (Free s) refl refl) ranges
-stay_holders w k (Rescan said frame) ranges e = holders_same w k (Rescan said frame) (refs_same w k (Rescan said frame) refl refl) ranges
-stay_holders w k (BeginPower said kind s) ranges e = holders_same w k (BeginPower said kind s) (refs_same w k (BeginPower said kind s) refl refl) ranges
+stay_holders w k (Rescan s only) ranges e = holders_same w k (Rescan s only) (refs_same w k (Rescan s only) refl refl) ranges
+stay_holders w k (BeginPower kind s) ranges e = holders_same w k (BeginPower kind s) (refs_same w k (BeginPower kind s) refl refl) ranges
 stay_holders w k (Sleep s) ranges e = holders_same w k (Sleep s) (refs_same w k (Sleep s) refl refl) ranges
 stay_holders w k (Wake s) ranges e = holders_same w k (Wake s) (refs_same w k (Wake s) refl refl) ranges
-stay_holders w k (EndPower s reply) ranges e = holders_same w k (EndPower s reply) (refs_same w k (EndPower s reply) refl refl) ranges
-stay_holders w k (Plug said x) ranges e = holders_same w k (Plug said x) (refs_same w k (Plug said x) refl refl) ranges
-stay_holders w k (Unplug said x of) ranges e = holders_same w k (Unplug said x of) (refs_same w k (Unplug said x of) refl refl) ranges
-stay_holders w k (Tell said) ranges e = holders_same w k (Tell said) (refs_same w k (Tell said) refl refl) ranges
+stay_holders w k (EndPower end) ranges e = holders_same w k (EndPower end) (refs_same w k (EndPower end) refl refl) ranges
+stay_holders w k (Plug x) ranges e = holders_same w k (Plug x) (refs_same w k (Plug x) refl refl) ranges
+stay_holders w k (Unplug x of) ranges e = holders_same w k (Unplug x of) (refs_same w k (Unplug x of) refl refl) ranges
+stay_holders w k Tell ranges e = holders_same w k Tell (refs_same w k Tell refl refl) ranges
 
 pub holders_after : (w : World) (k : ℕ) (d : Deed) → InRange w → next w k ≡ Does d → AreHolders (after w k d).setup (after w k d).refs
 holders_after w k d ranges e = rw (after_setup w k d) (stay_holders w k d ranges e)

@@ -7,13 +7,14 @@ use Rattle.std.proofs.lemmas.Bool.{and_parts, ne_eqb, eqb-false}
 use Rattle.std.proofs.lemmas.List.Folds.{list_any-append}
 use Rattle.std.proofs.lemmas.Map.Views.{any-filter_same}
 use Rattle.run_rules.proofs.Devices.{or_false}
-use Rattle.cf_types.specs.declared.machine.Command.{Command}
 use Rattle.run_rules.specs.declared.world.Ref.{Ref}
 use Rattle.run_rules.specs.declared.world.Arrival.{Arrival}
 use Rattle.run_rules.specs.declared.world.Placing.{Placing}
 use Rattle.run_rules.specs.declared.world.Placing.TheVariants.{Nowhere, Queued, PutOff, Pushed}
 use Rattle.run_rules.specs.World.{World, caller_at, has_ended, holds_in, is_held, offered_by, policy_of, refers_to}
-use Rattle.run_rules.specs.Deeds.{Deed, Search, EndScan, BeginInterrupts, Finalise, EndCaller, Drop, Answer, Open, Close, Start, Done, Detach, Free, Rescan, BeginPower, Sleep, Wake, EndPower, Plug, Unplug, Tell, Does}
+use Rattle.run_rules.specs.declared.deed.Deed.{Deed}
+use Rattle.run_rules.specs.declared.deed.Deed.TheVariants.{Search, EndScan, BeginInterrupts, Finalise, EndCaller, Drop, Refuse, Open, Close, Start, Done, Detach, Free, Rescan, BeginPower, Sleep, Wake, EndPower, Plug, Unplug, Tell}
+use Rattle.run_rules.specs.declared.deed.Choice.TheVariants.{Does}
 use Rattle.run_rules.specs.Next.{next}
 use Rattle.run_rules.specs.After.{after, arrived, attached, finaliser_done, finaliser_placed, finaliser_placing, freed, freeing_target, given_back, list_moved, listed, moved_top, over, place_finaliser, place_scan, released, scan_placed, scan_placing, show_spot, with_stack}
 use Rattle.run_sound.specs.Commands.{ClosesHeld, FreesLast, OpensFree, ReturnsFirst}
@@ -41,7 +42,7 @@ arrived_refs w k None may_defer = refl
 arrived_refs w k (Some a) may_defer =
     let come : World = listed w a in
     let called : World = place_finaliser (finaliser_placing (policy_of w.setup a.row) (has_ended come 0)) come k w.next in
-    scan_refs (scan_placing (policy_of w.setup a.row) (offered_by w.setup a.row) called.phase may_defer) called k a.parent w.next
+    scan_refs (scan_placing (policy_of w.setup a.row) (offered_by w.setup a.row) called.interrupts_on may_defer) called k a.parent w.next
     ∙ finaliser_refs (finaliser_placing (policy_of w.setup a.row) (has_ended come 0)) come k w.next
 
 shown_refs : (w : World) (shown : Option ℕ) → (show_spot w shown).refs ≡ w.refs
@@ -59,29 +60,29 @@ freed_refs w k s false = refl
 
 pub refs_same : (w : World) (k : ℕ) (d : Deed) → opened_by d ≡ None → returned_by d ≡ None → (after w k d).refs ≡ w.refs
 unfolding after released
-refs_same w k (Search p to got) a b = arrived_refs (with_stack w k (moved_top to (caller_at w k).stack)) k got true
+refs_same w k (Search p spot to got) a b = arrived_refs (with_stack w k (moved_top to (caller_at w k).stack)) k got true
 refs_same w k (EndScan p) a b = refl
 refs_same w k BeginInterrupts a b = refl
 refs_same w k (Finalise s shown got place anew) a b =
     called_refs (arrived (show_spot w shown) k got false) k place anew (is_some shown) ∙ arrived_refs (show_spot w shown) k got false ∙ shown_refs w shown
 refs_same w k EndCaller a b = refl
 refs_same w k (Drop s) a b = absurd cc
-refs_same w k (Answer said reply) a b = refl
-refs_same w k (Open said s) a b = absurd cc
-refs_same w k (Close said s) a b = absurd cc
-refs_same w k (Start said ticket) a b = refl
+refs_same w k (Refuse why) a b = refl
+refs_same w k (Open s sole) a b = absurd cc
+refs_same w k (Close s) a b = absurd cc
+refs_same w k (Start ticket) a b = refl
 refs_same w k (Done ticket) a b = refl
-refs_same w k (Detach said s) a b = refl
+refs_same w k (Detach s) a b = refl
 refs_same w k (Free s) a b = freed_refs w k s (freeing_target (caller_at w k).doing s)
-refs_same w k (Rescan said frame) a b = refl
-refs_same w k (BeginPower said kind s) a b = refl
+refs_same w k (Rescan s only) a b = refl
+refs_same w k (BeginPower kind s) a b = refl
 refs_same w k (Sleep s) a b = refl
 refs_same w k (Wake s) a b = refl
-refs_same w k (EndPower s reply) a b = refl
-refs_same w k (Plug said x) a b = refl
-refs_same w k (Unplug said x None) a b = refl
-refs_same w k (Unplug said x (Some s)) a b = refl
-refs_same w k (Tell said) a b = refl
+refs_same w k (EndPower end) a b = refl
+refs_same w k (Plug x) a b = refl
+refs_same w k (Unplug x None) a b = refl
+refs_same w k (Unplug x (Some s)) a b = refl
+refs_same w k Tell a b = refl
 
 -- so each caller holds what it held
 pub holds_same : (w : World) (k : ℕ) (d : Deed) → opened_by d ≡ None → returned_by d ≡ None → (j s : ℕ) → is_held (after w k d) j s ≡ is_held w j s
@@ -99,10 +100,10 @@ last_ref false false own e = refl
 one_more : (refs : List Ref) (k s x : ℕ) → holds_in (refs ++ record { serial = s; caller = k } ∷ []) k x ≡ (s == x || holds_in refs k x)
 one_more refs k s x = list_any-append (λ r. r.serial == x && r.caller == k) refs (record { serial = s; caller = k } ∷ []) ∙ last_ref (holds_in refs k x) (s == x) (k == k) (eq-eqb k k refl)
 
-pub holds_opened : (w : World) (k : ℕ) (said : Command) (s : ℕ) → next w k ≡ Does (Open said s) → HoldsMore w k (Open said s) s
+pub holds_opened : (w : World) (k s : ℕ) (sole : Bool) → next w k ≡ Does (Open s sole) → HoldsMore w k (Open s sole) s
 unfolding after
-holds_opened w k said s e =
-    let why : OpensFree w k said s = has_command_reason w k (Open said s) e in
+holds_opened w k s sole e =
+    let why : OpensFree w k s sole = has_command_reason w k (Open s sole) e in
     record { live = why.named.live; free = why.free; holds = one_more w.refs k s }
 
 -- ---- one is given back
@@ -128,33 +129,33 @@ one_less refs k s x = cases (s == x) refl
 
 pub holds_returned : (w : World) (k s : ℕ) (d : Deed) → next w k ≡ Does d → returned_by d ≡ Some s → HoldsLess w k d s
 unfolding after
-holds_returned w k s (Close said t) e is =
-    let why : ClosesHeld w k said t = has_command_reason w k (Close said t) e in
+holds_returned w k s (Close t) e is =
+    let why : ClosesHeld w k t = has_command_reason w k (Close t) e in
     let same : t ≡ s = same_Some t s is in
     rw (← same) (record { live = why.named.live; held = why.held; holds = one_less w.refs k t })
 holds_returned w k s (Drop t) e is =
     let why : ReturnsFirst w k t = has_command_reason w k (Drop t) e in
     let same : t ≡ s = same_Some t s is in
     rw (← same) (record { live = why.live; held = why.held; holds = one_less w.refs k t })
-holds_returned w k s (Search p to got) e is = absurd cc
+holds_returned w k s (Search p spot to got) e is = absurd cc
 holds_returned w k s (EndScan p) e is = absurd cc
 holds_returned w k s BeginInterrupts e is = absurd cc
 holds_returned w k s (Finalise t shown got place anew) e is = absurd cc
 holds_returned w k s EndCaller e is = absurd cc
-holds_returned w k s (Answer said reply) e is = absurd cc
-holds_returned w k s (Open said t) e is = absurd cc
-holds_returned w k s (Start said ticket) e is = absurd cc
+holds_returned w k s (Refuse why) e is = absurd cc
+holds_returned w k s (Open t sole) e is = absurd cc
+holds_returned w k s (Start ticket) e is = absurd cc
 holds_returned w k s (Done ticket) e is = absurd cc
-holds_returned w k s (Detach said t) e is = absurd cc
+holds_returned w k s (Detach t) e is = absurd cc
 holds_returned w k s (Free t) e is = absurd cc
-holds_returned w k s (Rescan said frame) e is = absurd cc
-holds_returned w k s (BeginPower said kind t) e is = absurd cc
+holds_returned w k s (Rescan t only) e is = absurd cc
+holds_returned w k s (BeginPower kind t) e is = absurd cc
 holds_returned w k s (Sleep t) e is = absurd cc
 holds_returned w k s (Wake t) e is = absurd cc
-holds_returned w k s (EndPower t reply) e is = absurd cc
-holds_returned w k s (Plug said x) e is = absurd cc
-holds_returned w k s (Unplug said x of) e is = absurd cc
-holds_returned w k s (Tell said) e is = absurd cc
+holds_returned w k s (EndPower end) e is = absurd cc
+holds_returned w k s (Plug x) e is = absurd cc
+holds_returned w k s (Unplug x of) e is = absurd cc
+holds_returned w k s Tell e is = absurd cc
 
 -- ---- other callers
 
@@ -174,27 +175,27 @@ others_less refs k j s x other =
 -- a deed changes its own caller's references alone
 pub holds_others : (w : World) (k j : ℕ) (d : Deed) → j ≢ k → (s : ℕ) → is_held (after w k d) j s ≡ is_held w j s
 unfolding after
-holds_others w k j (Open said t) other s = others_more w.refs k j t s other
-holds_others w k j (Close said t) other s = others_less w.refs k j t s other
+holds_others w k j (Open t sole) other s = others_more w.refs k j t s other
+holds_others w k j (Close t) other s = others_less w.refs k j t s other
 holds_others w k j (Drop t) other s = others_less w.refs k j t s other
-holds_others w k j (Search p to got) other s = holds_same w k (Search p to got) refl refl j s
+holds_others w k j (Search p spot to got) other s = holds_same w k (Search p spot to got) refl refl j s
 holds_others w k j (EndScan p) other s = holds_same w k (EndScan p) refl refl j s
 holds_others w k j BeginInterrupts other s = holds_same w k BeginInterrupts refl refl j s
 holds_others w k j (Finalise t shown got place anew) other s = holds_same w k (Finalise t shown got place anew) refl refl j s
 holds_others w k j EndCaller other s = holds_same w k EndCaller refl refl j s
-holds_others w k j (Answer said reply) other s = holds_same w k (Answer said reply) refl refl j s
-holds_others w k j (Start said ticket) other s = holds_same w k (Start said ticket) refl refl j s
+holds_others w k j (Refuse why) other s = holds_same w k (Refuse why) refl refl j s
+holds_others w k j (Start ticket) other s = holds_same w k (Start ticket) refl refl j s
 holds_others w k j (Done ticket) other s = holds_same w k (Done ticket) refl refl j s
-holds_others w k j (Detach said t) other s = holds_same w k (Detach said t) refl refl j s
+holds_others w k j (Detach t) other s = holds_same w k (Detach t) refl refl j s
 holds_others w k j (Free t) other s = holds_same w k (Free t) refl refl j s
-holds_others w k j (Rescan said frame) other s = holds_same w k (Rescan said frame) refl refl j s
-holds_others w k j (BeginPower said kind t) other s = holds_same w k (BeginPower said kind t) refl refl j s
+holds_others w k j (Rescan t only) other s = holds_same w k (Rescan t only) refl refl j s
+holds_others w k j (BeginPower kind t) other s = holds_same w k (BeginPower kind t) refl refl j s
 holds_others w k j (Sleep t) other s = holds_same w k (Sleep t) refl refl j s
 holds_others w k j (Wake t) other s = holds_same w k (Wake t) refl refl j s
-holds_others w k j (EndPower t reply) other s = holds_same w k (EndPower t reply) refl refl j s
-holds_others w k j (Plug said x) other s = holds_same w k (Plug said x) refl refl j s
-holds_others w k j (Unplug said x of) other s = holds_same w k (Unplug said x of) refl refl j s
-holds_others w k j (Tell said) other s = holds_same w k (Tell said) refl refl j s
+holds_others w k j (EndPower end) other s = holds_same w k (EndPower end) refl refl j s
+holds_others w k j (Plug x) other s = holds_same w k (Plug x) refl refl j s
+holds_others w k j (Unplug x of) other s = holds_same w k (Unplug x of) refl refl j s
+holds_others w k j Tell other s = holds_same w k Tell refl refl j s
 
 -- ---- a device goes
 

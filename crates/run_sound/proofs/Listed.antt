@@ -172,6 +172,6 @@ sound_listed w a sound may =
           (λ c h. all_imp (λ (f : Frame). IsTrue (is_known w (frame_serial f))) (λ (f : Frame). IsTrue (is_known (listed w a) (frame_serial f))) (λ f. known_more w.live d (frame_serial f)) c.stack h) w.callers sound.frames;
       deferred = deferred_kept (listed w a) w (live_more w.live d) (λ p h. h) w.deferred sound.deferred;
       callers = λ j. listed_caller w a j sound may.counted;
-      phase = sound.phase;
+      interrupts_on = sound.interrupts_on;
       boot = λ goes. listed_boot w a (sound.boot goes);
     }

@@ -101,7 +101,7 @@ sound_opens s = record {
   frames = ((refl, tt), no_frames [] s.scripts);
   deferred = tt;
   callers = caller_opens s;
-  phase = λ h. tt;
+  interrupts_on = λ h. tt;
   boot = λ goes. record { awake = tt; spared = tt; no_refs = refl; no_turn = refl; waiting = scripts_unbegun s.scripts; finalisers = tt };
 }
 

@@ -7,12 +7,13 @@ use Rattle.run_rules.specs.declared.world.Activity.TheVariants as activity
 use Rattle.run_rules.specs.declared.world.Placing.{Placing}
 use Rattle.run_rules.specs.declared.world.Placing.TheVariants.{Nowhere, Queued, PutOff, Pushed}
 use Rattle.run_rules.specs.World.{World, Caller, caller_at, has_ended, nobody, offered_by, policy_of}
-use Rattle.run_rules.specs.Deeds.{Deed, Search, EndScan, BeginInterrupts, Finalise, EndCaller, Drop, Answer, Open, Close, Start, Done, Detach, Free, Rescan, BeginPower, Sleep, Wake, EndPower, Plug, Unplug, Tell}
+use Rattle.run_rules.specs.declared.deed.Deed.{Deed}
+use Rattle.run_rules.specs.declared.deed.Deed.TheVariants.{Search, EndScan, BeginInterrupts, Finalise, EndCaller, Drop, Refuse, Open, Close, Start, Done, Detach, Free, Rescan, BeginPower, Sleep, Wake, EndPower, Plug, Unplug, Tell}
 use Rattle.run_rules.specs.After.{after, arrived, attached, finaliser_done, finaliser_placed, finaliser_placing, list_moved, listed, moved_top, place_finaliser, place_scan, released, settled, scan_placed, scan_placing, show_spot, with_stack}
 
 -- a deed of the boot: of a frame, of the boot's list, or the end
 abbrev pub IsBootDeed : Deed → Type 0
-IsBootDeed (Search p to got) = ⊤
+IsBootDeed (Search p spot to got) = ⊤
 IsBootDeed (EndScan p) = ⊤
 IsBootDeed BeginInterrupts = ⊤
 IsBootDeed (Finalise s shown got place anew) = ⊤
@@ -55,7 +56,7 @@ module _ (P : Caller → Type 0) (stays : Stays P) where
   own_arrived w k (Some a) may_defer h =
       let come : World = listed w a in
       let called : World = place_finaliser (finaliser_placing (policy_of w.setup a.row) (has_ended come 0)) come k w.next in
-      own_scan (scan_placing (policy_of w.setup a.row) (offered_by w.setup a.row) called.phase may_defer) called k a.parent w.next
+      own_scan (scan_placing (policy_of w.setup a.row) (offered_by w.setup a.row) called.interrupts_on may_defer) called k a.parent w.next
       (own_finaliser (finaliser_placing (policy_of w.setup a.row) (has_ended come 0)) come k w.next h)
 
   own_shown : (w : World) (k : ℕ) (shown : Option ℕ) → Has w k → Has (show_spot w shown) k
@@ -70,25 +71,25 @@ module _ (P : Caller → Type 0) (stays : Stays P) where
   -- so it stays in each such deed
   pub own_after : (w : World) (k : ℕ) (d : Deed) → IsBootDeed d → Has w k → Has (after w k d) k
   unfolding after released
-  own_after w k (Search p to got) is h = own_arrived (with_stack w k (moved_top to (caller_at w k).stack)) k got true (own_stack w k _ h)
+  own_after w k (Search p spot to got) is h = own_arrived (with_stack w k (moved_top to (caller_at w k).stack)) k got true (own_stack w k _ h)
   own_after w k (EndScan p) is h = own_stack w k _ h
   own_after w k BeginInterrupts is h = own_stack w k _ h
   own_after w k (Finalise s shown got place anew) is h =
       own_called (arrived (show_spot w shown) k got false) k place anew (is_some shown) (own_arrived (show_spot w shown) k got false (own_shown w k shown h))
   own_after w k EndCaller is h = own_set P w.callers k _ (stays.ended (caller_at w k) h) h
   own_after w k (Drop s) is h = absurd is
-  own_after w k (Answer said reply) is h = absurd is
-  own_after w k (Open said s) is h = absurd is
-  own_after w k (Close said s) is h = absurd is
-  own_after w k (Start said ticket) is h = absurd is
+  own_after w k (Refuse why) is h = absurd is
+  own_after w k (Open s sole) is h = absurd is
+  own_after w k (Close s) is h = absurd is
+  own_after w k (Start ticket) is h = absurd is
   own_after w k (Done ticket) is h = absurd is
-  own_after w k (Detach said s) is h = absurd is
+  own_after w k (Detach s) is h = absurd is
   own_after w k (Free s) is h = absurd is
-  own_after w k (Rescan said frame) is h = absurd is
-  own_after w k (BeginPower said kind s) is h = absurd is
+  own_after w k (Rescan s only) is h = absurd is
+  own_after w k (BeginPower kind s) is h = absurd is
   own_after w k (Sleep s) is h = absurd is
   own_after w k (Wake s) is h = absurd is
-  own_after w k (EndPower s reply) is h = absurd is
-  own_after w k (Plug said x) is h = absurd is
-  own_after w k (Unplug said x of) is h = absurd is
-  own_after w k (Tell said) is h = absurd is
+  own_after w k (EndPower end) is h = absurd is
+  own_after w k (Plug x) is h = absurd is
+  own_after w k (Unplug x of) is h = absurd is
+  own_after w k Tell is h = absurd is

@@ -3,9 +3,7 @@ use Rattle.std.proofs.Common.{◌≡◌, ◌≢◌, ◌↔◌, ◌⊎◌, ℕ, �
 use Rattle.std.proofs.lemmas.Bool.{false_from_ne_true}
 use Rattle.std.specs.Prelude.{IsTrue, filter}
 use Rattle.std.specs.List.{AllByRecursion, list_any}
-use Rattle.cf_types.specs.declared.machine.Command.{Command}
 use Rattle.cf_types.specs.declared.machine.Ticket.{Ticket}
-use Rattle.run_rules.specs.declared.event.Reply.{Reply}
 use Rattle.run_rules.specs.declared.world.Dev.{Dev}
 use Rattle.run_rules.specs.declared.world.Frame.{Frame}
 use Rattle.run_rules.specs.declared.world.Key.{Key}
@@ -15,7 +13,9 @@ use Rattle.run_rules.specs.declared.world.Activity.{Activity}
 use Rattle.run_rules.specs.declared.world.Activity.TheVariants as activity
 use Rattle.run_rules.specs.declared.world.Ref.{Ref}
 use Rattle.run_rules.specs.World.{World, Caller, is_live, is_held, is_pinned, is_number, nobody, frame_serial, caller_at}
-use Rattle.run_rules.specs.Deeds.{Deed, Answer, Tell, Plug, Unplug, Does}
+use Rattle.run_rules.specs.declared.deed.Deed.{Deed}
+use Rattle.run_rules.specs.declared.deed.Deed.TheVariants.{Refuse, Tell, Plug, Unplug}
+use Rattle.run_rules.specs.declared.deed.Choice.TheVariants.{Does}
 use Rattle.run_rules.specs.Next.{next}
 use Rattle.run_rules.specs.After.{after, with_caller, over}
 use Rattle.run_rules.specs.Sound.{HasSoundRefs, IsSoundlyCondemned, IsSoundlyAsleep, is_scan_of, IsSoundlyDeferred, is_power, is_known, IsFreed, Sound}
@@ -23,6 +23,7 @@ use Rattle.run_rules.proofs.Devices.{all_imp, all_both}
 use Rattle.run_sound.proofs.Callers.{all_set, clash, is_ended_so, pins_same, caller_there, caller_each, pins_kept, any_set_same, doing_so, doing_there}
 use Rattle.run_sound.specs.Commands.{IsBetween}
 use Rattle.run_sound.proofs.Reasons.{has_command_reason}
+use Rattle.run_rules.specs.declared.deed.Refusal.{Refusal}
 
 -- ---- the parts that speak of each device, where the devices stay
 
@@ -71,7 +72,7 @@ deferred_kept v w live scans es h = deferred_live v w scans es (all_imp (IsSound
 pub record Agrees (w : World) (k : ℕ) (turn : Option ℕ) (c : Caller) : Type 0 where
   pub no_frames : c.stack ≡ []
   pub own : IsTrue (is_number turn k) ↔ IsTrue (is_power c.doing)
-  pub theirs : (j : ℕ) → j ≢ k → is_number turn j ≡ is_number w.turn j
+  pub theirs : (j : ℕ) → j ≢ k → is_number turn j ≡ is_number w.power_owner j
   pub frees : (s : ℕ) → (caller_at w k).doing ≡ activity.Frees s → c.doing ≡ activity.Frees s
   pub transfer : (t : Ticket) → c.doing ≡ activity.Transfer t → is_held w k t.serial ≡ true
   pub unended : c.doing ≢ activity.Ended
@@ -93,9 +94,9 @@ same_scans w k c was is p h = any_set_same (λ d. list_any (is_scan_of p) d.stac
 pub boots_not : (w : World) (k : ℕ) (c : Caller) → k ≢ 0 → (caller_at w 0).doing ≡ activity.Ended → (caller_at (with_caller w k c) 0).doing ≡ activity.Ended
 boots_not w k c later booted = ap (λ (d : Caller). d.doing) (caller_there w k 0 c (λ e. later (sym e))) ∙ booted
 
-pub sound_caller : (w : World) (k : ℕ) (turn : Option ℕ) (c : Caller) → Sound w → IsLater w k → Agrees w k turn c → Sound (with_caller (record w { turn = turn }) k c)
+pub sound_caller : (w : World) (k : ℕ) (turn : Option ℕ) (c : Caller) → Sound w → IsLater w k → Agrees w k turn c → Sound (with_caller (record w { power_owner = turn }) k c)
 sound_caller w k turn c sound at new =
-    let u : World = record w { turn = turn } in
+    let u : World = record w { power_owner = turn } in
     let v : World = with_caller u k c in
     let pins : (s : ℕ) → is_pinned v s ≡ is_pinned w s = λ s. same_pins u k c at.no_frames new.no_frames s ∙ pins_same u w s refl refl in
     let frees : (j s : ℕ) → (caller_at w j).doing ≡ activity.Frees s → (caller_at v j).doing ≡ activity.Frees s =
@@ -114,7 +115,7 @@ sound_caller w k turn c sound at new =
         frames = caller_each (λ d. IsTrue (not (j == 0)) → d.stack ≢ [] → d.doing ≡ activity.Scans) u k j c at.there (λ same z some. absurd (some new.no_frames)) (λ other. (sound.callers j).frames);
         target = caller_each (λ d. (s : ℕ) → d.doing ≡ activity.Frees s → IsFreed w j s) u k j c at.there (λ same. rw same new.target) (λ other. (sound.callers j).target);
       };
-      phase = sound.phase;
+      interrupts_on = sound.interrupts_on;
       boot = λ goes. absurd (goes (boots_not u k c at.later at.booted));
     }
 
@@ -137,11 +138,11 @@ pub between_power : (a : Activity) → (a ≡ activity.Idle) ⊎ (a ≡ activity
 between_power a (inl e) = rw e refl
 between_power a (inr e) = rw e refl
 
-pub no_turn : (w : World) (k : ℕ) → Sound w → is_power (caller_at w k).doing ≡ false → is_number w.turn k ≡ false
-no_turn w k sound off = false_from_ne_true (is_number w.turn k) (λ h. clash (is_power (caller_at w k).doing) ((sound.callers k).turn.0 h) off)
+pub no_turn : (w : World) (k : ℕ) → Sound w → is_power (caller_at w k).doing ≡ false → is_number w.power_owner k ≡ false
+no_turn w k sound off = false_from_ne_true (is_number w.power_owner k) (λ h. clash (is_power (caller_at w k).doing) ((sound.callers k).turn.0 h) off)
 
 -- its command is over, and then it is idle
-pub agrees_idle : (w : World) (k over : ℕ) (turn : Option ℕ) (stack : List Frame) → stack ≡ [] → is_number turn k ≡ false → ((j : ℕ) → j ≢ k → is_number turn j ≡ is_number w.turn j)
+pub agrees_idle : (w : World) (k over : ℕ) (turn : Option ℕ) (stack : List Frame) → stack ≡ [] → is_number turn k ≡ false → ((j : ℕ) → j ≢ k → is_number turn j ≡ is_number w.power_owner j)
     → ((s : ℕ) → (caller_at w k).doing ≢ activity.Frees s) → Agrees w k turn (record { over = over; doing = activity.Idle; stack = stack })
 agrees_idle w k over turn stack none own theirs frees = record {
   no_frames = none;
@@ -156,8 +157,8 @@ agrees_idle w k over turn stack none own theirs frees = record {
 -- between two commands one is over
 pub sound_over : (w : World) (k : ℕ) → Sound w → IsLater w k → ((caller_at w k).doing ≡ activity.Idle) ⊎ ((caller_at w k).doing ≡ activity.Scans) → Sound (over w k)
 sound_over w k sound at idle =
-    sound_caller w k w.turn (record { over = (caller_at w k).over + 1; doing = activity.Idle; stack = (caller_at w k).stack }) sound at
-    (agrees_idle w k ((caller_at w k).over + 1) w.turn (caller_at w k).stack at.no_frames (no_turn w k sound (between_power (caller_at w k).doing idle)) (λ j other. refl)
+    sound_caller w k w.power_owner (record { over = (caller_at w k).over + 1; doing = activity.Idle; stack = (caller_at w k).stack }) sound at
+    (agrees_idle w k ((caller_at w k).over + 1) w.power_owner (caller_at w k).stack at.no_frames (no_turn w k sound (between_power (caller_at w k).doing idle)) (λ j other. refl)
     (λ s. between_frees (caller_at w k).doing s idle))
 
 -- ---- the references change, or the spots without hardware
@@ -186,7 +187,7 @@ sound_held w refs absent sound booted held =
         frames = (sound.callers j).frames;
         target = (sound.callers j).target;
       };
-      phase = sound.phase;
+      interrupts_on = sound.interrupts_on;
       boot = λ goes. absurd (goes booted);
     }
 
@@ -203,27 +204,27 @@ later_held w k refs absent at = record { there = at.there; later = at.later; boo
 
 -- ---- deeds that change nothing else
 
-pub sound_answer : (w : World) (k : ℕ) (said : Command) (r : Reply) → Sound w → next w k ≡ Does (Answer said r) → Sound (after w k (Answer said r))
+pub sound_refused : (w : World) (k : ℕ) (why : Refusal) → Sound w → next w k ≡ Does (Refuse why) → Sound (after w k (Refuse why))
 unfolding after
-sound_answer w k said r sound chosen = let at = (has_command_reason w k (Answer said r) chosen).between in sound_over w k sound (between_later w k (Answer said r) chosen at) at.idle
+sound_refused w k why sound chosen = let at = (has_command_reason w k (Refuse why) chosen).between in sound_over w k sound (between_later w k (Refuse why) chosen at) at.idle
 
-pub sound_tell : (w : World) (k : ℕ) (said : Command) → Sound w → next w k ≡ Does (Tell said) → Sound (after w k (Tell said))
+pub sound_tell : (w : World) (k : ℕ) → Sound w → next w k ≡ Does Tell → Sound (after w k Tell)
 unfolding after
-sound_tell w k said sound chosen = let at = (has_command_reason w k (Tell said) chosen).begins.between in sound_over w k sound (between_later w k (Tell said) chosen at) at.idle
+sound_tell w k sound chosen = let at = (has_command_reason w k Tell chosen).begins.between in sound_over w k sound (between_later w k Tell chosen at) at.idle
 
-pub sound_plug : (w : World) (k : ℕ) (said : Command) (x : ℕ) → Sound w → next w k ≡ Does (Plug said x) → Sound (after w k (Plug said x))
+pub sound_plug : (w : World) (k x : ℕ) → Sound w → next w k ≡ Does (Plug x) → Sound (after w k (Plug x))
 unfolding after
-sound_plug w k said x sound chosen =
-    let at = (has_command_reason w k (Plug said x) chosen).begins.between in
-    let here = between_later w k (Plug said x) chosen at in
+sound_plug w k x sound chosen =
+    let at = (has_command_reason w k (Plug x) chosen).begins.between in
+    let here = between_later w k (Plug x) chosen at in
     let absent : List ℕ = filter (λ y. not (y == x)) w.absent in
     sound_over (record w { absent = absent }) k (sound_absent w absent sound here.booted) (later_held w k w.refs absent here) at.idle
 
 -- the spot is bare
-pub sound_pull : (w : World) (k : ℕ) (said : Command) (x : ℕ) → Sound w → next w k ≡ Does (Unplug said x None) → Sound (after w k (Unplug said x None))
+pub sound_pull : (w : World) (k x : ℕ) → Sound w → next w k ≡ Does (Unplug x None) → Sound (after w k (Unplug x None))
 unfolding after
-sound_pull w k said x sound chosen =
-    let at = (has_command_reason w k (Unplug said x None) chosen).begins.between in
-    let here = between_later w k (Unplug said x None) chosen at in
+sound_pull w k x sound chosen =
+    let at = (has_command_reason w k (Unplug x None) chosen).begins.between in
+    let here = between_later w k (Unplug x None) chosen at in
     let absent : List ℕ = x ∷ filter (λ y. not (y == x)) w.absent in
     sound_over (record w { absent = absent }) k (sound_absent w absent sound here.booted) (later_held w k w.refs absent here) at.idle

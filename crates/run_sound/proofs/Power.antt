@@ -3,8 +3,6 @@ use Rattle.std.proofs.Common.{◌≡◌, ◌≢◌, ◌⊎◌, ℕ, ◌+◌, ◌
 use Rattle.std.specs.Prelude.{IsTrue, if◌then◌else◌}
 use Rattle.std.specs.List.{AllByRecursion, Contains}
 use Rattle.std.proofs.lemmas.Bool.{ne_eqb, cases_Bool, cases_eq, and_parts, and_from, or_cases, or_left, or_right}
-use Rattle.cf_types.specs.declared.machine.Command.{Command}
-use Rattle.run_rules.specs.declared.event.Reply.{Reply}
 use Rattle.run_rules.specs.declared.event.PowerKind.{PowerKind}
 use Rattle.run_rules.specs.declared.event.PowerKind.TheVariants as kind
 use Rattle.run_rules.specs.declared.world.Dev.{Dev}
@@ -12,7 +10,9 @@ use Rattle.run_rules.specs.declared.world.Frame.{Frame}
 use Rattle.run_rules.specs.declared.world.Activity.TheVariants as activity
 use Rattle.run_rules.specs.declared.world.Ref.{Ref}
 use Rattle.run_rules.specs.World.{World, is_live, is_under, is_pinned, is_number, frame_serial, caller_at}
-use Rattle.run_rules.specs.Deeds.{Deed, BeginPower, Sleep, Wake, EndPower, Does}
+use Rattle.run_rules.specs.declared.deed.Deed.{Deed}
+use Rattle.run_rules.specs.declared.deed.Deed.TheVariants.{BeginPower, Sleep, Wake, EndPower}
+use Rattle.run_rules.specs.declared.deed.Choice.TheVariants.{Does}
 use Rattle.run_rules.specs.Next.{next, next_sleep, next_wake, other_turn}
 use Rattle.run_rules.specs.After.{after, with_sleep, marked}
 use Rattle.run_rules.specs.Sound.{IsApart, IsSoundlyCondemned, IsSoundlyAsleep, is_known, IsFreed, Sound}
@@ -27,6 +27,7 @@ use Rattle.run_sound.proofs.Marks.{sleep_keeps_tree, live_mapped, under_mapped, 
 use Rattle.run_sound.proofs.Lasts.{IsLast, last_found, first_found}
 use Rattle.run_sound.proofs.Plain.{sound_caller, deferred_kept, between_later, between_frees, later_one, agrees_idle}
 use Rattle.run_sound.proofs.References.{amid_later, amid_no_frames}
+use Rattle.run_rules.specs.declared.deed.PowerEnd.{PowerEnd}
 
 -- ---- the turn
 
@@ -39,16 +40,16 @@ turn_taken (Some m) k j free other = cases (m == k) refl free
     cases true same e = ap (λ (n : ℕ). n == j) (sym (eqb-true m k same))
     cases false same e = absurd cc
 
-pub sound_begin_power : (w : World) (k : ℕ) (said : Command) (what : PowerKind) (s : ℕ) → Sound w → next w k ≡ Does (BeginPower said what s) → Sound (after w k (BeginPower said what s))
+pub sound_begin_power : (w : World) (k : ℕ) (what : PowerKind) (s : ℕ) → Sound w → next w k ≡ Does (BeginPower what s) → Sound (after w k (BeginPower what s))
 unfolding after
-sound_begin_power w k said what s sound chosen =
-    let why = has_command_reason w k (BeginPower said what s) chosen in
+sound_begin_power w k what s sound chosen =
+    let why = has_command_reason w k (BeginPower what s) chosen in
     let at = why.begins.between in
-    sound_caller w k (Some k) (record { over = (caller_at w k).over; doing = activity.Power what s; stack = (caller_at w k).stack }) sound (between_later w k (BeginPower said what s) chosen at)
+    sound_caller w k (Some k) (record { over = (caller_at w k).over; doing = activity.Power what s; stack = (caller_at w k).stack }) sound (between_later w k (BeginPower what s) chosen at)
     (record {
       no_frames = at.no_frames;
       own = (λ h. refl, λ h. eq-eqb k k refl);
-      theirs = λ j other. turn_taken w.turn k j why.nobody other;
+      theirs = λ j other. turn_taken w.power_owner k j why.nobody other;
       frees = λ t e. absurd (between_frees (caller_at w k).doing t at.idle e);
       transfer = λ t e. absurd cc;
       unended = λ e. cc;
@@ -60,17 +61,17 @@ turn_alone : (turn : Option ℕ) (k j : ℕ) → is_number turn k ≡ true → j
 turn_alone None k j has other = refl
 turn_alone (Some m) k j has other = sym (ne_eqb m j (λ e. other (sym e ∙ eqb-true m k has)))
 
-pub sound_end_power : (w : World) (k s : ℕ) (r : Reply) → Kept w → next w k ≡ Does (EndPower s r) → Sound (after w k (EndPower s r))
+pub sound_end_power : (w : World) (k : ℕ) (end : PowerEnd) → Kept w → next w k ≡ Does (EndPower end) → Sound (after w k (EndPower end))
 unfolding after
-sound_end_power w k s r kept chosen =
+sound_end_power w k end kept chosen =
     let sound = kept.sound in
-    let why = has_command_reason w k (EndPower s r) chosen in
-    let busy : (caller_at w k).doing ≡ activity.Power why.kind s = why.amid in
+    let why = has_command_reason w k (EndPower end) chosen in
+    let busy : (caller_at w k).doing ≡ activity.Power why.kind why.target = why.amid in
     let later : k ≢ 0 = amid_later w k kept.ranges (λ e. cc) (λ e. cc) in
     let none : (caller_at w k).stack ≡ [] = amid_no_frames w k sound later (λ e. cc) in
-    let mine : is_number w.turn k ≡ true = (sound.callers k).turn.1 (rw busy refl) in
-    sound_caller w k None (record { over = (caller_at w k).over + 1; doing = activity.Idle; stack = (caller_at w k).stack }) sound (later_one w k (EndPower s r) chosen later none)
-    (agrees_idle w k ((caller_at w k).over + 1) None (caller_at w k).stack none refl (λ j other. turn_alone w.turn k j mine other) (λ t e. cc))
+    let mine : is_number w.power_owner k ≡ true = (sound.callers k).turn.1 (rw busy refl) in
+    sound_caller w k None (record { over = (caller_at w k).over + 1; doing = activity.Idle; stack = (caller_at w k).stack }) sound (later_one w k (EndPower end) chosen later none)
+    (agrees_idle w k ((caller_at w k).over + 1) None (caller_at w k).stack none refl (λ j other. turn_alone w.power_owner k j mine other) (λ t e. cc))
 
 -- ---- a device falls asleep, or wakes
 
@@ -137,7 +138,7 @@ module _ (w : World) (s : ℕ) (asleep : Bool) (sound : Sound w) (booted : (call
       frames = (sound.callers j).frames;
       target = λ t e. still_target j t ((sound.callers j).target t e);
     };
-    phase = sound.phase;
+    interrupts_on = sound.interrupts_on;
     boot = λ goes. absurd (goes booted);
   }
 

@@ -6,7 +6,9 @@ use Rattle.run_rules.specs.declared.world.Dev.{Dev}
 use Rattle.run_rules.specs.declared.world.Arrival.{Arrival}
 use Rattle.run_rules.specs.declared.world.Position.{Position}
 use Rattle.run_rules.specs.World.{World, caller_at, has_ended}
-use Rattle.run_rules.specs.Deeds.{Does, Deed, Search, EndScan, BeginInterrupts, Finalise, EndCaller, Drop, Answer, Open, Close, Start, Done, Detach, Free, Rescan, BeginPower, Sleep, Wake, EndPower, Plug, Unplug, Tell}
+use Rattle.run_rules.specs.declared.deed.Deed.{Deed}
+use Rattle.run_rules.specs.declared.deed.Deed.TheVariants.{Search, EndScan, BeginInterrupts, Finalise, EndCaller, Drop, Refuse, Open, Close, Start, Done, Detach, Free, Rescan, BeginPower, Sleep, Wake, EndPower, Plug, Unplug, Tell}
+use Rattle.run_rules.specs.declared.deed.Choice.TheVariants.{Does}
 use Rattle.run_rules.specs.Next.{next}
 use Rattle.run_rules.specs.After.{after, arrived, attached, finaliser_done, list_moved, moved_top, new_device, released, show_spot, with_stack}
 use Rattle.run_rules.proofs.Setups.{after_setup}
@@ -31,8 +33,8 @@ may_fit : (s : Setup) (live : List Dev) (hidden : List ℕ) (p : ℕ) (a : Arriv
 may_fit s live hidden p a d may r u x = record { row = rw r may.row; unit = rw u may.small; spot = rw x may.spot; free = rw x may.bare; seen = rw x may.seen }
 
 pub comes_fit : (w : World) (k : ℕ) (d : Deed) → MayRun w.setup → Kept w → next w k ≡ Does d → ComesFit w d
-comes_fit w k (Search p to None) may kept e = tt
-comes_fit w k (Search p to (Some a)) may kept e = may_fit w.setup w.live w.hidden p a (new_device w a) (search_comes w k p to a may kept e) refl refl refl
+comes_fit w k (Search p spot to None) may kept e = tt
+comes_fit w k (Search p spot to (Some a)) may kept e = may_fit w.setup w.live w.hidden p a (new_device w a) (search_comes w k p spot to a may kept e) refl refl refl
 comes_fit w k (EndScan p) may kept e = tt
 comes_fit w k BeginInterrupts may kept e = tt
 comes_fit w k (Finalise s shown None listed anew) may kept e = tt
@@ -41,21 +43,21 @@ comes_fit w k (Finalise s (Some x) (Some a) listed anew) may kept e =
     may_fit w.setup w.live (show_spot w (Some x)).hidden s a (new_device w a) (finalise_comes w k s x a listed anew may kept e) refl refl refl
 comes_fit w k EndCaller may kept e = tt
 comes_fit w k (Drop s) may kept e = tt
-comes_fit w k (Answer said reply) may kept e = tt
-comes_fit w k (Open said s) may kept e = tt
-comes_fit w k (Close said s) may kept e = tt
-comes_fit w k (Start said ticket) may kept e = tt
+comes_fit w k (Refuse why) may kept e = tt
+comes_fit w k (Open s sole) may kept e = tt
+comes_fit w k (Close s) may kept e = tt
+comes_fit w k (Start ticket) may kept e = tt
 comes_fit w k (Done ticket) may kept e = tt
-comes_fit w k (Detach said s) may kept e = tt
+comes_fit w k (Detach s) may kept e = tt
 comes_fit w k (Free s) may kept e = tt
-comes_fit w k (Rescan said frame) may kept e = tt
-comes_fit w k (BeginPower said kind s) may kept e = tt
+comes_fit w k (Rescan s only) may kept e = tt
+comes_fit w k (BeginPower kind s) may kept e = tt
 comes_fit w k (Sleep s) may kept e = tt
 comes_fit w k (Wake s) may kept e = tt
-comes_fit w k (EndPower s reply) may kept e = tt
-comes_fit w k (Plug said x) may kept e = tt
-comes_fit w k (Unplug said x of) may kept e = tt
-comes_fit w k (Tell said) may kept e = tt
+comes_fit w k (EndPower end) may kept e = tt
+comes_fit w k (Plug x) may kept e = tt
+comes_fit w k (Unplug x of) may kept e = tt
+comes_fit w k Tell may kept e = tt
 
 -- what comes to a world, if something does, fits in
 abbrev FitsIf : World → Option Arrival → Type 0
@@ -67,7 +69,7 @@ FitsIf w (Some a) = FitsIn w.setup w.live w.hidden (new_device w a)
 -- what is said of it while the boot goes on
 record IsListed (w : World) : Type 0 where
   few : length w.finalisers + free_spots w.live (length w.setup.machine.spots) ≤ length w.setup.machine.spots
-  some : w.again ≡ true → 0 < length w.finalisers
+  some : w.pass_repeats ≡ true → 0 < length w.finalisers
 
 come_listed : (w v : World) (a : Arrival) → Comes w v a → FitsIn w.setup w.live w.hidden (new_device w a) → IsListed w → IsListed v
 come_listed w v a is fits l =
@@ -75,7 +77,7 @@ come_listed w v a is fits l =
     let fewer : free_spots (w.live ++ new_device w a ∷ []) n < free_spots w.live n = free_falls w.live (new_device w a) n fits.spot fits.free in
     record {
       few = rw (is.setup, is.live) (omega (arith, l.few, fewer, is.one_more));
-      some = λ h. omega (arith, l.some (rw is.again at h), is.no_less);
+      some = λ h. omega (arith, l.some (rw is.pass_repeats at h), is.no_less);
     }
 
 shown_listed : (w : World) (shown : Option ℕ) → IsListed w → IsListed (show_spot w shown)
@@ -111,14 +113,14 @@ call_fits : (w : World) (s : ℕ) (shown : Option ℕ) (got : Option Arrival) (l
 call_fits w s shown None listed anew fits = tt
 call_fits w s shown (Some a) listed anew fits = shown_fits w shown a fits
 
-turn_fits : (w : World) (p : ℕ) (to : Position) (got : Option Arrival) → ComesFit w (Search p to got) → FitsIf w got
-turn_fits w p to None fits = tt
-turn_fits w p to (Some a) fits = fits
+turn_fits : (w : World) (p spot : ℕ) (to : Position) (got : Option Arrival) → ComesFit w (Search p spot to got) → FitsIf w got
+turn_fits w p spot to None fits = tt
+turn_fits w p spot to (Some a) fits = fits
 
 listed_after : (w : World) (d : Deed) → next w 0 ≡ Does d → IsBootDeed d → ComesFit w d → IsListed w → IsListed (after w 0 d)
 unfolding after released
-listed_after w (Search p to got) e is fits l =
-    arrived_listed (with_stack w 0 (moved_top to (caller_at w 0).stack)) 0 got true (turn_fits w p to got fits) (record { few = l.few; some = l.some })
+listed_after w (Search p spot to got) e is fits l =
+    arrived_listed (with_stack w 0 (moved_top to (caller_at w 0).stack)) 0 got true (turn_fits w p spot to got fits) (record { few = l.few; some = l.some })
 listed_after w (EndScan p) e is fits l = record { few = l.few; some = l.some }
 listed_after w BeginInterrupts e is fits l = record { few = l.few; some = l.some }
 listed_after w (Finalise s shown got listed anew) e is fits l =
@@ -130,21 +132,21 @@ listed_after w (Finalise s shown got listed anew) e is fits l =
     (arrived_listed u 0 got false (call_fits w s shown got listed anew fits) (shown_listed w shown l))
 listed_after w EndCaller e is fits l = record { few = l.few; some = l.some }
 listed_after w (Drop s) e is fits l = absurd is
-listed_after w (Answer said reply) e is fits l = absurd is
-listed_after w (Open said s) e is fits l = absurd is
-listed_after w (Close said s) e is fits l = absurd is
-listed_after w (Start said ticket) e is fits l = absurd is
+listed_after w (Refuse why) e is fits l = absurd is
+listed_after w (Open s sole) e is fits l = absurd is
+listed_after w (Close s) e is fits l = absurd is
+listed_after w (Start ticket) e is fits l = absurd is
 listed_after w (Done ticket) e is fits l = absurd is
-listed_after w (Detach said s) e is fits l = absurd is
+listed_after w (Detach s) e is fits l = absurd is
 listed_after w (Free s) e is fits l = absurd is
-listed_after w (Rescan said frame) e is fits l = absurd is
-listed_after w (BeginPower said kind s) e is fits l = absurd is
+listed_after w (Rescan s only) e is fits l = absurd is
+listed_after w (BeginPower kind s) e is fits l = absurd is
 listed_after w (Sleep s) e is fits l = absurd is
 listed_after w (Wake s) e is fits l = absurd is
-listed_after w (EndPower s reply) e is fits l = absurd is
-listed_after w (Plug said x) e is fits l = absurd is
-listed_after w (Unplug said x of) e is fits l = absurd is
-listed_after w (Tell said) e is fits l = absurd is
+listed_after w (EndPower end) e is fits l = absurd is
+listed_after w (Plug x) e is fits l = absurd is
+listed_after w (Unplug x of) e is fits l = absurd is
+listed_after w Tell e is fits l = absurd is
 
 -- while the boot goes on after the deed
 listed_then : (w : World) (k : ℕ) (d : Deed) → MayRun w.setup → Kept w → next w k ≡ Does d → has_ended (after w k d) 0 ≡ false → IsListed (after w k d)

@@ -17,7 +17,10 @@ use Rattle.run_rules.specs.declared.world.Placing.TheVariants.{Nowhere, Queued, 
 use Rattle.run_rules.specs.World.{World, Caller, caller_at, device_at, has_ended, is_ended, nobody, offered_by, policy_of}
 use Rattle.run_rules.specs.Search.{after_turn, due}
 use Rattle.run_rules.specs.Next.{arrival, by_activity, finalise, late_spot, next, next_boot, next_scan, on_top, place_of_spot}
-use Rattle.run_rules.specs.Deeds.{Choice, Ended, Waits, Does, Deed, Search, EndScan, BeginInterrupts, Finalise, EndCaller, Drop, Answer, Open, Close, Start, Done, Detach, Free, Rescan, BeginPower, Sleep, Wake, EndPower, Plug, Unplug, Tell}
+use Rattle.run_rules.specs.declared.deed.Deed.{Deed}
+use Rattle.run_rules.specs.declared.deed.Deed.TheVariants.{Search, EndScan, BeginInterrupts, Finalise, EndCaller, Drop, Refuse, Open, Close, Start, Done, Detach, Free, Rescan, BeginPower, Sleep, Wake, EndPower, Plug, Unplug, Tell}
+use Rattle.run_rules.specs.declared.deed.Choice.{Choice}
+use Rattle.run_rules.specs.declared.deed.Choice.TheVariants.{Ended, Waits, Does}
 use Rattle.run_rules.specs.After.{after, arrived, attached, finaliser_done, finaliser_placed, finaliser_placing, freed, freeing_target, list_moved, listed, moved_top, over, place_finaliser, place_scan, released, settled, scan_placed, scan_placing, show_spot, with_stack}
 use Rattle.run_sound.proofs.Callers.{clash, doing_so}
 use Rattle.run_sound.proofs.OwnCaller.{IsBootDeed, Stays, own_after}
@@ -46,7 +49,7 @@ arrived_callers P w k None may_defer stays h = h
 arrived_callers P w k (Some a) may_defer stays h =
     let come : World = listed w a in
     let called : World = place_finaliser (finaliser_placing (policy_of w.setup a.row) (has_ended come 0)) come k w.next in
-    scan_callers P (scan_placing (policy_of w.setup a.row) (offered_by w.setup a.row) called.phase may_defer) called k a.parent w.next stays
+    scan_callers P (scan_placing (policy_of w.setup a.row) (offered_by w.setup a.row) called.interrupts_on may_defer) called k a.parent w.next stays
     (finaliser_callers P (finaliser_placing (policy_of w.setup a.row) (has_ended come 0)) come k w.next stays h)
 
 shown_callers : (P : List Caller → Type 0) (w : World) (shown : Option ℕ) → P w.callers → P (show_spot w shown).callers
@@ -65,29 +68,29 @@ freed_callers P w k s false stays h = h
 
 pub callers_after : (P : List Caller → Type 0) (w : World) (k : ℕ) (d : Deed) → StaysSet k P → P w.callers → P (after w k d).callers
 unfolding after released
-callers_after P w k (Search p to got) stays h = arrived_callers P (with_stack w k (moved_top to (caller_at w k).stack)) k got true stays (stays w.callers _ h)
+callers_after P w k (Search p spot to got) stays h = arrived_callers P (with_stack w k (moved_top to (caller_at w k).stack)) k got true stays (stays w.callers _ h)
 callers_after P w k (EndScan p) stays h = stays w.callers _ h
 callers_after P w k BeginInterrupts stays h = stays w.callers _ h
 callers_after P w k (Finalise s shown got place anew) stays h =
     called_callers P (arrived (show_spot w shown) k got false) k place anew (is_some shown) stays (arrived_callers P (show_spot w shown) k got false stays (shown_callers P w shown h))
 callers_after P w k EndCaller stays h = stays w.callers _ h
 callers_after P w k (Drop s) stays h = h
-callers_after P w k (Answer said reply) stays h = stays w.callers _ h
-callers_after P w k (Open said s) stays h = stays w.callers _ h
-callers_after P w k (Close said s) stays h = stays w.callers _ h
-callers_after P w k (Start said ticket) stays h = stays w.callers _ h
+callers_after P w k (Refuse why) stays h = stays w.callers _ h
+callers_after P w k (Open s sole) stays h = stays w.callers _ h
+callers_after P w k (Close s) stays h = stays w.callers _ h
+callers_after P w k (Start ticket) stays h = stays w.callers _ h
 callers_after P w k (Done ticket) stays h = stays w.callers _ h
-callers_after P w k (Detach said s) stays h = stays w.callers _ h
+callers_after P w k (Detach s) stays h = stays w.callers _ h
 callers_after P w k (Free s) stays h = freed_callers P w k s (freeing_target (caller_at w k).doing s) stays h
-callers_after P w k (Rescan said frame) stays h = stays (slice_set w.callers k _) _ (stays w.callers _ h)
-callers_after P w k (BeginPower said kind s) stays h = stays w.callers _ h
+callers_after P w k (Rescan s only) stays h = stays (slice_set w.callers k _) _ (stays w.callers _ h)
+callers_after P w k (BeginPower kind s) stays h = stays w.callers _ h
 callers_after P w k (Sleep s) stays h = h
 callers_after P w k (Wake s) stays h = h
-callers_after P w k (EndPower s reply) stays h = stays w.callers _ h
-callers_after P w k (Plug said x) stays h = stays w.callers _ h
-callers_after P w k (Unplug said x None) stays h = stays w.callers _ h
-callers_after P w k (Unplug said x (Some s)) stays h = stays w.callers _ h
-callers_after P w k (Tell said) stays h = stays w.callers _ h
+callers_after P w k (EndPower end) stays h = stays w.callers _ h
+callers_after P w k (Plug x) stays h = stays w.callers _ h
+callers_after P w k (Unplug x None) stays h = stays w.callers _ h
+callers_after P w k (Unplug x (Some s)) stays h = stays w.callers _ h
+callers_after P w k Tell stays h = stays w.callers _ h
 
 -- ---- so there are as many, and each other one is as it was
 
@@ -113,7 +116,7 @@ boot_scan : (s : Setup) (live : List Dev) (absent hidden : List ℕ) (p : ℕ) (
 unfolding next_scan
 boot_scan s live absent hidden p only wanted from = cases (due s live absent hidden p only wanted from)
   where
-    cases : (o : Option Turn) → IsBootDeed (option_map_or (λ t. Search p (after_turn t) (arrival s live p t.place t.at.spot)) o (EndScan p))
+    cases : (o : Option Turn) → IsBootDeed (option_map_or (λ t. Search p t.at.spot (after_turn t) (arrival s live p t.place t.at.spot)) o (EndScan p))
     cases None = tt
     cases (Some t) = tt
 
@@ -127,13 +130,13 @@ boot_call w s place anew = cases (option_and_then (late_spot w) (device_at w.liv
 
 boot_rest : (w : World) → ChoosesBoot (next_boot w)
 unfolding next_boot
-boot_rest w = cases w.phase (nat_lt w.place (length w.finalisers)) w.again
+boot_rest w = cases w.interrupts_on (nat_lt w.next_finaliser (length w.finalisers)) w.pass_repeats
   where
-    cases : (phase more again : Bool)
-        → ChoosesBoot (if not phase then Does BeginInterrupts else (if more then Does (finalise w (slice_index_or w.finalisers w.place 0) (Some w.place) false)
-        else (if again then Does (finalise w (slice_index_or w.finalisers 0 0) (Some 0) true) else Does EndCaller)))
-    cases false more again = tt
-    cases true true again = boot_call w (slice_index_or w.finalisers w.place 0) (Some w.place) false
+    cases : (interrupts_on more pass_repeats : Bool)
+        → ChoosesBoot (if not interrupts_on then Does BeginInterrupts else (if more then Does (finalise w (slice_index_or w.finalisers w.next_finaliser 0) (Some w.next_finaliser) false)
+        else (if pass_repeats then Does (finalise w (slice_index_or w.finalisers 0 0) (Some 0) true) else Does EndCaller)))
+    cases false more pass_repeats = tt
+    cases true true pass_repeats = boot_call w (slice_index_or w.finalisers w.next_finaliser 0) (Some w.next_finaliser) false
     cases true false true = boot_call w (slice_index_or w.finalisers 0 0) (Some 0) true
     cases true false false = tt
 

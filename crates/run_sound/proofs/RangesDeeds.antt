@@ -4,14 +4,15 @@ use Rattle.std.specs.Prelude.{⊤, is_some, if◌then◌else◌}
 use Rattle.run_rules.specs.declared.world.Dev.{Dev}
 use Rattle.run_rules.specs.declared.world.Arrival.{Arrival}
 use Rattle.run_rules.specs.World.{World, caller_at, is_under}
-use Rattle.run_rules.specs.Deeds.{Deed, Search, EndScan, BeginInterrupts, Finalise, EndCaller, Drop, Answer, Open, Close, Start, Done, Detach, Free, Rescan, BeginPower, Sleep, Wake, EndPower, Plug, Unplug, Tell}
+use Rattle.run_rules.specs.declared.deed.Deed.{Deed}
+use Rattle.run_rules.specs.declared.deed.Deed.TheVariants.{Search, EndScan, BeginInterrupts, Finalise, EndCaller, Drop, Refuse, Open, Close, Start, Done, Detach, Free, Rescan, BeginPower, Sleep, Wake, EndPower, Plug, Unplug, Tell}
 use Rattle.run_rules.specs.After.{after, arrived, attached, finaliser_done, freed, freeing_target, list_moved, moved_top, new_device, over, released, show_spot, with_condemner, with_sleep, with_stack}
 use Rattle.run_sound.proofs.Comings.{Comes, attached_comes}
 use Rattle.run_sound.proofs.RangesOf.{AreRanged, FitsIn, KeepsPlace, ranged_come, ranged_less, ranged_map, ranged_seen}
 
 -- the device that comes by a deed, if one does, fits in
 abbrev pub ComesFit : World → Deed → Type 0
-ComesFit w (Search p to (Some a)) = FitsIn w.setup w.live w.hidden (new_device w a)
+ComesFit w (Search p spot to (Some a)) = FitsIn w.setup w.live w.hidden (new_device w a)
 ComesFit w (Finalise s shown (Some a) listed anew) = FitsIn w.setup w.live (show_spot w shown).hidden (new_device w a)
 ComesFit w _ = ⊤
 
@@ -91,8 +92,8 @@ freed_ranged w k s false r = ranged_less w.setup (λ d. not (d.serial == s)) w.l
 
 pub ranged_after : (w : World) (k : ℕ) (d : Deed) → ComesFit w d → IsRanged w → IsRanged (after w k d)
 unfolding after released
-ranged_after w k (Search p to None) fits r = r
-ranged_after w k (Search p to (Some a)) fits r =
+ranged_after w k (Search p spot to None) fits r = r
+ranged_after w k (Search p spot to (Some a)) fits r =
     let u : World = with_stack w k (moved_top to (caller_at w k).stack) in
     come_ranged u (attached u k a true) a (attached_comes u k a true) fits r
 ranged_after w k (EndScan p) fits r = r
@@ -104,22 +105,22 @@ ranged_after w k (Finalise s shown (Some a) listed anew) fits r =
     (come_ranged u (attached u k a false) a (attached_comes u k a false) (shown_fits w shown a fits) (shown_ranged w shown r))
 ranged_after w k EndCaller fits r = r
 ranged_after w k (Drop s) fits r = r
-ranged_after w k (Answer said reply) fits r = r
-ranged_after w k (Open said s) fits r = r
-ranged_after w k (Close said s) fits r = r
-ranged_after w k (Start said ticket) fits r = r
+ranged_after w k (Refuse why) fits r = r
+ranged_after w k (Open s sole) fits r = r
+ranged_after w k (Close s) fits r = r
+ranged_after w k (Start ticket) fits r = r
 ranged_after w k (Done ticket) fits r = r
-ranged_after w k (Detach said s) fits r = condemned_ranged w k s r
+ranged_after w k (Detach s) fits r = condemned_ranged w k s r
 ranged_after w k (Free s) fits r = freed_ranged w k s (freeing_target (caller_at w k).doing s) r
-ranged_after w k (Rescan said frame) fits r = r
-ranged_after w k (BeginPower said kind s) fits r = r
+ranged_after w k (Rescan s only) fits r = r
+ranged_after w k (BeginPower kind s) fits r = r
 ranged_after w k (Sleep s) fits r = sleep_ranged w s true r
 ranged_after w k (Wake s) fits r = sleep_ranged w s false r
-ranged_after w k (EndPower s reply) fits r = r
-ranged_after w k (Plug said x) fits r = r
-ranged_after w k (Unplug said x None) fits r = r
-ranged_after w k (Unplug said x (Some s)) fits r = condemned_ranged w k s r
-ranged_after w k (Tell said) fits r = r
+ranged_after w k (EndPower end) fits r = r
+ranged_after w k (Plug x) fits r = r
+ranged_after w k (Unplug x None) fits r = r
+ranged_after w k (Unplug x (Some s)) fits r = condemned_ranged w k s r
+ranged_after w k Tell fits r = r
 
 -- ---- the next serial
 
@@ -155,7 +156,7 @@ freed_serial w k s false = refl
 
 pub after_serials : (w : World) (k : ℕ) (d : Deed) → GrowsByOne w.next (after w k d).next
 unfolding after released
-after_serials w k (Search p to got) = arrived_serial (with_stack w k (moved_top to (caller_at w k).stack)) k got true
+after_serials w k (Search p spot to got) = arrived_serial (with_stack w k (moved_top to (caller_at w k).stack)) k got true
 after_serials w k (EndScan p) = same_serial w.next
 after_serials w k BeginInterrupts = same_serial w.next
 after_serials w k (Finalise s shown got listed anew) =
@@ -163,19 +164,19 @@ after_serials w k (Finalise s shown got listed anew) =
     between w.next (show_spot w shown).next u.next _ (shown_serial w shown) (finalised_serial u k listed anew (is_some shown)) (arrived_serial (show_spot w shown) k got false)
 after_serials w k EndCaller = same_serial w.next
 after_serials w k (Drop s) = same_serial w.next
-after_serials w k (Answer said reply) = same_serial w.next
-after_serials w k (Open said s) = same_serial w.next
-after_serials w k (Close said s) = same_serial w.next
-after_serials w k (Start said ticket) = same_serial w.next
+after_serials w k (Refuse why) = same_serial w.next
+after_serials w k (Open s sole) = same_serial w.next
+after_serials w k (Close s) = same_serial w.next
+after_serials w k (Start ticket) = same_serial w.next
 after_serials w k (Done ticket) = same_serial w.next
-after_serials w k (Detach said s) = same_serial w.next
+after_serials w k (Detach s) = same_serial w.next
 after_serials w k (Free s) = rw (freed_serial w k s (freeing_target (caller_at w k).doing s)) (same_serial w.next)
-after_serials w k (Rescan said frame) = same_serial w.next
-after_serials w k (BeginPower said kind s) = same_serial w.next
+after_serials w k (Rescan s only) = same_serial w.next
+after_serials w k (BeginPower kind s) = same_serial w.next
 after_serials w k (Sleep s) = same_serial w.next
 after_serials w k (Wake s) = same_serial w.next
-after_serials w k (EndPower s reply) = same_serial w.next
-after_serials w k (Plug said x) = same_serial w.next
-after_serials w k (Unplug said x None) = same_serial w.next
-after_serials w k (Unplug said x (Some s)) = same_serial w.next
-after_serials w k (Tell said) = same_serial w.next
+after_serials w k (EndPower end) = same_serial w.next
+after_serials w k (Plug x) = same_serial w.next
+after_serials w k (Unplug x None) = same_serial w.next
+after_serials w k (Unplug x (Some s)) = same_serial w.next
+after_serials w k Tell = same_serial w.next

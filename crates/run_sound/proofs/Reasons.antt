@@ -16,14 +16,17 @@ use Rattle.run_rules.specs.declared.world.Frame.{Frame}
 use Rattle.run_rules.specs.declared.world.Frame.TheVariants.{Scan, Finaliser}
 use Rattle.run_rules.specs.declared.world.Activity.{Activity}
 use Rattle.run_rules.specs.declared.world.Activity.TheVariants as activity
-use Rattle.run_rules.specs.World.{World, has, has_ended, is_number, is_referred, is_live, policy_of, offered_by, device_at, device_on, is_held, is_pinned, is_condemned, device_named, caller_at, frame_serial}
-use Rattle.run_rules.specs.Deeds.{Deed, Choice, Search, EndScan, BeginInterrupts, Finalise, EndCaller, Drop, Answer, Open, Close, Start, Done, Detach, Free, Rescan, BeginPower, Sleep, Wake, EndPower, Plug, Unplug, Tell, Ended, Does}
+use Rattle.run_rules.specs.World.{World, has, has_ended, is_number, is_referred, is_live, policy_of, offered_by, device_at, device_on, is_held, is_pinned, is_condemned, device_named, caller_at}
+use Rattle.run_rules.specs.declared.deed.Deed.{Deed}
+use Rattle.run_rules.specs.declared.deed.Deed.TheVariants.{Search, EndScan, BeginInterrupts, Finalise, EndCaller, Drop, Refuse, Open, Close, Start, Done, Detach, Free, Rescan, BeginPower, Sleep, Wake, EndPower, Plug, Unplug, Tell}
+use Rattle.run_rules.specs.declared.deed.Choice.{Choice}
+use Rattle.run_rules.specs.declared.deed.Choice.TheVariants.{Ended, Does}
 use Rattle.run_rules.specs.Next.{next, next_scan, next_boot, finalise, next_free, next_sleep, next_wake, freeing, suspending, waking, powering, hindered, other_turn, is_power, rescan_of, has_nothing, attr_named, wanted_of, telling, spot_named, on_device, on_held, late_spot, command_of, first_held, command_deed, next_command, on_top, by_activity}
 use Rattle.run_rules.specs.Search.{due}
 use Rattle.run_rules.proofs.Devices.{or_false}
 use Rattle.run_rules.proofs.Free.{find_true}
 use Rattle.run_sound.specs.Coming.{HasReason, IsCall, IsCalled, IsEnd, IsPhase, IsScanEnd, IsTurn}
-use Rattle.run_sound.specs.Commands.{Begins, HasCommandReason, IsBetween, IsNamed, IsRescanFrame, wakes_below, power_command}
+use Rattle.run_sound.specs.Commands.{Begins, HasCommandReason, IsBetween, IsNamed, IsOnly, wakes_below, power_command}
 use Rattle.run_sound.proofs.Members.{found_contained, found_from_end, contained_live}
 
 -- ---- the reasons of all deeds
@@ -34,7 +37,7 @@ Rests w k = ((caller_at w k).doing ≡ activity.Idle) ⊎ ((caller_at w k).doing
 
 -- who does a deed of a frame rests
 abbrev Why : World → ℕ → Deed → Type 0
-Why w k (Search p to got) = IsTurn w k p to got × Rests w k
+Why w k (Search p spot to got) = IsTurn w k p spot to got × Rests w k
 Why w k (EndScan p) = IsScanEnd w k p × Rests w k
 Why w k BeginInterrupts = IsPhase w k × Rests w k
 Why w k (Finalise s shown got listed anew) = IsCall w k s shown got listed anew × Rests w k
@@ -83,8 +86,13 @@ abbrev Told : World → ℕ → Command → Deed → Type 0
 Told w k said d = command_deed w k ((caller_at w k).over + 1) said ≡ d → Why w k d
 
 -- the caller begins the command
-abbrev Asks : World → ℕ → Command → Type 0
-Asks w k said = (d : Deed) → command_deed w k ((caller_at w k).over + 1) said ≡ d → Begins w k said d
+record Asks (w : World) (k : ℕ) (said : Command) : Type 0 where
+  between : IsBetween w k
+  command : command_of w k ≡ Some said
+  turn : is_power said ≡ true → other_turn w.power_owner k ≡ None
+
+abbrev begun : {w : World} {k : ℕ} {said : Command} (d : Deed) → Asks w k said → command_deed w k ((caller_at w k).over + 1) said ≡ d → Begins w k d
+begun {said} d at h = record { between = at.between; said = said; command = at.command; turn = at.turn; deed = h }
 
 -- whose serial is found is live
 found_live : (w : World) (p : Dev → Bool) (d : Dev) → find p w.live ≡ Some d → is_live w.live d.serial ≡ true
@@ -95,105 +103,105 @@ it_named w name d e = record { dev = d; found = e; there = found_contained _ w.l
 
 device_reason : (w : World) (k : ℕ) (said : Command) (name : List ℕ) (body : Dev → Deed) → Asks w k said
     → ((d : Dev) → device_named w.setup w.live name ≡ Some d → is_condemned d ≡ false → Each (Told w k said) (Does (body d)))
-    → Each (Told w k said) (Does (on_device w said name body))
+    → Each (Told w k said) (Does (on_device w name body))
 device_reason w k said name body at some =
-    by_option _ (device_named w.setup w.live name) _ (λ d e. by_if (is_condemned d) _ _ (λ c. because _ (at _)) (λ c. some d e c)) (λ e. because _ (at _))
+    by_option _ (device_named w.setup w.live name) _ (λ d e. by_if (is_condemned d) _ _ (λ c. because _ (begun _ at)) (λ c. some d e c)) (λ e. because _ (begun _ at))
 
 held_reason : (w : World) (k : ℕ) (said : Command) (name : List ℕ) (body : Dev → Deed) → Asks w k said
     → ((d : Dev) → device_named w.setup w.live name ≡ Some d → is_held w k d.serial ≡ true → Each (Told w k said) (Does (body d)))
-    → Each (Told w k said) (Does (on_held w k said name body))
+    → Each (Told w k said) (Does (on_held w k name body))
 held_reason w k said name body at some =
-    by_option _ (device_named w.setup w.live name) _ (λ d e. by_if (is_held w k d.serial) _ _ (λ h. some d e h) (λ h. because _ (at _))) (λ e. because _ (at _))
+    by_option _ (device_named w.setup w.live name) _ (λ d e. by_if (is_held w k d.serial) _ _ (λ h. some d e h) (λ h. because _ (begun _ at))) (λ e. because _ (begun _ at))
 
 scan_reason : (w : World) (k : ℕ) (said : Command) (d : Dev) (attr : Option (List ℕ)) (given : List Given)
-    → ((f : Frame) → frame_serial f ≡ d.serial → IsRescanFrame w d attr given f → Told w k said (Rescan said f)) → Asks w k said
-    → Each (Told w k said) (Does (rescan_of w said d attr given))
+    → ((only : Option ℕ) → IsOnly w d attr given only → Told w k said (Rescan d.serial only)) → Asks w k said
+    → Each (Told w k said) (Does (rescan_of w d attr given))
 unfolding rescan_of
-scan_reason w k said d None given may at = because _ (may _ refl refl)
+scan_reason w k said d None given may at = because _ (may _ refl)
 scan_reason w k said d (Some name) given may at =
     by_option _ (attr_named w name) _
     (λ a e. by_if (has (offered_by w.setup d.row) a) _ _
-    (λ h. by_option _ (wanted_of _ given) _ (λ wanted g. because _ (may _ refl (a, wanted, e, h, g, refl))) (λ g. because _ (at _))) (λ h. because _ (at _)))
-    (λ e. because _ (at _))
+    (λ h. by_option _ (wanted_of _ given) _ (λ wanted g. because _ (may _ (a, wanted, e, h, g, refl))) (λ g. because _ (begun _ at))) (λ h. because _ (begun _ at)))
+    (λ e. because _ (begun _ at))
 
-power_reason : (w : World) (k : ℕ) (name : List ℕ) (kind : PowerKind) → Asks w k (power_command kind name) → other_turn w.turn k ≡ None
-    → Each (Told w k (power_command kind name)) (Does (on_device w (power_command kind name) name (λ d. BeginPower (power_command kind name) kind d.serial)))
+power_reason : (w : World) (k : ℕ) (name : List ℕ) (kind : PowerKind) → Asks w k (power_command kind name) → other_turn w.power_owner k ≡ None
+    → Each (Told w k (power_command kind name)) (Does (on_device w name (λ d. BeginPower kind d.serial)))
 power_reason w k name kind at turn =
-    device_reason w k _ name _ at (λ d e c. because _ (λ h. record { begins = at _ h; name = name; words = refl; named = it_named w name d e; spared = c; nobody = turn }))
+    device_reason w k _ name _ at (λ d e c. because _ (λ h. record { begins = begun _ at h; name = name; words = refl; named = it_named w name d e; spared = c; nobody = turn }))
 
 -- a list or a tree of the root, or of a device
 told_reason : (w : World) (k : ℕ) (said : Command) (name : Option (List ℕ)) → Asks w k said → ((said ≡ command.ListDev name) ⊎ (said ≡ command.TreeDev name))
-    → Each (Told w k said) (Does (telling w said name))
-told_reason w k said None at words = because _ (λ h. record { begins = at _ h; name = None; words = words; known = λ of e. absurd cc })
+    → Each (Told w k said) (Does (telling w name))
+told_reason w k said None at words = because _ (λ h. record { begins = begun _ at h; name = None; words = words; known = λ of e. absurd cc })
 told_reason w k said (Some name) at words =
     by_option _ (device_named w.setup w.live name) _
-    (λ d e. because _ (λ h. record { begins = at _ h; name = Some name; words = words; known = λ of same. (d, ap (device_named w.setup w.live) (sym (same_Some name of same)) ∙ e) }))
-    (λ e. because _ (at _))
+    (λ d e. because _ (λ h. record { begins = begun _ at h; name = Some name; words = words; known = λ of same. (d, ap (device_named w.setup w.live) (sym (same_Some name of same)) ∙ e) }))
+    (λ e. because _ (begun _ at))
 
-command_reason : (w : World) (k : ℕ) (c : Command) → Asks w k c → (is_power c ≡ true → other_turn w.turn k ≡ None) → Each (Told w k c) (Does (command_deed w k ((caller_at w k).over + 1) c))
+command_reason : (w : World) (k : ℕ) (c : Command) → Asks w k c → Each (Told w k c) (Does (command_deed w k ((caller_at w k).over + 1) c))
 unfolding command_deed
-command_reason w k (command.OpenDev name) at turn =
+command_reason w k (command.OpenDev name) at =
     device_reason w k _ name _ at (λ d e c.
-    by_if (is_held w k d.serial) _ _ (λ h. because _ (at _)) (λ h. because _ (λ t. record { begins = at _ t; name = name; words = refl; named = it_named w name d e; spared = c; free = h })))
-command_reason w k (command.CloseDev name) at turn =
-    held_reason w k _ name _ at (λ d e h. because _ (λ t. record { begins = at _ t; name = name; words = refl; named = it_named w name d e; held = h }))
-command_reason w k (command.Io name value) at turn =
-    held_reason w k _ name _ at (λ d e h. by_if d.asleep _ _ (λ s. because _ (at _)) (λ s.
-    because _ (λ t. record { begins = at _ t; name = name; value = value; words = refl; named = it_named w name d e; held = h; awake = s; ticket = refl })))
-command_reason w k (command.Detach name) at turn =
+    by_if (is_held w k d.serial) _ _ (λ h. because _ (begun _ at)) (λ h. because _ (λ t. record { begins = begun _ at t; name = name; words = refl; named = it_named w name d e; spared = c; free = h })))
+command_reason w k (command.CloseDev name) at =
+    held_reason w k _ name _ at (λ d e h. because _ (λ t. record { begins = begun _ at t; name = name; words = refl; named = it_named w name d e; held = h }))
+command_reason w k (command.Io name value) at =
+    held_reason w k _ name _ at (λ d e h. by_if d.asleep _ _ (λ s. because _ (begun _ at)) (λ s.
+    because _ (λ t. record { begins = begun _ at t; name = name; value = value; words = refl; named = it_named w name d e; held = h; awake = s; ticket = refl })))
+command_reason w k (command.Detach name) at =
     device_reason w k _ name _ at (λ d e c.
-    by_option _ (hindered w d.serial k false) _ (λ x h. because _ (at _)) (λ h.
-    because _ (λ t. record { begins = at _ t; name = name; words = refl; named = it_named w name d e; spared = c; free = h })))
-command_reason w k (command.Rescan name attr given) at turn =
+    by_option _ (hindered w d.serial k false) _ (λ x h. because _ (begun _ at)) (λ h.
+    because _ (λ t. record { begins = begun _ at t; name = name; words = refl; named = it_named w name d e; spared = c; free = h })))
+command_reason w k (command.Rescan name attr given) at =
     device_reason w k _ name _ at (λ d e c.
-    by_if (is_pinned w d.serial) _ _ (λ p. because _ (at _)) (λ p. by_if d.asleep _ _ (λ s. because _ (at _)) (λ s.
-    by_if ((policy_of w.setup d.row).norescan || has_nothing (offered_by w.setup d.row)) _ _ (λ n. because _ (at _)) (λ n.
+    by_if (is_pinned w d.serial) _ _ (λ p. because _ (begun _ at)) (λ p. by_if d.asleep _ _ (λ s. because _ (begun _ at)) (λ s.
+    by_if ((policy_of w.setup d.row).norescan || has_nothing (offered_by w.setup d.row)) _ _ (λ n. because _ (begun _ at)) (λ n.
     let refuses = or_false (policy_of w.setup d.row).norescan (has_nothing (offered_by w.setup d.row)) n in
-    scan_reason w k _ d attr given (λ f same frame t. record {
-      begins = at _ t;
+    scan_reason w k _ d attr given (λ only scope t. record {
+      begins = begun _ at t;
       name = name;
       attr = attr;
       given = given;
       words = refl;
-      named = record { dev = d; found = e; there = found_contained _ w.live d e; serial = sym same; live = rw same (found_live w _ d e) };
+      named = it_named w name d e;
       spared = c;
-      unpinned = rw same p;
+      unpinned = p;
       awake = s;
       may = refuses.0;
       offers = refuses.1;
-      frame = frame;
+      scope = scope;
     }) at))))
-command_reason w k (command.ListDev name) at turn = told_reason w k _ name at (inl refl)
-command_reason w k (command.TreeDev name) at turn = told_reason w k _ name at (inr refl)
-command_reason w k (command.Suspend name) at turn = power_reason w k name kind.Suspend at (turn refl)
-command_reason w k (command.Resume name) at turn = power_reason w k name kind.Resume at (turn refl)
-command_reason w k (command.ResumeTree name) at turn = power_reason w k name kind.ResumeTree at (turn refl)
-command_reason w k (command.Plug name) at turn =
-    by_option _ (spot_named w name) _ (λ x e. because _ (λ t. record { begins = at _ t; name = name; words = refl; spot = e })) (λ e. because _ (at _))
-command_reason w k (command.Unplug name) at turn =
+command_reason w k (command.ListDev name) at = told_reason w k _ name at (inl refl)
+command_reason w k (command.TreeDev name) at = told_reason w k _ name at (inr refl)
+command_reason w k (command.Suspend name) at = power_reason w k name kind.Suspend at (at.turn refl)
+command_reason w k (command.Resume name) at = power_reason w k name kind.Resume at (at.turn refl)
+command_reason w k (command.ResumeTree name) at = power_reason w k name kind.ResumeTree at (at.turn refl)
+command_reason w k (command.Plug name) at =
+    by_option _ (spot_named w name) _ (λ x e. because _ (λ t. record { begins = begun _ at t; name = name; words = refl; spot = e })) (λ e. because _ (begun _ at))
+command_reason w k (command.Unplug name) at =
     by_option _ (spot_named w name) _ (λ x e.
     by_option _ (device_on w.live x) _
-    (λ d f. by_option _ (hindered w d.serial k true) _ (λ y h. because _ (at _)) (λ h.
-    because _ (λ t. record { begins = at _ t; name = name; words = refl; spot = e; dev = d; stands = f; serial = refl; live = found_live w _ d f; free = h })))
-    (λ f. because _ (λ t. record { begins = at _ t; name = name; words = refl; spot = e; bare = f }))) (λ e. because _ (at _))
+    (λ d f. by_option _ (hindered w d.serial k true) _ (λ y h. because _ (begun _ at)) (λ h.
+    because _ (λ t. record { begins = begun _ at t; name = name; words = refl; spot = e; dev = d; stands = f; serial = refl; live = found_live w _ d f; free = h })))
+    (λ f. because _ (λ t. record { begins = begun _ at t; name = name; words = refl; spot = e; bare = f }))) (λ e. because _ (begun _ at))
 
 -- ---- without a command
 
 abbrev HasReasons : World → ℕ → Choice → Type 0
 HasReasons w k c = Each (Why w k) c
 
-starting_reason : (w : World) (k : ℕ) (said : Command) → IsBetween w k → command_of w k ≡ Some said → (is_power said ≡ true → other_turn w.turn k ≡ None)
+starting_reason : (w : World) (k : ℕ) (said : Command) → IsBetween w k → command_of w k ≡ Some said → (is_power said ≡ true → other_turn w.power_owner k ≡ None)
     → HasReasons w k (Does (command_deed w k ((caller_at w k).over + 1) said))
 starting_reason w k said at e turn = record {
-  each = λ d same. (command_reason w k said (λ x h. record { between = at; command = e; turn = turn; deed = h }) turn).each d same (one_deed _ d same);
+  each = λ d same. (command_reason w k said (record { between = at; command = e; turn = turn })).each d same (one_deed _ d same);
 }
 
 script_reason : (w : World) (k : ℕ) → IsBetween w k → HasReasons w k (next_command w k)
 unfolding next_command
 script_reason w k at =
     over_option _ (command_of w k) _
-    (λ c e. over_option _ (cond (is_power c) (other_turn w.turn k) None) _
-    (λ j t. nothing _ (λ d same. cc)) (λ t. starting_reason w k c at e (λ p. sym (ap (λ (b : Bool). cond b (other_turn w.turn k) None) p) ∙ t)))
+    (λ c e. over_option _ (cond (is_power c) (other_turn w.power_owner k) None) _
+    (λ j t. nothing _ (λ d same. cc)) (λ t. starting_reason w k c at e (λ p. sym (ap (λ (b : Bool). cond b (other_turn w.power_owner k) None) p) ∙ t)))
     (λ e. over_option _ (first_held w k) _
     (λ d h. because _ (record { between = at; over = e; dev = d; first = h; serial = refl; live = found_live w _ d h; held = find_true (λ x. is_held w k x.serial) w.live d h }))
     (λ h. because _ (record { stack = at.no_frames; over = inr (at.later, e, h) }, at.idle)))
@@ -209,12 +217,12 @@ finalise_reason w k s listed anew called rests =
 boot_reason : (w : World) (k : ℕ) → k ≡ 0 → (caller_at w k).stack ≡ [] → Rests w k → HasReasons w k (next_boot w)
 unfolding next_boot
 boot_reason w k boots stack rests =
-    over_if (not w.phase) _ _ (λ p. because _ (record { boots = boots; stack = stack; before = not-true w.phase p }, rests)) (λ p.
-    let on : w.phase ≡ true = not-false w.phase p in
-    over_if (nat_lt w.place (length w.finalisers)) _ _
-    (λ l. let inside : w.place < length w.finalisers = grind (arith, nat_tests, l) in finalise_reason w k _ _ _ (boots, stack, on, refl, inside, refl) rests) (λ l.
-    let past : length w.finalisers ≤ w.place = grind (arith, nat_tests, l) in
-    over_if w.again _ _ (λ a. finalise_reason w k _ _ _ (boots, stack, on, refl, past, refl, a) rests)
+    over_if (not w.interrupts_on) _ _ (λ p. because _ (record { boots = boots; stack = stack; before = not-true w.interrupts_on p }, rests)) (λ p.
+    let on : w.interrupts_on ≡ true = not-false w.interrupts_on p in
+    over_if (nat_lt w.next_finaliser (length w.finalisers)) _ _
+    (λ l. let inside : w.next_finaliser < length w.finalisers = grind (arith, nat_tests, l) in finalise_reason w k _ _ _ (boots, stack, on, refl, inside, refl) rests) (λ l.
+    let past : length w.finalisers ≤ w.next_finaliser = grind (arith, nat_tests, l) in
+    over_if w.pass_repeats _ _ (λ a. finalise_reason w k _ _ _ (boots, stack, on, refl, past, refl, a) rests)
     (λ a. because _ (record { stack = stack; over = inl (boots, on, past, a) }, rests))))
 
 top_reason : (w : World) (k : ℕ) (fs : List Frame) → (caller_at w k).stack ≡ fs → Rests w k → HasReasons w k (on_top w k fs)
@@ -223,7 +231,7 @@ top_reason w k [] e rests =
     over_if (k == 0) _ _ (λ z. boot_reason w k (eqb-true k 0 z) e rests) (λ z. script_reason w k (record { later = eqb-false k 0 z; idle = rests; no_frames = e }))
 top_reason w k (Scan s only wanted from ∷ rest) e rests =
     by_option _ (due w.setup w.live w.absent w.hidden s only wanted from) _
-    (λ t h. because _ (record { only = only; wanted = wanted; from = from; rest = rest; turn = t; stack = e; is_due = h; moved = refl; came = refl }, rests))
+    (λ t h. because _ (record { only = only; wanted = wanted; from = from; rest = rest; turn = t; stack = e; is_due = h; place = refl; moved = refl; came = refl }, rests))
     (λ h. because _ (record { only = only; wanted = wanted; from = from; rest = rest; stack = e; none_due = h }, rests))
 top_reason w k (Finaliser s ∷ rest) e rests = finalise_reason w k s None false (rest, e, refl) rests
 
@@ -257,10 +265,10 @@ unfolding suspending
 suspend_reason w k target amid live =
     over_option _ (next_sleep w.live target) _ (λ d e.
     over_if (is_pinned w d.serial) _ _ (λ p. nothing _ (λ x same. cc)) (λ p.
-    over_if (policy_of w.setup d.row).nopower _ _ (λ n. because _ (λ h. record { kind = kind.Suspend; amid = amid; why = inr (live, h) })) (λ n.
-    over_if (policy_of w.setup d.row).failsuspend _ _ (λ f. because _ (λ h. record { kind = kind.Suspend; amid = amid; why = inr (live, h) })) (λ f.
+    over_if (policy_of w.setup d.row).nopower _ _ (λ n. because _ (λ h. record { kind = kind.Suspend; target = target; amid = amid; why = inr (live, h) })) (λ n.
+    over_if (policy_of w.setup d.row).failsuspend _ _ (λ f. because _ (λ h. record { kind = kind.Suspend; target = target; amid = amid; why = inr (live, h) })) (λ f.
     because _ (λ h. record { target = target; dev = d; amid = amid; live = live; last = e; serial = refl; unpinned = p; may = n; works = f })))))
-    (λ e. because _ (λ h. record { kind = kind.Suspend; amid = amid; why = inr (live, h) }))
+    (λ e. because _ (λ h. record { kind = kind.Suspend; target = target; amid = amid; why = inr (live, h) }))
 
 wake_reason : (w : World) (k target : ℕ) (what : PowerKind) (below : Bool) → (caller_at w k).doing ≡ activity.Power what target → is_live w.live target ≡ true → wakes_below what ≡ Some below
     → Each (Powered w k what target) (waking w target below)
@@ -268,7 +276,7 @@ unfolding waking
 wake_reason w k target what below amid live wakes =
     over_option _ (next_wake w.live target below) _
     (λ d e. because _ (λ h. record { target = target; kind = what; below = below; dev = d; amid = amid; live = live; wakes = wakes; first = e; serial = refl }))
-    (λ e. because _ (λ h. record { kind = what; amid = amid; why = inr (live, h) }))
+    (λ e. because _ (λ h. record { kind = what; target = target; amid = amid; why = inr (live, h) }))
 
 powering_reason : (w : World) (k target : ℕ) (what : PowerKind) → (caller_at w k).doing ≡ activity.Power what target → is_live w.live target ≡ true
     → Each (Powered w k what target) (powering w what target)
@@ -286,7 +294,7 @@ activity_reason w k activity.Ended e = ended
 activity_reason w k (activity.Transfer ticket) e = because _ e
 activity_reason w k (activity.Frees target) e = freeing_reason w k target e
 activity_reason w k (activity.Power what target) e =
-    over_if (is_live w.live target) _ _ (λ l. powered_reason w k target what e l) (λ l. because _ (record { kind = what; amid = e; why = inl (l, refl) }))
+    over_if (is_live w.live target) _ _ (λ l. powered_reason w k target what e l) (λ l. because _ (record { kind = what; target = target; amid = e; why = inl (l, refl) }))
 activity_reason w k activity.Scans e = top_reason w k (caller_at w k).stack refl (inr e)
 activity_reason w k activity.Idle e = top_reason w k (caller_at w k).stack refl (inl e)
 
@@ -302,28 +310,28 @@ why_next w k d e = (next_reason w k).each d e
 
 -- the reason of the deed that comes next: a frame's or a command's
 has_reasons : (w : World) (k : ℕ) (d : Deed) → Why w k d → HasReason w k d × HasCommandReason w k d
-has_reasons w k (Search p to got) h = (h.0, tt)
+has_reasons w k (Search p spot to got) h = (h.0, tt)
 has_reasons w k (EndScan p) h = (h.0, tt)
 has_reasons w k BeginInterrupts h = (h.0, tt)
 has_reasons w k (Finalise s shown got listed anew) h = (h.0, tt)
 has_reasons w k EndCaller h = (h.0, tt)
 has_reasons w k (Drop s) h = (tt, h)
-has_reasons w k (Answer said r) h = (tt, h)
-has_reasons w k (Open said s) h = (tt, h)
-has_reasons w k (Close said s) h = (tt, h)
-has_reasons w k (Start said t) h = (tt, h)
+has_reasons w k (Refuse why) h = (tt, h)
+has_reasons w k (Open s sole) h = (tt, h)
+has_reasons w k (Close s) h = (tt, h)
+has_reasons w k (Start t) h = (tt, h)
 has_reasons w k (Done t) h = (tt, h)
-has_reasons w k (Detach said s) h = (tt, h)
+has_reasons w k (Detach s) h = (tt, h)
 has_reasons w k (Free s) h = (tt, h)
-has_reasons w k (Rescan said f) h = (tt, h)
-has_reasons w k (BeginPower said kind s) h = (tt, h)
+has_reasons w k (Rescan s only) h = (tt, h)
+has_reasons w k (BeginPower kind s) h = (tt, h)
 has_reasons w k (Sleep s) h = (tt, h)
 has_reasons w k (Wake s) h = (tt, h)
-has_reasons w k (EndPower s r) h = (tt, h)
-has_reasons w k (Plug said x) h = (tt, h)
-has_reasons w k (Unplug said x None) h = (tt, h)
-has_reasons w k (Unplug said x (Some s)) h = (tt, h)
-has_reasons w k (Tell said) h = (tt, h)
+has_reasons w k (EndPower end) h = (tt, h)
+has_reasons w k (Plug x) h = (tt, h)
+has_reasons w k (Unplug x None) h = (tt, h)
+has_reasons w k (Unplug x (Some s)) h = (tt, h)
+has_reasons w k Tell h = (tt, h)
 
 -- that of a frame's deed
 pub has_reason : (w : World) (k : ℕ) (d : Deed) → next w k ≡ Does d → HasReason w k d

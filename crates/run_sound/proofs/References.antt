@@ -1,16 +1,16 @@
 -- References and transfers: the world stays sound.
-use Rattle.std.proofs.Common.{◌≡◌, ◌≢◌, ◌⊎◌, ℕ, ◌+◌, ◌==◌, true, false, not, ◌&&◌, List, [], ◌∷◌, ◌++◌, refl, sym, ◌∙◌, inl, inr, eqb-true}
+use Rattle.std.proofs.Common.{◌≡◌, ◌≢◌, ◌⊎◌, ℕ, ◌+◌, ◌==◌, true, false, not, ◌&&◌, List, [], ◌∷◌, ◌++◌, refl, sym, ◌∙◌, inl, inr, eqb-true, Bool}
 use Rattle.std.proofs.lemmas.Bool.{ne_eqb, and_parts, and_right, not_from_false, or_left}
 use Rattle.std.proofs.lemmas.List.Folds.{list_any-append}
 use Rattle.std.specs.Prelude.{IsTrue, filter}
-use Rattle.cf_types.specs.declared.machine.Command.{Command}
 use Rattle.cf_types.specs.declared.machine.Ticket.{Ticket}
 use Rattle.run_rules.specs.declared.world.Frame.{Frame}
 use Rattle.run_rules.specs.declared.world.Activity.{Activity}
 use Rattle.run_rules.specs.declared.world.Activity.TheVariants as activity
 use Rattle.run_rules.specs.declared.world.Ref.{Ref}
 use Rattle.run_rules.specs.World.{World, is_live, is_held, is_number, caller_at}
-use Rattle.run_rules.specs.Deeds.{Drop, Open, Close, Start, Done, Does}
+use Rattle.run_rules.specs.declared.deed.Deed.TheVariants.{Drop, Open, Close, Start, Done}
+use Rattle.run_rules.specs.declared.deed.Choice.TheVariants.{Does}
 use Rattle.run_rules.specs.Next.{next}
 use Rattle.run_rules.specs.After.{after, unreferred}
 use Rattle.run_rules.specs.Sound.{Sound}
@@ -48,11 +48,11 @@ pub sound_drop : (w : World) (k s : ℕ) → Sound w → next w k ≡ Does (Drop
 unfolding after
 sound_drop w k s sound chosen = let at = (has_command_reason w k (Drop s) chosen).between in sound_unreferred w k s sound (between_later w k (Drop s) chosen at) at
 
-pub sound_close : (w : World) (k : ℕ) (said : Command) (s : ℕ) → Sound w → next w k ≡ Does (Close said s) → Sound (after w k (Close said s))
+pub sound_close : (w : World) (k s : ℕ) → Sound w → next w k ≡ Does (Close s) → Sound (after w k (Close s))
 unfolding after
-sound_close w k said s sound chosen =
-    let at = (has_command_reason w k (Close said s) chosen).begins.between in
-    let here = between_later w k (Close said s) chosen at in
+sound_close w k s sound chosen =
+    let at = (has_command_reason w k (Close s) chosen).begins.between in
+    let here = between_later w k (Close s) chosen at in
     sound_over (unreferred w k s) k (sound_unreferred w k s sound here at) (later_held w k _ w.absent here) at.idle
 
 -- ---- one is given
@@ -74,12 +74,12 @@ unended_between : (a : Activity) → (a ≡ activity.Idle) ⊎ (a ≡ activity.S
 unended_between a (inl e) h = cc
 unended_between a (inr e) h = cc
 
-pub sound_open : (w : World) (k : ℕ) (said : Command) (s : ℕ) → Sound w → next w k ≡ Does (Open said s) → Sound (after w k (Open said s))
+pub sound_open : (w : World) (k s : ℕ) (sole : Bool) → Sound w → next w k ≡ Does (Open s sole) → Sound (after w k (Open s sole))
 unfolding after
-sound_open w k said s sound chosen =
-    let why = has_command_reason w k (Open said s) chosen in
+sound_open w k s sole sound chosen =
+    let why = has_command_reason w k (Open s sole) chosen in
     let at = why.begins.between in
-    let here = between_later w k (Open said s) chosen at in
+    let here = between_later w k (Open s sole) chosen at in
     let refs : List Ref = w.refs ++ record { serial = s; caller = k } ∷ [] in
     sound_over (record w { refs = refs }) k
     (sound_held w refs w.absent sound here.booted (granted w k s sound why.named.live why.free (unended_between (caller_at w k).doing at.idle)))
@@ -87,15 +87,15 @@ sound_open w k said s sound chosen =
 
 -- ---- transfers
 
-pub sound_start : (w : World) (k : ℕ) (said : Command) (t : Ticket) → Sound w → next w k ≡ Does (Start said t) → Sound (after w k (Start said t))
+pub sound_start : (w : World) (k : ℕ) (t : Ticket) → Sound w → next w k ≡ Does (Start t) → Sound (after w k (Start t))
 unfolding after
-sound_start w k said t sound chosen =
-    let why = has_command_reason w k (Start said t) chosen in
+sound_start w k t sound chosen =
+    let why = has_command_reason w k (Start t) chosen in
     let at = why.begins.between in
-    sound_caller w k w.turn (record { over = (caller_at w k).over; doing = activity.Transfer t; stack = (caller_at w k).stack }) sound (between_later w k (Start said t) chosen at)
+    sound_caller w k w.power_owner (record { over = (caller_at w k).over; doing = activity.Transfer t; stack = (caller_at w k).stack }) sound (between_later w k (Start t) chosen at)
     (record {
       no_frames = at.no_frames;
-      own = (λ h. clash (is_number w.turn k) h (no_turn w k sound (between_power (caller_at w k).doing at.idle)), λ h. absurd cc);
+      own = (λ h. clash (is_number w.power_owner k) h (no_turn w k sound (between_power (caller_at w k).doing at.idle)), λ h. absurd cc);
       theirs = λ j other. refl;
       frees = λ s e. absurd (between_frees (caller_at w k).doing s at.idle e);
       transfer = λ u e. let same : t ≡ u = cc in rw (← same) why.held;
@@ -122,5 +122,5 @@ sound_done w k t kept chosen =
     let amid : (caller_at w k).doing ≡ activity.Transfer t = has_command_reason w k (Done t) chosen in
     let later : k ≢ 0 = amid_later w k kept.ranges (λ e. cc) (λ e. cc) in
     let none : (caller_at w k).stack ≡ [] = amid_no_frames w k sound later (λ e. cc) in
-    sound_caller w k w.turn (record { over = (caller_at w k).over + 1; doing = activity.Idle; stack = (caller_at w k).stack }) sound (later_one w k (Done t) chosen later none)
-    (agrees_idle w k ((caller_at w k).over + 1) w.turn (caller_at w k).stack none (no_turn w k sound (rw amid refl)) (λ j other. refl) (λ s e. cc))
+    sound_caller w k w.power_owner (record { over = (caller_at w k).over + 1; doing = activity.Idle; stack = (caller_at w k).stack }) sound (later_one w k (Done t) chosen later none)
+    (agrees_idle w k ((caller_at w k).over + 1) w.power_owner (caller_at w k).stack none (no_turn w k sound (rw amid refl)) (λ j other. refl) (λ s e. cc))

@@ -22,14 +22,14 @@ IsSpared live s = AllByRecursion (λ d. d.serial ≡ s → (d.condemned ≡ None
 
 -- the world with another caller k, other scans put off, another list of finalisers, other hidden spots, and another place in the boot
 abbrev pub restacked : World → ℕ → Caller → List Deferred → Bool → List ℕ → List ℕ → ℕ → Bool → World
-restacked w k c entries phase finalisers hidden place again = record w {
+restacked w k c entries interrupts_on finalisers hidden place pass_repeats = record w {
   callers = slice_set w.callers k c;
   deferred = entries;
-  phase = phase;
+  interrupts_on = interrupts_on;
   finalisers = finalisers;
   hidden = hidden;
-  place = place;
-  again = again;
+  next_finaliser = place;
+  pass_repeats = pass_repeats;
 }
 
 -- who is not ended may get this caller for itself: it goes on as before or is between commands, its frames are of known devices, and it has them in a rescan alone
@@ -65,10 +65,10 @@ quiet_transfer a t h e = clash (is_quiet a) h (rw e refl)
 same_turn : (b x y : Bool) → x ≡ false → y ≡ false → (IsTrue b ↔ IsTrue x) → IsTrue b ↔ IsTrue y
 same_turn b x y p q h = rw q (rw p at h)
 
-own_turn : (w : World) (k : ℕ) (c : Caller) → Sound w → MayBe w k c → IsTrue (is_number w.turn k) ↔ IsTrue (is_power c.doing)
+own_turn : (w : World) (k : ℕ) (c : Caller) → Sound w → MayBe w k c → IsTrue (is_number w.power_owner k) ↔ IsTrue (is_power c.doing)
 own_turn w k c sound may = elim may.doing [
   | inl same ↦ rw same (sound.callers k).turn
-  | inr quiet ↦ same_turn (is_number w.turn k) (is_power (caller_at w k).doing) (is_power c.doing) (quiet_power (caller_at w k).doing quiet.1) (quiet_power c.doing quiet.0) (sound.callers k).turn
+  | inr quiet ↦ same_turn (is_number w.power_owner k) (is_power (caller_at w k).doing) (is_power c.doing) (quiet_power (caller_at w k).doing quiet.1) (quiet_power c.doing quiet.0) (sound.callers k).turn
 ]
 
 own_transfer : (w : World) (k : ℕ) (c : Caller) → Sound w → MayBe w k c → (t : Ticket) → c.doing ≡ activity.Transfer t → is_held w k t.serial ≡ true
@@ -97,10 +97,10 @@ still_frees w k j c target may e =
 later_one : (k : ℕ) → IsTrue (not (k == 0)) → k ≢ 0
 later_one k h e = clash (not (k == 0)) h (rw e refl)
 
-each_caller : (w : World) (k : ℕ) (c : Caller) (entries : List Deferred) (phase : Bool) (finalisers hidden : List ℕ) (place : ℕ) (again : Bool) → Sound w → MayBe w k c
-    → (j : ℕ) → IsSoundCaller (restacked w k c entries phase finalisers hidden place again) j
-each_caller w k c entries phase finalisers hidden place again sound may j = record {
-  turn = caller_each (λ d. IsTrue (is_number w.turn j) ↔ IsTrue (is_power d.doing)) w k j c may.there (λ same. rw same (own_turn w k c sound may)) (λ other. (sound.callers j).turn);
+each_caller : (w : World) (k : ℕ) (c : Caller) (entries : List Deferred) (interrupts_on : Bool) (finalisers hidden : List ℕ) (place : ℕ) (pass_repeats : Bool) → Sound w → MayBe w k c
+    → (j : ℕ) → IsSoundCaller (restacked w k c entries interrupts_on finalisers hidden place pass_repeats) j
+each_caller w k c entries interrupts_on finalisers hidden place pass_repeats sound may j = record {
+  turn = caller_each (λ d. IsTrue (is_number w.power_owner j) ↔ IsTrue (is_power d.doing)) w k j c may.there (λ same. rw same (own_turn w k c sound may)) (λ other. (sound.callers j).turn);
   transfer = caller_each (λ d. (t : Ticket) → d.doing ≡ activity.Transfer t → is_held w j t.serial ≡ true) w k j c may.there (λ same. rw same (own_transfer w k c sound may)) (λ other. (sound.callers j).transfer);
   ended = caller_each (λ d. d.doing ≡ activity.Ended → (d.stack ≡ []) × AllByRecursion (λ r. r.caller ≢ j) w.refs) w k j c may.there (λ same. rw same may.ended) (λ other. (sound.callers j).ended);
   frames = caller_each (λ d. IsTrue (not (j == 0)) → d.stack ≢ [] → d.doing ≡ activity.Scans) w k j c may.there (λ same later some. may.scans (later_one k (rw same at later)) some) (λ other. (sound.callers j).frames);
@@ -120,10 +120,10 @@ pinned_then w k c entries s pins h = elim (or_cases (frames_pin (slice_set w.cal
 ]
 
 -- a device that was not pinned and is not spared is not pinned then
-still_unpinned : (w : World) (k : ℕ) (c : Caller) (entries : List Deferred) (phase : Bool) (finalisers hidden : List ℕ) (place : ℕ) (again : Bool) (s : ℕ) → PinsFew w c entries
-    → is_pinned w s ≡ false → (IsSpared w.live s → ⊥) → is_pinned (restacked w k c entries phase finalisers hidden place again) s ≡ false
+still_unpinned : (w : World) (k : ℕ) (c : Caller) (entries : List Deferred) (interrupts_on : Bool) (finalisers hidden : List ℕ) (place : ℕ) (pass_repeats : Bool) (s : ℕ) → PinsFew w c entries
+    → is_pinned w s ≡ false → (IsSpared w.live s → ⊥) → is_pinned (restacked w k c entries interrupts_on finalisers hidden place pass_repeats) s ≡ false
 unfolding is_pinned
-still_unpinned w k c entries phase finalisers hidden place again s pins old bad =
+still_unpinned w k c entries interrupts_on finalisers hidden place pass_repeats s pins old bad =
     false_from_ne_true (frames_pin (slice_set w.callers k c) s || entries_pin entries s)
     (λ h. elim (pinned_then w k c entries s pins h) [ inl before ↦ clash (is_pinned w s) before old | inr spared ↦ bad spared ])
 
@@ -134,28 +134,28 @@ pub no_condemner : (o : Option ℕ) (k : ℕ) → o ≡ None → o ≡ Some k �
 no_condemner None k a b = cc
 no_condemner (Some j) k a b = cc
 
-each_condemned : (w : World) (k : ℕ) (c : Caller) (entries : List Deferred) (phase : Bool) (finalisers hidden : List ℕ) (place : ℕ) (again : Bool) → Sound w → MayBe w k c → PinsFew w c entries
-    → AllByRecursion (λ d. (j : ℕ) → d.condemned ≡ Some j → IsSoundlyCondemned (restacked w k c entries phase finalisers hidden place again) d j) w.live
-each_condemned w k c entries phase finalisers hidden place again sound may pins = each_of _ w.live one
+each_condemned : (w : World) (k : ℕ) (c : Caller) (entries : List Deferred) (interrupts_on : Bool) (finalisers hidden : List ℕ) (place : ℕ) (pass_repeats : Bool) → Sound w → MayBe w k c → PinsFew w c entries
+    → AllByRecursion (λ d. (j : ℕ) → d.condemned ≡ Some j → IsSoundlyCondemned (restacked w k c entries interrupts_on finalisers hidden place pass_repeats) d j) w.live
+each_condemned w k c entries interrupts_on finalisers hidden place pass_repeats sound may pins = each_of _ w.live one
   where
-    one : (d : Dev) → Contains w.live d → (j : ℕ) → d.condemned ≡ Some j → IsSoundlyCondemned (restacked w k c entries phase finalisers hidden place again) d j
+    one : (d : Dev) → Contains w.live d → (j : ℕ) → d.condemned ≡ Some j → IsSoundlyCondemned (restacked w k c entries interrupts_on finalisers hidden place pass_repeats) d j
     one d here j e =
         let old : IsSoundlyCondemned w d j = of_each (λ d. (k : ℕ) → d.condemned ≡ Some k → IsSoundlyCondemned w d k) w.live d sound.condemned here j e in
         record {
-          unpinned = still_unpinned w k c entries phase finalisers hidden place again d.serial pins old.unpinned (λ spared. no_condemner d.condemned j (spared_at w.live d here spared).0 e);
+          unpinned = still_unpinned w k c entries interrupts_on finalisers hidden place pass_repeats d.serial pins old.unpinned (λ spared. no_condemner d.condemned j (spared_at w.live d here spared).0 e);
           children = old.children;
           below_target = (old.below_target.0, still_frees w k j c old.below_target.0 may old.below_target.1, old.below_target.2);
         }
 
-each_asleep : (w : World) (k : ℕ) (c : Caller) (entries : List Deferred) (phase : Bool) (finalisers hidden : List ℕ) (place : ℕ) (again : Bool) → Sound w → PinsFew w c entries
-    → AllByRecursion (λ d. IsTrue d.asleep → IsSoundlyAsleep (restacked w k c entries phase finalisers hidden place again) d) w.live
-each_asleep w k c entries phase finalisers hidden place again sound pins = each_of _ w.live one
+each_asleep : (w : World) (k : ℕ) (c : Caller) (entries : List Deferred) (interrupts_on : Bool) (finalisers hidden : List ℕ) (place : ℕ) (pass_repeats : Bool) → Sound w → PinsFew w c entries
+    → AllByRecursion (λ d. IsTrue d.asleep → IsSoundlyAsleep (restacked w k c entries interrupts_on finalisers hidden place pass_repeats) d) w.live
+each_asleep w k c entries interrupts_on finalisers hidden place pass_repeats sound pins = each_of _ w.live one
   where
-    one : (d : Dev) → Contains w.live d → IsTrue d.asleep → IsSoundlyAsleep (restacked w k c entries phase finalisers hidden place again) d
+    one : (d : Dev) → Contains w.live d → IsTrue d.asleep → IsSoundlyAsleep (restacked w k c entries interrupts_on finalisers hidden place pass_repeats) d
     one d here asleep =
         let old : IsSoundlyAsleep w d = of_each (λ d. IsTrue d.asleep → IsSoundlyAsleep w d) w.live d sound.asleep here asleep in
         record {
-          unpinned = still_unpinned w k c entries phase finalisers hidden place again d.serial pins old.unpinned (λ spared. clash d.asleep asleep (spared_at w.live d here spared).1);
+          unpinned = still_unpinned w k c entries interrupts_on finalisers hidden place pass_repeats d.serial pins old.unpinned (λ spared. clash d.asleep asleep (spared_at w.live d here spared).1);
           children = old.children;
         }
 
@@ -173,10 +173,10 @@ boot_before w k c may goes e = cases (k == 0) refl
     cases true z = let first : k ≡ 0 = eqb-true k 0 z in clash (has_ended w k) (rw (first, e) refl) may.unended
     cases false z = goes (ap (λ (d : Caller). d.doing) (caller_there w k 0 c (λ same. clash (k == 0) (eq-eqb k 0 (sym same)) z)) ∙ e)
 
-boot_goes : (w : World) (k : ℕ) (c : Caller) (entries : List Deferred) (phase : Bool) (finalisers hidden : List ℕ) (place : ℕ) (again : Bool) → Sound w → MayBe w k c
+boot_goes : (w : World) (k : ℕ) (c : Caller) (entries : List Deferred) (interrupts_on : Bool) (finalisers hidden : List ℕ) (place : ℕ) (pass_repeats : Bool) → Sound w → MayBe w k c
     → (has_ended w 0 ≡ false → AllByRecursion (λ s. IsTrue (is_live w.live s)) finalisers)
-    → (caller_at (with_caller w k c) 0).doing ≢ activity.Ended → IsSoundBoot (restacked w k c entries phase finalisers hidden place again)
-boot_goes w k c entries phase finalisers hidden place again sound may live goes =
+    → (caller_at (with_caller w k c) 0).doing ≢ activity.Ended → IsSoundBoot (restacked w k c entries interrupts_on finalisers hidden place pass_repeats)
+boot_goes w k c entries interrupts_on finalisers hidden place pass_repeats sound may live goes =
     let before : (caller_at w 0).doing ≢ activity.Ended = boot_before w k c may goes in
     let old : IsSoundBoot w = sound.boot before in
     let on : has_ended w 0 ≡ false = unended_so w 0 before in
@@ -191,19 +191,19 @@ boot_goes w k c entries phase finalisers hidden place again sound may live goes 
 
 -- ---- all of it
 
-pub sound_restacked : (w : World) (k : ℕ) (c : Caller) (entries : List Deferred) (phase : Bool) (finalisers hidden : List ℕ) (place : ℕ) (again : Bool) → Sound w → MayBe w k c → PinsFew w c entries
-    → AllByRecursion (IsSoundlyDeferred (restacked w k c entries phase finalisers hidden place again)) entries
-    → (IsTrue phase → AllByRecursion (λ e. e.key ≢ key.Interrupts) entries)
+pub sound_restacked : (w : World) (k : ℕ) (c : Caller) (entries : List Deferred) (interrupts_on : Bool) (finalisers hidden : List ℕ) (place : ℕ) (pass_repeats : Bool) → Sound w → MayBe w k c → PinsFew w c entries
+    → AllByRecursion (IsSoundlyDeferred (restacked w k c entries interrupts_on finalisers hidden place pass_repeats)) entries
+    → (IsTrue interrupts_on → AllByRecursion (λ e. e.key ≢ key.Interrupts) entries)
     → (has_ended w 0 ≡ false → AllByRecursion (λ s. IsTrue (is_live w.live s)) finalisers)
-    → Sound (restacked w k c entries phase finalisers hidden place again)
-sound_restacked w k c entries phase finalisers hidden place again sound may pins put_off on live = record {
+    → Sound (restacked w k c entries interrupts_on finalisers hidden place pass_repeats)
+sound_restacked w k c entries interrupts_on finalisers hidden place pass_repeats sound may pins put_off on live = record {
   devices = sound.devices;
   refs = sound.refs;
-  condemned = each_condemned w k c entries phase finalisers hidden place again sound may pins;
-  asleep = each_asleep w k c entries phase finalisers hidden place again sound pins;
+  condemned = each_condemned w k c entries interrupts_on finalisers hidden place pass_repeats sound may pins;
+  asleep = each_asleep w k c entries interrupts_on finalisers hidden place pass_repeats sound pins;
   frames = all_set (λ (d : Caller). AllByRecursion (λ f. IsTrue (is_known w (frame_serial f))) d.stack) w.callers k c sound.frames may.known;
   deferred = put_off;
-  callers = each_caller w k c entries phase finalisers hidden place again sound may;
-  phase = on;
-  boot = boot_goes w k c entries phase finalisers hidden place again sound may live;
+  callers = each_caller w k c entries interrupts_on finalisers hidden place pass_repeats sound may;
+  interrupts_on = on;
+  boot = boot_goes w k c entries interrupts_on finalisers hidden place pass_repeats sound may live;
 }

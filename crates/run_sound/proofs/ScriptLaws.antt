@@ -9,7 +9,8 @@ use Rattle.run_rules.specs.declared.world.Dev.{Dev}
 use Rattle.run_rules.specs.declared.world.Ref.{Ref}
 use Rattle.run_rules.specs.declared.world.Activity.TheVariants as activity
 use Rattle.run_rules.specs.World.{World, caller_at}
-use Rattle.run_rules.specs.Deeds.{Deed, Does}
+use Rattle.run_rules.specs.declared.deed.Deed.{Deed}
+use Rattle.run_rules.specs.declared.deed.Choice.TheVariants.{Does}
 use Rattle.run_rules.specs.Next.{command_of, next}
 use Rattle.run_rules.specs.Run.{number_of}
 use Rattle.run_rules.specs.Sound.{IsSoundlyCondemned}
@@ -81,8 +82,8 @@ over_within w k kept later = rw (script_there w.setup k later) (kept.ranges.plac
 pub amid_within : (w : World) (k : ℕ) → Kept w → is_amid (caller_at w k).doing ≡ true → (caller_at w k).over < length (script_of w.setup k)
 amid_within w k kept busy = amid_before (script_of w.setup k) (caller_at w k) (kept.ranges.placed k) busy
 
-pub begins_within : (w : World) (k : ℕ) (said : Command) (d : Deed) → Begins w k said d → (caller_at w k).over < length (script_of w.setup k)
-begins_within w k said d b = slice_get_within (script_of w.setup k) (caller_at w k).over said (begun w k said said d b refl)
+pub begins_within : (w : World) (k : ℕ) (d : Deed) → Begins w k d → (caller_at w k).over < length (script_of w.setup k)
+begins_within w k d b = slice_get_within (script_of w.setup k) (caller_at w k).over b.said (begun w k b.said d b refl)
 
 -- the command that goes on does what the caller is in the middle of
 pub amid_said : (w : World) (k : ℕ) → Kept w → k ≢ 0 → IsAmid (caller_at w k).doing (command_of w k)

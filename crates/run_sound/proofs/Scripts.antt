@@ -9,9 +9,11 @@ use Rattle.run_rules.specs.declared.world.Frame.{Frame}
 use Rattle.run_rules.specs.declared.world.Activity.{Activity}
 use Rattle.run_rules.specs.declared.world.Activity.TheVariants as activity
 use Rattle.run_rules.specs.World.{World, Caller, beginning, caller_at, nobody, opening, scan_of}
-use Rattle.run_rules.specs.Deeds.{Deed, Search, EndScan, BeginInterrupts, Finalise, EndCaller, Drop, Answer, Open, Close, Start, Done, Detach, Free, Rescan, BeginPower, Sleep, Wake, EndPower, Plug, Unplug, Tell, Does}
+use Rattle.run_rules.specs.declared.deed.Deed.{Deed}
+use Rattle.run_rules.specs.declared.deed.Deed.TheVariants.{Search, EndScan, BeginInterrupts, Finalise, EndCaller, Drop, Refuse, Open, Close, Start, Done, Detach, Free, Rescan, BeginPower, Sleep, Wake, EndPower, Plug, Unplug, Tell}
+use Rattle.run_rules.specs.declared.deed.Choice.TheVariants.{Does}
 use Rattle.run_rules.specs.Next.{command_of, next}
-use Rattle.run_rules.specs.After.{after, doing, freed, freeing_target, over, pushed, settled, with_caller}
+use Rattle.run_rules.specs.After.{after, doing, freed, freeing_target, over, pushed, settled, with_caller, rescan_frame}
 use Rattle.run_rules.proofs.Setups.{after_setup}
 use Rattle.run_sound.specs.Commands.{Begins, EndsPower, power_command}
 use Rattle.run_sound.specs.Scripts.{IsAmid, IsInScript, script_of}
@@ -76,8 +78,8 @@ pub command_is : (w : World) (k : ℕ) → k ≢ 0 → command_of w k ≡ slice_
 command_is w k later = ap (λ (script : List Command). slice_get script (caller_at w k).over) (script_there w.setup k later)
 
 -- what begins is a command of the script
-pub begun : (w : World) (k : ℕ) (said c : Command) (d : Deed) → Begins w k said d → said ≡ c → slice_get (script_of w.setup k) (caller_at w k).over ≡ Some c
-begun w k said c d b words = sym (command_is w k b.between.later) ∙ b.command ∙ ap (λ (x : Command). Some x) words
+pub begun : (w : World) (k : ℕ) (c : Command) (d : Deed) → (b : Begins w k d) → b.said ≡ c → slice_get (script_of w.setup k) (caller_at w k).over ≡ Some c
+begun w k c d b words = sym (command_is w k b.between.later) ∙ b.command ∙ ap (λ (x : Command). Some x) words
 
 module _ (w : World) (k : ℕ) (old : IsInScript (script_of w.setup k) (caller_at w k)) where
   abbrev script : List Command
@@ -95,8 +97,8 @@ module _ (w : World) (k : ℕ) (old : IsInScript (script_of w.setup k) (caller_a
   over_in lt = set_in _ (next_in script now.over now.stack lt)
 
   -- a command is over at once
-  at_once : (said : Command) (d : Deed) → Begins w k said d → IsInScript script (caller_at (over w k) k)
-  at_once said d b = over_in (slice_get_within script now.over said (begun w k said said d b refl))
+  at_once : (d : Deed) → Begins w k d → IsInScript script (caller_at (over w k) k)
+  at_once d b = over_in (slice_get_within script now.over b.said (begun w k b.said d b refl))
 
   -- a caller in the middle of something is done
   done_in : is_amid now.doing ≡ true → IsInScript script (caller_at (over w k) k)
@@ -121,39 +123,39 @@ module _ (w : World) (k : ℕ) (old : IsInScript (script_of w.setup k) (caller_a
 
   own_in : (d : Deed) → next w k ≡ Does d → IsInScript script (caller_at (after w k d) k)
   unfolding after
-  own_in (Search p to got) e = own_after (IsInScript script) (stays_in script) w k (Search p to got) tt old
+  own_in (Search p spot to got) e = own_after (IsInScript script) (stays_in script) w k (Search p spot to got) tt old
   own_in (EndScan p) e = own_after (IsInScript script) (stays_in script) w k (EndScan p) tt old
   own_in BeginInterrupts e = own_after (IsInScript script) (stays_in script) w k BeginInterrupts tt old
   own_in (Finalise s shown got listed anew) e = own_after (IsInScript script) (stays_in script) w k (Finalise s shown got listed anew) tt old
   own_in EndCaller e = own_after (IsInScript script) (stays_in script) w k EndCaller tt old
   own_in (Drop s) e = old
-  own_in (Answer said r) e = at_once said (Answer said r) (has_command_reason w k (Answer said r) e)
-  own_in (Open said s) e = at_once said (Open said s) (has_command_reason w k (Open said s) e).begins
-  own_in (Close said s) e = at_once said (Close said s) (has_command_reason w k (Close said s) e).begins
-  own_in (Start said t) e =
-      let why = has_command_reason w k (Start said t) e in
-      turns_in (activity.Transfer t) (why.name, why.value, begun w k said (command.Io why.name why.value) (Start said t) why.begins why.words) (λ h. cc)
+  own_in (Refuse why) e = at_once (Refuse why) (has_command_reason w k (Refuse why) e)
+  own_in (Open s sole) e = at_once (Open s sole) (has_command_reason w k (Open s sole) e).begins
+  own_in (Close s) e = at_once (Close s) (has_command_reason w k (Close s) e).begins
+  own_in (Start t) e =
+      let why = has_command_reason w k (Start t) e in
+      turns_in (activity.Transfer t) (why.name, why.value, begun w k (command.Io why.name why.value) (Start t) why.begins why.words) (λ h. cc)
   own_in (Done t) e = done_in (ap is_amid (has_command_reason w k (Done t) e))
-  own_in (Detach said s) e =
-      let why = has_command_reason w k (Detach said s) e in
-      turns_in (activity.Frees s) (why.name, inl (begun w k said (command.Detach why.name) (Detach said s) why.begins why.words)) (λ h. cc)
+  own_in (Detach s) e =
+      let why = has_command_reason w k (Detach s) e in
+      turns_in (activity.Frees s) (why.name, inl (begun w k (command.Detach why.name) (Detach s) why.begins why.words)) (λ h. cc)
   own_in (Free s) e = freed_in s (freeing_target now.doing s) (ap is_amid (has_command_reason w k (Free s) e).amid)
-  own_in (Rescan said f) e =
-      let why = has_command_reason w k (Rescan said f) e in
-      rescan_in f (doing_there w k (Rescan said f) e)
-      (why.name, why.attr, why.given, begun w k said (command.Rescan why.name why.attr why.given) (Rescan said f) why.begins why.words)
-  own_in (BeginPower said kind s) e =
-      let why = has_command_reason w k (BeginPower said kind s) e in
-      turns_in (activity.Power kind s) (why.name, begun w k said (power_command kind why.name) (BeginPower said kind s) why.begins why.words) (λ h. cc)
+  own_in (Rescan s only) e =
+      let why = has_command_reason w k (Rescan s only) e in
+      rescan_in (rescan_frame w k s only) (doing_there w k (Rescan s only) e)
+      (why.name, why.attr, why.given, begun w k (command.Rescan why.name why.attr why.given) (Rescan s only) why.begins why.words)
+  own_in (BeginPower kind s) e =
+      let why = has_command_reason w k (BeginPower kind s) e in
+      turns_in (activity.Power kind s) (why.name, begun w k (power_command kind why.name) (BeginPower kind s) why.begins why.words) (λ h. cc)
   own_in (Sleep s) e = old
   own_in (Wake s) e = old
-  own_in (EndPower s r) e = let why : EndsPower w k s r = has_command_reason w k (EndPower s r) e in done_in (ap is_amid why.amid)
-  own_in (Plug said x) e = at_once said (Plug said x) (has_command_reason w k (Plug said x) e).begins
-  own_in (Unplug said x None) e = at_once said (Unplug said x None) (has_command_reason w k (Unplug said x None) e).begins
-  own_in (Unplug said x (Some s)) e =
-      let why = has_command_reason w k (Unplug said x (Some s)) e in
-      turns_in (activity.Frees s) (why.name, inr (begun w k said (command.Unplug why.name) (Unplug said x (Some s)) why.begins why.words)) (λ h. cc)
-  own_in (Tell said) e = at_once said (Tell said) (has_command_reason w k (Tell said) e).begins
+  own_in (EndPower end) e = let why : EndsPower w k end = has_command_reason w k (EndPower end) e in done_in (ap is_amid why.amid)
+  own_in (Plug x) e = at_once (Plug x) (has_command_reason w k (Plug x) e).begins
+  own_in (Unplug x None) e = at_once (Unplug x None) (has_command_reason w k (Unplug x None) e).begins
+  own_in (Unplug x (Some s)) e =
+      let why = has_command_reason w k (Unplug x (Some s)) e in
+      turns_in (activity.Frees s) (why.name, inr (begun w k (command.Unplug why.name) (Unplug x (Some s)) why.begins why.words)) (λ h. cc)
+  own_in Tell e = at_once Tell (has_command_reason w k Tell e).begins
 
 -- ---- all callers
 

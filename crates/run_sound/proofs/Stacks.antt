@@ -11,7 +11,8 @@ use Rattle.run_rules.specs.declared.world.Key.TheVariants as key
 use Rattle.run_rules.specs.declared.world.Activity.{Activity}
 use Rattle.run_rules.specs.declared.world.Activity.TheVariants as activity
 use Rattle.run_rules.specs.World.{World, Caller, caller_at, frame_serial, has_ended, is_live, is_pinned, nobody}
-use Rattle.run_rules.specs.Deeds.{Deed, Does}
+use Rattle.run_rules.specs.declared.deed.Deed.{Deed}
+use Rattle.run_rules.specs.declared.deed.Choice.TheVariants.{Does}
 use Rattle.run_rules.specs.Next.{next}
 use Rattle.run_rules.specs.After.{settled, with_stack}
 use Rattle.run_rules.specs.Sound.{IsSoundlyDeferred, Sound, is_known, is_scan_of}
@@ -96,35 +97,35 @@ still_scanned w k p stack keeps h =
     let c = settles (caller_at w k).over (caller_at w k).doing stack in
     any_set_more (λ (d : Caller). list_any (is_scan_of p) d.stack) w.callers k (stacked w k stack) nobody (λ was. rw c.frames (keeps was)) h
 
-still_put_off : (w : World) (k : ℕ) (stack : List Frame) (entries : List Deferred) (phase : Bool) (finalisers hidden : List ℕ) (place : ℕ) (again : Bool) → MayStack w k stack entries
-    → AllByRecursion (IsSoundlyDeferred (restacked w k (stacked w k stack) entries phase finalisers hidden place again)) entries
-still_put_off w k stack entries phase finalisers hidden place again may =
-    each_of (IsSoundlyDeferred (restacked w k (stacked w k stack) entries phase finalisers hidden place again)) entries
+still_put_off : (w : World) (k : ℕ) (stack : List Frame) (entries : List Deferred) (interrupts_on : Bool) (finalisers hidden : List ℕ) (place : ℕ) (pass_repeats : Bool) → MayStack w k stack entries
+    → AllByRecursion (IsSoundlyDeferred (restacked w k (stacked w k stack) entries interrupts_on finalisers hidden place pass_repeats)) entries
+still_put_off w k stack entries interrupts_on finalisers hidden place pass_repeats may =
+    each_of (IsSoundlyDeferred (restacked w k (stacked w k stack) entries interrupts_on finalisers hidden place pass_repeats)) entries
     (λ e here. one e.key e.child (of_each (IsSoundlyDeferred w) entries e may.put_off here)
     (of_each (λ e. (p : ℕ) → e.key ≡ key.Parent p → list_any (is_scan_of p) (caller_at w k).stack ≡ true → list_any (is_scan_of p) stack ≡ true) entries e may.keeps here))
   where
     one : (which : Key) (child : ℕ) → IsSoundlyDeferred w (record { key = which; child = child })
         → ((p : ℕ) → which ≡ key.Parent p → list_any (is_scan_of p) (caller_at w k).stack ≡ true → list_any (is_scan_of p) stack ≡ true)
-        → IsSoundlyDeferred (restacked w k (stacked w k stack) entries phase finalisers hidden place again) (record { key = which; child = child })
+        → IsSoundlyDeferred (restacked w k (stacked w k stack) entries interrupts_on finalisers hidden place pass_repeats) (record { key = which; child = child })
     one key.Interrupts child old keeps = (old.0, tt)
     one (key.Parent p) child old keeps = (old.0, still_scanned w k p stack (keeps p refl) old.1)
 
-pub sound_stack : (w : World) (k : ℕ) (stack : List Frame) (entries : List Deferred) (phase : Bool) → Sound w → IsDoer w k → MayStack w k stack entries
-    → (IsTrue phase → AllByRecursion (λ e. e.key ≢ key.Interrupts) entries) → Sound (with_stack (record w { deferred = entries; phase = phase }) k stack)
-sound_stack w k stack entries phase sound doer may on =
-    sound_restacked w k (stacked w k stack) entries phase w.finalisers w.hidden w.place w.again sound (may_be w k stack entries doer may) (pins_few w k stack entries may)
-    (still_put_off w k stack entries phase w.finalisers w.hidden w.place w.again may) on (λ goes. (sound.boot (not_ended w 0 goes)).finalisers)
+pub sound_stack : (w : World) (k : ℕ) (stack : List Frame) (entries : List Deferred) (interrupts_on : Bool) → Sound w → IsDoer w k → MayStack w k stack entries
+    → (IsTrue interrupts_on → AllByRecursion (λ e. e.key ≢ key.Interrupts) entries) → Sound (with_stack (record w { deferred = entries; interrupts_on = interrupts_on }) k stack)
+sound_stack w k stack entries interrupts_on sound doer may on =
+    sound_restacked w k (stacked w k stack) entries interrupts_on w.finalisers w.hidden w.next_finaliser w.pass_repeats sound (may_be w k stack entries doer may) (pins_few w k stack entries may)
+    (still_put_off w k stack entries interrupts_on w.finalisers w.hidden w.next_finaliser w.pass_repeats may) on (λ goes. (sound.boot (not_ended w 0 goes)).finalisers)
 
 -- ---- its frames stay
 
 -- of a caller with the same frames
-pub same_put_off : (w : World) (k : ℕ) (c : Caller) (entries : List Deferred) (phase : Bool) (finalisers hidden : List ℕ) (place : ℕ) (again : Bool) → c.stack ≡ (caller_at w k).stack
-    → AllByRecursion (IsSoundlyDeferred w) entries → AllByRecursion (IsSoundlyDeferred (restacked w k c entries phase finalisers hidden place again)) entries
-same_put_off w k c entries phase finalisers hidden place again same h =
-    each_of (IsSoundlyDeferred (restacked w k c entries phase finalisers hidden place again)) entries (λ e here. one e.key e.child (of_each (IsSoundlyDeferred w) entries e h here))
+pub same_put_off : (w : World) (k : ℕ) (c : Caller) (entries : List Deferred) (interrupts_on : Bool) (finalisers hidden : List ℕ) (place : ℕ) (pass_repeats : Bool) → c.stack ≡ (caller_at w k).stack
+    → AllByRecursion (IsSoundlyDeferred w) entries → AllByRecursion (IsSoundlyDeferred (restacked w k c entries interrupts_on finalisers hidden place pass_repeats)) entries
+same_put_off w k c entries interrupts_on finalisers hidden place pass_repeats same h =
+    each_of (IsSoundlyDeferred (restacked w k c entries interrupts_on finalisers hidden place pass_repeats)) entries (λ e here. one e.key e.child (of_each (IsSoundlyDeferred w) entries e h here))
   where
     one : (which : Key) (child : ℕ) → IsSoundlyDeferred w (record { key = which; child = child })
-        → IsSoundlyDeferred (restacked w k c entries phase finalisers hidden place again) (record { key = which; child = child })
+        → IsSoundlyDeferred (restacked w k c entries interrupts_on finalisers hidden place pass_repeats) (record { key = which; child = child })
     one key.Interrupts child old = (old.0, tt)
     one (key.Parent p) child old = (old.0, any_set_more (λ (d : Caller). list_any (is_scan_of p) d.stack) w.callers k c nobody (λ was. rw same was) old.1)
 
@@ -140,15 +141,15 @@ stays w k sound doer = record {
 }
 
 -- scans are put off more, the boot's list grows, a spot is shown, or the boot's place moves
-pub sound_beside : (w : World) (k : ℕ) (entries : List Deferred) (finalisers hidden : List ℕ) (place : ℕ) (again : Bool) → Sound w → IsDoer w k
+pub sound_beside : (w : World) (k : ℕ) (entries : List Deferred) (finalisers hidden : List ℕ) (place : ℕ) (pass_repeats : Bool) → Sound w → IsDoer w k
     → ((s : ℕ) → entries_pin entries s ≡ true → (is_pinned w s ≡ true) ⊎ IsSpared w.live s)
     → AllByRecursion (IsSoundlyDeferred w) entries
-    → (IsTrue w.phase → AllByRecursion (λ e. e.key ≢ key.Interrupts) entries)
+    → (IsTrue w.interrupts_on → AllByRecursion (λ e. e.key ≢ key.Interrupts) entries)
     → (has_ended w 0 ≡ false → AllByRecursion (λ s. IsTrue (is_live w.live s)) finalisers)
-    → Sound (record w { deferred = entries; finalisers = finalisers; hidden = hidden; place = place; again = again })
-sound_beside w k entries finalisers hidden place again sound doer pins put_off on live =
-    subst (λ (cs : List Caller). Sound (record w { callers = cs; deferred = entries; finalisers = finalisers; hidden = hidden; place = place; again = again })) (set-get_or w.callers k nobody)
-    (sound_restacked w k (caller_at w k) entries w.phase finalisers hidden place again sound (stays w k sound doer) few (same_put_off w k (caller_at w k) entries w.phase finalisers hidden place again refl put_off) on live)
+    → Sound (record w { deferred = entries; finalisers = finalisers; hidden = hidden; next_finaliser = place; pass_repeats = pass_repeats })
+sound_beside w k entries finalisers hidden place pass_repeats sound doer pins put_off on live =
+    subst (λ (cs : List Caller). Sound (record w { callers = cs; deferred = entries; finalisers = finalisers; hidden = hidden; next_finaliser = place; pass_repeats = pass_repeats })) (set-get_or w.callers k nobody)
+    (sound_restacked w k (caller_at w k) entries w.interrupts_on finalisers hidden place pass_repeats sound (stays w k sound doer) few (same_put_off w k (caller_at w k) entries w.interrupts_on finalisers hidden place pass_repeats refl put_off) on live)
   where
     few : PinsFew w (caller_at w k) entries
     few s h = elim (or_cases (stack_pins s (caller_at w k)) (entries_pin entries s) h) [ inl frame ↦ inl (pinned_by_frame w k s frame) | inr entry ↦ pins s entry ]

@@ -145,9 +145,9 @@ not_before n t from low inside row h =
       ]
     ]
 
-pub lessens : (w : World) (k p : ℕ) (to : Position) → MayRun w.setup → (t : IsTurn w k p to None) → turns_left (length w.setup.machine.spots) to < turns_left (length w.setup.machine.spots) t.from
+pub lessens : (w : World) (k p spot : ℕ) (to : Position) → MayRun w.setup → (t : IsTurn w k p spot to None) → turns_left (length w.setup.machine.spots) to < turns_left (length w.setup.machine.spots) t.from
 unfolding after_turn
-lessens w k p to may t =
+lessens w k p spot to may t =
     let x : Turn = t.turn in
     let placed : IsCounted x = due_placed w.setup w.live w.absent w.hidden p t.only t.wanted t.from x may t.is_due in
     let direct : x.indirect ≡ false = indirect_brings w.setup w.live w.absent w.hidden p t.only t.wanted t.from x t.is_due t.came in

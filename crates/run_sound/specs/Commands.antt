@@ -7,17 +7,17 @@ use Rattle.cf_types.specs.declared.machine.Command.{Command}
 use Rattle.cf_types.specs.declared.machine.Command.TheVariants as command
 use Rattle.cf_types.specs.declared.machine.Given.{Given}
 use Rattle.cf_types.specs.declared.machine.Ticket.{Ticket}
-use Rattle.run_rules.specs.declared.event.Reply.{Reply}
-use Rattle.run_rules.specs.declared.event.Reply.TheVariants as reply
 use Rattle.run_rules.specs.declared.event.PowerKind.{PowerKind}
 use Rattle.run_rules.specs.declared.event.PowerKind.TheVariants as kind
 use Rattle.run_rules.specs.declared.world.Dev.{Dev}
-use Rattle.run_rules.specs.declared.world.Frame.{Frame}
-use Rattle.run_rules.specs.declared.world.Frame.TheVariants.{Scan}
 use Rattle.run_rules.specs.declared.world.Wanted.{Wanted}
 use Rattle.run_rules.specs.declared.world.Activity.TheVariants as activity
-use Rattle.run_rules.specs.World.{World, caller_at, device_named, device_on, frame_serial, has, is_condemned, is_held, is_live, is_pinned, is_referred, offered_by, policy_of, start}
-use Rattle.run_rules.specs.Deeds.{Deed, Drop, Answer, Open, Close, Start, Done, Detach, Free, Rescan, BeginPower, Sleep, Wake, EndPower, Plug, Unplug, Tell, Does}
+use Rattle.run_rules.specs.World.{World, caller_at, device_named, device_on, has, is_condemned, is_held, is_live, is_pinned, is_referred, offered_by, policy_of}
+use Rattle.run_rules.specs.declared.deed.Deed.{Deed}
+use Rattle.run_rules.specs.declared.deed.Deed.TheVariants.{Drop, Refuse, Open, Close, Start, Done, Detach, Free, Rescan, BeginPower, Sleep, Wake, EndPower, Plug, Unplug, Tell}
+use Rattle.run_rules.specs.declared.deed.PowerEnd.{PowerEnd}
+use Rattle.run_rules.specs.declared.deed.PowerEnd.TheVariants as ends
+use Rattle.run_rules.specs.declared.deed.Choice.TheVariants.{Does}
 use Rattle.run_rules.specs.Next.{attr_named, command_deed, command_of, first_held, has_nothing, hindered, is_power, next_free, next_sleep, next_wake, other_turn, powering, spot_named, ticket_of, wanted_of}
 
 -- the power command of a kind: after drvctl(8)
@@ -35,10 +35,11 @@ pub record IsBetween (w : World) (k : ℕ) : Type 0 where
   pub no_frames : (caller_at w k).stack ≡ []
 
 -- its next command comes to this deed; where that is a power command, no other caller has the power turn
-pub record Begins (w : World) (k : ℕ) (said : Command) (d : Deed) : Type 0 where
+pub record Begins (w : World) (k : ℕ) (d : Deed) : Type 0 where
   pub between : IsBetween w k
+  pub said : Command
   pub command : command_of w k ≡ Some said
-  pub turn : is_power said ≡ true → other_turn w.turn k ≡ None
+  pub turn : is_power said ≡ true → other_turn w.power_owner k ≡ None
   pub deed : command_deed w k ((caller_at w k).over + 1) said ≡ d
 
 -- the device of a name is live, and has this serial
@@ -52,27 +53,27 @@ pub record IsNamed (w : World) (name : List ℕ) (s : ℕ) : Type 0 where
 -- ---- references and transfers
 
 -- a device that is not condemned and that the caller does not hold
-pub record OpensFree (w : World) (k : ℕ) (said : Command) (s : ℕ) : Type 0 where
-  pub begins : Begins w k said (Open said s)
+pub record OpensFree (w : World) (k s : ℕ) (sole : Bool) : Type 0 where
+  pub begins : Begins w k (Open s sole)
   pub name : List ℕ
-  pub words : said ≡ command.OpenDev name
+  pub words : begins.said ≡ command.OpenDev name
   pub named : IsNamed w name s
   pub spared : is_condemned named.dev ≡ false
   pub free : is_held w k s ≡ false
 
-pub record ClosesHeld (w : World) (k : ℕ) (said : Command) (s : ℕ) : Type 0 where
-  pub begins : Begins w k said (Close said s)
+pub record ClosesHeld (w : World) (k s : ℕ) : Type 0 where
+  pub begins : Begins w k (Close s)
   pub name : List ℕ
-  pub words : said ≡ command.CloseDev name
+  pub words : begins.said ≡ command.CloseDev name
   pub named : IsNamed w name s
   pub held : is_held w k s ≡ true
 
 -- a device that the caller holds, and that is awake
-pub record StartsHeld (w : World) (k : ℕ) (said : Command) (t : Ticket) : Type 0 where
-  pub begins : Begins w k said (Start said t)
+pub record StartsHeld (w : World) (k : ℕ) (t : Ticket) : Type 0 where
+  pub begins : Begins w k (Start t)
   pub name : List ℕ
   pub value : ℕ
-  pub words : said ≡ command.Io name value
+  pub words : begins.said ≡ command.Io name value
   pub named : IsNamed w name t.serial
   pub held : is_held w k t.serial ≡ true
   pub awake : named.dev.asleep ≡ false
@@ -91,10 +92,10 @@ pub record ReturnsFirst (w : World) (k s : ℕ) : Type 0 where
 -- ---- detaching
 
 -- a device that is not condemned, with nothing in the way below it
-pub record DetachesFree (w : World) (k : ℕ) (said : Command) (s : ℕ) : Type 0 where
-  pub begins : Begins w k said (Detach said s)
+pub record DetachesFree (w : World) (k s : ℕ) : Type 0 where
+  pub begins : Begins w k (Detach s)
   pub name : List ℕ
-  pub words : said ≡ command.Detach name
+  pub words : begins.said ≡ command.Detach name
   pub named : IsNamed w name s
   pub spared : is_condemned named.dev ≡ false
   pub free : hindered w s k false ≡ None
@@ -109,47 +110,47 @@ pub record FreesLast (w : World) (k s : ℕ) : Type 0 where
 
 -- ---- rescans
 
--- the frame of a rescan: of all that the device offers, or of one attribute with the values that are given
-abbrev pub IsRescanFrame : World → Dev → Option (List ℕ) → List Given → Frame → Type 0
-IsRescanFrame w d None given f = f ≡ Scan d.serial None [] start
-IsRescanFrame w d (Some name) given f =
+-- what is searched again: all that the device offers, or one attribute with the values that are given
+abbrev pub IsOnly : World → Dev → Option (List ℕ) → List Given → Option ℕ → Type 0
+IsOnly w d None given only = only ≡ None
+IsOnly w d (Some name) given only =
     (a : ℕ) × (wanted : List Wanted) × (attr_named w name ≡ Some a) × (has (offered_by w.setup d.row) a ≡ true)
-    × (wanted_of (map (λ l. l.name) (locators_at w.setup.tables.attrs (At a))) given ≡ Some wanted) × (f ≡ Scan d.serial (Some a) wanted start)
+    × (wanted_of (map (λ l. l.name) (locators_at w.setup.tables.attrs (At a))) given ≡ Some wanted) × (only ≡ Some a)
 
 -- a device that is neither condemned nor pinned nor asleep, whose driver offers something and does not refuse
-pub record SearchesAgain (w : World) (k : ℕ) (said : Command) (f : Frame) : Type 0 where
-  pub begins : Begins w k said (Rescan said f)
+pub record SearchesAgain (w : World) (k s : ℕ) (only : Option ℕ) : Type 0 where
+  pub begins : Begins w k (Rescan s only)
   pub name : List ℕ
   pub attr : Option (List ℕ)
   pub given : List Given
-  pub words : said ≡ command.Rescan name attr given
-  pub named : IsNamed w name (frame_serial f)
+  pub words : begins.said ≡ command.Rescan name attr given
+  pub named : IsNamed w name s
   pub spared : is_condemned named.dev ≡ false
-  pub unpinned : is_pinned w (frame_serial f) ≡ false
+  pub unpinned : is_pinned w s ≡ false
   pub awake : named.dev.asleep ≡ false
   pub may : (policy_of w.setup named.dev.row).norescan ≡ false
   pub offers : has_nothing (offered_by w.setup named.dev.row) ≡ false
-  pub frame : IsRescanFrame w named.dev attr given f
+  pub scope : IsOnly w named.dev attr given only
 
 -- ---- telling
 
 -- of the root, or of a device that is live
-pub record TellsOf (w : World) (k : ℕ) (said : Command) : Type 0 where
-  pub begins : Begins w k said (Tell said)
+pub record TellsOf (w : World) (k : ℕ) : Type 0 where
+  pub begins : Begins w k Tell
   pub name : Option (List ℕ)
-  pub words : (said ≡ command.ListDev name) ⊎ (said ≡ command.TreeDev name)
+  pub words : (begins.said ≡ command.ListDev name) ⊎ (begins.said ≡ command.TreeDev name)
   pub known : (of : List ℕ) → name ≡ Some of → (d : Dev) × (device_named w.setup w.live of ≡ Some d)
 
 -- ---- power
 
 -- a device that is not condemned, while no other caller has the power turn
-pub record TakesTurn (w : World) (k : ℕ) (said : Command) (kind : PowerKind) (s : ℕ) : Type 0 where
-  pub begins : Begins w k said (BeginPower said kind s)
+pub record TakesTurn (w : World) (k : ℕ) (kind : PowerKind) (s : ℕ) : Type 0 where
+  pub begins : Begins w k (BeginPower kind s)
   pub name : List ℕ
-  pub words : said ≡ power_command kind name
+  pub words : begins.said ≡ power_command kind name
   pub named : IsNamed w name s
   pub spared : is_condemned named.dev ≡ false
-  pub nobody : other_turn w.turn k ≡ None
+  pub nobody : other_turn w.power_owner k ≡ None
 
 -- the last one awake below the target: it is not pinned, and its driver neither refuses nor fails
 pub record SendsToSleep (w : World) (k s : ℕ) : Type 0 where
@@ -182,32 +183,33 @@ pub record Wakes (w : World) (k s : ℕ) : Type 0 where
   pub serial : dev.serial ≡ s
 
 -- the target is gone, or the power command came to its end
-pub record EndsPower (w : World) (k s : ℕ) (r : Reply) : Type 0 where
+pub record EndsPower (w : World) (k : ℕ) (end : PowerEnd) : Type 0 where
   pub kind : PowerKind
-  pub amid : (caller_at w k).doing ≡ activity.Power kind s
-  pub why : ((is_live w.live s ≡ false) × (r ≡ reply.Gone)) ⊎ ((is_live w.live s ≡ true) × (powering w kind s ≡ Does (EndPower s r)))
+  pub target : ℕ
+  pub amid : (caller_at w k).doing ≡ activity.Power kind target
+  pub why : ((is_live w.live target ≡ false) × (end ≡ ends.Gone)) ⊎ ((is_live w.live target ≡ true) × (powering w kind target ≡ Does (EndPower end)))
 
 -- ---- spots
 
-pub record Plugs (w : World) (k : ℕ) (said : Command) (x : ℕ) : Type 0 where
-  pub begins : Begins w k said (Plug said x)
+pub record Plugs (w : World) (k x : ℕ) : Type 0 where
+  pub begins : Begins w k (Plug x)
   pub name : List ℕ
-  pub words : said ≡ command.Plug name
+  pub words : begins.said ≡ command.Plug name
   pub spot : spot_named w name ≡ Some x
 
 -- no device stands on the spot
-pub record UnplugsBare (w : World) (k : ℕ) (said : Command) (x : ℕ) : Type 0 where
-  pub begins : Begins w k said (Unplug said x None)
+pub record UnplugsBare (w : World) (k x : ℕ) : Type 0 where
+  pub begins : Begins w k (Unplug x None)
   pub name : List ℕ
-  pub words : said ≡ command.Unplug name
+  pub words : begins.said ≡ command.Unplug name
   pub spot : spot_named w name ≡ Some x
   pub bare : device_on w.live x ≡ None
 
 -- a device stands on the spot, with nothing in the way below it
-pub record UnplugsFree (w : World) (k : ℕ) (said : Command) (x s : ℕ) : Type 0 where
-  pub begins : Begins w k said (Unplug said x (Some s))
+pub record UnplugsFree (w : World) (k x s : ℕ) : Type 0 where
+  pub begins : Begins w k (Unplug x (Some s))
   pub name : List ℕ
-  pub words : said ≡ command.Unplug name
+  pub words : begins.said ≡ command.Unplug name
   pub spot : spot_named w name ≡ Some x
   pub dev : Dev
   pub stands : device_on w.live x ≡ Some dev
@@ -220,20 +222,20 @@ pub record UnplugsFree (w : World) (k : ℕ) (said : Command) (x s : ℕ) : Type
 -- the reason of a command's deed; of frames' deeds nothing is said here
 abbrev pub HasCommandReason : World → ℕ → Deed → Type 0
 HasCommandReason w k (Drop s) = ReturnsFirst w k s
-HasCommandReason w k (Answer said r) = Begins w k said (Answer said r)
-HasCommandReason w k (Open said s) = OpensFree w k said s
-HasCommandReason w k (Close said s) = ClosesHeld w k said s
-HasCommandReason w k (Start said t) = StartsHeld w k said t
+HasCommandReason w k (Refuse why) = Begins w k (Refuse why)
+HasCommandReason w k (Open s sole) = OpensFree w k s sole
+HasCommandReason w k (Close s) = ClosesHeld w k s
+HasCommandReason w k (Start t) = StartsHeld w k t
 HasCommandReason w k (Done t) = (caller_at w k).doing ≡ activity.Transfer t
-HasCommandReason w k (Detach said s) = DetachesFree w k said s
+HasCommandReason w k (Detach s) = DetachesFree w k s
 HasCommandReason w k (Free s) = FreesLast w k s
-HasCommandReason w k (Rescan said f) = SearchesAgain w k said f
-HasCommandReason w k (BeginPower said kind s) = TakesTurn w k said kind s
+HasCommandReason w k (Rescan s only) = SearchesAgain w k s only
+HasCommandReason w k (BeginPower kind s) = TakesTurn w k kind s
 HasCommandReason w k (Sleep s) = SendsToSleep w k s
 HasCommandReason w k (Wake s) = Wakes w k s
-HasCommandReason w k (EndPower s r) = EndsPower w k s r
-HasCommandReason w k (Plug said x) = Plugs w k said x
-HasCommandReason w k (Unplug said x None) = UnplugsBare w k said x
-HasCommandReason w k (Unplug said x (Some s)) = UnplugsFree w k said x s
-HasCommandReason w k (Tell said) = TellsOf w k said
+HasCommandReason w k (EndPower end) = EndsPower w k end
+HasCommandReason w k (Plug x) = Plugs w k x
+HasCommandReason w k (Unplug x None) = UnplugsBare w k x
+HasCommandReason w k (Unplug x (Some s)) = UnplugsFree w k x s
+HasCommandReason w k Tell = TellsOf w k
 HasCommandReason w k _ = ⊤

@@ -1,16 +1,17 @@
 -- What a deed changes of its caller's references, and what it frees.
 use Rattle.std.specs.Prelude.{◌≡◌, ℕ, true, false, not, ◌&&◌, ◌||◌, ◌==◌, Option, Some, None}
 use Rattle.run_rules.specs.World.{World, is_held, is_live}
-use Rattle.run_rules.specs.Deeds.{Deed, Drop, Open, Close}
+use Rattle.run_rules.specs.declared.deed.Deed.{Deed}
+use Rattle.run_rules.specs.declared.deed.Deed.TheVariants.{Drop, Open, Close}
 use Rattle.run_rules.specs.After.{after, freed}
 
 -- the device of the reference that a deed gives to its caller, and of the one that it takes back
 abbrev pub opened_by : Deed → Option ℕ
-opened_by (Open said s) = Some s
+opened_by (Open s sole) = Some s
 opened_by _ = None
 
 abbrev pub returned_by : Deed → Option ℕ
-returned_by (Close said s) = Some s
+returned_by (Close s) = Some s
 returned_by (Drop s) = Some s
 returned_by _ = None
 

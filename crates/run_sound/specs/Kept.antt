@@ -33,7 +33,7 @@ pub record InRange (w : World) : Type 0 where
   pub holders : AllByRecursion (λ r. IsOfScript w.setup r.caller) w.refs
   pub few : length w.live + free_spots w.live (length w.setup.machine.spots) ≤ length w.setup.machine.spots
   pub few_called : has_ended w 0 ≡ false → length w.finalisers + free_spots w.live (length w.setup.machine.spots) ≤ length w.setup.machine.spots
-  pub some_called : has_ended w 0 ≡ false → w.again ≡ true → 0 < length w.finalisers
+  pub some_called : has_ended w 0 ≡ false → w.pass_repeats ≡ true → 0 < length w.finalisers
 
 -- a sound world in its ranges
 pub record Kept (w : World) : Type 0 where

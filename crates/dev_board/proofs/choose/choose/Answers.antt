@@ -1,7 +1,6 @@
 use Rattle.std.proofs.Common.{◌≡◌, ◌∙◌, refl, sym, ap}
 use Rattle.std.proofs.lemmas.Result.{IfOk-weaker}
 use Rattle.run_rules.specs.Next.{by_activity, next}
-use Rattle.dev_board.specs.Choosing.{choice_of}
 use Rattle.dev_board.specs.View.{world_of}
 use Rattle.dev_board.proofs.ChooseLaws.{doing_is, next_ended, next_goes, next_waits}
 use Rattle.dev_board.proofs.choose.choose.Goals as goal
@@ -23,5 +22,5 @@ returns c =
     let w = world_of s c.args.core.now in
     let k = c.args.caller in
     let doing = doing_is w c.args.core.now.callers.items k c.index.result.now refl c.requires.caller c.index.ensures in
-    IfOk-weaker _ _ (λ does. next w k ≡ choice_of w k does)
+    IfOk-weaker _ _ (λ does. next w k ≡ does)
     (λ does is. next_goes w k (sym (c.is_ended.ensures s) ∙ c.if-is_ended.false) (c.waits_for_boot.ensures s ∙ c.if-waits_for_boot.false) ∙ ap (by_activity w k) (sym doing) ∙ is) c.plan_activity.ensures

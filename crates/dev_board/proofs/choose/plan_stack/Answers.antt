@@ -1,6 +1,5 @@
 use Rattle.std.proofs.Common.{refl}
-use Rattle.run_rules.specs.Deeds.{Does}
-use Rattle.dev_board.specs.Plans.{deed_of}
+use Rattle.run_rules.specs.declared.deed.Choice.TheVariants.{Does}
 use Rattle.dev_board.specs.View.{world_of}
 use Rattle.dev_board.proofs.ChooseLaws.{on_frame}
 use Rattle.dev_board.proofs.InputLaws.{bounded}
@@ -14,5 +13,5 @@ plan_boot-requires-clause-bounded c = bounded c.args.setup.now c.requires.may
 
 pub returns-in-Some : goal.returns-in-Some
 returns-in-Some c =
-    on_frame (world_of c.args.setup.now c.args.core.now) c.args.core.now.callers.items c.args.caller c.index.result.now c.in-Some.frame.now (Does (deed_of c.plan_frame.result)) refl c.requires.caller c.index.ensures
+    on_frame (world_of c.args.setup.now c.args.core.now) c.args.core.now.callers.items c.args.caller c.index.result.now c.in-Some.frame.now (Does c.plan_frame.result) refl c.requires.caller c.index.ensures
     c.in-Some.ensures (c.plan_frame.ensures c.args.caller)

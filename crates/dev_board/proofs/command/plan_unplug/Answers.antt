@@ -2,7 +2,6 @@ use Rattle.std.proofs.Common.{◌≡◌, ◌∙◌}
 use Rattle.std.proofs.lemmas.Result.{IfOk-weaker}
 use Rattle.run_rules.specs.Next.{unplugging}
 use Rattle.dev_board.specs.View.{world_of}
-use Rattle.dev_board.specs.Works.{deed_by}
 use Rattle.dev_board.proofs.ChoiceLaws.{stands_live, unplugs}
 use Rattle.dev_board.proofs.command.plan_unplug.Goals as goal
 
@@ -10,7 +9,6 @@ pub if_free-requires-clause-live : goal.if_free-requires-clause-live
 if_free-requires-clause-live c = stands_live c.args.core.now.tree.live c.args.spot c.in-Some.serial c.in-Some.ensures
 
 pub returns-in-Some : goal.returns-in-Some
-returns-in-Some c = λ said.
+returns-in-Some c =
     let w = world_of c.args.setup.now c.args.core.now in
-    IfOk-weaker _ _ (λ does. unplugging w c.args.caller said c.args.spot ≡ deed_by w said does)
-    (λ does is. unplugs w c.args.caller c.args.spot c.in-Some.serial said c.in-Some.ensures ∙ is) (c.if_free.ensures said)
+    IfOk-weaker _ _ (λ does. unplugging w c.args.caller c.args.spot ≡ does) (λ does is. unplugs w c.args.caller c.args.spot c.in-Some.serial c.in-Some.ensures ∙ is) c.if_free.ensures

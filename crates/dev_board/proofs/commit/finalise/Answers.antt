@@ -19,7 +19,7 @@ returns-in-Some-clause-ok c = λ of.
     let anew = c.args.anew in
     let place = c.in-Some.place in
     rw (c.in-Some.is, hidden_now w (world_of c.args.setup.now c.arrive.new.core) c.args.caller c.args.got shown _ c.in_ok-arrive.ensures.ok c.show.ensures, ← c.goes_again-core.ensures)
-    (ap (λ (v : World). record v { hidden = shown_now w.hidden shown; place = place + 1; again = is_some shown || (not anew && v.again) }) c.in_ok-arrive.ensures.ok
+    (ap (λ (v : World). record v { hidden = shown_now w.hidden shown; next_finaliser = place + 1; pass_repeats = is_some shown || (not anew && v.pass_repeats) }) c.in_ok-arrive.ensures.ok
     ∙ finalised w c.args.caller of shown c.args.got (Some place) anew))
 
 pub returns-else-is_none-clause-ok : goal.returns-else-is_none-clause-ok

@@ -14,7 +14,7 @@ use Rattle.dev_board.proofs.CommitLaws.{searched, moved_back, moved_scans, with_
 use Rattle.dev_board.proofs.commit.search.Goals as goal
 
 pub returns-clause-ok : goal.returns-clause-ok
-returns-clause-ok c = λ parent.
+returns-clause-ok c = λ parent spot.
     (let core = c.args.core.now in
     let w : World = world_of c.args.setup.now core in
     let k = c.args.caller in
@@ -23,7 +23,7 @@ returns-clause-ok c = λ parent.
     let scans : IsTrue (is_scanning (caller_at w k).stack) = rw (← state_is cs k) c.requires.top in
     let moved : callers_of (slice_set cs k c.advance.new.self) ≡ slice_set w.callers k (stacked (caller_at w k) (moved_top c.args.moved (caller_at w k).stack)) =
     map_set caller_of cs k c.advance.new.self ∙ ap (slice_set w.callers k) (c.advance.ensures.caller ∙ ap (λ (x : Caller). stacked x (moved_top c.args.moved x.stack)) was) in
-    searched w (with_callers w (callers_of (slice_set cs k c.advance.new.self))) (world_of c.args.setup.now c.arrive.new.core) k parent c.args.moved c.args.got scans
+    searched w (with_callers w (callers_of (slice_set cs k c.advance.new.self))) (world_of c.args.setup.now c.arrive.new.core) k parent spot c.args.moved c.args.got scans
     (ap (with_callers w) moved) (ok_of _ c.arrive.result c.is_err.result c.is_err.ensures.value c.if-is_err.false c.arrive.ensures.ok))
 
 -- the callers where nothing came: the scan has moved

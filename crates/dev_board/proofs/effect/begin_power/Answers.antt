@@ -3,4 +3,4 @@ use Rattle.dev_board.proofs.effect.begin_power.Goals as goal
 
 pub returns-clause-world : goal.returns-clause-world
 unfolding after
-returns-clause-world c = λ s said. c.begin.ensures.world s
+returns-clause-world c = λ s. c.begin.ensures.world s

@@ -15,4 +15,4 @@ returns-clause-books c = λ s b.
 
 pub returns-clause-world : goal.returns-clause-world
 unfolding after
-returns-clause-world c = λ s said. (rw c.condemn.ensures at c.begin.ensures.world s)
+returns-clause-world c = λ s. (rw c.condemn.ensures at c.begin.ensures.world s)

@@ -3,4 +3,4 @@ use Rattle.dev_board.proofs.effect.end_power.Goals as goal
 
 pub returns-clause-world : goal.returns-clause-world
 unfolding after
-returns-clause-world c = λ s of reply. c.finish.ensures.world s
+returns-clause-world c = λ s end. c.finish.ensures.world s

@@ -3,4 +3,4 @@ use Rattle.dev_board.proofs.effect.open.Goals as goal
 
 pub returns-clause-ok : goal.returns-clause-ok
 unfolding after
-returns-clause-ok c = λ s said. (rw c.in_ok-grant.ensures.ok at c.finish.ensures.world s)
+returns-clause-ok c = λ s. (rw c.in_ok-grant.ensures.ok at c.finish.ensures.world s)

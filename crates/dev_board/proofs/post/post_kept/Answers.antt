@@ -1,12 +1,12 @@
 use Rattle.std.proofs.Common.{◌≡◌, ◌∙◌, ap, arith, length, refl}
 use Rattle.run_rules.specs.World.{World}
-use Rattle.run_rules.specs.Deeds.{Done}
+use Rattle.run_rules.specs.declared.deed.Deed.TheVariants.{Done}
 use Rattle.run_sound.proofs.Holding.{refs_same}
 use Rattle.dev_board.specs.Agreement.{slots_of}
 use Rattle.dev_board.specs.View.{world_of}
 use Rattle.dev_board.proofs.Kept.{kept_step, does_next, no_lease}
 use Rattle.dev_board.proofs.NextLaws.{kept_next}
-use Rattle.dev_board.proofs.WorkSlots.{slots_done}
+use Rattle.dev_board.proofs.DeedSlots.{slots_done}
 use Rattle.dev_board.proofs.post.post_kept.Goals as goal
 
 pub end_transfer-requires-clause-chosen : goal.end_transfer-requires-clause-chosen
@@ -33,7 +33,7 @@ pub returns-in-Ok-clause-kept : goal.returns-in-Ok-clause-kept
 returns-in-Ok-clause-kept c =
     let w : World = world_of c.args.setup.now c.args.core.now in
     let t = c.args.ticket in
-    kept_step c.args.setup.now c.args.core.now c.end_transfer.new.core t.caller (Done t) c.requires.kept tt (kept_next w t.caller t c.requires.kept.kept c.requires.held) c.in-Ok.ensures.ok
+    kept_step c.args.setup.now c.args.core.now c.end_transfer.new.core t.caller (Done t) c.requires.kept (kept_next w t.caller t c.requires.kept.kept c.requires.held) c.in-Ok.ensures.ok
     c.in-Ok.ensures.books
 
 pub returns-in-Ok-clause-slots : goal.returns-in-Ok-clause-slots

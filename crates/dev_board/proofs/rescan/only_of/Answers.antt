@@ -4,8 +4,8 @@ use Rattle.dev_board.proofs.RescanLaws.{rescan_all}
 use Rattle.dev_board.proofs.rescan.only_of.Goals as goal
 
 pub returns-in-None : goal.returns-in-None
-returns-in-None c = λ w said d setup offered is. rescan_all w said d c.args.attr.now c.args.given.now c.in-None.is
+returns-in-None c = λ w d setup offered. rescan_all w d c.args.attr.now c.args.given.now c.in-None.is
 
 pub returns-in-Some : goal.returns-in-Some
-returns-in-Some c = λ w said d setup offered is.
-    ap (λ o. rescan_of w said d o c.args.given.now) (c.in-Some.is ∙ ap Some (sym c.bytes.ensures.bytes)) ∙ c.attr_of.ensures w said d setup offered is
+returns-in-Some c = λ w d setup offered.
+    ap (λ o. rescan_of w d o c.args.given.now) (c.in-Some.is ∙ ap Some (sym c.bytes.ensures.bytes)) ∙ c.attr_of.ensures w d setup offered

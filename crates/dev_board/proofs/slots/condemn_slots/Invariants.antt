@@ -1,5 +1,5 @@
 use Rattle.std.proofs.Common.{◌≡◌, length}
-use Rattle.dev_board.specs.SlotWorks.{LatelyCondemned}
+use Rattle.dev_board.specs.SlotDeeds.{LatelyCondemned}
 use Rattle.dev_board.proofs.SlotLaws.{Amid}
 use Rattle.dev_board.proofs.slots.condemn_slots.Given as goal
 

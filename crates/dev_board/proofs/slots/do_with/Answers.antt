@@ -1,15 +1,24 @@
 use Rattle.std.proofs.Common.{ap, sym, subst, List}
 use Rattle.run_rules.specs.World.{World}
 use Rattle.run_rules.specs.declared.world.Dev.{Dev}
-use Rattle.dev_board.specs.SlotWorks.{SlotsLag, condemned_by}
 use Rattle.dev_board.specs.Agreement.{slots_of}
+use Rattle.dev_board.specs.Publishing.{got_of, published}
+use Rattle.dev_board.specs.SlotDeeds.{SlotsLag, condemned_by}
 use Rattle.dev_board.specs.View.{world_of}
-use Rattle.dev_board.proofs.WorkSlots.{slots_lag}
+use Rattle.dev_board.proofs.DeedSlots.{slots_lag}
+use Rattle.dev_board.proofs.SlotSteps.{slot_ready}
+use Rattle.dev_board.proofs.StepLaws.{deed_arrives}
 use Rattle.dev_board.proofs.slots.do_with.Goals as goal
+
+pub publish-requires : goal.publish-requires
+publish-requires g c =
+    let w : World = world_of c.args.setup.now c.args.core.now in
+    rw c.got_of.ensures (slot_ready w _ (g.S.Slots.states c.args.slots.now) c.requires.agree (deed_arrives w c.args.caller c.args.deed c.requires.may c.requires.kept c.requires.chosen))
 
 pub condemn_too-requires-clause-lag : goal.condemn_too-requires-clause-lag
 condemn_too-requires-clause-lag g c =
     let w : World = world_of c.args.setup.now c.args.core.now in
-    rw (c.condemned_by.ensures, c.requires.agree)
-    (subst (λ (ds : List Dev). SlotsLag w.setup ds (condemned_by c.args.work) (slots_of w)) (sym (ap (λ (v : World). v.live) c.in_ok-do_work.ensures.ok))
-    (slots_lag w c.args.caller c.args.said.now c.args.work c.requires.chosen c.requires.other))
+    let d = c.args.deed in
+    rw (c.condemned_by.ensures, c.publish.ensures.states, c.got_of.ensures, c.requires.agree)
+    (subst (λ (ds : List Dev). SlotsLag w.setup ds (condemned_by d) (published (got_of d) (slots_of w))) (sym (ap (λ (v : World). v.live) c.in_ok-commit.ensures.ok))
+    (slots_lag w c.args.caller d c.requires.chosen (deed_arrives w c.args.caller d c.requires.may c.requires.kept c.requires.chosen) c.requires.other))

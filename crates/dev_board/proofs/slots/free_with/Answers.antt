@@ -1,5 +1,5 @@
 use Rattle.std.proofs.Common.{◌≡◌, ◌<◌, ◌==◌, ◌∙◌, sym, ap, length, Some, List, subst, slice_get, slice_set}
-use Rattle.run_rules.specs.Deeds.{Free as FreeDeed}
+use Rattle.run_rules.specs.declared.deed.Deed.TheVariants.{Free as FreeDeed}
 use Rattle.run_rules.specs.World.{World, Caller, device_at}
 use Rattle.run_rules.proofs.Devices.{found_in}
 use Rattle.run_sound.proofs.Reasons.{has_command_reason}

@@ -1,7 +1,5 @@
 use Rattle.std.proofs.Common.{◌∙◌, refl, sym}
 use Rattle.run_rules.specs.World.{World}
-use Rattle.run_sound.proofs.Reasons.{has_command_reason}
-use Rattle.run_rules.specs.Deeds.{Done}
 use Rattle.dev_board.specs.View.{world_of}
 use Rattle.dev_board.proofs.NextLaws.{ended_so, quiet_wait, wait_is}
 use Rattle.dev_board.proofs.step.next_step.Goals as goal
@@ -27,10 +25,3 @@ returns-in-Ok-Waits-clause-denials g c =
     let w : World = world_of c.args.setup.now c.args.core.now in
     quiet_wait w c.args.caller c.in-Ok-Waits.why c.args.core.now.tree.live (g.S.Slots.denials c.args.slots.now) (g.S.Slots.last_denial c.args.slots.now) c.requires.kept.kept
     (rw c.in-Ok-Waits.field-0-is at c.in-Ok-Waits.ensures)
-
-pub returns-in-Ok-Transfer-clause-step : goal.returns-in-Ok-Transfer-clause-step
-returns-in-Ok-Transfer-clause-step g c =
-    let w : World = world_of c.args.setup.now c.args.core.now in
-    let t = c.in-Ok-Transfer.ticket in
-    let chosen = rw c.in-Ok-Transfer.field-0-is at c.in-Ok-Transfer.ensures in
-    (c.requires.goes_on, c.requires.kept.kept.ranges.tickets c.args.caller t (has_command_reason w c.args.caller (Done t) chosen), chosen, c.of_transfer.ensures, refl)

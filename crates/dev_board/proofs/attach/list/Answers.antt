@@ -1,0 +1,40 @@
+use Rattle.std.proofs.Common.{◌≡◌, ◌∷◌, [], ◌∙◌, refl, ap}
+use Rattle.std.proofs.lemmas.List.{map-append}
+use Rattle.run_rules.specs.After.{listed, new_device}
+use Rattle.run_rules.specs.World.{driver_of}
+use Rattle.dev_board.specs.View.{world_of}
+use Rattle.dev_board.specs.Arrivals.{put_off_too}
+use Rattle.dev_board.proofs.ArriveLaws.{named_is, ok_of}
+use Rattle.dev_board.proofs.MarkLaws.{more_marks}
+use Rattle.dev_board.proofs.UnitLaws.{more_units}
+use Rattle.dev_board.proofs.attach.list.Goals as goal
+
+pub attach-requires-clause-name : goal.attach-requires-clause-name
+attach-requires-clause-name c =
+    let s = c.args.setup.now in
+    let live = c.args.core.now.tree.live in
+    rw (c.requires.books.drivers, named_is s live c.driver_of-driver.result c.args.arrival.unit, c.driver_of-driver.ensures) c.requires.may.unit
+
+pub returns-in-Ok-clause-ok : goal.returns-in-Ok-clause-ok
+unfolding listed
+returns-in-Ok-clause-ok c =
+    let deferred : c.put_off.new.deferred ≡ put_off_too c.args.placing c.args.core.now.deferred c.args.arrival.parent c.args.core.now.tree.next =
+    ok_of _ c.put_off.result c.is_err.result c.is_err.ensures.value c.if-is_err.false c.put_off.ensures.ok
+    ∙ ap (put_off_too c.args.placing c.args.core.now.deferred c.args.arrival.parent) c.next.ensures in
+    record {
+      world = rw (c.in-Ok.ensures.ok, deferred) refl;
+      callers = refl;
+      finalisers = refl;
+      aside = record { stops = refl; stopped = refl; events = refl };
+    }
+
+pub returns-in-Ok-clause-books : goal.returns-in-Ok-clause-books
+returns-in-Ok-clause-books c =
+    let s = c.args.setup.now in
+    let core = c.args.core.now in
+    let d = new_device (world_of s core) c.args.arrival in
+    rw c.in-Ok.ensures.ok (record {
+      marks = more_marks s core.tree.live d core.rows c.set_rows.new.rows c.requires.books.marks (rw c.driver_of-driver.ensures at c.set_rows.ensures);
+      units = more_units s core.tree.live d core.units c.take.new.self c.requires.books.units (rw c.driver_of-driver.ensures at c.in_ok-take.ensures.ok);
+      drivers = rw (c.requires.books.drivers, c.driver_of-driver.ensures, map-append (λ d. driver_of s d.row) core.tree.live (d ∷ [])) refl;
+    })
