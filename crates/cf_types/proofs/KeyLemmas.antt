@@ -1,5 +1,5 @@
 -- Texts as the keys of a map: keys that compare as equal are the same text.
-use Rattle.std.proofs.Common.{◌≡◌, ℕ, Bool, true, false, List, Vec, refl, sym, ◌∙◌}
+use Rattle.std.proofs.Common.{◌≡◌, ℕ, Bool, true, List, Vec, sym, ◌∙◌}
 use Rattle.std.specs.Str.{bytes_eq}
 use Rattle.std.specs.Cmp.Lexicographic.{slice_cmp}
 use Rattle.std.specs.Global.{Global}

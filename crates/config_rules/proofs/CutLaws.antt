@@ -1,5 +1,5 @@
 -- A line has at most one cut, or one fault, and the function finds it.
-use Rattle.std.proofs.Common.{◌≡◌, ℕ, zero, suc, ◌+◌, ◌≤◌, ◌⊎◌, inl, inr, Bool, true, false, cond, not, ◌&&◌, ◌||◌, List, [], ◌∷◌, ◌++◌, length, take, drop, refl, ap, sym, ◌∙◌, subst, arith, Result, Ok, Err, length-append, length-drop, append_assoc, append-nil, one-add, codes}
+use Rattle.std.proofs.Common.{◌≡◌, ℕ, zero, suc, ◌+◌, ◌≤◌, inl, inr, Bool, true, false, cond, not, ◌&&◌, List, [], ◌∷◌, ◌++◌, length, take, drop, refl, ap, sym, ◌∙◌, subst, arith, Result, Ok, Err, length-append, length-drop, append_assoc, append-nil, one-add, codes}
 use Rattle.std.specs.Prelude.{IfOk, ◌==◌, take_while, slice_index, ⊤}
 use Rattle.std.specs.List.{prefix_len, list_all, list_any}
 use Rattle.std.proofs.lemmas.Bool.{eqb-true, not-true, or_cases, false_from_ne_true}

@@ -3,7 +3,6 @@ use Rattle.std.proofs.Common.{sym, ◌≡◌, ℕ, zero, suc, ◌<◌, inl, inr,
 use Rattle.std.specs.Prelude.{slice_index_or, nat_lt}
 use Rattle.std.proofs.lemmas.Bool.{cases_lt, ltb-true}
 use Rattle.std.proofs.lemmas.List.{ext_get_or}
-use Rattle.std.proofs.lemmas.Bool.Decides.{nat_tests}
 use Rattle.cf_types.proofs.TestLemmas.{same_answer}
 use Rattle.config_rules.specs.Select.{LeadsToRoot, AreRooted}
 use Rattle.config_rules.proofs.CutLaws.{both_left, both_right}
