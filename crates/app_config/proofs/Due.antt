@@ -8,34 +8,31 @@ use Rattle.app_input.specs.Inputs.{IsDue}
 use Rattle.app_input.specs.Words.{Form}
 use Rattle.app_input.specs.declared.inputs.Inputs.{Inputs}
 use Rattle.app_input.specs.declared.status.Status.{Status}
-use Rattle.app_input.specs.declared.status.Status.TheVariants.{Ok, ConfigRefused, Usage, MachineRefused, ScriptRefused, Absent, TooLong, ReadFault, WriteFault, Memory}
-use Rattle.app_config.specs.Run.{IsDueStatus, PutsOne}
+use Rattle.app_input.specs.declared.status.Status.TheVariants.{Memory}
+use Rattle.cf_io.specs.Told.{Told}
+use Rattle.app_output.specs.declared.stop.OutputStop.{OutputStop}
+use Rattle.app_output.specs.declared.stop.OutputStop.TheVariants as stops
+use Rattle.app_config.specs.Run.{IsDueStatus, WritesOf, status_after}
 
 -- the status of a run that was asked for
 abbrev pub IsDueOr : Option Form → Files → Status → Type 0
 IsDueOr form files status = (status ≡ Memory) ⊎ IsDueStatus form files status
 
-due_written : (P : List ℕ → Type 0) (form : Option Form) (files : Files) (inputs : Inputs) (writes writes' : ℕ) (old new : Option (List ℕ)) (status : Status)
-    → (std.Ok inputs ≡ std.Err Memory) ⊎ IsDue form files (std.Ok inputs) → PutsOne P writes writes' old new status → ¬ Rose writes writes' → IsDueOr form files status
-due_written P form files inputs writes writes' old new Ok (inl e) puts none = absurd (cc)
-due_written P form files inputs writes writes' old new Ok (inr due) puts none = inr (std.Ok inputs, due, refl)
-due_written P form files inputs writes writes' old new WriteFault due puts none = absurd (none puts.2)
-due_written P form files inputs writes writes' old new Memory due puts none = inl refl
-due_written P form files inputs writes writes' old new (ConfigRefused file line code) due puts none = absurd puts
-due_written P form files inputs writes writes' old new Usage due puts none = absurd puts
-due_written P form files inputs writes writes' old new (MachineRefused line code) due puts none = absurd puts
-due_written P form files inputs writes writes' old new (ScriptRefused which line code) due puts none = absurd puts
-due_written P form files inputs writes writes' old new (Absent name) due puts none = absurd puts
-due_written P form files inputs writes writes' old new (TooLong name) due puts none = absurd puts
-due_written P form files inputs writes writes' old new ReadFault due puts none = absurd puts
+due_written : {A : Type 0} (P : List ℕ → Type 0) (form : Option Form) (files : Files) (inputs : Inputs) (old new : Told) (result : Result A OutputStop)
+    → (std.Ok inputs ≡ std.Err Memory) ⊎ IsDue form files (std.Ok inputs) → WritesOf P old new result → ¬ Rose old.faults new.faults → IsDueOr form files (status_after result)
+due_written P form files inputs old new (std.Ok done) (inl e) writes none = absurd (cc)
+due_written P form files inputs old new (std.Ok done) (inr due) writes none = inr (std.Ok inputs, due, refl)
+due_written P form files inputs old new (std.Err stops.WriteFault) due (inl nothing) none = absurd (cc)
+due_written P form files inputs old new (std.Err stops.WriteFault) due (inr put) none = absurd (none put.2.1.1)
+due_written P form files inputs old new (std.Err stops.Memory) due writes none = inl refl
 
 -- where inputs were read
-pub due_put : (P : List ℕ → Type 0) (told : Option Files) (form : Option Form) (inputs : Inputs) (reads reads' writes writes' : ℕ) (old new : Option (List ℕ)) (status : Status)
-    → IfSome told (λ files. ¬ Rose reads reads' → (std.Ok inputs ≡ std.Err Memory) ⊎ IsDue form files (std.Ok inputs)) → PutsOne P writes writes' old new status
-    → IfSome told (λ files. ¬ Rose reads reads' → ¬ Rose writes writes' → IsDueOr form files status)
-due_put P None form inputs reads reads' writes writes' old new status due puts = due
-due_put P (Some files) form inputs reads reads' writes writes' old new status due puts =
-    λ unread unwritten. due_written P form files inputs writes writes' old new status (due unread) puts unwritten
+pub due_put : {A : Type 0} (P : List ℕ → Type 0) (told : Option Files) (form : Option Form) (inputs : Inputs) (reads reads' : ℕ) (old new : Told) (result : Result A OutputStop)
+    → IfSome told (λ files. ¬ Rose reads reads' → (std.Ok inputs ≡ std.Err Memory) ⊎ IsDue form files (std.Ok inputs)) → WritesOf P old new result
+    → IfSome told (λ files. ¬ Rose reads reads' → ¬ Rose old.faults new.faults → IsDueOr form files (status_after result))
+due_put P None form inputs reads reads' old new result due writes = due
+due_put P (Some files) form inputs reads reads' old new result due writes =
+    λ unread unwritten. due_written P form files inputs old new result (due unread) writes unwritten
 
 -- the answer that this refusal is
 abbrev pub refusal : Status → Result Inputs Status

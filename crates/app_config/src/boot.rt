@@ -5,11 +5,7 @@ ghost use Rattle.config_rules.specs.ScriptText.{FormedScript};
 ghost use Rattle.dev_board.specs.Agreement.{slots_of};
 ghost use Rattle.run_rules.specs.Run.{Boot};
 ghost use Rattle.run_rules.specs.World.{opening, setup_of};
-ghost use Rattle.app_config.specs.Run.{IsBootText, PutsOne};
 
-use crate::history::put_run;
-use app_input::Status;
-use cf_io::Sink;
 use cf_types::{List, Machine, Memory, Script, Tables};
 use dev_board::{Board, run_boot};
 use ref_ledger::PlainSlots;
@@ -45,16 +41,4 @@ pub fn booted(alloc: Global, tables: Tables, machine: Machine) -> Result<Board, 
 {
     let (board, _slots) = started(alloc, tables, machine, List::make(alloc))?;
     Ok(board)
-}
-
-/// Boots a machine and puts the listing of its tables, the history of its boot and its device tree. See autoconf(9).
-pub fn boot<S: Sink>(alloc: Global, tables: Tables, machine: Machine, out: &mut S) -> Status
-    requires formed { FormedTables tables }
-    requires fits { FittingMachine tables machine }
-    ensures { PutsOne (IsBootText tables machine) (S.faults out.old) (S.faults out.new) (S.bytes out.old) (S.bytes out.new) result }
-{
-    match booted(alloc, tables, machine) {
-        Ok(board) => put_run(alloc, &board, out),
-        Err(_) => Status::Memory,
-    }
 }

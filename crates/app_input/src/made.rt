@@ -1,4 +1,4 @@
-ghost use Rattle.std.specs.Prelude.{◌≡◌, ◌≤◌, IfOk, Some};
+ghost use Rattle.std.specs.Prelude.{◌≡◌, ◌≤◌, IfOk, None, Some};
 ghost use Rattle.cf_io.specs.Faults.{Counts};
 ghost use Rattle.cf_io.specs.Load.{is_failed, Fills, Loads};
 ghost use Rattle.cf_io.specs.Memory.{file_named};
@@ -29,6 +29,8 @@ impl Model for MadeFiles {
 
 impl Files for MadeFiles {
     ghost told = { λ it. Some (file_named it) };
+
+    ghost asked = { λ _. None };
 
     ghost faults = { λ it. 0 };
 

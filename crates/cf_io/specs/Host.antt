@@ -1,5 +1,6 @@
--- What reading a whole file answers: with what is left of the file, where that is told.
-use Rattle.std.specs.Prelude.{◌≡◌, ℕ, ◌<◌, ◌≤◌, Option, IfSome, List, length, ⊤}
+-- What reading a whole file answers: with what is left of the file, where that is told. And what a stream of the host is.
+use Rattle.std.specs.Prelude.{◌≡◌, ℕ, ◌<◌, ◌≤◌, Option, None, IfSome, List, [], length, ⊤}
+use Rattle.cf_io.specs.Told.{Told}
 use Rattle.cf_io.specs.declared.files.Load.{Load}
 use Rattle.cf_io.specs.declared.files.Load.TheVariants.{Whole, TooLong, Absent, Failed, Memory}
 use Rattle.cf_io.specs.declared.files.TheConstants.{MAX_FILE}
@@ -11,3 +12,12 @@ Reads left into TooLong = IfSome left (λ bytes. MAX_FILE < length bytes)
 Reads left into Absent = ⊥
 Reads left into Failed = ⊤
 Reads left into Memory = ⊤
+
+-- what a stream holds, where it tells, and how often writing has failed
+pub record Stream : Type 0 where
+  pub contents : Option (List ℕ)
+  pub faults : ℕ
+
+-- it does not tell what was written, and holds nothing back
+abbrev pub told_of : Stream → Told
+told_of s = record { stream = None; held = []; faults = s.faults }

@@ -1,14 +1,14 @@
-ghost use Rattle.std.specs.Prelude.{◌≡◌, ◌==◌, ◌<◌, ◌≤◌, ◌-◌, length, Some, [], IfOk};
-ghost use Rattle.cf_io.specs.Faults.{Counts};
-ghost use Rattle.cf_io.specs.Put.{is_failed, Puts};
-ghost use Rattle.cf_io.specs.Memory.{put_of};
+ghost use Rattle.std.specs.Prelude.{◌≡◌, ◌==◌, ◌<◌, ◌≤◌, ◌-◌, length, [], IfOk};
+ghost use Rattle.cf_io.specs.Memory.{after_put, put_of, told_of};
+ghost use Rattle.cf_io.specs.Put.{Flushes, Puts};
 
-use crate::{Put, Sink};
+use crate::{Flush, Put, Sink};
 use cf_types::{List, Memory};
 use std::alloc::Global;
 use std::marker::Model;
 
-/// Keeps what is put, up to its room. Chosen calls fail, so that a test can see a fault of writing.
+/// Keeps what is put, up to its room, and holds nothing back. Chosen calls fail, so that a test can see a fault of
+/// writing.
 #[derive(Drop)]
 pub struct MemSink {
     bytes: Vec<u8>,
@@ -53,14 +53,12 @@ impl MemSink {
 }
 
 impl Sink for MemSink {
-    ghost bytes = { λ it. Some it.bytes };
-
-    ghost faults = { λ it. it.faults };
+    ghost told = { told_of };
 
     fn put(&mut self, piece: &[u8]) -> Put
-        ensures counted { Counts (is_failed result) self.old.faults self.new.faults }
-        ensures taken { Puts piece.now result (Some self.old.bytes) (Some self.new.bytes) }
+        ensures taken { Puts piece.now result (told_of self.old) (told_of self.new) }
         ensures exact { result ≡ put_of self.old piece.now }
+        ensures called { self.new ≡ after_put self.old piece.now result }
     {
         self.calls = self.calls.saturating_add(1);
         if self.fail.items().contains(&self.calls) {
@@ -74,5 +72,13 @@ impl Sink for MemSink {
             return Put::Failed(taken);
         }
         Put::All
+    }
+
+    fn flush(&mut self) -> Flush
+        ensures flushed { Flushes result (told_of self.old) (told_of self.new) }
+        ensures same { self.new ≡ self.old }
+        ensures all { result ≡ Flush.All }
+    {
+        Flush::All
     }
 }

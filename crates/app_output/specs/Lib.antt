@@ -1,0 +1,4 @@
+pub mod NextLine
+pub mod Output
+pub mod RunText
+pub mod Status

@@ -1,0 +1,35 @@
+-- What a status says on standard error.
+use Rattle.std.specs.Prelude.{ℕ, ◌+◌, List, [], ◌∷◌, ◌++◌, codes, decimal, slice_index_or}
+use Rattle.app_input.specs.declared.inputs.Program.{Program}
+use Rattle.app_input.specs.declared.inputs.Program.TheVariants.{Devconf}
+use Rattle.app_input.specs.declared.status.Status.{Status}
+use Rattle.app_input.specs.declared.status.Status.TheVariants.{Ok, ConfigRefused, Usage, MachineRefused, ScriptRefused, Absent, TooLong, ReadFault, WriteFault, Memory}
+
+-- the forms that the words of a program may have
+abbrev pub usage_text : Program → List ℕ
+usage_text Devconf = codes "usage: devconf ioconf FILE | boot FILE MACHINE | play FILE MACHINE ORDER SCRIPT.. | replay FILE MACHINE HISTORY SCRIPT.. | load N"
+
+-- what a refusal of a file at a line says
+abbrev pub refused_text : List ℕ → List ℕ → ℕ → ℕ → List ℕ
+refused_text kind file line code = kind ++ codes " " ++ file ++ codes ":" ++ decimal line ++ codes ": code " ++ decimal code
+
+-- the third word of `devconf` names the machine file
+abbrev pub machine_word : Program → List (List ℕ) → List ℕ
+machine_word Devconf words = slice_index_or words 2 []
+
+-- the fourth word of `devconf` names the order file, and those behind it the scripts, numbered from 1
+abbrev pub script_word : Program → List (List ℕ) → ℕ → List ℕ
+script_word Devconf words which = slice_index_or words (3 + which) []
+
+-- the line that tells of a status of these words, nothing where all went well
+abbrev pub err_text : Program → List (List ℕ) → Status → List ℕ
+err_text program words Ok = []
+err_text program words (ConfigRefused file line code) = refused_text (codes "config") file line code ++ 10 ∷ []
+err_text program words Usage = usage_text program ++ 10 ∷ []
+err_text program words (MachineRefused line code) = refused_text (codes "machine") (machine_word program words) line code ++ 10 ∷ []
+err_text program words (ScriptRefused which line code) = refused_text (codes "script") (script_word program words which) line code ++ 10 ∷ []
+err_text program words (Absent name) = (name ++ codes ": absent") ++ 10 ∷ []
+err_text program words (TooLong name) = (name ++ codes ": too long") ++ 10 ∷ []
+err_text program words ReadFault = codes "read fault" ++ 10 ∷ []
+err_text program words WriteFault = codes "write fault" ++ 10 ∷ []
+err_text program words Memory = codes "out of memory" ++ 10 ∷ []

@@ -1,0 +1,168 @@
+//! What a status says on standard error.
+ghost use Rattle.std.specs.Prelude.{◌≡◌, [], ◌++◌, ◌⊎◌, OnOk, IfOk, map, slice_index_or, string_bytes};
+ghost use Rattle.cf_types.specs.Lines.{ended};
+ghost use Rattle.cf_io.specs.Told.{Takes};
+ghost use Rattle.app_output.specs.Status.{err_text, machine_word, refused_text, script_word, usage_text};
+
+use app_input::{Program, Status};
+use cf_io::{Put, Sink};
+use cf_types::{Memory, put_decimal};
+use std::alloc::Global;
+
+const DEVCONF_USAGE: &[u8] =
+    b"usage: devconf ioconf FILE | boot FILE MACHINE | play FILE MACHINE ORDER SCRIPT.. | replay FILE MACHINE HISTORY SCRIPT.. | load N\n";
+
+/// The forms that the words of a program may have, with a newline.
+fn usage(program: Program) -> &'static [u8]
+    ensures { result.now ≡ ended (usage_text program) }
+{
+    match program {
+        Program::Devconf => DEVCONF_USAGE,
+    }
+}
+
+fn put_refused(
+    out: &mut Vec<u8>,
+    kind: &[u8],
+    file: &[u8],
+    line: u32,
+    code: u8,
+) -> Result<(), Memory>
+    ensures { OnOk result (out.new.items ≡ out.old.items ++ refused_text kind.now file.now line code) }
+{
+    out.extend_from_slice(kind)?;
+    out.extend_from_slice(b" ")?;
+    out.extend_from_slice(file)?;
+    out.extend_from_slice(b":")?;
+    put_decimal(out, i64::from(line))?;
+    out.extend_from_slice(b": code ")?;
+    put_decimal(out, i64::from(code))?;
+    Ok(())
+}
+
+fn put_named(out: &mut Vec<u8>, name: &[u8], text: &[u8]) -> Result<(), Memory>
+    ensures { OnOk result (out.new.items ≡ out.old.items ++ (name.now ++ text.now)) }
+{
+    out.extend_from_slice(name)?;
+    out.extend_from_slice(text)?;
+    Ok(())
+}
+
+/// The word at a place, counted from 0.
+fn word_at(words: &[String], place: usize) -> &[u8]
+    ensures { result.now ≡ slice_index_or (map string_bytes words.now) place [] }
+{
+    match words.get(place) {
+        Some(word) => word.as_bytes(),
+        None => &[],
+    }
+}
+
+/// The word that names the machine file.
+fn machine_word(program: Program, words: &[String]) -> &[u8]
+    ensures { result.now ≡ machine_word program (map string_bytes words.now) }
+{
+    match program {
+        Program::Devconf => word_at(words, 2),
+    }
+}
+
+/// The word that names the script with this number, or the order file by 0.
+fn script_word(program: Program, words: &[String], which: u8) -> &[u8]
+    ensures { result.now ≡ script_word program (map string_bytes words.now) which }
+{
+    match program {
+        Program::Devconf => word_at(words, 3 + which as usize),
+    }
+}
+
+/// The line that tells of a status of these words.
+fn err_line(
+    alloc: Global,
+    program: Program,
+    words: &[String],
+    status: &Status,
+) -> Result<Vec<u8>, Memory>
+    ensures { IfOk result (λ line. line.items ≡ err_text program (map string_bytes words.now) status.now) }
+{
+    let mut line = Vec::new(alloc);
+    match status {
+        Status::Ok => {}
+        Status::ConfigRefused {
+            file,
+            line: at,
+            code,
+        } => {
+            put_refused(&mut line, b"config", file.items(), *at, *code)?;
+            line.push(b'\n')?;
+        }
+        Status::Usage => line.extend_from_slice(usage(program))?,
+        Status::MachineRefused { line: at, code } => {
+            put_refused(&mut line, b"machine", machine_word(program, words), *at, *code)?;
+            line.push(b'\n')?;
+        }
+        Status::ScriptRefused {
+            which,
+            line: at,
+            code,
+        } => {
+            put_refused(&mut line, b"script", script_word(program, words, *which), *at, *code)?;
+            line.push(b'\n')?;
+        }
+        Status::Absent { name } => {
+            put_named(&mut line, name.items(), b": absent")?;
+            line.push(b'\n')?;
+        }
+        Status::TooLong { name } => {
+            put_named(&mut line, name.items(), b": too long")?;
+            line.push(b'\n')?;
+        }
+        Status::ReadFault => line.extend_from_slice(b"read fault\n")?,
+        Status::WriteFault => line.extend_from_slice(b"write fault\n")?,
+        Status::Memory => line.extend_from_slice(b"out of memory\n")?,
+    }
+    Ok(line)
+}
+
+/// Puts a text, and hands on what is held back. Of a fault only the sink knows, which counts it.
+fn deliver<E: Sink>(text: &[u8], err: &mut E)
+    ensures { Takes text.now (E.told err.old) (E.told err.new) }
+{
+    if let Put::Failed(_) = err.put(text) {
+        return;
+    }
+    let _ = err.flush();
+}
+
+/// Delivers a text. Where that is empty nothing is put.
+fn tell<E: Sink>(text: &[u8], err: &mut E)
+    ensures { Takes text.now (E.told err.old) (E.told err.new) }
+{
+    if !text.is_empty() {
+        return deliver(text, err);
+    }
+    let _ = err.flush();
+}
+
+/// Tells of a status. Where that wants memory, the status is the want of it.
+pub fn report<E: Sink>(
+    alloc: Global,
+    program: Program,
+    words: &[String],
+    status: Status,
+    err: &mut E,
+) -> Status
+    ensures told { Takes (err_text program (map string_bytes words.now) result) (E.told err.old) (E.told err.new) }
+    ensures status { (result ≡ status) ⊎ (result ≡ Status.Memory) }
+{
+    match err_line(alloc, program, words, &status) {
+        Ok(line) => {
+            tell(&line, err);
+            status
+        }
+        Err(_) => {
+            tell(b"out of memory\n", err);
+            Status::Memory
+        }
+    }
+}
