@@ -33,11 +33,7 @@ fn make_line<L: Lines>(lines: &L, place: u64, line: &mut Vec<u8>) -> Result<bool
 }
 
 /// Puts the lines, one at a time. No memory holds more lines than can be counted.
-pub fn put_lines<L: Lines, S: Sink>(
-    alloc: Global,
-    lines: &L,
-    out: &mut S,
-) -> Result<(), OutputStop>
+pub fn put_lines<L: Lines, S: Sink>(alloc: Global, lines: &L, out: &mut S) -> Result<(), OutputStop>
     ensures { Puts (text_of (L.lines lines.now)) (S.told out.old) (S.told out.new) result }
 {
     let mut line = Vec::new(alloc);

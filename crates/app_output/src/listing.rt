@@ -34,11 +34,7 @@ impl<'a> Lines for Listing<'a> {
 }
 
 /// Puts the listing of tables.
-pub fn put_listing<S: Sink>(
-    alloc: Global,
-    tables: &Tables,
-    out: &mut S,
-) -> Result<(), OutputStop>
+pub fn put_listing<S: Sink>(alloc: Global, tables: &Tables, out: &mut S) -> Result<(), OutputStop>
     requires { FitGraph tables.now }
     ensures { Puts (listing tables.now) (S.told out.old) (S.told out.new) result }
 {

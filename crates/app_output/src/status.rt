@@ -98,7 +98,13 @@ fn err_line(
         }
         Status::Usage => line.extend_from_slice(usage(program))?,
         Status::MachineRefused { line: at, code } => {
-            put_refused(&mut line, b"machine", machine_word(program, words), *at, *code)?;
+            put_refused(
+                &mut line,
+                b"machine",
+                machine_word(program, words),
+                *at,
+                *code,
+            )?;
             line.push(b'\n')?;
         }
         Status::ScriptRefused {
@@ -106,7 +112,13 @@ fn err_line(
             line: at,
             code,
         } => {
-            put_refused(&mut line, b"script", script_word(program, words, *which), *at, *code)?;
+            put_refused(
+                &mut line,
+                b"script",
+                script_word(program, words, *which),
+                *at,
+                *code,
+            )?;
             line.push(b'\n')?;
         }
         Status::Absent { name } => {
