@@ -1,0 +1,6 @@
+pub mod TextLemmas
+pub mod TreeLemmas
+pub mod MarkLemmas
+pub mod StatementLemmas
+pub mod SourceLemmas
+pub mod RowLemmas

@@ -1,0 +1,4 @@
+use Rattle.file_select.proofs.sources.select.Goals as goal
+
+pub returns-clause-selects : goal.returns-clause-selects
+returns-clause-selects c = ?
