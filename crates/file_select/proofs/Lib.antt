@@ -4,3 +4,4 @@ pub mod MarkLemmas
 pub mod StatementLemmas
 pub mod SourceLemmas
 pub mod RowLemmas
+pub mod SelectLemmas

@@ -1,11 +1,11 @@
 -- Marks of attributes, and what attributes need.
-use Rattle.std.proofs.Common.{◌≡◌, ℕ, ◌+◌, ◌-◌, ◌<◌, ◌≤◌, zero, suc, arith, Bool, true, false, not, ◌||◌, cond, Option, Some, None, List, [], ◌∷◌, ◌++◌, length, get_or, set, take, map, refl, ap, sym, subst, ◌∙◌, append-nil, get_or-set_same, get_or-set_other, ◌≢◌, ◌⊎◌, inl, inr}
+use Rattle.std.proofs.Common.{◌≡◌, ℕ, ◌+◌, ◌-◌, ◌<◌, ◌≤◌, zero, suc, arith, Bool, true, false, not, ◌||◌, cond, Option, Some, None, List, [], ◌∷◌, ◌++◌, length, get_or, set, take, drop, map, refl, ap, sym, subst, ◌∙◌, append-nil, get_or-set_same, get_or-set_other, ◌≢◌, ◌⊎◌, inl, inr}
 use Rattle.std.specs.Prelude.{◌==◌, filter, flat_map, replicate, slice_get}
 use Rattle.std.specs.List.{All, list_any}
 use Rattle.std.specs.Option.{option_map_or}
 use Rattle.std.proofs.Math.Bool.{or-false}
 use Rattle.std.proofs.lemmas.Bool.{cases_lt, eqb-true, eq-eqb}
-use Rattle.std.proofs.lemmas.List.{get_or_past, get_or-replicate, length-replicate, take_more, flat_map_more}
+use Rattle.std.proofs.lemmas.List.{drop_all, take_all, get_or_past, get_or-replicate, length-replicate, take_more, flat_map_more}
 use Rattle.std.proofs.lemmas.List.Elements.{filter-append, All-head, All-tail, All-weaker}
 use Rattle.cf_types.proofs.TestLemmas.{same_answer, equal_itself}
 use Rattle.cf_types.proofs.OfferLemmas.{is_in-append, walk_enough}
@@ -255,3 +255,8 @@ none_marked n x = by (cases_lt x n)
     by : (x < n) ⊎ (n ≤ x) → get_or (replicate n false) x false ≡ false
     by (inl h) = get_or-replicate n x false false h
     by (inr h) = get_or_past (replicate n false) x false (omega (arith, length-replicate n false))
+
+-- a slice that was written as a whole
+pub whole_slice : (n : ℕ) (new old : List Bool) → length new ≡ length old → length new ≡ n → take n (new ++ drop (length new) old) ≡ new
+whole_slice n new old same size =
+    ap (λ xs. take n (new ++ xs)) (drop_all (length new) old (omega arith)) ∙ ap (take n) (append-nil new) ∙ take_all n new (omega arith)

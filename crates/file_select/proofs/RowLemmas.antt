@@ -221,11 +221,11 @@ pub all_inserted : (t : Tables) (name : List ℕ) (s0 s1 s2 s3 s4 : List (List �
     → s3 ≡ with_texts s2 (map str_to_ascii_lowercase (map (λ i. i.name) options)) → s4 ≡ with_texts s3 (map str_to_ascii_lowercase file_systems)
     → attrs ≡ t.attrs → options ≡ t.options → file_systems ≡ t.file_systems → length marks ≡ length t.attrs → ((a : ℕ) → get_or marks a false ≡ is_in a (reached_attrs t)) → has_name s4 name ≡ is_chosen t name
 all_inserted t name s0 s1 s2 s3 s4 attrs marks options file_systems e0 e1 e2 e3 e4 ea eo ef size h =
-    let marked : List Attr → List (List ℕ) = λ as. map (attr_name as) (filter (λ a. get_or marks a false) (below (length as))) in
+    let marked : List Attr → List (List ℕ) = λ xs. map (attr_name xs) (filter (λ a. get_or marks a false) (below (length xs))) in
     let rows = flat_map (row_names t) t.rows in
     let lower_options = map str_to_ascii_lowercase (map (λ (i : Item). i.name) t.options) in
     let lower_systems = map str_to_ascii_lowercase t.file_systems in
-    let two : s2 ≡ with_texts (with_texts [] rows) (marked t.attrs) = e2 ∙ ap (λ as. with_texts s1 (marked as)) ea ∙ ap (λ s. with_texts s (marked t.attrs)) (e1 ∙ ap (λ s. with_texts s rows) e0) in
+    let two : s2 ≡ with_texts (with_texts [] rows) (marked t.attrs) = e2 ∙ ap (λ xs. with_texts s1 (marked xs)) ea ∙ ap (λ s. with_texts s (marked t.attrs)) (e1 ∙ ap (λ s. with_texts s rows) e0) in
     let all : s4 ≡ with_texts (with_texts (with_texts [] rows) (marked t.attrs)) (item_names t) =
     e4 ∙ ap (λ fs. with_texts s3 (map str_to_ascii_lowercase fs)) ef
     ∙ ap (λ s. with_texts s lower_systems) (e3 ∙ ap (λ (os : List Item). with_texts s2 (map str_to_ascii_lowercase (map (λ i. i.name) os))) eo ∙ ap (λ s. with_texts s lower_options) two)

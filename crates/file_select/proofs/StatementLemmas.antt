@@ -54,6 +54,8 @@ module _ (test : List ℕ → Bool) where
   pub found_good : (ps part behind : List Piece) (value : Bool) → true ≡ is_some (path_in ps) → part ≡ condition_in ps → behind ≡ tail_in ps → true ≡ is_tail behind → JudgesOptional test part (Value value) → Finds test ps (Good value)
   found_good ps part behind value path is rest e h =
       let k : JudgesOptional test (condition_in ps) (Value value) = subst (λ (qs : List Piece). JudgesOptional test qs (Value value)) is h in
-      let s = found_source ps behind k.0 path rest e k.1 in
-      (s.0, record { form = s.1; depth = subst (λ (c : Option Disjunction). option_map_or nesting c 0 ≤ 64) (sym s.2) k.2 },
-      k.3 ∙ ap (λ c. option_map_or (is_true test) c true) (sym s.2))
+      let s = found_source ps behind k.0 path rest e k.1 in (
+        s.0,
+        record { form = s.1; depth = subst (λ (c : Option Disjunction). option_map_or nesting c 0 ≤ 64) (sym s.2) k.2 },
+        k.3 ∙ ap (λ c. option_map_or (is_true test) c true) (sym s.2),
+      )

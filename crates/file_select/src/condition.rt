@@ -261,11 +261,7 @@ pub enum Verdict {
 }
 
 /// Reads all symbols. `None` where one may not stand where it stands.
-fn evaluate(
-    alloc: Global,
-    names: &TextSet,
-    pieces: &[Piece],
-) -> Result<Option<Evaluation>, Memory>
+fn evaluate(alloc: Global, names: &TextSet, pieces: &[Piece]) -> Result<Option<Evaluation>, Memory>
     ensures { IfOk result (λ read. read ≡ run (has_name names.now) pieces.now start) }
 {
     let mut state = Evaluation::make(alloc);

@@ -14,12 +14,7 @@ use cf_types::{Attr, Item, List, Memory, Name, Row, Tables};
 use std::alloc::Global;
 
 /// Adds the names of the device and the attachment of a row.
-fn insert_row(
-    alloc: Global,
-    names: &mut TextSet,
-    tables: &Tables,
-    row: &Row,
-) -> Result<(), Memory>
+fn insert_row(alloc: Global, names: &mut TextSet, tables: &Tables, row: &Row) -> Result<(), Memory>
     requires device { row.now.device < length tables.now.devices }
     requires attach { row.now.attach < length tables.now.attaches }
     ensures names { OnOk result (names.new ≡ with_texts names.old (row_names tables.now row.now)) }

@@ -9,5 +9,5 @@ use Rattle.file_select.proofs.names.insert_attrs.Given as goal
 abbrev pub invariant-loop-place : goal.invariant-loop-place
 invariant-loop-place l = record {
   names : l.names ≡ with_texts l.initial.names (map (attr_name l.attrs) (filter (λ a. get_or l.marks a false) (below l.place)));
-  short : All IsShort l.initial.names → All IsShort l.names
+  short : All IsShort l.initial.names → All IsShort l.names;
 }

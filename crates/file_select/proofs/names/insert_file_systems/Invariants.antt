@@ -7,5 +7,5 @@ use Rattle.file_select.proofs.names.insert_file_systems.Given as goal
 abbrev pub invariant-loop-name : goal.invariant-loop-name
 invariant-loop-name l = record {
   names : l.names ≡ with_texts l.initial.names (map str_to_ascii_lowercase (take l.name-index l.file_systems));
-  short : All IsShort l.initial.names → All IsShort l.names
+  short : All IsShort l.initial.names → All IsShort l.names;
 }

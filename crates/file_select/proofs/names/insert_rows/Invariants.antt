@@ -8,5 +8,5 @@ use Rattle.file_select.proofs.names.insert_rows.Given as goal
 abbrev pub invariant-loop-row : goal.invariant-loop-row
 invariant-loop-row l = record {
   names : l.names ≡ with_texts l.initial.names (flat_map (row_names l.tables) (take l.row-index l.tables.rows));
-  short : All IsShort l.initial.names → All IsShort l.names
+  short : All IsShort l.initial.names → All IsShort l.names;
 }

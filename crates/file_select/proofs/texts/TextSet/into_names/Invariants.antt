@@ -6,7 +6,7 @@ use Rattle.file_select.proofs.texts.TextSet.into_names.Given as goal
 abbrev pub invariant-loop-text : goal.invariant-loop-text
 invariant-loop-text l = record {
   parts : l.names.items ++ texts_in l.texts ≡ texts_in l.initial.texts;
-  short : All IsShort (texts_in l.texts)
+  short : All IsShort (texts_in l.texts);
 }
 
 abbrev pub decreases-loop-text : goal.decreases-loop-text
