@@ -7,4 +7,5 @@ mod judge;
 mod stop;
 
 pub use compiler::compile;
+pub use judge::refusal;
 pub use stop::CompileStop;

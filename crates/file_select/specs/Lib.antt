@@ -1,0 +1,11 @@
+pub mod Answers
+pub mod Findings
+pub mod Marks
+pub mod Steps
+pub mod Texts
+pub use Rattle.cf_io.specs.Faults
+pub use Rattle.config_rules.specs.Formed
+pub use Rattle.config_rules.specs.Reading
+pub use Rattle.file_rules.specs.Chosen
+pub use Rattle.file_rules.specs.Condition
+pub use Rattle.file_rules.specs.Sources

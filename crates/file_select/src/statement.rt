@@ -1,0 +1,145 @@
+//! Reads a `file` statement: its path, its condition, its flags and its rule.
+ghost use Rattle.std.specs.Prelude.{◌≡◌, ◌<◌, bytes_eq, codes, drop, IfOk, is_some, length, option_map, take_while, not};
+ghost use Rattle.std.specs.List.{before_first, position_or_len, prefix_len};
+ghost use Rattle.std.specs.Option.{option_copied};
+ghost use Rattle.config_rules.specs.Form.{path_of};
+ghost use Rattle.config_rules.specs.Select.{has_name};
+ghost use Rattle.file_rules.specs.Sources.{condition_in, ends_condition, file_pieces, is_flag, is_rule, is_tail, path_in};
+ghost use Rattle.file_select.specs.Findings.{Finds, JudgesOptional};
+
+use crate::condition::{Verdict, judge};
+use crate::symbol::word_of;
+use crate::texts::TextSet;
+use cf_types::code::configuration as code;
+use cf_types::{Memory, Piece, Stmt};
+use cf_words::is_path_word;
+use std::alloc::Global;
+
+/// What a `file` statement is found to be.
+#[derive(Clone, Copy)]
+pub enum Finding {
+    /// It has this code.
+    Bad(u8),
+    /// It has none, and its source is selected or not.
+    Good(bool),
+}
+
+/// What stands behind the word of a statement, if it is a `file` statement.
+pub fn file_pieces(stmt: &Stmt) -> Option<&[Piece]>
+    ensures { option_copied result ≡ file_pieces stmt.now }
+{
+    match stmt {
+        Stmt::Free { word, rest } if word.bytes() == b"file".as_slice() => Some(rest.items()),
+        _ => None,
+    }
+}
+
+fn is_flag(piece: &Piece) -> bool
+    ensures { result ≡ is_flag piece.now }
+{
+    let word = word_of(piece);
+    word.is_word(b"needs-flag") || word.is_word(b"needs-count")
+}
+
+fn ends_condition(piece: &Piece) -> bool
+    ensures { result ≡ ends_condition piece.now }
+{
+    is_flag(piece) || word_of(piece).is_word(b"compile-with")
+}
+
+fn is_path(piece: &Piece) -> bool
+    ensures { result ≡ is_some (path_of piece.now) }
+{
+    is_path_word(word_of(piece))
+}
+
+fn is_rule(pieces: &[Piece]) -> bool
+    ensures { result ≡ is_rule pieces.now }
+{
+    match pieces {
+        [] => true,
+        [word, path] => word_of(word).is_word(b"compile-with") && is_path(path),
+        _ => false,
+    }
+}
+
+/// How many flags stand first.
+fn count_flags(pieces: &[Piece]) -> usize
+    ensures { result ≡ prefix_len is_flag pieces.now }
+{
+    pieces.iter().take_while(|piece| is_flag(piece)).count()
+}
+
+/// How many tokens stand before the first that ends a condition.
+fn count_condition(pieces: &[Piece]) -> usize
+    ensures { result ≡ position_or_len ends_condition pieces.now }
+{
+    pieces
+        .iter()
+        .take_while(|piece| !ends_condition(piece))
+        .count()
+}
+
+/// Whether the tokens are flags, and then perhaps a rule.
+fn is_tail(pieces: &[Piece]) -> bool
+    ensures { result ≡ is_tail pieces.now }
+{
+    let (_, behind) = pieces.split_at(count_flags(pieces));
+    is_rule(behind)
+}
+
+/// The tokens of the condition, and those behind it.
+fn split_condition(pieces: &[Piece]) -> (&[Piece], &[Piece])
+    ensures condition { result.0.now ≡ before_first ends_condition pieces.now }
+    ensures behind { result.1.now ≡ drop (position_or_len ends_condition pieces.now) pieces.now }
+{
+    pieces.split_at(count_condition(pieces))
+}
+
+/// What a condition is found to be, where none is true.
+fn judge_optional(alloc: Global, names: &TextSet, pieces: &[Piece]) -> Result<Verdict, Memory>
+    ensures { IfOk result (JudgesOptional (has_name names.now) pieces.now) }
+{
+    if pieces.is_empty() {
+        return Ok(Verdict::Value(true));
+    }
+    judge(alloc, names, pieces)
+}
+
+/// Whether a path stands first.
+fn has_path(pieces: &[Piece]) -> bool
+    ensures { result ≡ is_some (path_in pieces.now) }
+{
+    match pieces.first() {
+        Some(piece) => is_path(piece),
+        None => false,
+    }
+}
+
+/// What stands behind the first token.
+fn behind_path(pieces: &[Piece]) -> &[Piece]
+    ensures { result.now ≡ drop 1 pieces.now }
+{
+    match pieces {
+        [_, rest @ ..] => rest,
+        [] => pieces,
+    }
+}
+
+/// What a `file` statement is found to be by what stands behind its word, where these names are chosen.
+pub fn find(alloc: Global, names: &TextSet, pieces: &[Piece]) -> Result<Finding, Memory>
+    ensures { IfOk result (Finds (has_name names.now) pieces.now) }
+{
+    if !has_path(pieces) {
+        return Ok(Finding::Bad(code::NO_PATH));
+    }
+    let (condition, behind) = split_condition(behind_path(pieces));
+    if !is_tail(behind) {
+        return Ok(Finding::Bad(code::NO_CONDITION));
+    }
+    match judge_optional(alloc, names, condition)? {
+        Verdict::NoForm => Ok(Finding::Bad(code::NO_CONDITION)),
+        Verdict::TooDeep => Ok(Finding::Bad(code::TOO_DEEP)),
+        Verdict::Value(selected) => Ok(Finding::Good(selected)),
+    }
+}
