@@ -1,6 +1,6 @@
 -- The names that a configuration chooses, after files.conf of config(5): those of its devices and attachments, of the
 -- attributes that these need, and of its options and file systems.
-use Rattle.std.specs.Prelude.{◌≡◌, ℕ, Bool, List, [], ◌∷◌, ◌++◌, length, map, filter, flat_map, slice_get, bytes_eq}
+use Rattle.std.specs.Prelude.{◌≡◌, ℕ, Bool, List, [], ◌++◌, length, map, filter, flat_map, slice_get}
 use Rattle.std.specs.List.Sorted.{IsStrictlySortedBy}
 use Rattle.std.specs.Cmp.Lexicographic.{slice_cmp}
 use Rattle.std.specs.Option.{option_map_or, option_to_list}
@@ -11,7 +11,6 @@ use Rattle.cf_types.specs.Offers.{named_by, nodes_of, walks}
 use Rattle.cf_types.specs.declared.tables.Attach.{Attach}
 use Rattle.cf_types.specs.declared.tables.Attr.{Attr}
 use Rattle.cf_types.specs.declared.tables.Device.{Device}
-use Rattle.cf_types.specs.declared.tables.Pseudo.{Pseudo}
 use Rattle.cf_types.specs.declared.tables.Row.{Row}
 use Rattle.cf_types.specs.declared.tables.Tables.{Tables}
 use Rattle.config_rules.specs.Select.{has_name}

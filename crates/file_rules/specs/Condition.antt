@@ -1,6 +1,6 @@
 -- The condition of a `file` statement, after files.conf of config(5): names with `!`, `&` and `|`, of which `!` binds most
 -- and `|` least, and parentheses. The limit on nesting is this project's profile.
-use Rattle.std.specs.Prelude.{◌≡◌, ℕ, ◌+◌, max, Bool, not, ◌&&◌, ◌||◌, if◌then◌else◌, List, [], ◌∷◌, ◌++◌, codes, Option, Some, None, option_map}
+use Rattle.std.specs.Prelude.{◌≡◌, ℕ, ◌+◌, max, Bool, not, ◌&&◌, ◌||◌, List, [], ◌∷◌, ◌++◌, codes, Option, Some, option_map}
 use Rattle.cf_types.specs.declared.stmt.Piece.{Piece}
 use Rattle.config_rules.specs.Form.{each, given, is_mark, name_of, ◌or◌}
 

@@ -1,6 +1,6 @@
 -- Which sources a configuration selects by its `file` statements, after files.conf of config(5). The form of the statement
 -- and its codes are this project's profile.
-use Rattle.std.specs.Prelude.{◌≡◌, ℕ, ◌<◌, ◌≤◌, ◌⊎◌, Bool, true, false, not, ◌&&◌, if◌then◌else◌, List, [], ◌∷◌, ◌++◌, length, drop, map, filter, filter_map, take_while, slice_get, bytes_eq, codes, Option, Some, None, is_some, option_and_then, ⊤}
+use Rattle.std.specs.Prelude.{◌≡◌, ℕ, ◌<◌, ◌≤◌, ◌⊎◌, Bool, true, false, not, ◌&&◌, List, [], ◌∷◌, ◌++◌, drop, map, filter, filter_map, slice_get, bytes_eq, codes, Option, Some, None, is_some, option_and_then, ⊤}
 use Rattle.std.specs.List.{before_first, position_or_len, prefix_len}
 use Rattle.std.specs.Option.{option_map_or}
 use Rattle.cf_types.specs.declared.code.configuration.TheConstants.{NO_PATH, NO_CONDITION, TOO_DEEP}
@@ -10,10 +10,10 @@ use Rattle.cf_types.specs.declared.stmt.Stmt.{Stmt}
 use Rattle.cf_types.specs.declared.stmt.Stmt.TheVariants as stmt
 use Rattle.cf_types.specs.declared.tables.Refusal.{Refusal}
 use Rattle.cf_types.specs.declared.tables.Tables.{Tables}
-use Rattle.config_rules.specs.Fault.{Accepted, first_fault, refusal, stmts_of}
+use Rattle.config_rules.specs.Fault.{Accepted, first_fault, refusal}
 use Rattle.config_rules.specs.Form.{given, is_among, is_word, path_of}
 use Rattle.config_rules.specs.Meaning.{Means}
-use Rattle.config_rules.specs.Reading.{Files, Reading, reading}
+use Rattle.config_rules.specs.Reading.{Files, reading}
 use Rattle.file_rules.specs.Chosen.{is_chosen}
 use Rattle.file_rules.specs.Condition.{Cond, Disjunction, is_true, nesting}
 

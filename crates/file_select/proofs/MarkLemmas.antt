@@ -1,14 +1,13 @@
 -- Marks of attributes, and what attributes need.
-use Rattle.std.proofs.Common.{◌≡◌, ℕ, ◌+◌, ◌-◌, ◌<◌, ◌≤◌, zero, suc, arith, Bool, true, false, not, ◌||◌, cond, Option, Some, None, List, [], ◌∷◌, ◌++◌, length, get_or, set, take, drop, map, refl, ap, sym, subst, ◌∙◌, append-nil, get_or-set_same, get_or-set_other, ◌≢◌, ◌⊎◌, inl, inr}
-use Rattle.std.specs.Prelude.{◌==◌, filter, flat_map, replicate, slice_get}
-use Rattle.std.specs.List.{All, list_any}
-use Rattle.std.specs.Option.{option_map_or}
+use Rattle.std.proofs.Common.{◌≡◌, ℕ, ◌+◌, ◌<◌, ◌≤◌, zero, suc, arith, Bool, true, false, ◌||◌, cond, List, [], ◌∷◌, ◌++◌, length, get_or, set, take, drop, refl, ap, sym, subst, ◌∙◌, append-nil, get_or-set_same, get_or-set_other, ◌≢◌, ◌⊎◌, inl, inr}
+use Rattle.std.specs.Prelude.{◌==◌, filter, flat_map, replicate}
+use Rattle.std.specs.List.{All}
 use Rattle.std.proofs.Math.Bool.{or-false}
 use Rattle.std.proofs.lemmas.Bool.{cases_lt, eqb-true, eq-eqb}
 use Rattle.std.proofs.lemmas.List.{drop_all, take_all, get_or_past, get_or-replicate, length-replicate, take_more, flat_map_more}
 use Rattle.std.proofs.lemmas.List.Elements.{filter-append, All-head, All-tail, All-weaker}
 use Rattle.cf_types.proofs.TestLemmas.{same_answer, equal_itself}
-use Rattle.cf_types.proofs.OfferLemmas.{is_in-append, walk_enough}
+use Rattle.cf_types.proofs.OfferLemmas.{is_in-append}
 use Rattle.cf_types.specs.Gather.{is_in}
 use Rattle.cf_types.specs.Numbers.{below}
 use Rattle.cf_types.specs.Offers.{Node, AreEarlier, needs_at, nodes_of, walk, walks}

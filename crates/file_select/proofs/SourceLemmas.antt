@@ -1,7 +1,6 @@
 -- The paths of sources, one statement more.
-use Rattle.std.proofs.Common.{◌≡◌, ℕ, ◌+◌, ◌<◌, arith, Bool, true, false, not, ◌||◌, cond, Option, Some, None, List, [], ◌∷◌, ◌++◌, length, get_or, take, drop, map, refl, ap, sym, subst, ◌∙◌, inl, inr, append_assoc, append-nil}
-use Rattle.std.specs.Prelude.{filter, filter_map, slice_get}
-use Rattle.std.specs.List.{list_any}
+use Rattle.std.proofs.Common.{◌≡◌, ℕ, ◌+◌, ◌<◌, Bool, true, false, not, ◌||◌, cond, Option, Some, None, List, [], ◌∷◌, ◌++◌, length, get_or, take, drop, map, refl, ap, sym, subst, ◌∙◌, append-nil}
+use Rattle.std.specs.Prelude.{filter, slice_get}
 use Rattle.std.specs.Option.{option_to_list}
 use Rattle.std.specs.Str.{bytes_eq}
 use Rattle.std.proofs.Math.Bool.{or-false}
@@ -11,17 +10,16 @@ use Rattle.std.proofs.lemmas.List.Folds.{list_any-append}
 use Rattle.std.proofs.lemmas.Map.Views.{any-filter_same}
 use Rattle.std.proofs.lemmas.Slice.Eq.{bytes_eq-Decides}
 use Rattle.cf_types.proofs.ListLemmas.{filter_map_more}
-use Rattle.cf_types.proofs.TestLemmas.{same_answer}
 use Rattle.cf_types.specs.declared.stmt.Piece.{Piece}
 use Rattle.cf_types.specs.declared.stmt.Placed.{Placed}
 use Rattle.cf_types.specs.declared.tables.Refusal.{Refusal}
 use Rattle.config_rules.specs.Fault.{refusal}
 use Rattle.config_rules.specs.Select.{has_name}
-use Rattle.file_rules.specs.Sources.{AreSources, HasCode, IsFirstBad, IsSource, SelectsIn, Source, distinct, file_pieces, files_in, is_selected, path_in, paths_of}
+use Rattle.file_rules.specs.Sources.{AreSources, IsFirstBad, IsSource, SelectsIn, Source, distinct, file_pieces, files_in, is_selected, path_in, paths_of}
 use Rattle.file_select.specs.Answers.{Takes, TakesOptional, with_path}
 use Rattle.file_select.specs.Findings.{Finds}
 use Rattle.file_select.specs.Texts.{with_text}
-use Rattle.file_select.specs.declared.statement.Finding.TheVariants.{Bad, Good}
+use Rattle.file_select.specs.declared.statement.Finding.TheVariants.{Good}
 use Rattle.file_select.proofs.TextLemmas.{has-with_text}
 
 -- ---- one path more

@@ -1,15 +1,14 @@
 -- Conditions as trees and as they are read, symbol by symbol.
-use Rattle.std.proofs.Common.{◌≡◌, ℕ, ◌+◌, ◌<◌, ◌≤◌, zero, suc, arith, max, Bool, true, false, not, ◌&&◌, ◌||◌, cond, Option, Some, None, List, [], ◌∷◌, ◌++◌, drop, length, get_or, refl, ap, sym, subst, ◌∙◌, append_assoc, append-nil, add-zero}
+use Rattle.std.proofs.Common.{◌≡◌, ℕ, ◌+◌, ◌<◌, ◌≤◌, arith, max, Bool, true, false, not, ◌&&◌, ◌||◌, cond, Option, Some, None, List, [], ◌∷◌, ◌++◌, drop, length, get_or, refl, ap, sym, subst, ◌∙◌, append_assoc, append-nil, add-zero}
 use Rattle.std.specs.Prelude.{◌==◌, nat_lt, option_map, option_and_then, IfOk, Result, Ok, Err}
-use Rattle.std.specs.Option.{option_map_or}
 use Rattle.std.proofs.lemmas.Bool.Decides.{nat_tests}
 use Rattle.std.proofs.lemmas.List.{drop_more, drop_all}
 use Rattle.cf_types.specs.declared.stmt.Piece.{Piece}
-use Rattle.config_rules.specs.Form.{each, given}
+use Rattle.config_rules.specs.Form.{each}
 use Rattle.file_rules.specs.Condition.{Symbol, Word, Not, And, Or, Open, Close, Disjunction, one_of, either, Conjunction, all_of, both, Term, named, negated, grouped, Cond, symbol_of, spelled, spelled_conjunction, spelled_term, is_true, is_true_conjunction, is_true_term, nesting, nesting_conjunction, nesting_term}
 use Rattle.file_rules.specs.Sources.{IsCondition}
 use Rattle.file_select.specs.Findings.{Judges, JudgesOptional}
-use Rattle.file_select.specs.Steps.{State, valued, deeper, fresh, value_of, with_term, with_not, with_or, step, start, run, verdict_of}
+use Rattle.file_select.specs.Steps.{State, valued, deeper, fresh, value_of, with_term, with_not, step, start, run, verdict_of}
 use Rattle.file_select.specs.declared.condition.Level.{Level}
 use Rattle.file_select.specs.declared.condition.Verdict.{Verdict}
 use Rattle.file_select.specs.declared.condition.Verdict.TheVariants.{NoForm, TooDeep, Value}

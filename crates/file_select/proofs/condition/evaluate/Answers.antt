@@ -1,4 +1,4 @@
-use Rattle.std.proofs.Common.{rules, ◌∙◌, ap, sym, arith}
+use Rattle.std.proofs.Common.{rules, ◌∙◌, sym}
 use Rattle.config_rules.specs.Select.{has_name}
 use Rattle.file_select.proofs.TreeLemmas.{run_all, run_more, run_refused, run_stops}
 use Rattle.file_select.proofs.condition.evaluate.Goals as goal

@@ -1,4 +1,4 @@
-use Rattle.std.proofs.Common.{rules, ◌∙◌, arith, get_or, refl}
+use Rattle.std.proofs.Common.{rules, get_or, refl}
 use Rattle.file_select.proofs.MarkLemmas.{adds_more, adds_one}
 use Rattle.file_select.proofs.marks.mark_all.Goals as goal
 

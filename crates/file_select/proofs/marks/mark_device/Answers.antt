@@ -1,7 +1,6 @@
-use Rattle.std.proofs.Common.{◌<◌, List, ℕ, length, subst, sym}
-use Rattle.std.specs.List.{All}
+use Rattle.std.proofs.Common.{◌<◌, length}
 use Rattle.std.specs.Option.{option_map_or}
-use Rattle.std.proofs.Common.{[], ◌∷◌, ◌≡◌, ap}
+use Rattle.std.proofs.Common.{[], ◌∷◌}
 use Rattle.file_select.proofs.RowLemmas.{back_all, front_all}
 use Rattle.file_select.proofs.MarkLemmas.{adds_both, adds_to, all_size}
 use Rattle.file_select.proofs.marks.mark_device.Goals as goal

@@ -1,4 +1,4 @@
-use Rattle.std.proofs.Common.{◌≡◌, ap, sym, ◌∙◌}
+use Rattle.std.proofs.Common.{ap, sym, ◌∙◌}
 use Rattle.config_rules.specs.Select.{has_name}
 use Rattle.file_rules.specs.Chosen.{attr_name}
 use Rattle.file_select.proofs.MarkLemmas.{adds_test, named_at}

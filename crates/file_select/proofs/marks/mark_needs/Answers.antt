@@ -1,4 +1,4 @@
-use Rattle.std.proofs.Common.{◌≡◌, ◌∙◌, ◌+◌, ◌-◌, ◌<◌, arith, ap, length, List, ℕ, Bool, subst, sym, rules, get_or, false, true}
+use Rattle.std.proofs.Common.{◌≡◌, ◌∙◌, ◌+◌, ◌-◌, ◌<◌, arith, ap, length, ℕ, subst, sym}
 use Rattle.std.specs.List.{All}
 use Rattle.cf_types.specs.Offers.{nodes_of}
 use Rattle.file_select.proofs.MarkLemmas.{Spreads, adds_to, needs_are, needs_below, nodes_length, spread_all, spread_marked, spread_none, spread_unmarked}

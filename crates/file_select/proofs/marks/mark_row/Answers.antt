@@ -1,4 +1,4 @@
-use Rattle.std.proofs.Common.{◌≡◌, ◌∙◌, List, ℕ, subst, sym, ap}
+use Rattle.std.proofs.Common.{◌∙◌, List, ℕ, subst, sym, ap}
 use Rattle.file_rules.specs.Chosen.{attach_in, device_in}
 use Rattle.file_select.specs.Marks.{AddsMarks}
 use Rattle.file_select.proofs.RowLemmas.{attach_there, device_there, row_attrs_are}

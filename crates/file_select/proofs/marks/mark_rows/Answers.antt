@@ -1,4 +1,4 @@
-use Rattle.std.proofs.Common.{rules, ◌≡◌, ◌<◌, ap, length, get_or, sym, ◌∙◌, arith, subst}
+use Rattle.std.proofs.Common.{rules}
 use Rattle.file_rules.specs.Chosen.{row_attrs}
 use Rattle.file_select.proofs.MarkLemmas.{adds_piece}
 use Rattle.file_select.proofs.marks.mark_rows.Goals as goal

@@ -1,4 +1,4 @@
-use Rattle.std.proofs.Common.{◌≡◌, ◌∙◌, ap, sym, rules}
+use Rattle.std.proofs.Common.{◌∙◌, ap}
 use Rattle.file_select.specs.Texts.{with_text}
 use Rattle.file_select.proofs.TextLemmas.{has_more}
 use Rattle.file_select.proofs.marks.pseudo_names.Goals as goal

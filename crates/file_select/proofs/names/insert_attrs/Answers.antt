@@ -1,4 +1,3 @@
-use Rattle.std.proofs.Common.{get_or, false}
 use Rattle.file_select.proofs.RowLemmas.{inserted_marked}
 use Rattle.file_select.proofs.names.insert_attrs.Goals as goal
 

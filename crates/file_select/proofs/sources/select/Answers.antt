@@ -1,4 +1,4 @@
-use Rattle.std.proofs.Common.{◌≡◌, ◌∙◌, Option, sym, subst}
+use Rattle.std.proofs.Common.{◌≡◌, ◌∙◌, Option, subst}
 use Rattle.std.specs.Prelude.{IfSome}
 use Rattle.cf_expand.specs.Steps.{expanded}
 use Rattle.config_rules.specs.Reading.{Files, reading}

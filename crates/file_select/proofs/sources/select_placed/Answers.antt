@@ -1,4 +1,4 @@
-use Rattle.std.proofs.Common.{List, ℕ, Option, subst, sym}
+use Rattle.std.proofs.Common.{ℕ, Option, subst}
 use Rattle.config_rules.specs.Select.{has_name}
 use Rattle.file_rules.specs.Sources.{file_pieces}
 use Rattle.file_select.specs.Answers.{TakesOptional}

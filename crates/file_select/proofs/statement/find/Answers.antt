@@ -1,9 +1,7 @@
-use Rattle.std.proofs.Common.{rules, ◌∙◌, ap, sym, subst, not}
+use Rattle.std.proofs.Common.{rules, subst}
 use Rattle.config_rules.specs.Select.{has_name}
-use Rattle.file_rules.specs.Sources.{ends_condition}
 use Rattle.file_select.specs.Findings.{JudgesOptional}
 use Rattle.file_select.specs.declared.condition.Verdict.{Verdict}
-use Rattle.file_select.specs.declared.condition.Verdict.TheVariants.{TooDeep, Value}
 use Rattle.file_select.proofs.StatementLemmas.{found_good, found_too_deep}
 use Rattle.file_select.proofs.statement.find.Goals as goal
 

@@ -1,4 +1,4 @@
-use Rattle.std.proofs.Common.{◌≡◌, ◌∙◌, ap, sym, rules}
+use Rattle.std.proofs.Common.{rules}
 use Rattle.file_select.proofs.SourceLemmas.{kept_same, pushed_same}
 use Rattle.file_select.proofs.sources.Selection.push.Goals as goal
 

@@ -1,4 +1,4 @@
-use Rattle.std.proofs.Common.{◌≡◌, ◌++◌, length, map}
+use Rattle.std.proofs.Common.{◌≡◌, ◌++◌, length}
 use Rattle.std.specs.List.{All}
 use Rattle.file_select.specs.Texts.{IsShort, texts_in}
 use Rattle.file_select.proofs.texts.TextSet.into_names.Given as goal
