@@ -27,7 +27,12 @@ pub enum Verdict {
 }
 
 /// A code at the file and line of a statement.
-pub fn refusal(alloc: Global, files: &[Text], statement: &Placed, code: u8) -> Result<Refusal, Memory>
+pub fn refusal(
+    alloc: Global,
+    files: &[Text],
+    statement: &Placed,
+    code: u8,
+) -> Result<Refusal, Memory>
     ensures { IfOk result (λ made. made ≡ refusal files.now statement.now code) }
 {
     Ok(Refusal {
