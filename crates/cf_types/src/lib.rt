@@ -33,4 +33,4 @@ pub use tables::{
     Attach, Attr, Device, Locator, ParentSpec, Place, Pseudo, Refusal, Row, Tables, WarnKind,
     Warning,
 };
-pub use tree::DevLine;
+pub use tree::{DevLine, Hold};

@@ -96,7 +96,10 @@ pub struct Given {
 /// A command of a script, after drvctl(8). A device is named by its external name, a spot by its own.
 #[derive(Drop)]
 pub enum Command {
+    /// Take a reference to a device.
     OpenDev(Name),
+    /// Take the only reference to a device: no other may be held beside it.
+    OpenSole(Name),
     CloseDev(Name),
     Io(Name, u32),
     Detach(Name),

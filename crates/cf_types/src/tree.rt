@@ -1,4 +1,4 @@
-use crate::Name;
+use crate::{List, Name};
 
 /// A line of the device tree, as drvctl(8) lists it: one live device.
 #[derive(Drop)]
@@ -13,6 +13,17 @@ pub struct DevLine {
     pub row: u32,
     pub asleep: bool,
     pub condemned: bool,
-    /// Who holds it: bit c-1 stands for caller c.
-    pub holders: u16,
+    /// Who holds it, by caller.
+    pub holders: List<Hold>,
+}
+
+/// What one caller holds of a device.
+#[derive(Clone, Copy)]
+pub struct Hold {
+    /// The caller, 1 to 16.
+    pub caller: u8,
+    /// How many references it has, 1 to 15.
+    pub count: u8,
+    /// Whether its reference is the only one that may be.
+    pub sole: bool,
 }

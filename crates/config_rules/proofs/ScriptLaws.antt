@@ -1,6 +1,6 @@
 -- A script that is read is formed, and the turns of an order file are those of its callers.
-use Rattle.std.proofs.Common.{◌≡◌, ℕ, ◌+◌, ◌*◌, ◌≤◌, Bool, true, false, cond, not, ◌&&◌, ◌||◌, Option, Some, None, List, [], ◌∷◌, length, map, refl, sym, subst, arith, ℤ, Result, Ok, Err, pos, negsuc}
-use Rattle.std.specs.Prelude.{All, IfOk, IfSome, bytes_eq, filter_map, find, flat_map, nat_abs, nat_le, option_map, option_to_list}
+use Rattle.std.proofs.Common.{◌≡◌, ℕ, ◌+◌, ◌*◌, ◌≤◌, Bool, true, false, cond, not, ◌&&◌, ◌||◌, Option, Some, None, List, [], ◌∷◌, codes, length, map, refl, sym, subst, arith, ℤ, Result, Ok, Err, pos, negsuc}
+use Rattle.std.specs.Prelude.{All, IfOk, IfSome, bytes_eq, filter_map, find, flat_map, nat_abs, nat_le, nat_lt, option_map, option_to_list}
 use Rattle.std.specs.List.{cons_option, enumerate_from, list_all}
 use Rattle.std.specs.Option.{option_map_or}
 use Rattle.std.specs.Result.{result_ok}
@@ -14,7 +14,7 @@ use Rattle.cf_text.specs.Shapes.{in_range, number}
 use Rattle.config_rules.specs.Cut.{lines_of, ◌>>=◌}
 use Rattle.config_rules.specs.Form.{given, ◌or◌}
 use Rattle.config_rules.specs.MachineText.{has_bad_byte, words_of}
-use Rattle.config_rules.specs.ScriptText.{CommandRow, FormedCommand, FormedScript, are_pairs, bad_sayings, code_after, command_of, commands, commands_in, commands_of, given_in, has_few_pairs, io_form, is_caller, is_number, is_operand, is_turn, is_value, line_says, names_in, natural_within, number_within, on_any, on_one, one_operand, operand, order_of, pairs_of, rescan_form, rescan_on, row_of, sayings, turns_code, turns_of, bad_turns, unless_bad, words_say}
+use Rattle.config_rules.specs.ScriptText.{CommandRow, FormedCommand, FormedScript, are_pairs, bad_sayings, code_after, command_of, commands, commands_in, commands_of, given_in, is_bounded, io_form, is_caller, is_number, is_operand, is_turn, is_value, line_says, names_in, natural_within, number_within, within, on_any, on_one, one_operand, open_form, operand, order_of, pairs_of, rescan_form, rescan_on, row_of, sayings, sole_form, turns_code, turns_of, bad_turns, unless_bad, words_say}
 use Rattle.config_rules.proofs.CutLaws.{both_left, both_right}
 use Rattle.config_rules.proofs.Parts.{cond_both}
 
@@ -41,25 +41,25 @@ one_is (word ∷ []) = operand_is word
 one_is (word ∷ other ∷ words) = tt
 
 -- one name alone
-alone : (c : Command) (name : List ℕ) → names_in c ≡ name ∷ [] → has_few_pairs c ≡ true → is_operand name ≡ true → FormedCommand c
+alone : (c : Command) (name : List ℕ) → names_in c ≡ name ∷ [] → is_bounded c ≡ true → is_operand name ≡ true → FormedCommand c
 alone c name names few h = record {
   names = let P : List (List ℕ) → Type 0 = λ ns. All (λ n. is_operand n ≡ true) ns in
       subst P (sym names) (All-cons (λ n. is_operand n ≡ true) name [] h (All-nil (λ n. is_operand n ≡ true)));
-  pairs = few;
+  bounded = few;
 }
 
 -- no name
-nameless : (c : Command) → names_in c ≡ [] → has_few_pairs c ≡ true → FormedCommand c
+nameless : (c : Command) → names_in c ≡ [] → is_bounded c ≡ true → FormedCommand c
 nameless c names few = record {
   names = let P : List (List ℕ) → Type 0 = λ ns. All (λ n. is_operand n ≡ true) ns in subst P (sym names) (All-nil (λ n. is_operand n ≡ true));
-  pairs = few;
+  bounded = few;
 }
 
-on_one_formed : (make : List ℕ → Command) → ((name : List ℕ) → names_in (make name) ≡ name ∷ []) → ((name : List ℕ) → has_few_pairs (make name) ≡ true) → (words : List (List ℕ)) → IfOk (on_one make words) FormedCommand
+on_one_formed : (make : List ℕ → Command) → ((name : List ℕ) → names_in (make name) ≡ name ∷ []) → ((name : List ℕ) → is_bounded (make name) ≡ true) → (words : List (List ℕ)) → IfOk (on_one make words) FormedCommand
 on_one_formed make names few words =
     then_if (λ name. is_operand name ≡ true) FormedCommand (one_operand words) (λ name. Ok (make name)) (one_is words) (λ name h. alone (make name) name (names name) (few name) h)
 
-on_any_formed : (make : Option (List ℕ) → Command) → ((name : Option (List ℕ)) → names_in (make name) ≡ option_to_list name) → ((name : Option (List ℕ)) → has_few_pairs (make name) ≡ true) → (words : List (List ℕ)) → IfOk (on_any make words) FormedCommand
+on_any_formed : (make : Option (List ℕ) → Command) → ((name : Option (List ℕ)) → names_in (make name) ≡ option_to_list name) → ((name : Option (List ℕ)) → is_bounded (make name) ≡ true) → (words : List (List ℕ)) → IfOk (on_any make words) FormedCommand
 on_any_formed make names few [] = nameless (make None) (names None) (few None)
 on_any_formed make names few (word ∷ words) =
     then_if (λ (name : Option (List ℕ)). IfSome name (λ n. is_operand n ≡ true)) FormedCommand (one_operand (word ∷ words) >>= λ name. Ok (Some name)) (λ name. Ok (make name))
@@ -70,12 +70,37 @@ on_any_formed make names few (word ∷ words) =
     named None h = nameless (make None) (names None) (few None)
     named (Some name) h = alone (make (Some name)) name (names (Some name)) (few (Some name)) h
 
+sole_formed : (option device : List ℕ) → IfOk (sole_form option device) FormedCommand
+sole_formed option device =
+    cond_both (λ r. IfOk r FormedCommand) (bytes_eq option (codes "-x")) (operand device >>= λ name. Ok (command.OpenSole name)) (Err 2)
+    (λ h. then_if (λ name. is_operand name ≡ true) FormedCommand (operand device) (λ name. Ok (command.OpenSole name)) (operand_is device) (λ name h. alone (command.OpenSole name) name refl refl h))
+    (λ h. tt)
+
+open_formed : (words : List (List ℕ)) → IfOk (open_form words) FormedCommand
+open_formed [] = tt
+open_formed (device ∷ []) =
+    then_if (λ name. is_operand name ≡ true) FormedCommand (operand device) (λ name. Ok (command.OpenDev name)) (operand_is device) (λ name h. alone (command.OpenDev name) name refl refl h)
+open_formed (option ∷ device ∷ []) = sole_formed option device
+open_formed (option ∷ device ∷ other ∷ words) = tt
+
+-- the value of a transfer fits
+fits_is : (o : Option ℤ) → IfOk (within is_value o) (λ z. is_value z ≡ true)
+fits_is None = tt
+fits_is (Some z) = cond_both (λ r. IfOk r (λ v. is_value v ≡ true)) (is_value z) (Ok z) (Err OUT_OF_RANGE) (λ h. h) (λ h. tt)
+
+small_value : (z : ℤ) → is_value z ≡ true → nat_lt (nat_abs z) 4294967296 ≡ true
+small_value (pos n) h = grind (arith, nat_tests, h)
+small_value (negsuc n) h = absurd cc
+
+value_is : (word : List ℕ) → IfOk (natural_within is_value word) (λ v. nat_lt v 4294967296 ≡ true)
+value_is word = then_if (λ z. is_value z ≡ true) (λ v. nat_lt v 4294967296 ≡ true) (number_within is_value word) (λ v. Ok (nat_abs v)) (fits_is (number word)) small_value
+
 io_formed : (words : List (List ℕ)) → IfOk (io_form words) FormedCommand
 io_formed [] = tt
 io_formed (device ∷ []) = tt
 io_formed (device ∷ value ∷ []) =
     then_if (λ name. is_operand name ≡ true) FormedCommand (operand device) (λ name. natural_within is_value value >>= λ v. Ok (command.Io name v)) (operand_is device)
-    (λ name h. any_if FormedCommand (natural_within is_value value) (λ v. Ok (command.Io name v)) (λ v. alone (command.Io name v) name refl refl h))
+    (λ name h. then_if (λ v. nat_lt v 4294967296 ≡ true) FormedCommand (natural_within is_value value) (λ v. Ok (command.Io name v)) (value_is value) (λ v small. alone (command.Io name v) name refl small h))
 io_formed (device ∷ value ∷ other ∷ words) = tt
 
 -- ---- rescans
@@ -118,7 +143,7 @@ rescan_on_formed device attr words =
     (λ bus k. then_if AreFew FormedCommand (pairs_of words) (λ pairs. Ok (command.Rescan name (Some bus) pairs)) (pairs_formed words)
     (λ pairs few. record {
       names = All-cons (λ n. is_operand n ≡ true) name (bus ∷ map (λ g. g.name) pairs) h (All-cons (λ n. is_operand n ≡ true) bus (map (λ g. g.name) pairs) k few.0);
-      pairs = few.1;
+      bounded = few.1;
     })))
 
 rescan_formed : (words : List (List ℕ)) → IfOk (rescan_form words) FormedCommand
@@ -147,7 +172,7 @@ find_each P p (r ∷ rs) h = found (p r) (find_each P p rs h.1)
 rows_formed : Each IsFormedRow commands
 unfolding commands
 rows_formed = (
-  on_one_formed command.OpenDev (λ n. refl) (λ n. refl),
+  open_formed,
   (
     on_one_formed command.CloseDev (λ n. refl) (λ n. refl),
     (

@@ -138,6 +138,16 @@ script_kinds : script (codes "open com0" ++ 10 ∷ codes "close com0" ++ 10 ∷ 
 unfolding commands_of commands
 script_kinds = refl
 
+-- sole use is asked for by the word `-x` before the device, and by no other
+script_sole : (script (codes "open -x com0") ≡ Ok (command.OpenSole (codes "com0") ∷ []))
+    × (script (codes "open -x") ≡ Err (1, 2))
+    × (script (codes "open -y com0") ≡ Err (1, 2))
+    × (script (codes "open com0 -x") ≡ Err (1, 2))
+    × (script (codes "open -x com0 com1") ≡ Err (1, 2))
+    × (script (codes "close -x com0") ≡ Err (1, 2))
+unfolding commands_of commands
+script_sole = (refl, refl, refl, refl, refl, refl)
+
 -- the operands that may be left out
 script_short : script (codes "list" ++ 10 ∷ codes "list a0" ++ 10 ∷ codes "tree" ++ 10 ∷ codes "tree a0" ++ 10 ∷ codes "rescan a0" ++ 10 ∷ codes "rescan a0 isa")
     ≡ Ok (command.ListDev None ∷ command.ListDev (Some (codes "a0")) ∷ command.TreeDev None ∷ command.TreeDev (Some (codes "a0"))

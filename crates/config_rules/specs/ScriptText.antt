@@ -1,6 +1,6 @@
 -- The commands of a script and the turns of an order file, or the first bad line and its code. The commands follow
 -- drvctl(8); the formats are this project's own.
-use Rattle.std.specs.Prelude.{◌≡◌, ℕ, ◌≤◌, Bool, true, false, not, ◌&&◌, ◌||◌, nat_le, if◌then◌else◌, List, [], ◌∷◌, length, map, filter_map, find, flat_map, bytes_eq, codes, Option, Some, None, is_some, option_map, option_to_list, Result, Ok, Err, ℤ, pos, nat_abs, int_le, All}
+use Rattle.std.specs.Prelude.{◌^◌, ◌≡◌, ℕ, ◌≤◌, Bool, true, false, not, ◌&&◌, ◌||◌, nat_le, nat_lt, if◌then◌else◌, List, [], ◌∷◌, length, map, filter_map, find, flat_map, bytes_eq, codes, Option, Some, None, is_some, option_map, option_to_list, Result, Ok, Err, ℤ, pos, nat_abs, int_le, All}
 use Rattle.std.specs.List.{list_all, enumerate_from}
 use Rattle.std.specs.Option.{option_map_or}
 use Rattle.std.specs.Result.{result_ok}
@@ -69,6 +69,16 @@ given_in (name ∷ value ∷ words) =
 abbrev pub pairs_of : List (List ℕ) → Result (List Given) ℕ
 pairs_of words = if nat_le (length words) 32 && are_pairs words then given_in words else Err WRONG_WORDS
 
+-- `-x D` behind `open`
+abbrev pub sole_form : List ℕ → List ℕ → Result Command ℕ
+sole_form option device = if bytes_eq option (codes "-x") then (operand device >>= λ name. Ok (command.OpenSole name)) else Err 2
+
+-- `open D` or `open -x D`
+abbrev pub open_form : List (List ℕ) → Result Command ℕ
+open_form (device ∷ []) = operand device >>= λ name. Ok (command.OpenDev name)
+open_form (option ∷ device ∷ []) = sole_form option device
+open_form _ = Err 2
+
 -- `io D V`
 abbrev pub io_form : List (List ℕ) → Result Command ℕ
 io_form (device ∷ value ∷ []) = operand device >>= λ name. natural_within is_value value >>= λ v. Ok (command.Io name v)
@@ -105,7 +115,7 @@ row word form = record { word = word; form = form }
 -- the commands by their words
 unfoldable pub commands : List CommandRow
 commands =
-    row (codes "open") (on_one command.OpenDev)
+    row (codes "open") open_form
     ∷ row (codes "close") (on_one command.CloseDev)
     ∷ row (codes "io") io_form
     ∷ row (codes "detach") (on_one command.Detach)
@@ -201,6 +211,7 @@ order_of callers text = unless_bad (bad_turns callers text) (turns_of (flat_map 
 -- the names of a command
 abbrev pub names_in : Command → List (List ℕ)
 names_in (command.OpenDev device) = device ∷ []
+names_in (command.OpenSole device) = device ∷ []
 names_in (command.CloseDev device) = device ∷ []
 names_in (command.Io device value) = device ∷ []
 names_in (command.Detach device) = device ∷ []
@@ -214,16 +225,17 @@ names_in (command.ResumeTree device) = device ∷ []
 names_in (command.Plug spot) = spot ∷ []
 names_in (command.Unplug spot) = spot ∷ []
 
--- the pairs are few, and there are none without an attribute
-abbrev pub has_few_pairs : Command → Bool
-has_few_pairs (command.Rescan device None pairs) = nat_le (length pairs) 0
-has_few_pairs (command.Rescan device (Some attr) pairs) = nat_le (length pairs) 16
-has_few_pairs _ = true
+-- a transfer's value is below 2^32; a rescan's pairs are few, and there are none without an attribute
+abbrev pub is_bounded : Command → Bool
+is_bounded (command.Io device value) = nat_lt value (2 ^ 32)
+is_bounded (command.Rescan device None pairs) = nat_le (length pairs) 0
+is_bounded (command.Rescan device (Some attr) pairs) = nat_le (length pairs) 16
+is_bounded _ = true
 
--- a command's names are operands; a rescan gives at most 16 pairs, and none where it names no attribute
+-- a command's names are operands; a transfer's value fits, and a rescan gives at most 16 pairs, and none where it names no attribute
 pub record FormedCommand (c : Command) : Type 0 where
   pub names : All (λ name. is_operand name ≡ true) (names_in c)
-  pub pairs : has_few_pairs c ≡ true
+  pub bounded : is_bounded c ≡ true
 
 -- at most 500 formed commands
 pub record FormedScript (script : List Command) : Type 0 where

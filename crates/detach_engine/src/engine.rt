@@ -18,7 +18,7 @@ fn stands_in_way(
     forced: bool,
     device: &Dev,
 ) -> bool
-    ensures { result ≡ stands_in_way tree.now.live refs.now marks.now target caller forced device.now }
+    ensures { result ≡ stands_in_way tree.now.live refs.now.refs marks.now target caller forced device.now }
 {
     tree.is_under(device.serial, target)
         && ((!forced && marks.is_undetachable(device.serial))
@@ -40,7 +40,7 @@ pub fn hindered(
     forced: bool,
 ) -> Option<u64>
     requires { IsTrue (is_live tree.now.live target) }
-    ensures { result ≡ serial_of (hindrance tree.now.live refs.now marks.now target caller forced) }
+    ensures { result ≡ serial_of (hindrance tree.now.live refs.now.refs marks.now target caller forced) }
 {
     let device = tree.devices().iter().find(|device| stands_in_way(
         tree, refs, marks, target, caller, forced, device,

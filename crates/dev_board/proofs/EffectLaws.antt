@@ -67,7 +67,7 @@ pub may_do : (w : World) (k : ℕ) (d : Deed) → MayRun w.setup → Kept w → 
 may_do w k (Open s sole) may kept e =
     let why = has_command_reason w k (Open s sole) e in
     let script = between_script w k (Open s sole) kept e why.begins.between in
-    ((script.0, omega (arith, script.1, may.few_scripts)), why.free)
+    ((script.0, omega (arith, script.1, may.few_scripts)), why.room)
 may_do w k (Close s) may kept e = (has_command_reason w k (Close s) e).held
 may_do w k (Drop s) may kept e = (has_command_reason w k (Drop s) e).held
 may_do w k (Detach s) may kept e = (has_command_reason w k (Detach s) e).named.live

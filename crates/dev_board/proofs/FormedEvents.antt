@@ -1,17 +1,20 @@
 -- Each event that a caller does next is formed, and the devices that it names are live.
-use Rattle.std.proofs.Common.{◌≡◌, ◌<◌, ◌^◌, ℕ, zero, suc, ◌+◌, ◌-◌, ◌==◌, Bool, true, false, ◌&&◌, ◌||◌, cond, List, [], ◌∷◌, length, map, find, is_some, option_map, slice_get, Option, Some, None, refl, sym, ◌∙◌, subst, inl, inr, arith, eqb-true}
+use Rattle.std.proofs.Common.{◌≡◌, ◌<◌, ◌≤◌, ◌^◌, ◌%◌, nat_lt, ℕ, zero, suc, ◌+◌, ◌-◌, ◌==◌, Bool, true, false, ◌&&◌, ◌||◌, cond, List, [], ◌∷◌, length, map, find, is_some, option_map, slice_get, Option, Some, None, refl, sym, ◌∙◌, ap, subst, inl, inr, arith, eqb-true}
 use Rattle.std.specs.Prelude.{⊤, All, IfSome, IsTrue}
 use Rattle.std.specs.List.{AllByRecursion, slice_index_or}
 use Rattle.std.specs.Option.{option_map_or}
 use Rattle.std.proofs.lemmas.Bool.{and_parts}
+use Rattle.std.proofs.lemmas.Bool.Decides.{nat_tests}
 use Rattle.std.proofs.lemmas.Option.{same_Some}
 use Rattle.cf_types.specs.declared.machine.Command.{Command}
 use Rattle.cf_types.specs.declared.machine.Command.TheVariants as command
 use Rattle.cf_types.specs.declared.machine.Given.{Given}
+use Rattle.cf_types.specs.declared.machine.Spot.{Spot}
 use Rattle.cf_types.specs.declared.machine.Ticket.{Ticket}
+use Rattle.config_rules.specs.MachineText.{is_free_name}
 use Rattle.config_rules.specs.ScriptText.{FormedCommand, FormedScript}
 use Rattle.run_rules.specs.declared.event.Act.TheVariants as act
-use Rattle.run_rules.specs.declared.event.DepthName.{DepthName}
+use Rattle.run_rules.specs.declared.event.IoAnswer.TheVariants as answer
 use Rattle.run_rules.specs.declared.event.PowerKind.{PowerKind}
 use Rattle.run_rules.specs.declared.event.PowerKind.TheVariants as kind
 use Rattle.run_rules.specs.declared.event.Reply.{Reply}
@@ -22,30 +25,31 @@ use Rattle.run_rules.specs.declared.world.Dev.{Dev}
 use Rattle.run_rules.specs.declared.world.Position.{Position}
 use Rattle.run_rules.specs.declared.world.Ref.{Ref}
 use Rattle.run_rules.specs.declared.world.Setup.{Setup}
-use Rattle.run_rules.specs.World.{World, caller_at, children, device_at, device_named, device_on, driver_name, driver_of, has, has_ended, holds_in, is_condemned, is_held, is_live, is_pinned, name_of, offered_by, parent_name, policy_of, root_name, unit_name}
+use Rattle.run_rules.specs.World.{World, caller_at, children, device_at, device_named, device_on, driver_name, driver_of, has, has_ended, holds_in, is_condemned, is_held, is_live, is_pinned, is_referred, name_of, offered_by, parent_name, policy_of, root_name, unit_name}
 use Rattle.run_rules.specs.declared.deed.Deed.{Deed}
 use Rattle.run_rules.specs.declared.deed.Deed.TheVariants.{Search, EndScan, BeginInterrupts, Finalise, EndCaller, Drop, Refuse, Open, Close, Start, Done, Detach, Free, Rescan, BeginPower, Sleep, Wake, EndPower, Plug, Unplug, Tell}
 use Rattle.run_rules.specs.declared.deed.Choice.{Choice}
 use Rattle.run_rules.specs.declared.deed.Choice.TheVariants.{Does}
 use Rattle.run_rules.specs.Next.{attr_named, command_deed, command_of, has_nothing, hindered, is_hindrance, is_power, name_at, next, next_sleep, next_wake, on_device, on_held, powering, rescan_of, spot_named, suspending, telling, unless_hindered, waking, wanted_of}
-use Rattle.run_rules.specs.Run.{answered, depth_name, end_of, event_of, got_name, list_names, power_name, printed, reply_of, told, tree_names}
+use Rattle.run_rules.specs.References.{count_in}
+use Rattle.run_rules.specs.Run.{answer_of, answered, depth_name, end_of, event_of, got_of as named_of, list_names, number_of, power_name, printed, reply_of, shown_of, spot_name, told, tree_names}
 use Rattle.run_rules.specs.Tree.{tree_below}
-use Rattle.run_rules.specs.Lines.{IsDeviceName, IsFormed, IsFormedAct, IsFormedName, MayClose, MayDetach, MayEndPower, MayGet, MayOpen, MayPlug, MayPower, MayRescan, MayStart, MayTell, MayUnplug}
-use Rattle.run_rules.proofs.Devices.{all_both}
+use Rattle.run_rules.specs.Lines.{IsDeviceName, IsFormed, IsFormedAct, IsFormedAnswer, IsFormedDepthName, IsFormedGot, IsFormedName, IsFormedShown, IsSpotName, MayClose, MayDetach, MayEndPower, MayOpen, MayOpenSole, MayPlug, MayPower, MayRescan, MayStart, MayTell, MayUnplug}
+use Rattle.run_rules.proofs.Devices.{all_both, all_imp}
 use Rattle.run_rules.proofs.FormedNames.{device_known, root_known, written_device}
 use Rattle.run_rules.proofs.Free.{find_true}
 use Rattle.run_sound.specs.Calls.{CallsDevices}
-use Rattle.run_sound.specs.Coming.{IsCalled}
+use Rattle.run_sound.specs.Coming.{IsCalled, IsTurn}
 use Rattle.run_sound.specs.Commands.{Begins, EndsPower, SendsToSleep, Wakes, power_command}
 use Rattle.run_sound.specs.Kept.{Kept, MayRun}
 use Rattle.run_sound.specs.Scripts.{IsAmid}
-use Rattle.run_sound.proofs.Arrivals.{finalise_comes, none_shown, search_comes}
+use Rattle.run_sound.proofs.Arrivals.{due_inside, finalise_comes, search_comes, shown_inside}
 use Rattle.run_sound.proofs.Callers.{all_filter, doing_so}
 use Rattle.run_sound.proofs.Members.{all_flat_of, contained_live, each_mapped, found_contained, found_from_end, found_of}
 use Rattle.config_rules.proofs.Parts.{cond_both}
 use Rattle.run_sound.proofs.Reasons.{option_both, has_command_reason, has_reason}
 use Rattle.run_sound.proofs.References.{amid_later}
-use Rattle.run_sound.proofs.ScriptLaws.{amid_said, doer_low}
+use Rattle.run_sound.proofs.ScriptLaws.{amid_said, doer_low, over_low}
 use Rattle.dev_board.specs.Arrivals.{MayArrive}
 use Rattle.dev_board.specs.Events.{IsLive}
 use Rattle.dev_board.specs.Publishing.{got_of}
@@ -121,38 +125,40 @@ list_formed w (Some name) named known = (known, cases (device_named w.setup w.li
     cases None = tt
     cases (Some d) = list_named w d.serial named
 
-abbrev AtNamed : World → ℕ × Dev → Type 0
-AtNamed w e = Named w e.1
+abbrev AtNamed : World → ℕ → ℕ × Dev → Type 0
+AtNamed w n e = Named w e.1 × (e.0 ≤ n)
 
-below_named : (w : World) (n depth p : ℕ) → AllNamed w → AllByRecursion (AtNamed w) (tree_below n w.live depth p)
+-- so many levels below a depth
+below_named : (w : World) (n depth p most : ℕ) → AllNamed w → depth + n ≤ suc most → AllByRecursion (AtNamed w most) (tree_below n w.live depth p)
 unfolding tree_below
-below_named w zero depth p named = tt
-below_named w (suc n) depth p named =
-    all_flat_of (AtNamed w) (Named w) (λ d. (depth, d) ∷ tree_below n w.live (depth + 1) d.serial) (children w.live p)
-    (λ d h. (h, below_named w n (depth + 1) d.serial named)) (children_named w p named)
+below_named w zero depth p most named fits = tt
+below_named w (suc n) depth p most named fits =
+    all_flat_of (AtNamed w most) (Named w) (λ d. (depth, d) ∷ tree_below n w.live (depth + 1) d.serial) (children w.live p)
+    (λ d h. ((h, omega (arith, fits)), below_named w n (depth + 1) d.serial most named (omega (arith, fits)))) (children_named w p named)
 
-abbrev DepthNamed : DepthName → Type 0
-DepthNamed d = IsDeviceName d.name
+depths_named : (w : World) (most : ℕ) (es : List (ℕ × Dev)) → most < 2 ^ 32 → AllByRecursion (AtNamed w most) es → AllByRecursion IsFormedDepthName (map (depth_name w.setup) es)
+depths_named w most es few h =
+    each_mapped IsFormedDepthName (depth_name w.setup) es (all_imp (AtNamed w most) (λ e. IsFormedDepthName (depth_name w.setup e)) (λ e at. (at.0, omega (arith, at.1, few))) es h)
 
-depths_named : (w : World) (es : List (ℕ × Dev)) → AllByRecursion (AtNamed w) es → AllByRecursion DepthNamed (map (depth_name w.setup) es)
-depths_named w es h = each_mapped DepthNamed (depth_name w.setup) es h
-
-tree_formed : (w : World) (name : Option (List ℕ)) → AllNamed w → IfSome name IsFormedName → MayTell DepthNamed name (tree_names w name)
+tree_formed : (w : World) (name : Option (List ℕ)) → AllNamed w → length w.live < 2 ^ 32 → IfSome name IsFormedName → MayTell IsFormedDepthName name (tree_names w name)
 unfolding tree_names
-tree_formed w None named known = (refl, depths_named w (tree_below (length w.live) w.live 0 0) (below_named w (length w.live) 0 0 named))
-tree_formed w (Some name) named known = (known, cases (device_named w.setup w.live name) refl)
+tree_formed w None named few known = (refl, depths_named w (length w.live) (tree_below (length w.live) w.live 0 0) few (below_named w (length w.live) 0 0 (length w.live) named (omega arith)))
+tree_formed w (Some name) named few known = (known, cases (device_named w.setup w.live name) refl)
   where
     cases : (o : Option Dev) → device_named w.setup w.live name ≡ o
-        → IfSome (option_map (λ d. map (depth_name w.setup) ((0, d) ∷ tree_below (length w.live) w.live 1 d.serial)) o) (AllByRecursion DepthNamed)
+        → IfSome (option_map (λ d. map (depth_name w.setup) ((0, d) ∷ tree_below (length w.live) w.live 1 d.serial)) o) (AllByRecursion IsFormedDepthName)
     cases None e = tt
-    cases (Some d) e =
-        (found_of (Named w) _ w.live d named e, depths_named w (tree_below (length w.live) w.live 1 d.serial) (below_named w (length w.live) 1 d.serial named))
+    cases (Some d) e = (
+      (found_of (Named w) _ w.live d named e, omega arith),
+      depths_named w (length w.live) (tree_below (length w.live) w.live 1 d.serial) few (below_named w (length w.live) 1 d.serial (length w.live) named (omega arith)),
+    )
 
 -- ---- replies
 
 -- the replies of a command
 abbrev Fits : Command → Reply → Type 0
 Fits (command.OpenDev name) r = MayOpen r
+Fits (command.OpenSole name) r = MayOpenSole r
 Fits (command.CloseDev name) r = MayClose r
 Fits (command.Io name value) r = MayStart r
 Fits (command.Detach name) r = MayDetach r
@@ -218,7 +224,10 @@ command_fits : (w : World) (k n : ℕ) (said : Command) → AllNamed w → FitsD
 unfolding command_deed
 command_fits w k n (command.OpenDev name) named =
     let c : Command = command.OpenDev name in
-    device_fits w c name _ (λ d. by_if w c (is_held w k d.serial) _ _ tt tt) tt tt
+    device_fits w c name _ (λ d. by_if w c (has w.sole d.serial) _ _ tt (by_if w c (nat_lt (count_in w.refs k d.serial) 15) _ _ tt tt)) tt tt
+command_fits w k n (command.OpenSole name) named =
+    let c : Command = command.OpenSole name in
+    device_fits w c name _ (λ d. by_if w c (is_referred w d.serial) _ _ tt tt) tt tt
 command_fits w k n (command.CloseDev name) named =
     let c : Command = command.CloseDev name in
     held_fits w k c name _ (λ d. tt) tt
@@ -258,23 +267,27 @@ command_fits w k n (command.Unplug name) named =
     let c : Command = command.Unplug name in
     by_option w c _ (spot_named w name) _ (λ x e. by_option w c _ (device_on w.live x) _ (λ d f. hindered_fits w k c d.serial true _ named (λ n h. h) tt) tt) tt
 
+value_small : (value : ℕ) → nat_lt value (2 ^ 32) ≡ true → value < 2 ^ 32
+value_small value h = grind (arith, nat_tests, h)
+
 -- the line of a formed command is formed
-told_formed : (w : World) (said : Command) (r : Reply) → AllNamed w → FormedCommand said → Fits said r → IsFormedAct (told w said r)
-told_formed w (command.OpenDev name) r named formed fits = (formed.names 0 [] (omega arith), fits)
-told_formed w (command.CloseDev name) r named formed fits = (formed.names 0 [] (omega arith), fits)
-told_formed w (command.Io name value) r named formed fits = (formed.names 0 [] (omega arith), fits)
-told_formed w (command.Detach name) r named formed fits = (formed.names 0 [] (omega arith), fits)
-told_formed w (command.Rescan name None given) r named formed fits = (formed.names 0 [] (omega arith), fits)
-told_formed w (command.Rescan name (Some attr) given) r named formed fits = (formed.names 0 [] (omega arith), fits)
-told_formed w (command.ListDev None) r named formed fits = list_formed w None named tt
-told_formed w (command.ListDev (Some name)) r named formed fits = list_formed w (Some name) named (formed.names 0 [] (omega arith))
-told_formed w (command.TreeDev None) r named formed fits = tree_formed w None named tt
-told_formed w (command.TreeDev (Some name)) r named formed fits = tree_formed w (Some name) named (formed.names 0 [] (omega arith))
-told_formed w (command.Suspend name) r named formed fits = (formed.names 0 [] (omega arith), fits)
-told_formed w (command.Resume name) r named formed fits = (formed.names 0 [] (omega arith), fits)
-told_formed w (command.ResumeTree name) r named formed fits = (formed.names 0 [] (omega arith), fits)
-told_formed w (command.Plug name) r named formed fits = (formed.names 0 [] (omega arith), fits)
-told_formed w (command.Unplug name) r named formed fits = (formed.names 0 [] (omega arith), fits)
+told_formed : (w : World) (said : Command) (r : Reply) → AllNamed w → length w.live < 2 ^ 32 → FormedCommand said → Fits said r → IsFormedAct (told w said r)
+told_formed w (command.OpenDev name) r named few formed fits = (formed.names 0 [] (omega arith), fits)
+told_formed w (command.OpenSole name) r named few formed fits = (formed.names 0 [] (omega arith), fits)
+told_formed w (command.CloseDev name) r named few formed fits = (formed.names 0 [] (omega arith), fits)
+told_formed w (command.Io name value) r named few formed fits = (formed.names 0 [] (omega arith), fits, value_small value formed.bounded)
+told_formed w (command.Detach name) r named few formed fits = (formed.names 0 [] (omega arith), fits)
+told_formed w (command.Rescan name None given) r named few formed fits = (formed.names 0 [] (omega arith), fits)
+told_formed w (command.Rescan name (Some attr) given) r named few formed fits = (formed.names 0 [] (omega arith), fits)
+told_formed w (command.ListDev None) r named few formed fits = list_formed w None named tt
+told_formed w (command.ListDev (Some name)) r named few formed fits = list_formed w (Some name) named (formed.names 0 [] (omega arith))
+told_formed w (command.TreeDev None) r named few formed fits = tree_formed w None named few tt
+told_formed w (command.TreeDev (Some name)) r named few formed fits = tree_formed w (Some name) named few (formed.names 0 [] (omega arith))
+told_formed w (command.Suspend name) r named few formed fits = (formed.names 0 [] (omega arith), fits)
+told_formed w (command.Resume name) r named few formed fits = (formed.names 0 [] (omega arith), fits)
+told_formed w (command.ResumeTree name) r named few formed fits = (formed.names 0 [] (omega arith), fits)
+told_formed w (command.Plug name) r named few formed fits = (formed.names 0 [] (omega arith), fits)
+told_formed w (command.Unplug name) r named few formed fits = (formed.names 0 [] (omega arith), fits)
 
 -- ---- power
 
@@ -396,22 +409,46 @@ row_there w k d may kept chosen = cases (got_of d) (deed_arrives w k d may kept 
 
 -- ---- what comes has a name
 
-searched_named : (w : World) (k p spot : ℕ) (to : Position) (got : Option Arrival) → MayRun w.setup → Kept w → next w k ≡ Does (Search p spot to got) → IfSome (got_name w.setup got) IsDeviceName
-searched_named w k p spot to None may kept chosen = tt
-searched_named w k p spot to (Some a) may kept chosen = let come = search_comes w k p spot to a may kept chosen in row_named w.setup a.row a.unit may come.row come.small
+-- the names of the machine's spots
+spot_known : (s : Setup) (x : ℕ) → MayRun s → x < length s.machine.spots → IsSpotName (spot_name s x)
+spot_known s x may inside = named s.machine.spots x inside may.machine.spot_names.shaped
+  where
+    named : (spots : List Spot) (i : ℕ) → i < length spots → All (λ n. is_free_name n ≡ true) (map (λ spot. spot.name) spots) → IsSpotName (option_map_or (λ spot. spot.name) (slice_get spots i) [])
+    named [] i lt all = absurd (omega arith)
+    named (y ∷ ys) zero lt all = all 0 [] (omega arith)
+    named (y ∷ ys) (suc i) lt all = named ys i (omega arith) (λ k d less. all (suc k) d (omega (arith, less)))
 
-final_named : (w : World) (k s : ℕ) (shown : Option ℕ) (got : Option Arrival) (listed : Option ℕ) (anew : Bool) → MayRun w.setup → Kept w → next w k ≡ Does (Finalise s shown got listed anew)
-    → MayGet (is_some shown) (got_name w.setup got)
-final_named w k s None None listed anew may kept chosen = refl
-final_named w k s None (Some a) listed anew may kept chosen = absurd (none_shown w k s a listed anew chosen)
-final_named w k s (Some x) None listed anew may kept chosen = tt
-final_named w k s (Some x) (Some a) listed anew may kept chosen =
-    let come = finalise_comes w k s x a listed anew may kept chosen in row_named w.setup a.row a.unit may come.row come.small
+got_formed : (w : World) (a : Arrival) → MayRun w.setup → a.row < length w.setup.tables.rows → a.unit < 2 ^ 32 → IsFormedGot (record { name = unit_name w.setup a.row a.unit; row = a.row })
+got_formed w a may row small = (row_named w.setup a.row a.unit may row small, omega (arith, row, may.tables.few_rows))
+
+searched_formed : (w : World) (k p spot : ℕ) (to : Position) (got : Option Arrival) → MayRun w.setup → Kept w → next w k ≡ Does (Search p spot to got) → IfSome (named_of w.setup got) IsFormedGot
+searched_formed w k p spot to None may kept chosen = tt
+searched_formed w k p spot to (Some a) may kept chosen = let come = search_comes w k p spot to a may kept chosen in got_formed w a may come.row come.small
+
+-- the spot of a search is of the machine
+searched_inside : (w : World) (k p spot : ℕ) (to : Position) (got : Option Arrival) → next w k ≡ Does (Search p spot to got) → spot < length w.setup.machine.spots
+searched_inside w k p spot to got chosen =
+    let t : IsTurn w k p spot to got = has_reason w k (Search p spot to got) chosen in
+    rw t.place (due_inside w.setup w.live w.absent w.hidden p t.only t.wanted t.from t.turn t.is_due)
+
+-- and that which a finaliser shows
+shown_there : (w : World) (k s : ℕ) (shown : Option ℕ) (got : Option Arrival) (listed : Option ℕ) (anew : Bool) → next w k ≡ Does (Finalise s shown got listed anew) → IfSome shown (λ x. x < length w.setup.machine.spots)
+shown_there w k s None got listed anew chosen = tt
+shown_there w k s (Some x) got listed anew chosen = (shown_inside w k s x got listed anew (has_reason w k (Finalise s (Some x) got listed anew) chosen)).0
+
+final_formed : (w : World) (k s : ℕ) (shown : Option ℕ) (got : Option Arrival) (listed : Option ℕ) (anew : Bool) → MayRun w.setup → Kept w → next w k ≡ Does (Finalise s shown got listed anew)
+    → IfSome (shown_of w.setup shown got) IsFormedShown
+final_formed w k s None got listed anew may kept chosen = tt
+final_formed w k s (Some x) None listed anew may kept chosen = (spot_known w.setup x may (shown_there w k s (Some x) None listed anew chosen), tt)
+final_formed w k s (Some x) (Some a) listed anew may kept chosen =
+    let come = finalise_comes w k s x a listed anew may kept chosen in
+    (spot_known w.setup x may (shown_there w k s (Some x) (Some a) listed anew chosen), got_formed w a may come.row come.small)
 
 -- ---- what a deed names
 
 busy_named : (said : Command) (n : List ℕ) → Fits said (reply.Busy n) → IsDeviceName n
 busy_named (command.OpenDev name) n h = absurd h
+busy_named (command.OpenSole name) n h = absurd h
 busy_named (command.CloseDev name) n h = absurd h
 busy_named (command.Io name value) n h = absurd h
 busy_named (command.Detach name) n h = h
@@ -427,7 +464,9 @@ busy_named (command.Unplug name) n h = h
 refusal_live : (w : World) (said : Command) (why : Refusal) → Fits said (reply_of w why) → RefusesLive w.live why
 refusal_live w said refusal.NoDevice fits = tt
 refusal_live w said refusal.Gone fits = tt
-refusal_live w said refusal.HeldAlready fits = tt
+refusal_live w said refusal.Exclusive fits = tt
+refusal_live w said refusal.TooMany fits = tt
+refusal_live w said refusal.Shared fits = tt
 refusal_live w said refusal.NotHeld fits = tt
 refusal_live w said refusal.Asleep fits = tt
 refusal_live w said (refusal.Busy s) fits = named_live w s (busy_named said (name_at w s) fits)
@@ -451,11 +490,12 @@ begun_fits w k d named b = subst (FitsDeed w b.said) b.deed (command_fits w k ((
 
 -- a deed that comes next may be told
 pub may_be_told : (w : World) (k : ℕ) (d : Deed) → MayRun w.setup → Kept w → CallsDevices w → next w k ≡ Does d → MayBeTold w k d
-may_be_told w k (Search p spot to got) may kept calls chosen = row_there w k (Search p spot to got) may kept chosen
+may_be_told w k (Search p spot to got) may kept calls chosen = (searched_inside w k p spot to got chosen, row_there w k (Search p spot to got) may kept chosen)
 may_be_told w k (EndScan p) may kept calls chosen = tt
 may_be_told w k BeginInterrupts may kept calls chosen = tt
 may_be_told w k (Finalise s shown got listed anew) may kept calls chosen = (
-  call_live w k s listed anew kept calls (doing_so w k (Finalise s shown got listed anew) chosen).unended (has_reason w k (Finalise s shown got listed anew) chosen).called,
+  call_live w k s listed anew kept calls (doing_so w k (Finalise s shown got listed anew) chosen).unended (has_reason w k (Finalise s shown got listed anew) chosen  ).called,
+  shown_there w k s shown got listed anew chosen,
   row_there w k (Finalise s shown got listed anew) may kept chosen,
 )
 may_be_told w k EndCaller may kept calls chosen = tt
@@ -482,11 +522,19 @@ may_be_told w k Tell may kept calls chosen = tt
 
 -- ---- what is printed is formed
 
+few_live : (w : World) → MayRun w.setup → Kept w → length w.live < 2 ^ 32
+few_live w may kept = omega (arith, kept.ranges.few, may.machine.few_spots)
+
+-- the answer of a transfer fits
+answer_formed : (t : Ticket) → IsFormedAnswer (answer_of t)
+unfolding answer_of
+answer_formed t = cond_both IsFormedAnswer t.bad answer.DeviceError (answer.Number ((t.slot + t.value) % 2 ^ 32)) (λ h. tt) (λ h. omega arith)
+
 -- the line of a command that begins
-begun_formed : (w : World) (k : ℕ) (d : Deed) (r : Reply) → AllNamed w → FormedScripts w.setup → (b : Begins w k d) → Fits b.said r → IsFormedAct (answered w k r)
-begun_formed w k d r named scripts b fits =
+begun_formed : (w : World) (k : ℕ) (d : Deed) (r : Reply) → AllNamed w → length w.live < 2 ^ 32 → FormedScripts w.setup → (b : Begins w k d) → Fits b.said r → IsFormedAct (answered w k r)
+begun_formed w k d r named few scripts b fits =
     subst (λ (c : Option Command). IsFormedAct (option_map_or (λ said. told w said r) c act.End)) (sym b.command)
-    (told_formed w b.said r named (said_formed w k b.said scripts b.command) fits)
+    (told_formed w b.said r named few (said_formed w k b.said scripts b.command) fits)
 
 power_formed : (w : World) (k : ℕ) (end : PowerEnd) → AllNamed w → FormedScripts w.setup → Kept w → EndsPower w k end → IsFormedName (power_name (command_of w k)) × MayEndPower (end_of w end)
 power_formed w k end named scripts kept why =
@@ -495,42 +543,49 @@ power_formed w k end named scripts kept why =
 
 deed_printed : (w : World) (k : ℕ) (d : Deed) → MayRun w.setup → FormedScripts w.setup → Kept w → CallsDevices w → next w k ≡ Does d → IsFormedAct (printed w k d)
 unfolding printed
-deed_printed w k (Search p spot to got) may scripts kept calls chosen = (parent_known w p (all_named w may kept), searched_named w k p spot to got may kept chosen)
+deed_printed w k (Search p spot to got) may scripts kept calls chosen = (
+      parent_known w p (all_named w may kept),
+      spot_known w.setup spot may (searched_inside w k p spot to got chosen),
+      searched_formed w k p spot to got may kept chosen,
+    )
 deed_printed w k (EndScan p) may scripts kept calls chosen = parent_known w p (all_named w may kept)
 deed_printed w k BeginInterrupts may scripts kept calls chosen = tt
 deed_printed w k (Finalise s shown got listed anew) may scripts kept calls chosen =
-    (live_known w s (all_named w may kept) (may_be_told w k (Finalise s shown got listed anew) may kept calls chosen).0, final_named w k s shown got listed anew may kept chosen)
+    (live_known w s (all_named w may kept) (may_be_told w k (Finalise s shown got listed anew) may kept calls chosen).0, final_formed w k s shown got listed anew may kept chosen)
 deed_printed w k EndCaller may scripts kept calls chosen = tt
 deed_printed w k (Drop s) may scripts kept calls chosen = live_known w s (all_named w may kept) (may_be_told w k (Drop s) may kept calls chosen)
 deed_printed w k (Refuse why) may scripts kept calls chosen =
-    let b : Begins w k (Refuse why) = (has_command_reason w k (Refuse why) chosen) in begun_formed w k (Refuse why) (reply_of w why) (all_named w may kept) scripts b (begun_fits w k (Refuse why) (all_named w may kept) b)
+    let b : Begins w k (Refuse why) = (has_command_reason w k (Refuse why) chosen) in begun_formed w k (Refuse why) (reply_of w why) (all_named w may kept) (few_live w may kept) scripts b (begun_fits w k (Refuse why) (all_named w may kept) b)
 deed_printed w k (Open s sole) may scripts kept calls chosen =
-    let b = (has_command_reason w k (Open s sole) chosen).begins in begun_formed w k (Open s sole) reply.Ok (all_named w may kept) scripts b (begun_fits w k (Open s sole) (all_named w may kept) b)
+    let b = (has_command_reason w k (Open s sole) chosen).begins in begun_formed w k (Open s sole) reply.Ok (all_named w may kept) (few_live w may kept) scripts b (begun_fits w k (Open s sole) (all_named w may kept) b)
 deed_printed w k (Close s) may scripts kept calls chosen =
-    let b = (has_command_reason w k (Close s) chosen).begins in begun_formed w k (Close s) reply.Ok (all_named w may kept) scripts b (begun_fits w k (Close s) (all_named w may kept) b)
+    let b = (has_command_reason w k (Close s) chosen).begins in begun_formed w k (Close s) reply.Ok (all_named w may kept) (few_live w may kept) scripts b (begun_fits w k (Close s) (all_named w may kept) b)
 deed_printed w k (Start ticket) may scripts kept calls chosen =
-    let b = (has_command_reason w k (Start ticket) chosen).begins in begun_formed w k (Start ticket) reply.Ok (all_named w may kept) scripts b (begun_fits w k (Start ticket) (all_named w may kept) b)
-deed_printed w k (Done ticket) may scripts kept calls chosen = live_known w ticket.serial (all_named w may kept) (transfer_live w k ticket kept chosen)
+    let b = (has_command_reason w k (Start ticket) chosen).begins in begun_formed w k (Start ticket) reply.Ok (all_named w may kept) (few_live w may kept) scripts b (begun_fits w k (Start ticket) (all_named w may kept) b)
+deed_printed w k (Done ticket) may scripts kept calls chosen = (live_known w ticket.serial (all_named w may kept) (transfer_live w k ticket kept chosen), answer_formed ticket)
 deed_printed w k (Detach s) may scripts kept calls chosen =
-    let b = (has_command_reason w k (Detach s) chosen).begins in begun_formed w k (Detach s) reply.Ok (all_named w may kept) scripts b (begun_fits w k (Detach s) (all_named w may kept) b)
+    let b = (has_command_reason w k (Detach s) chosen).begins in begun_formed w k (Detach s) reply.Ok (all_named w may kept) (few_live w may kept) scripts b (begun_fits w k (Detach s) (all_named w may kept) b)
 deed_printed w k (Free s) may scripts kept calls chosen = live_known w s (all_named w may kept) (may_be_told w k (Free s) may kept calls chosen)
 deed_printed w k (Rescan s only) may scripts kept calls chosen =
-    let b = (has_command_reason w k (Rescan s only) chosen).begins in begun_formed w k (Rescan s only) reply.Ok (all_named w may kept) scripts b (begun_fits w k (Rescan s only) (all_named w may kept) b)
+    let b = (has_command_reason w k (Rescan s only) chosen).begins in begun_formed w k (Rescan s only) reply.Ok (all_named w may kept) (few_live w may kept) scripts b (begun_fits w k (Rescan s only) (all_named w may kept) b)
 deed_printed w k (BeginPower kind s) may scripts kept calls chosen =
-    let b = (has_command_reason w k (BeginPower kind s) chosen).begins in begun_formed w k (BeginPower kind s) reply.Ok (all_named w may kept) scripts b (begun_fits w k (BeginPower kind s) (all_named w may kept) b)
+    let b = (has_command_reason w k (BeginPower kind s) chosen).begins in begun_formed w k (BeginPower kind s) reply.Ok (all_named w may kept) (few_live w may kept) scripts b (begun_fits w k (BeginPower kind s) (all_named w may kept) b)
 deed_printed w k (Sleep s) may scripts kept calls chosen = live_known w s (all_named w may kept) (may_be_told w k (Sleep s) may kept calls chosen)
 deed_printed w k (Wake s) may scripts kept calls chosen = live_known w s (all_named w may kept) (may_be_told w k (Wake s) may kept calls chosen)
 deed_printed w k (EndPower end) may scripts kept calls chosen = power_formed w k end (all_named w may kept) scripts kept (has_command_reason w k (EndPower end) chosen)
 deed_printed w k (Plug x) may scripts kept calls chosen =
-    let b = (has_command_reason w k (Plug x) chosen).begins in begun_formed w k (Plug x) reply.Ok (all_named w may kept) scripts b (begun_fits w k (Plug x) (all_named w may kept) b)
+    let b = (has_command_reason w k (Plug x) chosen).begins in begun_formed w k (Plug x) reply.Ok (all_named w may kept) (few_live w may kept) scripts b (begun_fits w k (Plug x) (all_named w may kept) b)
 deed_printed w k (Unplug x None) may scripts kept calls chosen =
-    let b = (has_command_reason w k (Unplug x None) chosen).begins in begun_formed w k (Unplug x None) reply.Ok (all_named w may kept) scripts b (begun_fits w k (Unplug x None) (all_named w may kept) b)
+    let b = (has_command_reason w k (Unplug x None) chosen).begins in begun_formed w k (Unplug x None) reply.Ok (all_named w may kept) (few_live w may kept) scripts b (begun_fits w k (Unplug x None) (all_named w may kept) b)
 deed_printed w k (Unplug x (Some s)) may scripts kept calls chosen =
-    let b = (has_command_reason w k (Unplug x (Some s)) chosen).begins in begun_formed w k (Unplug x (Some s)) reply.Ok (all_named w may kept) scripts b (begun_fits w k (Unplug x (Some s)) (all_named w may kept) b)
+    let b = (has_command_reason w k (Unplug x (Some s)) chosen).begins in begun_formed w k (Unplug x (Some s)) reply.Ok (all_named w may kept) (few_live w may kept) scripts b (begun_fits w k (Unplug x (Some s)) (all_named w may kept) b)
 deed_printed w k Tell may scripts kept calls chosen =
-    let b = (has_command_reason w k Tell chosen).begins in begun_formed w k Tell reply.Ok (all_named w may kept) scripts b (begun_fits w k Tell (all_named w may kept) b)
+    let b = (has_command_reason w k Tell chosen).begins in begun_formed w k Tell reply.Ok (all_named w may kept) (few_live w may kept) scripts b (begun_fits w k Tell (all_named w may kept) b)
+
+number_fits : (w : World) (k : ℕ) → MayRun w.setup → Kept w → number_of w k < 2 ^ 32
+number_fits w k may kept = cond_both (λ n. n < 2 ^ 32) (k == 0) 0 ((caller_at w k).over + 1) (λ h. omega arith) (λ h. omega (arith, over_low w may kept k))
 
 -- the event is formed
 pub deed_formed : (w : World) (k : ℕ) (d : Deed) → MayRun w.setup → FormedScripts w.setup → Kept w → CallsDevices w → next w k ≡ Does d → IsFormed (event_of w k d)
 unfolding event_of
-deed_formed w k d may scripts kept calls chosen = record { caller = doer_low w k d may kept chosen; act = deed_printed w k d may scripts kept calls chosen }
+deed_formed w k d may scripts kept calls chosen = record { caller = doer_low w k d may kept chosen; number = number_fits w k may kept; act = deed_printed w k d may scripts kept calls chosen }

@@ -8,6 +8,7 @@ use Rattle.run_rules.specs.declared.world.Setup.{Setup}
 use Rattle.run_rules.specs.World.{World, is_live, is_held, children}
 use Rattle.run_rules.specs.declared.deed.Deed.{Deed}
 use Rattle.run_rules.specs.declared.deed.Deed.TheVariants.{Search, EndScan, BeginInterrupts, Finalise, Open, Close, Drop, Detach, Unplug, Sleep, Wake, Free, Rescan}
+use Rattle.run_rules.specs.References.{MayHold}
 use Rattle.ref_ledger.specs.Refs.{IsHolder}
 
 -- the values that a command gives are of locators of the attribute, each of another
@@ -31,7 +32,7 @@ is_plain d = not (is_of_frame d)
 
 -- what such a deed needs of the world: that a device is held or not, lives, or has no children
 abbrev pub MayDo : World → ℕ → Deed → Type 0
-MayDo w k (Open of sole) = IsHolder k × (is_held w k of ≡ false)
+MayDo w k (Open of sole) = IsHolder k × MayHold w.refs w.sole k of sole
 MayDo w k (Close of) = is_held w k of ≡ true
 MayDo w k (Drop of) = is_held w k of ≡ true
 MayDo w k (Detach of) = IsTrue (is_live w.live of)

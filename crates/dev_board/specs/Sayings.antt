@@ -40,10 +40,10 @@ EndsLive live _ = ⊤
 abbrev pub HasRow : Setup → Option Arrival → Type 0
 HasRow s got = IfSome got (λ a. a.row < length s.tables.rows)
 
--- the devices that the line of a deed names are live, what comes has a row, and what ends as a power command is one
+-- the devices that the line of a deed names are live, its spots are of the machine, what comes has a row, and what ends as a power command is one
 abbrev pub MayBeTold : World → ℕ → Deed → Type 0
-MayBeTold w k (Search p spot to got) = HasRow w.setup got
-MayBeTold w k (Finalise s shown got listed anew) = IsLive w.live s × HasRow w.setup got
+MayBeTold w k (Search p spot to got) = (spot < length w.setup.machine.spots) × HasRow w.setup got
+MayBeTold w k (Finalise s shown got listed anew) = IsLive w.live s × IfSome shown (λ x. x < length w.setup.machine.spots) × HasRow w.setup got
 MayBeTold w k (Refuse why) = RefusesLive w.live why
 MayBeTold w k (Done ticket) = IsLive w.live ticket.serial
 MayBeTold w k (Free s) = IsLive w.live s

@@ -62,12 +62,36 @@ fn plan_open(setup: &Setup, core: &Core, caller: u8, name: &[u8]) -> Result<Deed
     ensures { (number : ℕ) → command_deed (world_of setup.now core.now) caller number (command.OpenDev name.now) ≡ or_refused (λ deed. deed) result }
 {
     let device = spared(setup, core, name)?;
-    if core.refs.holds(device.serial, caller) {
-        return Err(Refusal::HeldAlready);
+    if core.refs.is_sole(device.serial) {
+        return Err(Refusal::Exclusive);
+    }
+    if core.refs.count(device.serial, caller) < 15 {
+        Ok(Deed::Open {
+            of: device.serial,
+            sole: false,
+        })
+    } else {
+        Err(Refusal::TooMany)
+    }
+}
+
+/// The only reference is asked for.
+#[tactic(auto, unfolding(run_rules::specs::Next::command_deed))]
+fn plan_open_sole(
+    setup: &Setup,
+    core: &Core,
+    caller: u8,
+    name: &[u8],
+) -> Result<Deed, Refusal>
+    ensures { (number : ℕ) → command_deed (world_of setup.now core.now) caller number (command.OpenSole name.now) ≡ or_refused (λ deed. deed) result }
+{
+    let device = spared(setup, core, name)?;
+    if core.refs.refers(device.serial) {
+        return Err(Refusal::Shared);
     }
     Ok(Deed::Open {
         of: device.serial,
-        sole: false,
+        sole: true,
     })
 }
 
@@ -297,6 +321,7 @@ pub fn plan_command(
 {
     match said {
         Command::OpenDev(name) => Ok(settled(plan_open(setup, core, caller, name.bytes()))),
+        Command::OpenSole(name) => Ok(settled(plan_open_sole(setup, core, caller, name.bytes()))),
         Command::CloseDev(name) => Ok(settled(plan_close(setup, core, caller, name.bytes()))),
         Command::Io(name, value) => Ok(ask_io(setup, core, caller, number, name, *value)),
         Command::Detach(name) => plan_detach(alloc, setup, core, caller, name.bytes()),

@@ -38,7 +38,9 @@ fn reply_of(alloc: Global, setup: &Setup, core: &Core, why: Refusal) -> Result<R
     match why {
         Refusal::NoDevice => Ok(Reply::NoDevice),
         Refusal::Gone => Ok(Reply::Gone),
-        Refusal::HeldAlready => Ok(Reply::HeldAlready),
+        Refusal::Exclusive => Ok(Reply::Exclusive),
+        Refusal::TooMany => Ok(Reply::TooMany),
+        Refusal::Shared => Ok(Reply::Shared),
         Refusal::NotHeld => Ok(Reply::NotHeld),
         Refusal::Asleep => Ok(Reply::Asleep),
         Refusal::Busy(serial) => {
@@ -185,6 +187,10 @@ fn command_act(
         Command::OpenDev(name) => {
             let (device, reply) = answered(alloc, setup, core, name, refused)?;
             Ok(Act::OpenDev { device, reply })
+        }
+        Command::OpenSole(name) => {
+            let (device, reply) = answered(alloc, setup, core, name, refused)?;
+            Ok(Act::OpenSole { device, reply })
         }
         Command::CloseDev(name) => {
             let (device, reply) = answered(alloc, setup, core, name, refused)?;

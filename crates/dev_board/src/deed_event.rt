@@ -17,7 +17,7 @@ ghost use Rattle.dev_board.specs.View.{world_of};
 
 use crate::command_act::{answer_for, answered_act, power_end_act};
 use crate::listed_names::live_name;
-use crate::names::{got_name, parent_name};
+use crate::names::{got_of, parent_name, shown_of, spot_name};
 use crate::parts::Core;
 use cf_types::Memory;
 use run_rules::{Act, Deed, Event, Setup};
@@ -54,10 +54,13 @@ fn deed_act(
 {
     let tree = &core.tree;
     match deed {
-        Deed::Search { parent, got, .. } => {
+        Deed::Search {
+            parent, spot, got, ..
+        } => {
             let parent = parent_name(alloc, setup, tree, parent)?;
-            let got = got_name(alloc, setup, got)?;
-            Ok(Act::Found { parent, got })
+            let spot = spot_name(setup, spot)?;
+            let got = got_of(alloc, setup, got)?;
+            Ok(Act::Found { parent, spot, got })
         }
         Deed::EndScan { of } => {
             let device = parent_name(alloc, setup, tree, of)?;
@@ -66,12 +69,8 @@ fn deed_act(
         Deed::BeginInterrupts => Ok(Act::Interrupts),
         Deed::Finalise { of, shown, got, .. } => {
             let device = live_name(alloc, setup, tree, of)?;
-            let got = got_name(alloc, setup, got)?;
-            Ok(Act::Final {
-                device,
-                answer: shown.is_some(),
-                got,
-            })
+            let shown = shown_of(alloc, setup, shown, got)?;
+            Ok(Act::Final { device, shown })
         }
         Deed::EndCaller => Ok(Act::End),
         Deed::Drop { of } => {

@@ -6,7 +6,7 @@ ghost use Rattle.run_rules.specs.declared.deed.Deed.TheVariants as deeds;
 ghost use Rattle.run_rules.specs.declared.deed.PowerEnd.{PowerEnd};
 ghost use Rattle.run_rules.specs.World as world;
 ghost use Rattle.run_rules.specs.declared.world.Setup as from;
-ghost use Rattle.ref_ledger.specs.Refs.{IsHolder};
+ghost use Rattle.ref_ledger.specs.Refs.{IsHolder, MayGrant};
 ghost use Rattle.dev_board.specs.Arrivals.{state_at};
 ghost use Rattle.run_rules.specs.Sound.{HasSoundDevices};
 ghost use Rattle.dev_board.specs.Events.{HaveRows};
@@ -29,27 +29,27 @@ use cf_types::Memory;
 use run_rules::{Activity, Deed, Frame, Position, PowerKind, Setup};
 use std::alloc::Global;
 
-/// The caller holds a device from now on. At `Memory` all is as before.
+/// The caller holds a device once more. At `Memory` all is as before.
 fn open(core: &mut Core, caller: u8, of: u64, sole: bool) -> Result<(), Memory>
     requires caller { caller < length core.old.callers.items }
     requires low { (state_at core.old.callers.items caller).over < 2 ^ 32 - 1 }
     requires holder { IsHolder caller }
-    requires anew { world.holds_in core.old.refs caller of ≡ false }
+    requires room { MayGrant core.old.refs of caller sole }
     ensures ok { OnOk result ((s : from.Setup) → world_of s core.new ≡ rule.after (world_of s core.old) caller (deeds.Open of sole)) }
     ensures err { OnErr result ((s : from.Setup) → world_of s core.new ≡ world_of s core.old) }
     ensures books { (s : from.Setup) → Books s core.old → Books s core.new }
     ensures aside { SameAside core.old core.new }
 {
-    core.refs.grant(of, caller)?;
+    core.refs.grant(of, caller, sole)?;
     finish(core, caller);
     Ok(())
 }
 
-/// The caller holds a device no longer.
+/// The caller gives one reference to a device back.
 fn close(core: &mut Core, caller: u8, of: u64)
     requires caller { caller < length core.old.callers.items }
     requires low { (state_at core.old.callers.items caller).over < 2 ^ 32 - 1 }
-    requires held { world.holds_in core.old.refs caller of ≡ true }
+    requires held { world.holds_in core.old.refs.refs caller of ≡ true }
     ensures world { (s : from.Setup) → world_of s core.new ≡ rule.after (world_of s core.old) caller (deeds.Close of) }
     ensures books { (s : from.Setup) → Books s core.old → Books s core.new }
     ensures aside { SameAside core.old core.new }
@@ -58,10 +58,10 @@ fn close(core: &mut Core, caller: u8, of: u64)
     finish(core, caller);
 }
 
-/// After its last command the caller returns a device.
+/// After its last command the caller returns a reference.
 #[tactic(auto, unfolding(run_rules::specs::After::after))]
 fn give_back(core: &mut Core, caller: u8, of: u64)
-    requires held { world.holds_in core.old.refs caller of ≡ true }
+    requires held { world.holds_in core.old.refs.refs caller of ≡ true }
     ensures world { (s : from.Setup) → world_of s core.new ≡ rule.after (world_of s core.old) caller (deeds.Drop of) }
     ensures books { (s : from.Setup) → Books s core.old → Books s core.new }
     ensures aside { SameAside core.old core.new }

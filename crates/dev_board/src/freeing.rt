@@ -31,7 +31,7 @@ pub fn plan_free(core: &Core, caller: u8) -> Choice
 /// What is done after the last command: what the caller holds is given back, and then it ends.
 pub fn plan_closing(core: &Core, caller: u8) -> Choice
     requires later { EachLater (λ d e. d.serial < e.serial) core.now.tree.live }
-    requires lives { AllByRecursion (λ r. IsTrue (is_live core.now.tree.live r.serial)) core.now.refs }
+    requires lives { AllByRecursion (λ r. IsTrue (is_live core.now.tree.live r.serial)) core.now.refs.refs }
     ensures { (s : from.Setup) → next.closing (world_of s core.now) caller ≡ result }
 {
     match core.refs.first_held(caller) {

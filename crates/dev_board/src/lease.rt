@@ -1,9 +1,10 @@
 //! What a deed means for the leases of its caller.
-ghost use Rattle.std.specs.Prelude.{◌≡◌, ℕ};
+ghost use Rattle.std.specs.Prelude.{◌≡◌, nat_lt, if◌then◌else◌};
+ghost use Rattle.run_rules.specs.References.{count_in};
 ghost use Rattle.run_rules.specs.After.{after};
 ghost use Rattle.run_rules.specs.declared.deed.Choice.TheVariants.{Does};
 ghost use Rattle.run_rules.specs.Next.{next};
-ghost use Rattle.run_rules.specs.World.{World, device_at};
+ghost use Rattle.run_rules.specs.World.{World, device_at, holds_in};
 ghost use Rattle.std.specs.Option.{option_map_or};
 ghost use Rattle.dev_board.specs.declared.answer.LeaseStep.TheVariants.{Keep, Take, Give};
 ghost use Rattle.dev_board.specs.Witness.{lease_step};
@@ -32,14 +33,37 @@ fn give_of(core: &Core, of: u64) -> LeaseStep
     }
 }
 
-/// The slot that a deed takes or gives back, on a board that has not done it yet: it opens a device, or closes one.
-pub fn lease_of(core: &Core, deed: Deed) -> LeaseStep
-    ensures { (w : World) (k : ℕ) → w.live ≡ core.now.tree.live → next w k ≡ Does deed → lease_step w (after w k deed) k ≡ result }
+/// The first reference of a caller to a device takes its slot.
+fn opening_step(core: &Core, caller: u8, of: u64) -> LeaseStep
+    ensures { (if holds_in core.now.refs.refs caller of then Keep else option_map_or (λ d. Take d.spot) (device_at core.now.tree.live of) Keep) ≡ result }
+{
+    if core.refs.holds(of, caller) {
+        LeaseStep::Keep
+    } else {
+        take_of(core, of)
+    }
+}
+
+/// The return of the last one gives it back.
+fn return_step(core: &Core, caller: u8, of: u64) -> LeaseStep
+    ensures { (if nat_lt 1 (count_in core.now.refs.refs caller of) then Keep else option_map_or (λ d. Give d.spot) (device_at core.now.tree.live of) Keep) ≡ result }
+{
+    if core.refs.count(of, caller) > 1 {
+        LeaseStep::Keep
+    } else {
+        give_of(core, of)
+    }
+}
+
+/// The slot that a deed of a caller takes or gives back, on a board that has not done it yet: it opens a device, or closes
+/// one.
+pub fn lease_of(core: &Core, caller: u8, deed: Deed) -> LeaseStep
+    ensures { (w : World) → w.live ≡ core.now.tree.live → w.refs ≡ core.now.refs.refs → next w caller ≡ Does deed → lease_step w (after w caller deed) caller ≡ result }
 {
     match deed {
-        Deed::Open { of, .. } => take_of(core, of),
-        Deed::Close { of } => give_of(core, of),
-        Deed::Drop { of } => give_of(core, of),
+        Deed::Open { of, .. } => opening_step(core, caller, of),
+        Deed::Close { of } => return_step(core, caller, of),
+        Deed::Drop { of } => return_step(core, caller, of),
         _ => LeaseStep::Keep,
     }
 }

@@ -6,11 +6,12 @@ ghost use Rattle.run_rules.specs.Run as run;
 ghost use Rattle.run_rules.specs.World as world;
 ghost use Rattle.dev_board.specs.Input.{Bounded};
 ghost use Rattle.dev_board.specs.Events.{HaveRows};
+ghost use Rattle.dev_board.specs.Sayings.{HasRow};
 
 use crate::spots::driver_of;
 use cf_types::{Memory, Name};
 use dev_tree::DevTree;
-use run_rules::{Arrival, Setup};
+use run_rules::{Arrival, Got, Setup, Shown};
 use std::alloc::Global;
 
 /// The name of a driver.
@@ -64,17 +65,49 @@ pub fn parent_name(
     }
 }
 
-/// The name of what came, if anything did.
-pub fn got_name(alloc: Global, setup: &Setup, got: Option<Arrival>) -> Result<Option<Name>, Memory>
+/// The name of a spot.
+pub fn spot_name(setup: &Setup, spot: u16) -> Result<Name, Memory>
+    requires { spot < length setup.now.machine.spots }
+    ensures { IfOk result (λ n. n ≡ run.spot_name setup.now spot) }
+{
+    match setup.machine.spots.items().get(spot as usize) {
+        Some(s) => Ok(s.name.clone()?),
+        None => unreachable!(),
+    }
+}
+
+/// The name and the row of what came, if anything did.
+pub fn got_of(alloc: Global, setup: &Setup, got: Option<Arrival>) -> Result<Option<Got>, Memory>
     requires bounded { Bounded setup.now }
-    requires row { IfSome got (λ a. a.row < length setup.now.tables.rows) }
-    ensures text { IfOk result (λ name. name ≡ run.got_name setup.now got) }
-    ensures formed { IfOk result (λ name. IfSome name IsDeviceName) }
+    requires row { HasRow setup.now got }
+    ensures { IfOk result (λ named. named ≡ run.got_of setup.now got) }
 {
     match got {
         Some(a) => {
             let name = unit_name(alloc, setup, a.row, a.unit)?;
-            Ok(Some(name))
+            Ok(Some(Got { name, row: a.row }))
+        }
+        None => Ok(None),
+    }
+}
+
+/// The spot that a finaliser showed, and what came there.
+pub fn shown_of(
+    alloc: Global,
+    setup: &Setup,
+    shown: Option<u16>,
+    got: Option<Arrival>,
+) -> Result<Option<Shown>, Memory>
+    requires bounded { Bounded setup.now }
+    requires spot { IfSome shown (λ x. x < length setup.now.machine.spots) }
+    requires row { HasRow setup.now got }
+    ensures { IfOk result (λ told. told ≡ run.shown_of setup.now shown got) }
+{
+    match shown {
+        Some(spot) => {
+            let spot = spot_name(setup, spot)?;
+            let got = got_of(alloc, setup, got)?;
+            Ok(Some(Shown { spot, got }))
         }
         None => Ok(None),
     }

@@ -113,7 +113,7 @@ fn perform<S: Slots>(
         Err(_) => Err(Halt::Memory),
         Ok(event) => {
             let place = core.events.len() as u64;
-            let lease = lease_of(core, deed);
+            let lease = lease_of(core, caller, deed);
             let told = Told::of_event(setup, caller, place, &event, lease);
             run_deed(alloc, graph, setup, core, caller, deed, slots)?;
             append(&mut core.events, event);

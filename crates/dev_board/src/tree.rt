@@ -27,6 +27,7 @@ fn line_of(
 {
     let name = unit_name(alloc, setup, device.row, device.unit)?;
     let parent = parent_name(alloc, setup, &core.tree, device.parent)?;
+    let holders = core.refs.holds_on(alloc, device.serial)?;
     Ok(DevLine {
         depth,
         name,
@@ -34,7 +35,7 @@ fn line_of(
         row: device.row,
         asleep: device.asleep,
         condemned: device.condemned.is_some(),
-        holders: core.refs.holders(device.serial),
+        holders,
     })
 }
 

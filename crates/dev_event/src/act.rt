@@ -2,11 +2,11 @@ ghost use Rattle.std.specs.Prelude.{◌≡◌, ◌++◌, OnOk, codes, decimal};
 ghost use Rattle.run_rules.specs.Lines as text;
 
 use crate::parts::{
-    put_answer, put_depth_names, put_final, put_got, put_named, put_names, put_of, put_reply,
-    put_said, put_started,
+    put_answer, put_depth_names, put_got, put_got_1, put_named, put_names, put_of, put_reply,
+    put_said, put_shown, put_shown_1, put_started,
 };
 use cf_types::{List, Memory, Name, put_bytes, put_decimal};
-use run_rules::{Act, DepthName, IoAnswer, PowerKind, Reply};
+use run_rules::{Act, DepthName, Got, IoAnswer, PowerKind, Reply, Shown};
 
 fn power_word(kind: PowerKind) -> &'static [u8]
     ensures { result.now ≡ text.power_word kind }
@@ -26,12 +26,21 @@ fn put_replied(out: &mut Vec<u8>, word: &[u8], name: &Name, reply: &Reply) -> Re
     put_reply(out, reply)
 }
 
-/// Appends which device was found, and its name, if it has one.
-fn put_found(out: &mut Vec<u8>, parent: &Name, got: &Option<Name>) -> Result<(), Memory>
-    ensures { OnOk result (out.new.items ≡ out.old.items ++ text.said_of (codes "found ") parent.now (text.got_text got.now)) }
+/// Appends which spot was searched, and what was attached there.
+fn put_found(out: &mut Vec<u8>, parent: &Name, spot: &Name, got: &Option<Got>) -> Result<(), Memory>
+    ensures { OnOk result (out.new.items ≡ out.old.items ++ text.said_of (codes "found ") (parent.now ++ codes " on " ++ spot.now) (text.got_text got.now)) }
+{
+    put_named(out, b"found ", parent)?;
+    put_said(out, b" on ", spot)?;
+    put_got(out, got)
+}
+
+/// Appends what was attached below a device: format 1.
+fn put_found_1(out: &mut Vec<u8>, parent: &Name, got: &Option<Got>) -> Result<(), Memory>
+    ensures { OnOk result (out.new.items ≡ out.old.items ++ text.said_of (codes "found ") parent.now (text.got_text_1 got.now)) }
 {
     put_said(out, b"found ", parent)?;
-    put_got(out, got)
+    put_got_1(out, got)
 }
 
 /// Appends that a scan of a device is done.
@@ -42,17 +51,20 @@ fn put_scan(out: &mut Vec<u8>, device: &Name) -> Result<(), Memory>
     put_bytes(out, b"done")
 }
 
-/// Appends what a finaliser answered, and what its search got.
-fn put_finaliser(
-    out: &mut Vec<u8>,
-    device: &Name,
-    answer: bool,
-    got: &Option<Name>,
-) -> Result<(), Memory>
-    ensures { OnOk result (out.new.items ≡ out.old.items ++ text.said_of (codes "final ") device.now (text.final_text answer got.now)) }
+/// Appends what a finaliser answered.
+fn put_finaliser(out: &mut Vec<u8>, device: &Name, shown: &Option<Shown>) -> Result<(), Memory>
+    ensures { OnOk result (out.new.items ≡ out.old.items ++ text.said_of (codes "final ") device.now (text.shown_text shown.now)) }
 {
     put_said(out, b"final ", device)?;
-    put_final(out, answer, got)
+    put_shown(out, shown)
+}
+
+/// Appends what a finaliser answered: format 1.
+fn put_finaliser_1(out: &mut Vec<u8>, device: &Name, shown: &Option<Shown>) -> Result<(), Memory>
+    ensures { OnOk result (out.new.items ≡ out.old.items ++ text.said_of (codes "final ") device.now (text.shown_text_1 shown.now)) }
+{
+    put_said(out, b"final ", device)?;
+    put_shown_1(out, shown)
 }
 
 /// Appends how a transfer begins.
@@ -106,17 +118,14 @@ pub fn put_act(out: &mut Vec<u8>, act: &Act) -> Result<(), Memory>
     ensures { OnOk result (out.new.items ≡ out.old.items ++ text.act_text act.now) }
 {
     match act {
-        Act::Found { parent, got } => put_found(out, parent, got),
+        Act::Found { parent, spot, got } => put_found(out, parent, spot, got),
         Act::ScanEnd { device } => put_scan(out, device),
         Act::Interrupts => put_bytes(out, b"interrupts"),
-        Act::Final {
-            device,
-            answer,
-            got,
-        } => put_finaliser(out, device, *answer, got),
+        Act::Final { device, shown } => put_finaliser(out, device, shown),
         Act::End => put_bytes(out, b"end"),
         Act::DropRef { device } => put_named(out, b"drop ", device),
         Act::OpenDev { device, reply } => put_replied(out, b"open ", device, reply),
+        Act::OpenSole { device, reply } => put_replied(out, b"open -x ", device, reply),
         Act::CloseDev { device, reply } => put_replied(out, b"close ", device, reply),
         Act::IoStart {
             device,
@@ -139,5 +148,17 @@ pub fn put_act(out: &mut Vec<u8>, act: &Act) -> Result<(), Memory>
         Act::PowerEnd { device, reply } => put_replied(out, b"power ", device, reply),
         Act::Plug { spot, reply } => put_replied(out, b"plug ", spot, reply),
         Act::Unplug { spot, reply } => put_replied(out, b"unplug ", spot, reply),
+    }
+}
+
+/// Appends the text of an act in format 1. Where memory runs out, some of it may have been appended.
+#[tactic(auto, unfolding(run_rules::specs::Lines::act_text_1))]
+pub fn put_act_1(out: &mut Vec<u8>, act: &Act) -> Result<(), Memory>
+    ensures { OnOk result (out.new.items ≡ out.old.items ++ text.act_text_1 act.now) }
+{
+    match act {
+        Act::Found { parent, got, .. } => put_found_1(out, parent, got),
+        Act::Final { device, shown } => put_finaliser_1(out, device, shown),
+        _ => put_act(out, act),
     }
 }

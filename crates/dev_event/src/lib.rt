@@ -2,8 +2,16 @@
 #![tactic(auto)]
 
 mod act;
+mod cut;
+mod formed;
 mod line;
 mod parts;
+mod read;
+mod read_act;
+mod read_names;
+mod read_reply;
+mod word;
 
-pub use line::put_event;
-pub use run_rules::{Act, DepthName, Event, IoAnswer, PowerKind, Reply};
+pub use line::{put_event, put_event_1};
+pub use read::{read_caller, read_event};
+pub use run_rules::{Act, DepthName, Event, Got, IoAnswer, PowerKind, Reply, Shown};

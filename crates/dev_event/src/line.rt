@@ -1,22 +1,43 @@
-ghost use Rattle.std.specs.Prelude.{◌≡◌, ◌++◌, OnOk, OnErr};
-ghost use Rattle.run_rules.specs.Lines.{line_of};
+ghost use Rattle.std.specs.Prelude.{◌≡◌, ◌++◌, OnOk, OnErr, codes, decimal};
+ghost use Rattle.run_rules.specs.Lines.{line_of, line_of_1};
 
-use crate::act::put_act;
+use crate::act::{put_act, put_act_1};
 use cf_types::{Memory, put_bytes, put_decimal};
 use run_rules::Event;
 
-/// Appends the line of an event, without its newline. Where memory runs out, nothing is appended.
+/// Appends who did the event, and the number of its command.
+fn put_head(out: &mut Vec<u8>, event: &Event) -> Result<(), Memory>
+    ensures { OnOk result (out.new.items ≡ out.old.items ++ (decimal event.now.caller ++ codes "." ++ decimal event.now.number ++ codes " ")) }
+{
+    put_decimal(out, i64::from(event.caller))?;
+    put_bytes(out, b".")?;
+    put_decimal(out, i64::from(event.number))?;
+    put_bytes(out, b" ")
+}
+
+/// Appends the line of an event, without its newline: format 2. Where memory runs out, nothing is appended.
 #[tactic(auto, unfolding(run_rules::specs::Lines::line_of))]
 pub fn put_event(event: &Event, out: &mut Vec<u8>) -> Result<(), Memory>
     ensures ok { OnOk result (out.new.items ≡ out.old.items ++ line_of event.now) }
     ensures err { OnErr result (out.new.items ≡ out.old.items) }
 {
     let mut line = Vec::new(*out.allocator());
-    put_decimal(&mut line, i64::from(event.caller))?;
-    put_bytes(&mut line, b".")?;
-    put_decimal(&mut line, i64::from(event.number))?;
-    put_bytes(&mut line, b" ")?;
+    put_head(&mut line, event)?;
     put_act(&mut line, &event.act)?;
+    out.extend_from_slice(&line)?;
+    Ok(())
+}
+
+/// Appends the line that an event has in a history of format 1, without its newline: a search tells no spot there, and an
+/// attachment no row. Where memory runs out, nothing is appended.
+#[tactic(auto, unfolding(run_rules::specs::Lines::line_of_1))]
+pub fn put_event_1(event: &Event, out: &mut Vec<u8>) -> Result<(), Memory>
+    ensures ok { OnOk result (out.new.items ≡ out.old.items ++ line_of_1 event.now) }
+    ensures err { OnErr result (out.new.items ≡ out.old.items) }
+{
+    let mut line = Vec::new(*out.allocator());
+    put_head(&mut line, event)?;
+    put_act_1(&mut line, &event.act)?;
     out.extend_from_slice(&line)?;
     Ok(())
 }

@@ -1,9 +1,9 @@
 //! The pieces of a line. Where memory runs out, some of a piece may have been appended.
 ghost use Rattle.std.specs.Prelude.{◌≡◌, ◌++◌, OnOk, codes, decimal, flat_map};
-ghost use Rattle.run_rules.specs.Lines.{reply_text, started_text, answer_text, got_text, final_text, of_text, names_text, depth_names_text};
+ghost use Rattle.run_rules.specs.Lines.{reply_text, started_text, answer_text, got_text, got_text_1, shown_text, shown_text_1, of_text, names_text, depth_names_text};
 
 use cf_types::{List, Memory, Name, put_bytes, put_decimal};
-use run_rules::{DepthName, IoAnswer, Reply};
+use run_rules::{DepthName, Got, IoAnswer, Reply, Shown};
 
 /// Appends a word and a name.
 pub fn put_named(out: &mut Vec<u8>, word: &[u8], name: &Name) -> Result<(), Memory>
@@ -29,7 +29,9 @@ pub fn put_reply(out: &mut Vec<u8>, reply: &Reply) -> Result<(), Memory>
         Reply::Ok => put_bytes(out, b"ok"),
         Reply::NoDevice => put_bytes(out, b"no device"),
         Reply::Gone => put_bytes(out, b"gone"),
-        Reply::HeldAlready => put_bytes(out, b"held already"),
+        Reply::Exclusive => put_bytes(out, b"exclusive"),
+        Reply::TooMany => put_bytes(out, b"too many"),
+        Reply::Shared => put_bytes(out, b"shared"),
         Reply::NotHeld => put_bytes(out, b"not held"),
         Reply::Asleep => put_bytes(out, b"asleep"),
         Reply::Busy(name) => put_named(out, b"busy ", name),
@@ -62,25 +64,53 @@ pub fn put_answer(out: &mut Vec<u8>, answer: IoAnswer) -> Result<(), Memory>
     }
 }
 
-/// Appends the name of the device that was attached, if one was.
-pub fn put_got(out: &mut Vec<u8>, got: &Option<Name>) -> Result<(), Memory>
+/// Appends the name and the row of the device that was attached, if one was.
+pub fn put_got(out: &mut Vec<u8>, got: &Option<Got>) -> Result<(), Memory>
     ensures { OnOk result (out.new.items ≡ out.old.items ++ got_text got.now) }
 {
     match got {
         None => put_bytes(out, b"not configured"),
-        Some(name) => put_bytes(out, name.bytes()),
+        Some(got) => {
+            put_bytes(out, got.name.bytes())?;
+            put_bytes(out, b" row ")?;
+            put_decimal(out, i64::from(got.row))
+        }
     }
 }
 
-/// Appends what a finaliser answered.
-pub fn put_final(out: &mut Vec<u8>, answer: bool, got: &Option<Name>) -> Result<(), Memory>
-    ensures { OnOk result (out.new.items ≡ out.old.items ++ final_text answer got.now) }
+/// Appends what a finaliser answered: the spot that it showed, and what was attached there.
+pub fn put_shown(out: &mut Vec<u8>, shown: &Option<Shown>) -> Result<(), Memory>
+    ensures { OnOk result (out.new.items ≡ out.old.items ++ shown_text shown.now) }
 {
-    if answer {
-        put_bytes(out, b"1 ")?;
-        put_got(out, got)
-    } else {
-        put_bytes(out, b"0")
+    match shown {
+        None => put_bytes(out, b"0"),
+        Some(shown) => {
+            put_said(out, b"1 on ", &shown.spot)?;
+            put_got(out, &shown.got)
+        }
+    }
+}
+
+/// Appends the name of the device that was attached, if one was: format 1.
+pub fn put_got_1(out: &mut Vec<u8>, got: &Option<Got>) -> Result<(), Memory>
+    ensures { OnOk result (out.new.items ≡ out.old.items ++ got_text_1 got.now) }
+{
+    match got {
+        None => put_bytes(out, b"not configured"),
+        Some(got) => put_bytes(out, got.name.bytes()),
+    }
+}
+
+/// Appends what a finaliser answered, and what was attached: format 1.
+pub fn put_shown_1(out: &mut Vec<u8>, shown: &Option<Shown>) -> Result<(), Memory>
+    ensures { OnOk result (out.new.items ≡ out.old.items ++ shown_text_1 shown.now) }
+{
+    match shown {
+        None => put_bytes(out, b"0"),
+        Some(shown) => {
+            put_bytes(out, b"1 ")?;
+            put_got_1(out, &shown.got)
+        }
     }
 }
 

@@ -8,7 +8,7 @@ use Rattle.std.proofs.lemmas.List.Folds.{list_any_more}
 use Rattle.std.proofs.lemmas.Nat.Bits.{bit_at_set_same, bit_at_set_other, same_from_bits_below}
 use Rattle.run_rules.specs.declared.world.Ref.{Ref}
 use Rattle.run_rules.specs.World.{holds_in}
-use Rattle.run_rules.specs.Tree.{holders_in}
+use Rattle.run_rules.specs.References.{holder_mask}
 use Rattle.run_rules.proofs.Holders.{bit_of_holder, holders_fit}
 use Rattle.ref_ledger.specs.Refs.{IsHolder}
 
@@ -16,9 +16,9 @@ use Rattle.ref_ledger.specs.Refs.{IsHolder}
 pub record Marks (refs : List Ref) (serial mask : ℕ) : Type 0 where
   pub bits : (i : ℕ) → i < 16 → bit_at mask i ≡ cond (holds_in refs (i + 1) serial) 1 0
 
-pub marks_all : (refs : List Ref) (serial mask : ℕ) → mask < 2 ^ 16 → Marks refs serial mask → mask ≡ holders_in refs serial
+pub marks_all : (refs : List Ref) (serial mask : ℕ) → mask < 2 ^ 16 → Marks refs serial mask → mask ≡ holder_mask refs serial
 marks_all refs serial mask fits marks =
-    same_from_bits_below 16 mask (holders_in refs serial) fits (holders_fit refs serial) (λ i lt. marks.bits i lt ∙ sym (bit_of_holder refs serial i lt))
+    same_from_bits_below 16 mask (holder_mask refs serial) fits (holders_fit refs serial) (λ i lt. marks.bits i lt ∙ sym (bit_of_holder refs serial i lt))
 
 -- one more reference
 held_more : (refs : List Ref) (i : ℕ) (d : Ref) (k serial : ℕ) → i < length refs

@@ -1,39 +1,36 @@
-ghost use Rattle.std.specs.Prelude.{◌≡◌, ℕ, ◌≤◌, min, ◌++◌, ◌∷◌, [], false, true, length, MatchOption, OnOk, OnErr};
+ghost use Rattle.std.specs.Prelude.{◌≡◌, ◌==◌, ℕ, ◌≤◌, min, false, true, find, position, length, option_map, IfOk, MatchOption, OnOk, OnErr};
 ghost use Rattle.std.specs.List.{All, reduce};
-ghost use Rattle.run_rules.specs.World.{holds_in, refers_to};
-ghost use Rattle.run_rules.specs.Tree.{holders_in};
-ghost use Rattle.run_rules.specs.After.{given_back};
-ghost use Rattle.ref_ledger.specs.Refs.{IsHolder, IsLeastHeld, ref_of, serials_of};
+ghost use Rattle.run_rules.specs.World.{has, holds_in, refers_to};
+ghost use Rattle.run_rules.specs.References.{count_in, given_back, holder_mask, holds_on, is_of, shared_again};
+ghost use Rattle.ref_ledger.specs.Refs.{IsHolder, IsLeastHeld, IsSoleHolder, MayGrant, granted, no_references, returned, serials_of};
 
-use cf_types::Memory;
+use cf_types::{Hold, List, Memory};
 use run_rules::Ref;
 use std::alloc::Global;
 use std::marker::Model;
 
-/// The references to devices: each is held by a caller from 1 to 16. Contracts see the list of them in the order in which
-/// they were granted.
+/// The references to devices: each is held by a caller from 1 to 16, who may have up to 15 to one device, or the only one
+/// that may be. Contracts see the list of them in the order in which they were granted, and the devices held solely.
 #[derive(Drop)]
 pub struct Refs {
     refs: Vec<Ref>,
+    sole: Vec<u64>,
 }
 
 impl Model for Refs {
-    ghost use Rattle.std.specs.Prelude.{List};
-    ghost use Rattle.run_rules.specs.declared.world.Ref.{Ref};
-    ghost use Rattle.std.specs.List.{All};
-    ghost use Rattle.ref_ledger.specs.Refs.{IsHolder};
+    ghost use Rattle.ref_ledger.specs.Refs.{IsKept, Ledger};
 
-    ghost Value = { List Ref };
+    ghost Value = { Ledger };
 
-    ghost view = { λ ledger. ledger.refs.items };
+    ghost view = { λ ledger. record { refs = ledger.refs.items; sole = ledger.sole.items } };
 
-    ghost invariant = { λ ledger. All (λ r. IsHolder r.caller) ledger.refs.items };
+    ghost invariant = { λ ledger. IsKept ledger.refs.items ledger.sole.items };
 }
 
 /// Who holds a device: bit k-1 stands for caller k.
 fn mask_of(refs: &[Ref], serial: u64) -> u16
     requires { All (λ r. IsHolder r.caller) refs.now }
-    ensures { result ≡ holders_in refs.now serial }
+    ensures { result ≡ holder_mask refs.now serial }
 {
     let mut holders = 0;
     for held in refs {
@@ -54,69 +51,163 @@ fn least_held(refs: &[Ref], caller: u8) -> Option<u64>
         .min()
 }
 
+/// The place of the first reference of a caller to a device.
+fn place_of(refs: &[Ref], serial: u64, caller: u8) -> Option<usize>
+    ensures { result ≡ position (is_of caller serial) refs.now }
+{
+    refs.iter()
+        .position(|held| held.serial == serial && held.caller == caller)
+}
+
+/// Takes out one reference of a caller to a device, where it has any.
+fn take_out(refs: &mut Vec<Ref>, serial: u64, caller: u8)
+    ensures { refs.new.items ≡ given_back refs.old.items caller serial }
+{
+    if let Some(place) = place_of(refs, serial, caller) {
+        refs.remove(place);
+    }
+}
+
+/// Takes a device out of those that are held solely.
+fn share_again(sole: &mut Vec<u64>, serial: u64)
+    ensures { sole.new.items ≡ shared_again sole.old.items serial }
+{
+    sole.retain(|&held| held != serial);
+}
+
+/// How many references a caller has to a device.
+fn count_of(refs: &[Ref], serial: u64, caller: u8) -> usize
+    ensures { result ≡ count_in refs.now caller serial }
+{
+    refs.iter()
+        .filter(|held| held.serial == serial && held.caller == caller)
+        .count()
+}
+
+/// The caller of the first reference to a device.
+fn first_caller(refs: &[Ref], serial: u64) -> Option<u8>
+    ensures { result ≡ option_map (λ r. r.caller) (find (λ r. r.serial == serial) refs.now) }
+{
+    refs.iter()
+        .find(|held| held.serial == serial)
+        .map(|held| held.caller)
+}
+
 impl Refs {
     /// No references. It takes no memory.
     pub fn make(alloc: Global) -> Refs
-        ensures { result ≡ [] }
+        ensures { result ≡ no_references }
     {
         Refs {
             refs: Vec::new(alloc),
+            sole: Vec::new(alloc),
         }
     }
 
-    /// Grants a reference to a device that the caller, from 1 to 16, does not hold. At `Memory` all is as before.
-    pub fn grant(&mut self, serial: u64, caller: u8) -> Result<(), Memory>
+    /// Grants a reference to a device, to a caller from 1 to 16: the only one, where nobody has any, or one more, where
+    /// nobody has the only one and the caller fewer than 15. At `Memory` all is as before.
+    pub fn grant(&mut self, serial: u64, caller: u8, sole: bool) -> Result<(), Memory>
         requires caller { IsHolder caller }
-        requires anew { holds_in self.old caller serial ≡ false }
-        ensures ok { OnOk result (self.new ≡ self.old ++ ref_of serial caller ∷ []) }
+        requires free { MayGrant self.old serial caller sole }
+        ensures ok { OnOk result (self.new ≡ granted self.old serial caller sole) }
         ensures err { OnErr result (self.new ≡ self.old) }
     {
         self.refs.push(Ref { serial, caller })?;
+        if sole && self.sole.push(serial).is_err() {
+            let _ = self.refs.pop();
+            return Err(Memory);
+        }
         Ok(())
     }
 
-    /// Gives back the reference to a device that the caller holds. It takes no memory.
+    /// Gives back one reference to a device that the caller holds. It takes no memory.
     pub fn give_back(&mut self, serial: u64, caller: u8)
-        requires { holds_in self.old caller serial ≡ true }
-        ensures { self.new ≡ given_back self.old caller serial }
+        requires { holds_in self.old.refs caller serial ≡ true }
+        ensures { self.new ≡ returned self.old serial caller }
     {
-        self.refs
-            .retain(|held| !(held.serial == serial && held.caller == caller));
+        take_out(&mut self.refs, serial, caller);
+        share_again(&mut self.sole, serial);
     }
 
     /// Whether the caller holds the device.
     pub fn holds(&self, serial: u64, caller: u8) -> bool
-        ensures { result ≡ holds_in self.now caller serial }
+        ensures { result ≡ holds_in self.now.refs caller serial }
     {
         self.refs
             .iter()
             .any(|held| held.serial == serial && held.caller == caller)
     }
 
+    /// How many references the caller has to the device, 0 to 15.
+    pub fn count(&self, serial: u64, caller: u8) -> u8
+        ensures count { result ≡ count_in self.now.refs caller serial }
+        ensures few { result ≤ 15 }
+    {
+        count_of(&self.refs, serial, caller) as u8
+    }
+
+    /// The caller that has the only reference to the device; none where nobody has the device solely.
+    pub fn sole(&self, serial: u64) -> Option<u8>
+        ensures { MatchOption result (has self.now.sole serial ≡ false) (IsSoleHolder self.now serial) }
+    {
+        if self.is_sole(serial) {
+            first_caller(&self.refs, serial)
+        } else {
+            None
+        }
+    }
+
+    /// Whether a caller has the device solely.
+    pub fn is_sole(&self, serial: u64) -> bool
+        ensures { result ≡ has self.now.sole serial }
+    {
+        self.sole.iter().any(|&held| held == serial)
+    }
+
     /// Whether anybody holds the device.
     pub fn refers(&self, serial: u64) -> bool
-        ensures { result ≡ refers_to self.now serial }
+        ensures { result ≡ refers_to self.now.refs serial }
     {
         self.refs.iter().any(|held| held.serial == serial)
     }
 
     /// Who holds the device: bit k-1 stands for caller k.
     pub fn holders(&self, serial: u64) -> u16
-        ensures { result ≡ holders_in self.now serial }
+        ensures { result ≡ holder_mask self.now.refs serial }
     {
         mask_of(&self.refs, serial)
     }
 
+    /// What each caller holds of the device, by caller; those that do not hold it are left out.
+    pub fn holds_on(&self, alloc: Global, serial: u64) -> Result<List<Hold>, Memory>
+        ensures { IfOk result (λ holds. holds ≡ holds_on self.now.refs self.now.sole serial) }
+    {
+        let mut holds = List::make(alloc);
+        let sole = self.is_sole(serial);
+        for index in 0..16u8 {
+            let caller = index + 1;
+            if self.holds(serial, caller) {
+                let count = self.count(serial, caller);
+                holds.push(Hold {
+                    caller,
+                    count,
+                    sole,
+                })?;
+            }
+        }
+        Ok(holds)
+    }
+
     /// The least serial of a device that the caller holds; none where it holds none. It takes no memory.
     pub fn first_held(&self, caller: u8) -> Option<u64>
-        ensures { MatchOption result ((s : ℕ) → holds_in self.now caller s ≡ false) (IsLeastHeld self.now caller) }
+        ensures { MatchOption result ((s : ℕ) → holds_in self.now.refs caller s ≡ false) (IsLeastHeld self.now.refs caller) }
     {
         least_held(&self.refs, caller)
     }
 
-    /// How many references there are.
+    /// How many references there are; each counts.
     pub fn total(&self) -> u64
-        ensures { result ≡ length self.now }
+        ensures { result ≡ length self.now.refs }
     {
         self.refs.len() as u64
     }

@@ -12,6 +12,7 @@ mod DetachRuns
 mod PowerRuns
 mod TextVectors
 mod RunTexts
+mod RereadRuns
 mod LawTest
 mod LawsHold
 mod LawVectors

@@ -7,7 +7,7 @@ use Rattle.std.proofs.lemmas.Nat.Bits.{bit_at_cat_low, bit_at_cat_high}
 use Rattle.cf_types.specs.Numbers.{below}
 use Rattle.run_rules.specs.declared.world.Ref.{Ref}
 use Rattle.run_rules.specs.World.{holds_in}
-use Rattle.run_rules.specs.Tree.{holders_in}
+use Rattle.run_rules.specs.References.{holder_mask}
 
 -- the number whose bits below n are those that pass
 abbrev bits_of : (ℕ → Bool) → ℕ → ℕ
@@ -47,10 +47,10 @@ bit_is p (suc n) j lt =
     lowest true = refl
     lowest false = refl
 
-pub holders_fit : (refs : List Ref) (s : ℕ) → holders_in refs s < 2 ^ 16
-unfolding holders_in
+pub holders_fit : (refs : List Ref) (s : ℕ) → holder_mask refs s < 2 ^ 16
+unfolding holder_mask
 holders_fit refs s = bits_fit (λ i. holds_in refs (i + 1) s) 16
 
-pub bit_of_holder : (refs : List Ref) (s i : ℕ) → i < 16 → bit_at (holders_in refs s) i ≡ cond (holds_in refs (i + 1) s) 1 0
-unfolding holders_in
+pub bit_of_holder : (refs : List Ref) (s i : ℕ) → i < 16 → bit_at (holder_mask refs s) i ≡ cond (holds_in refs (i + 1) s) 1 0
+unfolding holder_mask
 bit_of_holder refs s i lt = bit_is (λ j. holds_in refs (j + 1) s) 16 i lt

@@ -14,3 +14,4 @@ pub mod OwnNames
 pub mod Holders
 pub mod Each
 pub mod Marked
+pub mod References

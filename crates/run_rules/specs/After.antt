@@ -10,7 +10,6 @@ use Rattle.cf_types.specs.declared.tables.Place.TheVariants.{At}
 use Rattle.run_rules.specs.declared.world.Setup.{Setup}
 use Rattle.run_rules.specs.declared.world.Wanted.{Wanted}
 use Rattle.run_rules.specs.declared.world.Dev.{Dev}
-use Rattle.run_rules.specs.declared.world.Ref.{Ref}
 use Rattle.run_rules.specs.declared.world.Frame.{Frame}
 use Rattle.run_rules.specs.declared.world.Frame.TheVariants.{Scan, Finaliser}
 use Rattle.run_rules.specs.declared.world.Position.{Position}
@@ -21,6 +20,7 @@ use Rattle.run_rules.specs.declared.world.Key.TheVariants as key
 use Rattle.run_rules.specs.declared.world.Activity.{Activity}
 use Rattle.run_rules.specs.declared.world.Activity.TheVariants as activity
 use Rattle.run_rules.specs.World.{World, Caller, is_under, policy_of, offered_by, caller_at, has_ended, scan_of, start}
+use Rattle.run_rules.specs.References.{given_back, shared_again, sole_with}
 use Rattle.run_rules.specs.Next.{command_of, has_nothing, wanted_of}
 use Rattle.run_rules.specs.declared.deed.Deed.{Deed}
 use Rattle.run_rules.specs.declared.deed.Deed.TheVariants.{Search, EndScan, BeginInterrupts, Finalise, EndCaller, Drop, Refuse, Open, Close, Start, Done, Detach, Free, Rescan, BeginPower, Sleep, Wake, EndPower, Plug, Unplug, Tell}
@@ -154,12 +154,15 @@ condemned w k s = record w { live = map (with_condemner w.live k s) w.live }
 abbrev pub freed : World → ℕ → World
 freed w s = record w { live = filter (λ d. not (d.serial == s)) w.live }
 
--- the references without that of a caller to a device
-abbrev pub given_back : List Ref → ℕ → ℕ → List Ref
-given_back refs k s = filter (λ r. not (r.serial == s && r.caller == k)) refs
+-- ---- references: this project's profile
 
+-- a caller has one reference more to a device, which may be the only one
+abbrev pub referred : World → ℕ → ℕ → Bool → World
+referred w k s sole = record w { refs = w.refs ++ record { serial = s; caller = k } ∷ []; sole = sole_with w.sole s sole }
+
+-- or one less, and nobody has it solely
 abbrev pub unreferred : World → ℕ → ℕ → World
-unreferred w k s = record w { refs = given_back w.refs k s }
+unreferred w k s = record w { refs = given_back w.refs k s; sole = shared_again w.sole s }
 
 abbrev pub freeing_target : Activity → ℕ → Bool
 freeing_target (activity.Frees target) s = target == s
@@ -193,7 +196,7 @@ after w k (Finalise s spot got listed anew) =
 after w k EndCaller = doing w k activity.Ended
 after w k (Drop s) = unreferred w k s
 after w k (Refuse why) = over w k
-after w k (Open s sole) = over (record w { refs = w.refs ++ record { serial = s; caller = k } ∷ [] }) k
+after w k (Open s sole) = over (referred w k s sole) k
 after w k (Close s) = over (unreferred w k s) k
 after w k (Start ticket) = doing w k (activity.Transfer ticket)
 after w k (Done ticket) = over w k

@@ -1,5 +1,5 @@
 -- What anybody can count on the printed lines, and the laws of a history: this project's profile. No world is used here.
-use Rattle.std.specs.Prelude.{◌≡◌, ◌≢◌, ◌⊎◌, ℕ, ◌==◌, Bool, true, false, ◌&&◌, ◌||◌, List, [], ◌∷◌, ◌++◌, reverse, find, count_by, Option, Some, None, option_map, bytes_eq, ℤ, pos, ◌-ℤ◌, ⊤}
+use Rattle.std.specs.Prelude.{◌≡◌, ◌≢◌, ◌⊎◌, ◌≤◌, ℕ, ◌==◌, Bool, true, false, ◌&&◌, ◌||◌, List, [], ◌∷◌, ◌++◌, reverse, find, count_by, Option, Some, None, option_and_then, option_map, bytes_eq, ℤ, pos, ◌-ℤ◌, ⊤}
 use Rattle.std.specs.Option.{option_map_or}
 use Rattle.run_rules.specs.declared.event.Event.{Event}
 use Rattle.run_rules.specs.declared.event.Act.{Act}
@@ -10,13 +10,13 @@ use Rattle.run_rules.specs.World.{root_name}
 
 -- the name that an event attaches, and the parent that it names
 abbrev pub attached_name : Act → Option (List ℕ)
-attached_name (act.Found parent got) = got
-attached_name (act.Final device answer got) = got
+attached_name (act.Found parent spot got) = option_map (λ g. g.name) got
+attached_name (act.Final device shown) = option_map (λ g. g.name) (option_and_then (λ s. s.got) shown)
 attached_name _ = None
 
 abbrev pub attached_below : Act → List ℕ
-attached_below (act.Found parent got) = parent
-attached_below (act.Final device answer got) = device
+attached_below (act.Found parent spot got) = parent
+attached_below (act.Final device shown) = device
 attached_below _ = []
 
 abbrev pub freed_name : Act → Option (List ℕ)
@@ -41,6 +41,7 @@ is_ok _ = false
 
 abbrev pub opens : Act → List ℕ → Bool
 opens (act.OpenDev device r) x = is_ok r && bytes_eq device x
+opens (act.OpenSole device r) x = is_ok r && bytes_eq device x
 opens _ x = false
 
 abbrev pub returns : Act → List ℕ → Bool
@@ -77,6 +78,23 @@ is_asleep_in h x =
 unfoldable pub holds : List Event → ℕ → List ℕ → ℤ
 holds h k x = pos (count_by (λ e. e.caller == k && opens e.act x) h) -ℤ pos (count_by (λ e. e.caller == k && returns e.act x) h)
 
+-- an open that asks for sole use
+abbrev pub opens_sole : Act → List ℕ → Bool
+opens_sole (act.OpenSole device r) x = is_ok r && bytes_eq device x
+opens_sole _ x = false
+
+-- caller k has X solely where, of its sole opens and its returns of X, the last one is a sole open
+unfoldable pub sole_in : List Event → ℕ → List ℕ → Bool
+sole_in h k x =
+    option_map_or (λ e. opens_sole e.act x) (last_that (λ e. e.caller == k && (opens_sole e.act x || returns e.act x)) h) false
+
+-- a number of references, from so many to 15
+pub record IsCount (least : ℕ) (z : ℤ) : Type 0 where
+  pub count : ℕ
+  pub many : least ≤ count
+  pub few : count ≤ 15
+  pub is : z ≡ pos count
+
 abbrev pub LivesAwake : List Event → List ℕ → Type 0
 LivesAwake h x = (lives h x ≡ true) × (is_asleep_in h x ≡ false)
 
@@ -88,10 +106,12 @@ pub record IsLawfulNext (before : List Event) (e : Event) (g : List Event) : Typ
   pub childless : (x y : List ℕ) → freed_name e.act ≡ Some x → lives g y ≡ true → parent_in g y ≢ Some x
   -- what lives below a sleeping device sleeps
   pub sleeping : (x y : List ℕ) → is_asleep_in g x ≡ true → lives g y ≡ true → parent_in g y ≡ Some x → is_asleep_in g y ≡ true
-  -- a caller holds a device once or not at all, only while it lives, and wherever it starts or ends a transfer on it
-  pub held : (k : ℕ) (x : List ℕ) → (holds g k x ≡ pos 0) ⊎ (holds g k x ≡ pos 1)
+  -- a caller holds a device up to 15 times, only while it lives, and wherever it starts or ends a transfer on it
+  pub held : (k : ℕ) (x : List ℕ) → IsCount 0 (holds g k x)
   pub held_live : (k : ℕ) (x : List ℕ) → lives g x ≡ false → holds g k x ≡ pos 0
-  pub held_in_use : (x : List ℕ) → transfers e.act x ≡ true → holds g e.caller x ≡ pos 1
+  pub held_in_use : (x : List ℕ) → transfers e.act x ≡ true → IsCount 1 (holds g e.caller x)
+  -- who has a device solely holds it once, and nobody else holds it
+  pub sole : (k : ℕ) (x : List ℕ) → sole_in g k x ≡ true → (holds g k x ≡ pos 1) × ((j : ℕ) → j ≢ k → holds g j x ≡ pos 0)
   -- what comes did not live, and comes below the root or below what lived and was awake
   pub fresh : (x : List ℕ) → attached_name e.act ≡ Some x → lives before x ≡ false
   pub below_awake : (x : List ℕ) → attached_name e.act ≡ Some x → (attached_below e.act ≡ root_name) ⊎ LivesAwake before (attached_below e.act)

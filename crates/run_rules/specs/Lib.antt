@@ -1,10 +1,12 @@
 pub mod World
+pub mod References
 pub mod Search
 pub mod Next
 pub mod After
 pub mod Tree
 pub mod Run
 pub mod Lines
+pub mod Reread
 pub mod Counts
 pub mod Laws
 pub mod Sound

@@ -1,10 +1,13 @@
--- The spelling of an event, one line for each: this project's profile. No two different formed events have one spelling.
-use Rattle.std.specs.Prelude.{◌≡◌, ◌≤◌, ℕ, Bool, true, false, ◌&&◌, IsTrue, List, ◌∷◌, ◌++◌, length, map, flat_map, Option, Some, None, ⊤, IfSome, IsSome, nat_le, decimal, codes}
+-- The spelling of an event, one line for each: this project's profile. No two different formed events have one spelling
+-- (proofs/Spelling of dev_event).
+use Rattle.std.specs.Prelude.{◌≤◌, ◌<◌, ◌^◌, ℕ, Bool, not, ◌&&◌, IsTrue, List, ◌∷◌, ◌++◌, length, map, flat_map, Option, Some, None, ⊤, IfSome, IsSome, bytes_eq, nat_le, decimal, codes}
 use Rattle.std.specs.List.{AllByRecursion}
-use Rattle.cf_text.specs.Shapes.{is_name, ends_with_digit}
+use Rattle.cf_text.specs.Shapes.{is_name, is_written, ends_with_digit}
 use Rattle.run_rules.specs.declared.event.Event.{Event}
 use Rattle.run_rules.specs.declared.event.Act.{Act}
 use Rattle.run_rules.specs.declared.event.Act.TheVariants as act
+use Rattle.run_rules.specs.declared.event.Got.{Got}
+use Rattle.run_rules.specs.declared.event.Shown.{Shown}
 use Rattle.run_rules.specs.declared.event.Reply.{Reply}
 use Rattle.run_rules.specs.declared.event.Reply.TheVariants as reply
 use Rattle.run_rules.specs.declared.event.IoAnswer.{IoAnswer}
@@ -12,6 +15,7 @@ use Rattle.run_rules.specs.declared.event.IoAnswer.TheVariants as answer
 use Rattle.run_rules.specs.declared.event.DepthName.{DepthName}
 use Rattle.run_rules.specs.declared.event.PowerKind.{PowerKind}
 use Rattle.run_rules.specs.declared.event.PowerKind.TheVariants as kind
+use Rattle.run_rules.specs.World.{root_name}
 use Rattle.cf_types.specs.Lines.{text_of}
 
 -- ---- the spelling
@@ -20,7 +24,9 @@ abbrev pub reply_text : Reply → List ℕ
 reply_text reply.Ok = codes "ok"
 reply_text reply.NoDevice = codes "no device"
 reply_text reply.Gone = codes "gone"
-reply_text reply.HeldAlready = codes "held already"
+reply_text reply.Exclusive = codes "exclusive"
+reply_text reply.TooMany = codes "too many"
+reply_text reply.Shared = codes "shared"
 reply_text reply.NotHeld = codes "not held"
 reply_text reply.Asleep = codes "asleep"
 reply_text (reply.Busy name) = codes "busy " ++ name
@@ -40,13 +46,15 @@ abbrev pub answer_text : IoAnswer → List ℕ
 answer_text (answer.Number n) = decimal n
 answer_text answer.DeviceError = codes "error"
 
-abbrev pub got_text : Option (List ℕ) → List ℕ
+-- the device that was attached, and its row
+abbrev pub got_text : Option Got → List ℕ
 got_text None = codes "not configured"
-got_text (Some name) = name
+got_text (Some got) = got.name ++ codes " row " ++ decimal got.row
 
-abbrev pub final_text : Bool → Option (List ℕ) → List ℕ
-final_text false got = codes "0"
-final_text true got = codes "1 " ++ got_text got
+-- what a finaliser answered: 1 and the spot that it showed, or 0
+abbrev pub shown_text : Option Shown → List ℕ
+shown_text None = codes "0"
+shown_text (Some shown) = codes "1 on " ++ shown.spot ++ codes ": " ++ got_text shown.got
 
 -- the device that a list or a tree is of, if it is not the root
 abbrev pub of_text : Option (List ℕ) → List ℕ
@@ -70,13 +78,14 @@ abbrev pub said_of : List ℕ → List ℕ → List ℕ → List ℕ
 said_of word name text = word ++ name ++ codes ": " ++ text
 
 unfoldable pub act_text : Act → List ℕ
-act_text (act.Found parent got) = said_of (codes "found ") parent (got_text got)
+act_text (act.Found parent spot got) = said_of (codes "found ") (parent ++ codes " on " ++ spot) (got_text got)
 act_text (act.ScanEnd device) = said_of (codes "scan ") device (codes "done")
 act_text act.Interrupts = codes "interrupts"
-act_text (act.Final device answer got) = said_of (codes "final ") device (final_text answer got)
+act_text (act.Final device shown) = said_of (codes "final ") device (shown_text shown)
 act_text act.End = codes "end"
 act_text (act.DropRef device) = codes "drop " ++ device
 act_text (act.OpenDev device r) = said_of (codes "open ") device (reply_text r)
+act_text (act.OpenSole device r) = said_of (codes "open -x ") device (reply_text r)
 act_text (act.CloseDev device r) = said_of (codes "close ") device (reply_text r)
 act_text (act.IoStart device value r) = codes "io " ++ device ++ codes " " ++ decimal value ++ codes ": " ++ started_text r
 act_text (act.IoDone device answer) = said_of (codes "done ") device (answer_text answer)
@@ -98,7 +107,28 @@ line_of e = decimal e.caller ++ codes "." ++ decimal e.number ++ codes " " ++ ac
 
 -- a whole history
 unfoldable pub lines : List Event → List ℕ
-lines h = text_of (codes "history 1" ∷ map line_of h)
+lines h = text_of (codes "history 2" ∷ map line_of h)
+
+-- ---- format 1, as histories were written before: a search tells no spot, and an attachment no row
+
+abbrev pub got_text_1 : Option Got → List ℕ
+got_text_1 None = codes "not configured"
+got_text_1 (Some got) = got.name
+
+abbrev pub shown_text_1 : Option Shown → List ℕ
+shown_text_1 None = codes "0"
+shown_text_1 (Some shown) = codes "1 " ++ got_text_1 shown.got
+
+unfoldable pub act_text_1 : Act → List ℕ
+act_text_1 (act.Found parent spot got) = said_of (codes "found ") parent (got_text_1 got)
+act_text_1 (act.Final device shown) = said_of (codes "final ") device (shown_text_1 shown)
+act_text_1 a = act_text a
+
+unfoldable pub line_of_1 : Event → List ℕ
+line_of_1 e = decimal e.caller ++ codes "." ++ decimal e.number ++ codes " " ++ act_text_1 e.act
+
+unfoldable pub lines_1 : List Event → List ℕ
+lines_1 h = text_of (codes "history 1" ∷ map line_of_1 h)
 
 -- ---- formed events
 
@@ -109,6 +139,10 @@ is_known_name name = is_name name && nat_le (length name) 80
 -- and that of a live device, which ends with its unit
 abbrev pub is_device_name : List ℕ → Bool
 is_device_name name = is_known_name name && ends_with_digit name
+
+-- and that of a spot, which the machine writes
+abbrev pub is_spot_name : List ℕ → Bool
+is_spot_name name = is_written name && not (bytes_eq name root_name)
 
 abbrev pub IsFormedName : List ℕ → Type 0
 IsFormedName name = IsTrue (is_known_name name)
@@ -121,8 +155,16 @@ abbrev pub MayOpen : Reply → Type 0
 MayOpen reply.Ok = ⊤
 MayOpen reply.NoDevice = ⊤
 MayOpen reply.Gone = ⊤
-MayOpen reply.HeldAlready = ⊤
+MayOpen reply.Exclusive = ⊤
+MayOpen reply.TooMany = ⊤
 MayOpen _ = ⊥
+
+abbrev pub MayOpenSole : Reply → Type 0
+MayOpenSole reply.Ok = ⊤
+MayOpenSole reply.NoDevice = ⊤
+MayOpenSole reply.Gone = ⊤
+MayOpenSole reply.Shared = ⊤
+MayOpenSole _ = ⊥
 
 abbrev pub MayClose : Reply → Type 0
 MayClose reply.Ok = ⊤
@@ -177,10 +219,22 @@ MayUnplug reply.NoSpot = ⊤
 MayUnplug (reply.Busy name) = IsDeviceName name
 MayUnplug _ = ⊥
 
--- a device that comes has a device's name; without a late spot nothing comes
-abbrev pub MayGet : Bool → Option (List ℕ) → Type 0
-MayGet true got = IfSome got IsDeviceName
-MayGet false got = got ≡ None
+abbrev pub IsSpotName : List ℕ → Type 0
+IsSpotName name = IsTrue (is_spot_name name)
+
+-- a device that comes has a device's name, and a row of the tables
+abbrev pub IsFormedGot : Got → Type 0
+IsFormedGot got = IsDeviceName got.name × (got.row ≤ 8191)
+
+abbrev pub IsFormedShown : Shown → Type 0
+IsFormedShown shown = IsSpotName shown.spot × IfSome shown.got IsFormedGot
+
+abbrev pub IsFormedAnswer : IoAnswer → Type 0
+IsFormedAnswer (answer.Number n) = n < 2 ^ 32
+IsFormedAnswer answer.DeviceError = ⊤
+
+abbrev pub IsFormedDepthName : DepthName → Type 0
+IsFormedDepthName d = IsDeviceName d.name × (d.depth < 2 ^ 32)
 
 -- a list that is not of one device always has its names
 abbrev pub MayTell : {A : Type 0} → (A → Type 0) → Option (List ℕ) → Option (List A) → Type 0
@@ -188,21 +242,22 @@ MayTell P None names = IsSome names × IfSome names (AllByRecursion P)
 MayTell P (Some name) names = IsFormedName name × IfSome names (AllByRecursion P)
 
 abbrev pub IsFormedAct : Act → Type 0
-IsFormedAct (act.Found parent got) = IsFormedName parent × IfSome got IsDeviceName
+IsFormedAct (act.Found parent spot got) = IsFormedName parent × IsSpotName spot × IfSome got IsFormedGot
 IsFormedAct (act.ScanEnd device) = IsFormedName device
 IsFormedAct act.Interrupts = ⊤
-IsFormedAct (act.Final device answer got) = IsFormedName device × MayGet answer got
+IsFormedAct (act.Final device shown) = IsFormedName device × IfSome shown IsFormedShown
 IsFormedAct act.End = ⊤
 IsFormedAct (act.DropRef device) = IsFormedName device
 IsFormedAct (act.OpenDev device r) = IsFormedName device × MayOpen r
+IsFormedAct (act.OpenSole device r) = IsFormedName device × MayOpenSole r
 IsFormedAct (act.CloseDev device r) = IsFormedName device × MayClose r
-IsFormedAct (act.IoStart device value r) = IsFormedName device × MayStart r
-IsFormedAct (act.IoDone device answer) = IsFormedName device
+IsFormedAct (act.IoStart device value r) = IsFormedName device × MayStart r × (value < 2 ^ 32)
+IsFormedAct (act.IoDone device answer) = IsFormedName device × IsFormedAnswer answer
 IsFormedAct (act.Detach device r) = IsFormedName device × MayDetach r
 IsFormedAct (act.Free device) = IsFormedName device
 IsFormedAct (act.Rescan device r) = IsFormedName device × MayRescan r
 IsFormedAct (act.ListDev device names) = MayTell IsDeviceName device names
-IsFormedAct (act.TreeDev device names) = MayTell (λ (d : DepthName). IsDeviceName d.name) device names
+IsFormedAct (act.TreeDev device names) = MayTell IsFormedDepthName device names
 IsFormedAct (act.Power kind device r) = IsFormedName device × MayPower r
 IsFormedAct (act.Sleep device) = IsFormedName device
 IsFormedAct (act.Wake device) = IsFormedName device
@@ -213,4 +268,5 @@ IsFormedAct (act.Unplug spot r) = IsFormedName spot × MayUnplug r
 -- an event that a line may spell
 pub record IsFormed (e : Event) : Type 0 where
   pub caller : e.caller ≤ 16
+  pub number : e.number < 2 ^ 32
   pub act : IsFormedAct e.act

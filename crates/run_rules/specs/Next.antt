@@ -23,6 +23,7 @@ use Rattle.run_rules.specs.declared.world.Activity.TheVariants as activity
 use Rattle.run_rules.specs.declared.world.Setup.{Setup}
 use Rattle.run_rules.specs.World.{World, has, is_number, serial_of, device_at, device_on, is_live, is_under, name_of, device_named, policy_of, offered_by, is_pinned, is_held, is_referred, is_condemned, caller_at, has_ended}
 use Rattle.cf_types.specs.Numbers.{below}
+use Rattle.run_rules.specs.References.{count_in}
 use Rattle.run_rules.specs.Search.{winner_at, unit_of, due, after_turn}
 use Rattle.run_rules.specs.declared.deed.Deed.{Deed}
 use Rattle.run_rules.specs.declared.deed.Deed.TheVariants.{Search, EndScan, BeginInterrupts, Finalise, EndCaller, Drop, Refuse, Open, Close, Start, Done, Detach, Free, Rescan, BeginPower, Sleep, Wake, EndPower, Plug, Unplug, Tell}
@@ -213,7 +214,11 @@ telling w (Some name) = option_map_or (λ d. Tell) (device_named w.setup w.live 
 unfoldable pub command_deed : World → ℕ → ℕ → Command → Deed
 -- references and transfers: this project's profile
 command_deed w k number (command.OpenDev name) =
-    on_device w name (λ d. if is_held w k d.serial then Refuse refusal.HeldAlready else Open d.serial false)
+    on_device w name (λ d.
+    if has w.sole d.serial then Refuse refusal.Exclusive
+    else (if nat_lt (count_in w.refs k d.serial) 15 then Open d.serial false else Refuse refusal.TooMany))
+command_deed w k number (command.OpenSole name) =
+    on_device w name (λ d. if is_referred w d.serial then Refuse refusal.Shared else Open d.serial true)
 command_deed w k number (command.CloseDev name) = on_held w k name (λ d. Close d.serial)
 command_deed w k number (command.Io name value) =
     on_held w k name (λ d. if d.asleep then Refuse refusal.Asleep else Start (ticket_of w k number d value))

@@ -1,5 +1,5 @@
 -- What is printed of a deed, and the runs of events.
-use Rattle.std.specs.Prelude.{◌≡◌, ℕ, ◌+◌, true, if◌then◌else◌, ◌==◌, List, [], ◌∷◌, ◌++◌, length, map, Option, Some, None, is_some, option_map, ◌%◌, ◌^◌}
+use Rattle.std.specs.Prelude.{◌≡◌, ℕ, ◌+◌, true, if◌then◌else◌, ◌==◌, List, [], ◌∷◌, ◌++◌, length, map, slice_get, Option, Some, None, option_map, ◌%◌, ◌^◌}
 use Rattle.std.specs.List.{AllByRecursion}
 use Rattle.std.specs.Option.{option_map_or}
 use Rattle.cf_types.specs.declared.machine.Command.{Command}
@@ -8,6 +8,8 @@ use Rattle.cf_types.specs.declared.machine.Ticket.{Ticket}
 use Rattle.run_rules.specs.declared.event.Event.{Event}
 use Rattle.run_rules.specs.declared.event.Act.{Act}
 use Rattle.run_rules.specs.declared.event.Act.TheVariants as act
+use Rattle.run_rules.specs.declared.event.Got.{Got}
+use Rattle.run_rules.specs.declared.event.Shown.{Shown}
 use Rattle.run_rules.specs.declared.event.Reply.{Reply}
 use Rattle.run_rules.specs.declared.event.Reply.TheVariants as reply
 use Rattle.run_rules.specs.declared.event.IoAnswer.{IoAnswer}
@@ -34,8 +36,16 @@ use Rattle.run_rules.specs.declared.world.Arrival.{Arrival}
 abbrev pub number_of : World → ℕ → ℕ
 number_of w k = if k == 0 then 0 else (caller_at w k).over + 1
 
-abbrev pub got_name : Setup → Option Arrival → Option (List ℕ)
-got_name s got = option_map (λ a. unit_name s a.row a.unit) got
+abbrev pub spot_name : Setup → ℕ → List ℕ
+spot_name s x = option_map_or (λ spot. spot.name) (slice_get s.machine.spots x) []
+
+-- the name and the row of a device that comes
+abbrev pub got_of : Setup → Option Arrival → Option Got
+got_of s got = option_map (λ a. record { name = unit_name s a.row a.unit; row = a.row }) got
+
+-- the spot that a finaliser showed, and what came there
+abbrev pub shown_of : Setup → Option ℕ → Option Arrival → Option Shown
+shown_of s spot got = option_map (λ x. record { spot = spot_name s x; got = got_of s got }) spot
 
 -- the defined answer of a transfer
 unfoldable pub answer_of : Ticket → IoAnswer
@@ -59,7 +69,9 @@ tree_names w (Some name) =
 abbrev pub reply_of : World → Refusal → Reply
 reply_of w refusal.NoDevice = reply.NoDevice
 reply_of w refusal.Gone = reply.Gone
-reply_of w refusal.HeldAlready = reply.HeldAlready
+reply_of w refusal.Exclusive = reply.Exclusive
+reply_of w refusal.TooMany = reply.TooMany
+reply_of w refusal.Shared = reply.Shared
 reply_of w refusal.NotHeld = reply.NotHeld
 reply_of w refusal.Asleep = reply.Asleep
 reply_of w (refusal.Busy s) = reply.Busy (name_at w s)
@@ -78,6 +90,7 @@ end_of w (ends.Failed s) = reply.SuspendFailed (name_at w s)
 -- the line of a command with its reply
 abbrev pub told : World → Command → Reply → Act
 told w (command.OpenDev name) r = act.OpenDev name r
+told w (command.OpenSole name) r = act.OpenSole name r
 told w (command.CloseDev name) r = act.CloseDev name r
 told w (command.Io name value) r = act.IoStart name value r
 told w (command.Detach name) r = act.Detach name r
@@ -102,10 +115,10 @@ abbrev pub answered : World → ℕ → Reply → Act
 answered w k r = option_map_or (λ said. told w said r) (command_of w k) act.End
 
 unfoldable pub printed : World → ℕ → Deed → Act
-printed w k (Search p spot to got) = act.Found (parent_name w.setup w.live p) (got_name w.setup got)
+printed w k (Search p spot to got) = act.Found (parent_name w.setup w.live p) (spot_name w.setup spot) (got_of w.setup got)
 printed w k (EndScan p) = act.ScanEnd (parent_name w.setup w.live p)
 printed w k BeginInterrupts = act.Interrupts
-printed w k (Finalise s spot got listed anew) = act.Final (name_at w s) (is_some spot) (got_name w.setup got)
+printed w k (Finalise s spot got listed anew) = act.Final (name_at w s) (shown_of w.setup spot got)
 printed w k EndCaller = act.End
 printed w k (Drop s) = act.DropRef (name_at w s)
 printed w k (Refuse why) = answered w k (reply_of w why)

@@ -12,6 +12,7 @@ use Rattle.run_rules.specs.declared.world.Activity.{Activity}
 use Rattle.run_rules.specs.declared.world.Activity.TheVariants as activity
 use Rattle.run_rules.specs.declared.world.Setup.{Setup}
 use Rattle.run_rules.specs.World.{World, Caller, is_live, is_under, driver_of, name_of, is_number, is_pinned, is_held, caller_at, frame_serial}
+use Rattle.run_rules.specs.References.{AreCounted}
 use Rattle.run_rules.specs.declared.world.Ref.{Ref}
 use Rattle.run_rules.specs.declared.world.Deferred.{Deferred}
 
@@ -41,10 +42,10 @@ pub record HasSoundDevices (s : Setup) (live : List Dev) (next : ℕ) : Type 0 w
 abbrev pub HaveOwnNames : Setup → List Dev → Type 0
 HaveOwnNames s live = EachLater (λ d e. name_of s d ≢ name_of s e) live
 
--- the references: each names a live device and stands once
-pub record HasSoundRefs (live : List Dev) (refs : List Ref) : Type 0 where
+-- the references: each names a live device and stands at most 15 times, and a device that is held solely stands in one pair, once
+pub record HasSoundRefs (live : List Dev) (refs : List Ref) (sole : List ℕ) : Type 0 where
   pub live_ones : AllByRecursion (λ r. IsTrue (is_live live r.serial)) refs
-  pub once : EachLater (λ a b. IsTrue (not (a.serial == b.serial && a.caller == b.caller))) refs
+  pub counted : AreCounted refs sole
 
 abbrev pub frees_target : Activity → ℕ → Bool
 frees_target (activity.Frees target) s = target == s
@@ -117,7 +118,7 @@ pub record IsSoundBoot (w : World) : Type 0 where
 
 pub record Sound (w : World) : Type 0 where
   pub devices : HasSoundDevices w.setup w.live w.next
-  pub refs : HasSoundRefs w.live w.refs
+  pub refs : HasSoundRefs w.live w.refs w.sole
   pub condemned : AllByRecursion (λ d. (k : ℕ) → d.condemned ≡ Some k → IsSoundlyCondemned w d k) w.live
   pub asleep : AllByRecursion (λ d. IsTrue d.asleep → IsSoundlyAsleep w d) w.live
   pub frames : AllByRecursion (λ c. AllByRecursion (λ f. IsTrue (is_known w (frame_serial f))) c.stack) w.callers

@@ -34,7 +34,9 @@ pub record World : Type 0 where
   -- the live devices in the order in which they were attached, and the serial of the next one
   pub live : List Dev
   pub next : ℕ
+  -- the references, of which a pair stands as often as the caller holds the device, and the devices that are held solely
   pub refs : List Ref
+  pub sole : List ℕ
   -- the spots without hardware, and those that no finaliser has shown yet
   pub absent : List ℕ
   pub hidden : List ℕ
@@ -211,6 +213,7 @@ opening s = record {
   live = [];
   next = 1;
   refs = [];
+  sole = [];
   absent = absent_spots s;
   hidden = late_spots s;
   interrupts_on = false;

@@ -87,7 +87,9 @@ pub enum Deed {
 pub enum Refusal {
     NoDevice,
     Gone,
-    HeldAlready,
+    Exclusive,
+    TooMany,
+    Shared,
     NotHeld,
     Asleep,
     /// The device of this serial stands in the way.

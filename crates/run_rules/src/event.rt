@@ -17,7 +17,8 @@ pub enum Act {
     /// A spot was searched: the device that was attached there, or none where no driver takes it. See autoconf(9).
     Found {
         parent: Name,
-        got: Option<Name>,
+        spot: Name,
+        got: Option<Got>,
     },
     /// The search below a device, or below the root, is over.
     ScanEnd {
@@ -25,11 +26,10 @@ pub enum Act {
     },
     /// Interrupts work from here on. See autoconf(9).
     Interrupts,
-    /// A finaliser was called: whether it showed a late spot, and what was attached there. See autoconf(9).
+    /// A finaliser was called: the late spot that it showed, if one was left. See autoconf(9).
     Final {
         device: Name,
-        answer: bool,
-        got: Option<Name>,
+        shown: Option<Shown>,
     },
     /// The caller has ended.
     End,
@@ -39,6 +39,11 @@ pub enum Act {
     },
     /// A reference was asked for.
     OpenDev {
+        device: Name,
+        reply: Reply,
+    },
+    /// The only reference was asked for.
+    OpenSole {
         device: Name,
         reply: Reply,
     },
@@ -121,7 +126,12 @@ pub enum Reply {
     NoDevice,
     /// The device is condemned, or is no longer live.
     Gone,
-    HeldAlready,
+    /// A caller has the only reference that may be.
+    Exclusive,
+    /// The caller has 15 references already.
+    TooMany,
+    /// There is a reference, so none can be the only one.
+    Shared,
     NotHeld,
     Asleep,
     /// The device that stands in the way.
@@ -135,6 +145,20 @@ pub enum Reply {
     BadAttribute,
     BadLocator,
     NoSpot,
+}
+
+/// A device that was attached: its name, and the number of its row in the tables.
+#[derive(Drop)]
+pub struct Got {
+    pub name: Name,
+    pub row: u32,
+}
+
+/// A late spot that a finaliser showed, and the device that was attached there, or none where no driver takes it.
+#[derive(Drop)]
+pub struct Shown {
+    pub spot: Name,
+    pub got: Option<Got>,
 }
 
 /// What a transfer brought: a number, modulo 2^32, or the error of a bad spot.
@@ -157,4 +181,11 @@ pub enum PowerKind {
     Suspend,
     Resume,
     ResumeTree,
+}
+
+/// How the lines of a history are written: without the spots of searches and the rows of devices, as before, or with them.
+#[derive(Clone, Copy, Debug, PartialEq, Eq)]
+pub enum Format {
+    First,
+    Second,
 }

@@ -6,7 +6,7 @@ mod event;
 mod world;
 
 pub use deed::{Choice, Deed, PowerEnd, Refusal};
-pub use event::{Act, DepthName, Event, IoAnswer, PowerKind, Reply};
+pub use event::{Act, DepthName, Event, Format, Got, IoAnswer, PowerKind, Reply, Shown};
 pub use world::{
     Activity, Arrival, Deferred, Dev, Frame, Key, ParentRef, Placing, Position, Ref, Setup, Turn,
     Wait, Wanted,

@@ -153,7 +153,7 @@ module _ (w : World) (k s : ℕ) (sound : Sound w) (at : IsLater w k) (idle : ((
       let u : World = condemned w k s in
       record {
         devices = devices_mapped w.setup mark w.live w.next (condemner_keeps_tree w.live k s) sound.devices;
-        refs = record { live_ones = all_imp (λ (r : Ref). IsTrue (is_live w.live r.serial)) (λ r. IsTrue (is_live doomed.live r.serial)) (λ r. still_live r.serial) w.refs sound.refs.live_ones; once = sound.refs.once };
+        refs = record { live_ones = all_imp (λ (r : Ref). IsTrue (is_live w.live r.serial)) (λ r. IsTrue (is_live doomed.live r.serial)) (λ r. still_live r.serial) w.refs sound.refs.live_ones; counted = sound.refs.counted };
         condemned = each_mapped (λ d. (j : ℕ) → d.condemned ≡ Some j → IsSoundlyCondemned doomed d j) mark w.live (each_of _ w.live new_condemned);
         asleep = each_mapped (λ d. IsTrue d.asleep → IsSoundlyAsleep doomed d) mark w.live (each_of _ w.live new_asleep);
         frames = all_set (λ c. AllByRecursion (λ f. IsTrue (is_known doomed (frame_serial f))) c.stack) w.callers k frees
@@ -190,5 +190,5 @@ sound_unplug w k x s sound chosen =
     let here = between_later w k (Unplug x (Some s)) chosen at in
     let absent : List ℕ = x ∷ filter (λ y. not (y == x)) w.absent in
     let u : World = record w { absent = absent } in
-    sound_condemned u k s (sound_absent w absent sound here.booted) (later_held w k w.refs absent here) at.idle why.live
+    sound_condemned u k s (sound_absent w absent sound here.booted) (later_held w k w.refs w.sole absent here) at.idle why.live
     (all_imp (IsUnhindered w s) (IsUnhindered u s) (λ d h below. let free = h below in (pins_same u w d.serial refl refl ∙ free.0, free.1)) w.live (unhindered w s k true why.free))

@@ -192,11 +192,11 @@ module _ (w : World) (k s : ℕ) (x : Dev) (sound : Sound w) (it : IsFreeable w 
       apart = later_passed (IsApart w.setup) (λ d. not (d.serial == s)) w.live sound.devices.apart;
     }
 
-    new_refs : HasSoundRefs later.live w.refs
+    new_refs : HasSoundRefs later.live w.refs w.sole
     new_refs = record {
       live_ones = all_both (λ (r : Ref). IsTrue (is_live w.live r.serial)) (λ r. (r.serial == s) ≡ false) (λ r. IsTrue (is_live later.live r.serial))
           (λ r h off. still_live r.serial h (eqb-false r.serial s off)) w.refs sound.refs.live_ones (none_of (λ (r : Ref). r.serial == s) w.refs it.unreferred);
-      once = sound.refs.once;
+      counted = sound.refs.counted;
     }
 
     -- the target of a caller is this device only where the caller is this one, and done

@@ -8,7 +8,9 @@ use Rattle.run_rules.specs.declared.deed.Deed.{Deed}
 use Rattle.run_rules.specs.declared.deed.Deed.TheVariants.{Search, EndScan, BeginInterrupts, Finalise, EndCaller, Drop, Refuse, Open, Close, Start, Done, Detach, Free, Rescan, BeginPower, Sleep, Wake, EndPower, Plug, Unplug, Tell}
 use Rattle.run_rules.specs.declared.deed.Choice.TheVariants.{Does}
 use Rattle.run_rules.specs.Next.{next}
-use Rattle.run_rules.specs.After.{after, given_back}
+use Rattle.run_rules.specs.After.{after}
+use Rattle.run_rules.specs.References.{given_back, is_of}
+use Rattle.run_rules.proofs.References.{all_left}
 use Rattle.run_rules.proofs.Devices.{all_snoc}
 use Rattle.run_rules.proofs.Setups.{after_setup}
 use Rattle.run_sound.specs.Commands.{IsBetween}
@@ -33,7 +35,7 @@ holders_same : (w : World) (k : ℕ) (d : Deed) → (after w k d).refs ≡ w.ref
 holders_same w k d e ranges = rw e ranges.holders
 
 holders_less : (of : Setup) (k s : ℕ) (refs : List Ref) → AreHolders of refs → AreHolders of (given_back refs k s)
-holders_less of k s refs h = all_filter (λ (r : Ref). IsOfScript of r.caller) (λ r. not (r.serial == s && r.caller == k)) refs h
+holders_less of k s refs h = all_left (λ (r : Ref). IsOfScript of r.caller) (is_of k s) refs h
 
 stay_holders : (w : World) (k : ℕ) (d : Deed) → InRange w → next w k ≡ Does d → AreHolders w.setup (after w k d).refs
 unfolding after

@@ -1,7 +1,8 @@
 -- What a deed changes of its caller's references.
-use Rattle.std.proofs.Common.{◌≡◌, ◌≢◌, ℕ, ◌==◌, not, ◌&&◌, ◌||◌, Bool, true, false, List, [], ◌∷◌, ◌++◌, Option, Some, None, refl, sym, ap, ◌∙◌, eqb-true, eq-eqb}
+use Rattle.std.proofs.Common.{◌≡◌, ◌≢◌, ℕ, ◌==◌, not, ◌&&◌, ◌||◌, Bool, true, false, List, [], ◌∷◌, ◌++◌, Option, Some, None, refl, sym, ap, ◌∙◌, subst, eqb-true, eq-eqb, ◌+◌, nat_lt, arith}
 use Rattle.std.proofs.lemmas.Option.{same_Some}
-use Rattle.std.specs.Prelude.{filter, is_some, if◌then◌else◌}
+use Rattle.std.specs.Prelude.{is_some, if◌then◌else◌}
+use Rattle.std.proofs.lemmas.Bool.Decides.{nat_tests}
 use Rattle.std.specs.List.{list_any}
 use Rattle.std.proofs.lemmas.Bool.{and_parts, ne_eqb, eqb-false}
 use Rattle.std.proofs.lemmas.List.Folds.{list_any-append}
@@ -16,7 +17,9 @@ use Rattle.run_rules.specs.declared.deed.Deed.{Deed}
 use Rattle.run_rules.specs.declared.deed.Deed.TheVariants.{Search, EndScan, BeginInterrupts, Finalise, EndCaller, Drop, Refuse, Open, Close, Start, Done, Detach, Free, Rescan, BeginPower, Sleep, Wake, EndPower, Plug, Unplug, Tell}
 use Rattle.run_rules.specs.declared.deed.Choice.TheVariants.{Does}
 use Rattle.run_rules.specs.Next.{next}
-use Rattle.run_rules.specs.After.{after, arrived, attached, finaliser_done, finaliser_placed, finaliser_placing, freed, freeing_target, given_back, list_moved, listed, moved_top, over, place_finaliser, place_scan, released, scan_placed, scan_placing, show_spot, with_stack}
+use Rattle.run_rules.specs.References.{count_in, given_back, is_of}
+use Rattle.run_rules.proofs.References.{any_left, count_granted, count_other, count_returned, held_is_counted}
+use Rattle.run_rules.specs.After.{after, arrived, attached, finaliser_done, finaliser_placed, finaliser_placing, freed, freeing_target, list_moved, listed, moved_top, over, place_finaliser, place_scan, released, scan_placed, scan_placing, show_spot, with_stack}
 use Rattle.run_sound.specs.Commands.{ClosesHeld, FreesLast, OpensFree, ReturnsFirst}
 use Rattle.run_sound.specs.Holding.{GoesUnheld, HoldsLess, HoldsMore, opened_by, returned_by}
 use Rattle.run_sound.proofs.Reasons.{has_command_reason}
@@ -100,43 +103,52 @@ last_ref false false own e = refl
 one_more : (refs : List Ref) (k s x : ℕ) → holds_in (refs ++ record { serial = s; caller = k } ∷ []) k x ≡ (s == x || holds_in refs k x)
 one_more refs k s x = list_any-append (λ r. r.serial == x && r.caller == k) refs (record { serial = s; caller = k } ∷ []) ∙ last_ref (holds_in refs k x) (s == x) (k == k) (eq-eqb k k refl)
 
+abbrev own_one : Bool → ℕ
+own_one b = if b then 1 else 0
+
+-- a caller's reference counts for it
+count_more : (refs : List Ref) (k s x : ℕ) → count_in (refs ++ record { serial = s; caller = k } ∷ []) k x ≡ count_in refs k x + (if s == x then 1 else 0)
+count_more refs k s x = count_granted refs (record { serial = s; caller = k }) k x ∙ ap (λ n. count_in refs k x + n) (own (s == x) (k == k) (eq-eqb k k refl))
+  where
+    own : (a b : Bool) → b ≡ true → own_one (a && b) ≡ own_one a
+    own true b e = rw e refl
+    own false b e = refl
+
 pub holds_opened : (w : World) (k s : ℕ) (sole : Bool) → next w k ≡ Does (Open s sole) → HoldsMore w k (Open s sole) s
 unfolding after
 holds_opened w k s sole e =
     let why : OpensFree w k s sole = has_command_reason w k (Open s sole) e in
-    record { live = why.named.live; free = why.free; holds = one_more w.refs k s }
+    record { live = why.named.live; count = count_more w.refs k s; holds = one_more w.refs k s }
 
 -- ---- one is given back
 
-one_less : (refs : List Ref) (k s x : ℕ) → holds_in (given_back refs k s) k x ≡ (not (s == x) && holds_in refs k x)
-one_less refs k s x = cases (s == x) refl
+count_less : (refs : List Ref) (k s x : ℕ) → holds_in refs k s ≡ true → count_in (given_back refs k s) k x + (if s == x then 1 else 0) ≡ count_in refs k x
+count_less refs k s x held = cases (s == x) refl
   where
-    has_it : Ref → Bool
-    has_it r = r.serial == x && r.caller == k
+    cases : (b : Bool) → (s == x) ≡ b → count_in (given_back refs k s) k x + (if b then 1 else 0) ≡ count_in refs k x
+    cases true h = subst (λ y. count_in (given_back refs k s) k y + 1 ≡ count_in refs k y) (eqb-true s x h) (count_returned refs k s held)
+    cases false h = let same : count_in (given_back refs k s) k x ≡ count_in refs k x = count_other refs k s k x (λ r own. rw (eqb-true r.serial s (and_parts (r.serial == s) (r.caller == k) own).0, h) refl) in omega (arith, same)
 
-    stays : Ref → Bool
-    stays r = not (r.serial == s && r.caller == k)
-
-    goes : s ≡ x → (r : Ref) → has_it r ≡ true → stays r ≡ false
-    goes same r h = rw same (ap not h)
-
-    left : s ≢ x → (r : Ref) → has_it r ≡ true → stays r ≡ true
-    left other r h = let is : r.serial ≡ x = eqb-true r.serial x (and_parts (r.serial == x) (r.caller == k) h).0 in rw (ne_eqb r.serial s (λ same. other (sym same ∙ is))) refl
-
-    cases : (b : Bool) → (s == x) ≡ b → list_any has_it (filter stays refs) ≡ (not b && list_any has_it refs)
-    cases true h = any-filter_same has_it stays false (goes (eqb-true s x h)) refs
-    cases false h = any-filter_same has_it stays true (left (eqb-false s x h)) refs
+one_less : (refs : List Ref) (k s x : ℕ) → holds_in refs k s ≡ true → holds_in (given_back refs k s) k x ≡ (if s == x then nat_lt 1 (count_in refs k s) else holds_in refs k x)
+one_less refs k s x held = held_is_counted (given_back refs k s) k x ∙ cases (s == x) refl (count_less refs k s x held)
+  where
+    cases : (b : Bool) → (s == x) ≡ b → count_in (given_back refs k s) k x + (if b then 1 else 0) ≡ count_in refs k x
+        → nat_lt 0 (count_in (given_back refs k s) k x) ≡ (if b then nat_lt 1 (count_in refs k s) else holds_in refs k x)
+    cases true h e =
+        let here : count_in refs k s ≡ count_in refs k x = ap (count_in refs k) (eqb-true s x h) in
+        rw here (grind (arith, nat_tests, e))
+    cases false h e = let same : count_in (given_back refs k s) k x ≡ count_in refs k x = omega (arith, e) in ap (nat_lt 0) same ∙ sym (held_is_counted refs k x)
 
 pub holds_returned : (w : World) (k s : ℕ) (d : Deed) → next w k ≡ Does d → returned_by d ≡ Some s → HoldsLess w k d s
 unfolding after
 holds_returned w k s (Close t) e is =
     let why : ClosesHeld w k t = has_command_reason w k (Close t) e in
     let same : t ≡ s = same_Some t s is in
-    rw (← same) (record { live = why.named.live; held = why.held; holds = one_less w.refs k t })
+    rw (← same) (record { live = why.named.live; held = why.held; count = λ x. count_less w.refs k t x why.held; holds = λ x. one_less w.refs k t x why.held })
 holds_returned w k s (Drop t) e is =
     let why : ReturnsFirst w k t = has_command_reason w k (Drop t) e in
     let same : t ≡ s = same_Some t s is in
-    rw (← same) (record { live = why.live; held = why.held; holds = one_less w.refs k t })
+    rw (← same) (record { live = why.live; held = why.held; count = λ x. count_less w.refs k t x why.held; holds = λ x. one_less w.refs k t x why.held })
 holds_returned w k s (Search p spot to got) e is = absurd cc
 holds_returned w k s (EndScan p) e is = absurd cc
 holds_returned w k s BeginInterrupts e is = absurd cc
@@ -170,7 +182,7 @@ others_more refs k j s x other =
 
 others_less : (refs : List Ref) (k j s x : ℕ) → j ≢ k → holds_in (given_back refs k s) j x ≡ holds_in refs j x
 others_less refs k j s x other =
-    any-filter_same (λ r. r.serial == x && r.caller == j) (λ r. not (r.serial == s && r.caller == k)) true (λ r h. not_mine r s x k j other h) refs
+    any_left (is_of k s) (is_of j x) refs (λ r. not_mine r s x k j other)
 
 -- a deed changes its own caller's references alone
 pub holds_others : (w : World) (k j : ℕ) (d : Deed) → j ≢ k → (s : ℕ) → is_held (after w k d) j s ≡ is_held w j s

@@ -164,7 +164,7 @@ sound_listed w a sound may =
       devices = devices_come w.setup w.live w.next d sound.devices may.counted refl may.known may.unit may.bare;
       refs = record {
         live_ones = all_imp (λ (r : Ref). IsTrue (is_live w.live r.serial)) (λ (r : Ref). IsTrue (is_live live r.serial)) (λ r. live_more w.live d r.serial) w.refs sound.refs.live_ones;
-        once = sound.refs.once;
+        counted = sound.refs.counted;
       };
       condemned = listed_condemned w a sound may;
       asleep = listed_asleep w a sound may;

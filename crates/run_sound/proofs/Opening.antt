@@ -95,7 +95,7 @@ sound_opens : (s : Setup) → Sound (opening s)
 unfolding opening
 sound_opens s = record {
   devices = record { placed = tt; apart = tt };
-  refs = record { live_ones = tt; once = tt };
+  refs = record { live_ones = tt; counted = record { few = λ k s. omega arith; alone = λ s h. absurd cc } };
   condemned = tt;
   asleep = tt;
   frames = ((refl, tt), no_frames [] s.scripts);

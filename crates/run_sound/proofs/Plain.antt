@@ -164,14 +164,14 @@ sound_over w k sound at idle =
 -- ---- the references change, or the spots without hardware
 
 -- the references agree with the rest of the world
-pub record AreHeld (w : World) (refs : List Ref) : Type 0 where
-  pub sound : HasSoundRefs w.live refs
+pub record AreHeld (w : World) (refs : List Ref) (sole : List ℕ) : Type 0 where
+  pub sound : HasSoundRefs w.live refs sole
   pub transfers : (k : ℕ) (t : Ticket) → (caller_at w k).doing ≡ activity.Transfer t → list_any (λ r. r.serial == t.serial && r.caller == k) refs ≡ true
   pub ended : (k : ℕ) → (caller_at w k).doing ≡ activity.Ended → AllByRecursion (λ r. r.caller ≢ k) refs
 
-pub sound_held : (w : World) (refs : List Ref) (absent : List ℕ) → Sound w → (caller_at w 0).doing ≡ activity.Ended → AreHeld w refs → Sound (record w { refs = refs; absent = absent })
-sound_held w refs absent sound booted held =
-    let v : World = record w { refs = refs; absent = absent } in
+pub sound_held : (w : World) (refs : List Ref) (sole absent : List ℕ) → Sound w → (caller_at w 0).doing ≡ activity.Ended → AreHeld w refs sole → Sound (record w { refs = refs; sole = sole; absent = absent })
+sound_held w refs sole absent sound booted held =
+    let v : World = record w { refs = refs; sole = sole; absent = absent } in
     let pins : (s : ℕ) → is_pinned v s ≡ is_pinned w s = λ s. pins_same v w s refl refl in
     record {
       devices = sound.devices;
@@ -192,15 +192,15 @@ sound_held w refs absent sound booted held =
     }
 
 -- the references stay
-pub held_still : (w : World) → Sound w → AreHeld w w.refs
+pub held_still : (w : World) → Sound w → AreHeld w w.refs w.sole
 held_still w sound = record { sound = sound.refs; transfers = λ k. (sound.callers k).transfer; ended = λ k e. ((sound.callers k).ended e).1 }
 
 pub sound_absent : (w : World) (absent : List ℕ) → Sound w → (caller_at w 0).doing ≡ activity.Ended → Sound (record w { absent = absent })
-sound_absent w absent sound booted = sound_held w w.refs absent sound booted (held_still w sound)
+sound_absent w absent sound booted = sound_held w w.refs w.sole absent sound booted (held_still w sound)
 
 -- the same caller, with other references or spots
-pub later_held : (w : World) (k : ℕ) (refs : List Ref) (absent : List ℕ) → IsLater w k → IsLater (record w { refs = refs; absent = absent }) k
-later_held w k refs absent at = record { there = at.there; later = at.later; booted = at.booted; no_frames = at.no_frames }
+pub later_held : (w : World) (k : ℕ) (refs : List Ref) (sole absent : List ℕ) → IsLater w k → IsLater (record w { refs = refs; sole = sole; absent = absent }) k
+later_held w k refs sole absent at = record { there = at.there; later = at.later; booted = at.booted; no_frames = at.no_frames }
 
 -- ---- deeds that change nothing else
 
@@ -218,7 +218,7 @@ sound_plug w k x sound chosen =
     let at = (has_command_reason w k (Plug x) chosen).begins.between in
     let here = between_later w k (Plug x) chosen at in
     let absent : List ℕ = filter (λ y. not (y == x)) w.absent in
-    sound_over (record w { absent = absent }) k (sound_absent w absent sound here.booted) (later_held w k w.refs absent here) at.idle
+    sound_over (record w { absent = absent }) k (sound_absent w absent sound here.booted) (later_held w k w.refs w.sole absent here) at.idle
 
 -- the spot is bare
 pub sound_pull : (w : World) (k x : ℕ) → Sound w → next w k ≡ Does (Unplug x None) → Sound (after w k (Unplug x None))
@@ -227,4 +227,4 @@ sound_pull w k x sound chosen =
     let at = (has_command_reason w k (Unplug x None) chosen).begins.between in
     let here = between_later w k (Unplug x None) chosen at in
     let absent : List ℕ = x ∷ filter (λ y. not (y == x)) w.absent in
-    sound_over (record w { absent = absent }) k (sound_absent w absent sound here.booted) (later_held w k w.refs absent here) at.idle
+    sound_over (record w { absent = absent }) k (sound_absent w absent sound here.booted) (later_held w k w.refs w.sole absent here) at.idle

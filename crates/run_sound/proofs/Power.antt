@@ -125,7 +125,7 @@ module _ (w : World) (s : ℕ) (asleep : Bool) (sound : Sound w) (booted : (call
   sound_marked : ((d : Dev) → Contains w.live d → IsTrue (mark d).asleep → IsSoundlyAsleep (marked w s asleep) (mark d)) → Sound (marked w s asleep)
   sound_marked sleeps = record {
     devices = devices_mapped w.setup mark w.live w.next (sleep_keeps_tree s asleep) sound.devices;
-    refs = record { live_ones = all_imp (λ (r : Ref). IsTrue (is_live w.live r.serial)) (λ r. IsTrue (is_live (map mark w.live) r.serial)) (λ r. still_live r.serial) w.refs sound.refs.live_ones; once = sound.refs.once };
+    refs = record { live_ones = all_imp (λ (r : Ref). IsTrue (is_live w.live r.serial)) (λ r. IsTrue (is_live (map mark w.live) r.serial)) (λ r. still_live r.serial) w.refs sound.refs.live_ones; counted = sound.refs.counted };
     condemned = each_mapped (λ d. (j : ℕ) → d.condemned ≡ Some j → IsSoundlyCondemned (marked w s asleep) d j) mark w.live (each_of _ w.live marked_condemned);
     asleep = each_mapped (λ d. IsTrue d.asleep → IsSoundlyAsleep (marked w s asleep) d) mark w.live (each_of _ w.live sleeps);
     frames = all_imp (λ c. AllByRecursion (λ f. IsTrue (is_known w (frame_serial f))) c.stack) (λ c. AllByRecursion (λ f. IsTrue (is_known (marked w s asleep) (frame_serial f))) c.stack)

@@ -22,6 +22,7 @@ use Rattle.run_rules.specs.declared.deed.Deed.TheVariants.{Search, EndScan, Begi
 use Rattle.run_rules.specs.declared.deed.Choice.{Choice}
 use Rattle.run_rules.specs.declared.deed.Choice.TheVariants.{Ended, Does}
 use Rattle.run_rules.specs.Next.{next, next_scan, next_boot, finalise, next_free, next_sleep, next_wake, freeing, suspending, waking, powering, hindered, other_turn, is_power, rescan_of, has_nothing, attr_named, wanted_of, telling, spot_named, on_device, on_held, late_spot, command_of, first_held, command_deed, next_command, on_top, by_activity}
+use Rattle.run_rules.specs.References.{count_in}
 use Rattle.run_rules.specs.Search.{due}
 use Rattle.run_rules.proofs.Devices.{or_false}
 use Rattle.run_rules.proofs.Free.{find_true}
@@ -142,7 +143,13 @@ command_reason : (w : World) (k : ℕ) (c : Command) → Asks w k c → Each (To
 unfolding command_deed
 command_reason w k (command.OpenDev name) at =
     device_reason w k _ name _ at (λ d e c.
-    by_if (is_held w k d.serial) _ _ (λ h. because _ (begun _ at)) (λ h. because _ (λ t. record { begins = begun _ at t; name = name; words = refl; named = it_named w name d e; spared = c; free = h })))
+    by_if (has w.sole d.serial) _ _ (λ h. because _ (begun _ at)) (λ h.
+    by_if (nat_lt (count_in w.refs k d.serial) 15) _ _
+    (λ n. let few : count_in w.refs k d.serial < 15 = grind (arith, nat_tests, n) in
+    because _ (λ t. record { begins = begun _ at t; name = name; words = refl; named = it_named w name d e; spared = c; room = (h, few) })) (λ n. because _ (begun _ at))))
+command_reason w k (command.OpenSole name) at =
+    device_reason w k _ name _ at (λ d e c.
+    by_if (is_referred w d.serial) _ _ (λ h. because _ (begun _ at)) (λ h. because _ (λ t. record { begins = begun _ at t; name = name; words = refl; named = it_named w name d e; spared = c; room = h })))
 command_reason w k (command.CloseDev name) at =
     held_reason w k _ name _ at (λ d e h. because _ (λ t. record { begins = begun _ at t; name = name; words = refl; named = it_named w name d e; held = h }))
 command_reason w k (command.Io name value) at =

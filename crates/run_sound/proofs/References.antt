@@ -12,7 +12,9 @@ use Rattle.run_rules.specs.World.{World, is_live, is_held, is_number, caller_at}
 use Rattle.run_rules.specs.declared.deed.Deed.TheVariants.{Drop, Open, Close, Start, Done}
 use Rattle.run_rules.specs.declared.deed.Choice.TheVariants.{Does}
 use Rattle.run_rules.specs.Next.{next}
-use Rattle.run_rules.specs.After.{after, unreferred}
+use Rattle.run_rules.specs.After.{after, referred, unreferred}
+use Rattle.run_rules.specs.References.{MayHold, given_back, is_of, shared_again, sole_with}
+use Rattle.run_rules.proofs.References.{all_left, any_left, counted_granted, counted_returned}
 use Rattle.run_rules.specs.Sound.{Sound}
 use Rattle.run_sound.specs.Kept.{InRange, Kept}
 use Rattle.run_rules.proofs.Devices.{all_snoc, later_snoc, all_imp, none_of}
@@ -24,17 +26,19 @@ use Rattle.run_sound.proofs.Plain.{AreHeld, IsLater, sound_held, later_held, sou
 
 -- ---- one is given back
 
--- another caller's reference stays
-pub not_mine : (r : Ref) (s x k j : ℕ) → j ≢ k → (r.serial == x && r.caller == j) ≡ true → not (r.serial == s && r.caller == k) ≡ true
-not_mine r s x k j other h =
-    not_from_false (r.serial == s && r.caller == k)
-    (and_right (r.serial == s) (r.caller == k) (ne_eqb r.caller k (λ same. other (sym (eqb-true r.caller j (and_parts (r.serial == x) (r.caller == j) h).1) ∙ same))))
+-- another caller's reference is none of this one's
+pub not_mine : (r : Ref) (s x k j : ℕ) → j ≢ k → is_of k s r ≡ true → is_of j x r ≡ false
+not_mine r s x k j other h = let same : r.caller ≡ k = eqb-true r.caller k (and_parts (r.serial == s) (r.caller == k) h).1 in and_right_false (r.serial == x) (r.caller == j) (ne_eqb r.caller j (λ e. other (sym e ∙ same)))
+  where
+    and_right_false : (a b : Bool) → b ≡ false → (a && b) ≡ false
+    and_right_false true b e = e
+    and_right_false false b e = refl
 
-returned : (w : World) (k s : ℕ) → Sound w → ((t : Ticket) → (caller_at w k).doing ≢ activity.Transfer t) → AreHeld w (filter (λ r. not (r.serial == s && r.caller == k)) w.refs)
+returned : (w : World) (k s : ℕ) → Sound w → ((t : Ticket) → (caller_at w k).doing ≢ activity.Transfer t) → AreHeld w (given_back w.refs k s) (shared_again w.sole s)
 returned w k s sound idle = record {
-  sound = record { live_ones = all_filter (λ r. IsTrue (is_live w.live r.serial)) _ w.refs sound.refs.live_ones; once = later_passed _ _ w.refs sound.refs.once };
-  transfers = λ j t e. any_passed _ _ w.refs (λ r. not_mine r s t.serial k j (λ same. idle t (rw same at e))) ((sound.callers j).transfer t e);
-  ended = λ j e. all_filter (λ r. r.caller ≢ j) _ w.refs ((sound.callers j).ended e).1;
+  sound = record { live_ones = all_left (λ r. IsTrue (is_live w.live r.serial)) (is_of k s) w.refs sound.refs.live_ones; counted = counted_returned w.refs w.sole k s sound.refs.counted };
+  transfers = λ j t e. any_left (is_of k s) (is_of j t.serial) w.refs (λ r. not_mine r s t.serial k j (λ same. idle t (rw same at e))) ∙ (sound.callers j).transfer t e;
+  ended = λ j e. all_left (λ r. r.caller ≢ j) (is_of k s) w.refs ((sound.callers j).ended e).1;
 }
 
 no_transfer : (a : Activity) (t : Ticket) → (a ≡ activity.Idle) ⊎ (a ≡ activity.Scans) → a ≢ activity.Transfer t
@@ -42,7 +46,7 @@ no_transfer a t (inl e) h = cc
 no_transfer a t (inr e) h = cc
 
 sound_unreferred : (w : World) (k s : ℕ) → Sound w → IsLater w k → IsBetween w k → Sound (unreferred w k s)
-sound_unreferred w k s sound here at = sound_held w _ w.absent sound here.booted (returned w k s sound (λ t. no_transfer (caller_at w k).doing t at.idle))
+sound_unreferred w k s sound here at = sound_held w _ _ w.absent sound here.booted (returned w k s sound (λ t. no_transfer (caller_at w k).doing t at.idle))
 
 pub sound_drop : (w : World) (k s : ℕ) → Sound w → next w k ≡ Does (Drop s) → Sound (after w k (Drop s))
 unfolding after
@@ -53,18 +57,18 @@ unfolding after
 sound_close w k s sound chosen =
     let at = (has_command_reason w k (Close s) chosen).begins.between in
     let here = between_later w k (Close s) chosen at in
-    sound_over (unreferred w k s) k (sound_unreferred w k s sound here at) (later_held w k _ w.absent here) at.idle
+    sound_over (unreferred w k s) k (sound_unreferred w k s sound here at) (later_held w k _ _ w.absent here) at.idle
 
 -- ---- one is given
 
-granted : (w : World) (k s : ℕ) → Sound w → is_live w.live s ≡ true → is_held w k s ≡ false → (caller_at w k).doing ≢ activity.Ended → AreHeld w (w.refs ++ record { serial = s; caller = k } ∷ [])
-granted w k s sound live free runs =
+granted : (w : World) (k s : ℕ) (alone : Bool) → Sound w → is_live w.live s ≡ true → MayHold w.refs w.sole k s alone → (caller_at w k).doing ≢ activity.Ended
+    → AreHeld w (w.refs ++ record { serial = s; caller = k } ∷ []) (sole_with w.sole s alone)
+granted w k s alone sound live room runs =
     let one : Ref = record { serial = s; caller = k } in
     record {
       sound = record {
         live_ones = all_snoc (λ (r : Ref). IsTrue (is_live w.live r.serial)) w.refs one sound.refs.live_ones live;
-        once = later_snoc (λ (a b : Ref). IsTrue (not (a.serial == b.serial && a.caller == b.caller))) w.refs one sound.refs.once
-            (all_imp (λ (r : Ref). (r.serial == s && r.caller == k) ≡ false) (λ (r : Ref). IsTrue (not (r.serial == s && r.caller == k))) (λ r. not_from_false (r.serial == s && r.caller == k)) w.refs (none_of _ w.refs free));
+        counted = counted_granted w.refs w.sole k s alone sound.refs.counted room;
       };
       transfers = λ j t e. list_any-append (λ r. r.serial == t.serial && r.caller == j) w.refs (one ∷ []) ∙ or_left _ _ ((sound.callers j).transfer t e);
       ended = λ j e. all_snoc (λ (r : Ref). r.caller ≢ j) w.refs one ((sound.callers j).ended e).1 (λ same. runs (rw same e));
@@ -80,10 +84,9 @@ sound_open w k s sole sound chosen =
     let why = has_command_reason w k (Open s sole) chosen in
     let at = why.begins.between in
     let here = between_later w k (Open s sole) chosen at in
-    let refs : List Ref = w.refs ++ record { serial = s; caller = k } ∷ [] in
-    sound_over (record w { refs = refs }) k
-    (sound_held w refs w.absent sound here.booted (granted w k s sound why.named.live why.free (unended_between (caller_at w k).doing at.idle)))
-    (later_held w k refs w.absent here) at.idle
+    sound_over (referred w k s sole) k
+    (sound_held w _ _ w.absent sound here.booted (granted w k s sole sound why.named.live why.room (unended_between (caller_at w k).doing at.idle)))
+    (later_held w k _ _ w.absent here) at.idle
 
 -- ---- transfers
 

@@ -18,6 +18,7 @@ use Rattle.run_rules.specs.declared.deed.Deed.TheVariants.{Drop, Refuse, Open, C
 use Rattle.run_rules.specs.declared.deed.PowerEnd.{PowerEnd}
 use Rattle.run_rules.specs.declared.deed.PowerEnd.TheVariants as ends
 use Rattle.run_rules.specs.declared.deed.Choice.TheVariants.{Does}
+use Rattle.run_rules.specs.References.{MayHold}
 use Rattle.run_rules.specs.Next.{attr_named, command_deed, command_of, first_held, has_nothing, hindered, is_power, next_free, next_sleep, next_wake, other_turn, powering, spot_named, ticket_of, wanted_of}
 
 -- the power command of a kind: after drvctl(8)
@@ -52,14 +53,19 @@ pub record IsNamed (w : World) (name : List ℕ) (s : ℕ) : Type 0 where
 
 -- ---- references and transfers
 
--- a device that is not condemned and that the caller does not hold
+-- the command that asks for a reference, or for the only one
+abbrev pub open_command : Bool → List ℕ → Command
+open_command true name = command.OpenSole name
+open_command false name = command.OpenDev name
+
+-- a device that is not condemned and that the caller may hold once more
 pub record OpensFree (w : World) (k s : ℕ) (sole : Bool) : Type 0 where
   pub begins : Begins w k (Open s sole)
   pub name : List ℕ
-  pub words : begins.said ≡ command.OpenDev name
+  pub words : begins.said ≡ open_command sole name
   pub named : IsNamed w name s
   pub spared : is_condemned named.dev ≡ false
-  pub free : is_held w k s ≡ false
+  pub room : MayHold w.refs w.sole k s sole
 
 pub record ClosesHeld (w : World) (k s : ℕ) : Type 0 where
   pub begins : Begins w k (Close s)

@@ -1,5 +1,6 @@
 -- What a deed changes of its caller's references, and what it frees.
-use Rattle.std.specs.Prelude.{◌≡◌, ℕ, true, false, not, ◌&&◌, ◌||◌, ◌==◌, Option, Some, None}
+use Rattle.std.specs.Prelude.{◌≡◌, ℕ, ◌+◌, true, false, ◌||◌, ◌==◌, nat_lt, if◌then◌else◌, Option, Some, None}
+use Rattle.run_rules.specs.References.{count_in}
 use Rattle.run_rules.specs.World.{World, is_held, is_live}
 use Rattle.run_rules.specs.declared.deed.Deed.{Deed}
 use Rattle.run_rules.specs.declared.deed.Deed.TheVariants.{Drop, Open, Close}
@@ -15,17 +16,18 @@ returned_by (Close s) = Some s
 returned_by (Drop s) = Some s
 returned_by _ = None
 
--- the caller holds the live device s, which it did not hold, beside what it held
+-- the caller holds the live device s once more, and the others as often as before
 pub record HoldsMore (w : World) (k : ℕ) (d : Deed) (s : ℕ) : Type 0 where
   pub live : is_live w.live s ≡ true
-  pub free : is_held w k s ≡ false
+  pub count : (x : ℕ) → count_in (after w k d).refs k x ≡ count_in w.refs k x + (if s == x then 1 else 0)
   pub holds : (x : ℕ) → is_held (after w k d) k x ≡ (s == x || is_held w k x)
 
--- the caller holds what it held but the device s, which is live
+-- the caller holds the live device s once less, and the others as often as before
 pub record HoldsLess (w : World) (k : ℕ) (d : Deed) (s : ℕ) : Type 0 where
   pub live : is_live w.live s ≡ true
   pub held : is_held w k s ≡ true
-  pub holds : (x : ℕ) → is_held (after w k d) k x ≡ (not (s == x) && is_held w k x)
+  pub count : (x : ℕ) → count_in (after w k d).refs k x + (if s == x then 1 else 0) ≡ count_in w.refs k x
+  pub holds : (x : ℕ) → is_held (after w k d) k x ≡ (if s == x then nat_lt 1 (count_in w.refs k s) else is_held w k x)
 
 -- the live device s, which nobody holds, and nothing else is gone
 pub record GoesUnheld (w : World) (k : ℕ) (d : Deed) (s : ℕ) : Type 0 where

@@ -2,7 +2,7 @@
 use Rattle.std.specs.Prelude.{ℕ, List, codes, Result}
 use Rattle.cf_types.specs.declared.machine.Command.{Command}
 use Rattle.cf_types.specs.declared.machine.Command.TheVariants as command
-use Rattle.config_rules.specs.ScriptText.{CommandRow, io_form, on_any, on_one, rescan_form, row}
+use Rattle.config_rules.specs.ScriptText.{CommandRow, io_form, on_any, on_one, open_form, rescan_form, row}
 use Rattle.script_text.specs.declared.verb.Verb.{Verb}
 use Rattle.script_text.specs.declared.verb.Verb.TheVariants as verb
 
@@ -23,7 +23,7 @@ spelling_of verb.Unplug = codes "unplug"
 
 -- the command of the words behind it
 abbrev pub form_by : Verb → List (List ℕ) → Result Command ℕ
-form_by verb.Open = on_one command.OpenDev
+form_by verb.Open = open_form
 form_by verb.Close = on_one command.CloseDev
 form_by verb.Io = io_form
 form_by verb.Detach = on_one command.Detach

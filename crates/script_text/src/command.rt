@@ -1,5 +1,5 @@
 ghost use Rattle.std.specs.Prelude.{◌≡◌};
-ghost use Rattle.config_rules.specs.ScriptText.{command_of, io_form, rescan_form, rescan_on};
+ghost use Rattle.config_rules.specs.ScriptText.{command_of, io_form, open_form, rescan_form, rescan_on, sole_form};
 ghost use Rattle.script_text.specs.Left.{Leaves};
 ghost use Rattle.script_text.specs.Verbs.{form_by};
 
@@ -10,6 +10,30 @@ use cf_types::code::script as code;
 use cf_types::{Command, List, Text};
 use machine_text::LineStop;
 use std::alloc::Global;
+
+/// The word behind `open` that asks for sole use.
+const SOLE: &[u8] = b"-x";
+
+/// Reads `-x D` behind `open`.
+fn sole_command(alloc: Global, option: &[u8], device: &[u8]) -> Result<Command, LineStop>
+    ensures { Leaves (sole_form option.now device.now) result }
+{
+    if option != SOLE {
+        return Err(LineStop::Code(code::WRONG_WORDS));
+    }
+    Ok(Command::OpenSole(operand(alloc, device)?))
+}
+
+/// Reads what stands behind `open`.
+fn open_command(alloc: Global, words: &[Text]) -> Result<Command, LineStop>
+    ensures { Leaves (open_form words.now) result }
+{
+    match words {
+        [device] => Ok(Command::OpenDev(operand(alloc, device.items())?)),
+        [option, device] => sole_command(alloc, option.items(), device.items()),
+        _ => Err(LineStop::Code(code::WRONG_WORDS)),
+    }
+}
 
 /// Reads what stands behind `io`.
 fn io_command(alloc: Global, words: &[Text]) -> Result<Command, LineStop>
@@ -62,7 +86,7 @@ fn command_by(alloc: Global, verb: Verb, words: &[Text]) -> Result<Command, Line
     ensures { Leaves (form_by verb words.now) result }
 {
     match verb {
-        Verb::Open => Ok(Command::OpenDev(one_operand(alloc, words)?)),
+        Verb::Open => open_command(alloc, words),
         Verb::Close => Ok(Command::CloseDev(one_operand(alloc, words)?)),
         Verb::Io => io_command(alloc, words),
         Verb::Detach => Ok(Command::Detach(one_operand(alloc, words)?)),

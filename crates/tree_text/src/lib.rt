@@ -4,5 +4,5 @@
 mod line;
 mod parts;
 
-pub use cf_types::DevLine;
+pub use cf_types::{DevLine, Hold};
 pub use line::put_dev;

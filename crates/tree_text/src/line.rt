@@ -19,7 +19,7 @@ pub fn put_dev(line: &DevLine, out: &mut Vec<u8>) -> Result<(), Memory>
     put_decimal(&mut text, i64::from(line.row))?;
     put_mark(&mut text, line.asleep, b" asleep")?;
     put_mark(&mut text, line.condemned, b" condemned")?;
-    put_held(&mut text, line.holders)?;
+    put_held(&mut text, line.holders.items())?;
     out.extend_from_slice(&text)?;
     Ok(())
 }

@@ -1,10 +1,9 @@
 //! The pieces of a line. Where memory runs out, some of a piece may have been appended.
-ghost use Rattle.std.specs.Prelude.{◌≡◌, ◌++◌, ◌==◌, ◌<◌, OnOk, codes, decimal, flat_map};
-ghost use Rattle.std.specs.Int.{bit_at};
-ghost use Rattle.run_rules.specs.Tree.{marked_by, holding, held_text};
+ghost use Rattle.std.specs.Prelude.{◌≡◌, ◌++◌, OnOk, codes, decimal, flat_map, nat_lt};
+ghost use Rattle.run_rules.specs.Tree.{marked_by, hold_text, held_text};
 ghost use Rattle.cf_types.specs.Numbers.{below};
 
-use cf_types::{Memory, put_bytes, put_decimal};
+use cf_types::{Hold, Memory, put_bytes, put_decimal};
 
 /// Appends two spaces for each level.
 pub fn put_indent(out: &mut Vec<u8>, depth: u32) -> Result<(), Memory>
@@ -23,35 +22,46 @@ pub fn put_mark(out: &mut Vec<u8>, mark: bool, text: &[u8]) -> Result<(), Memory
     if mark { put_bytes(out, text) } else { Ok(()) }
 }
 
-fn is_set(holders: u16, index: u32) -> bool
-    requires { index < 16 }
-    ensures { result ≡ (bit_at holders index == 1) }
+/// Appends how many references a caller has, if they are more than one.
+fn put_count(out: &mut Vec<u8>, count: u8) -> Result<(), Memory>
+    ensures { OnOk result (out.new.items ≡ out.old.items ++ marked_by (nat_lt 1 count) (codes "*" ++ decimal count)) }
 {
-    (holders >> index) % 2 == 1
+    if count <= 1 {
+        return Ok(());
+    }
+    put_bytes(out, b"*")?;
+    put_decimal(out, i64::from(count))
 }
 
-/// Appends each caller whose bit is set, behind a space.
-fn put_callers(out: &mut Vec<u8>, holders: u16) -> Result<(), Memory>
-    ensures { OnOk result (out.new.items ≡ out.old.items ++ flat_map (λ c. codes " " ++ decimal c) (holding holders)) }
+/// Appends what a caller holds.
+fn put_hold(out: &mut Vec<u8>, hold: Hold) -> Result<(), Memory>
+    ensures { OnOk result (out.new.items ≡ out.old.items ++ hold_text hold) }
 {
-    for index in 0..16u32 {
-        if is_set(holders, index) {
-            put_bytes(out, b" ")?;
-            put_decimal(out, i64::from(index + 1))?;
-        }
+    put_bytes(out, b" ")?;
+    put_decimal(out, i64::from(hold.caller))?;
+    put_count(out, hold.count)?;
+    put_mark(out, hold.sole, b"!")
+}
+
+/// Appends what each caller holds.
+fn put_holds(out: &mut Vec<u8>, holders: &[Hold]) -> Result<(), Memory>
+    ensures { OnOk result (out.new.items ≡ out.old.items ++ flat_map hold_text holders.now) }
+{
+    for hold in holders {
+        put_hold(out, *hold)?;
     }
     Ok(())
 }
 
 /// Appends who holds the device, if anybody does.
-pub fn put_held(out: &mut Vec<u8>, holders: u16) -> Result<(), Memory>
-    ensures { OnOk result (out.new.items ≡ out.old.items ++ held_text (holding holders)) }
+pub fn put_held(out: &mut Vec<u8>, holders: &[Hold]) -> Result<(), Memory>
+    ensures { OnOk result (out.new.items ≡ out.old.items ++ held_text holders.now) }
 {
-    let mut callers = Vec::new(*out.allocator());
-    put_callers(&mut callers, holders)?;
-    if callers.is_empty() {
-        return Ok(());
+    match holders {
+        [] => Ok(()),
+        _ => {
+            put_bytes(out, b" held")?;
+            put_holds(out, holders)
+        }
     }
-    put_bytes(out, b" held")?;
-    put_bytes(out, &callers)
 }

@@ -34,3 +34,8 @@ returns-in-Unplug c =
     IfOk-weaker _ _ (λ does. command_deed w c.args.caller c.args.number c.args.said.now ≡ does)
     (λ does is. ap (command_deed w c.args.caller c.args.number) (c.in-Unplug.is ∙ ap command.Unplug (sym c.bytes-in-Unplug.ensures.bytes)) ∙ is)
     (c.plan_pull.ensures c.args.number)
+
+pub returns-in-OpenSole : goal.returns-in-OpenSole
+returns-in-OpenSole c =
+    let w = world_of c.args.setup.now c.args.core.now in
+    ap (command_deed w c.args.caller c.args.number) (c.in-OpenSole.is ∙ ap command.OpenSole (sym c.bytes-in-OpenSole.ensures.bytes)) ∙ c.plan_open_sole.ensures c.args.number ∙ c.settled-in-OpenSole.ensures

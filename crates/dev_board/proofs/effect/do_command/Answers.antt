@@ -21,8 +21,8 @@ open-requires-clause-holder c =
     let w : World = world_of c.args.setup.now c.args.core.now in
     (subst (MayDo w c.args.caller) c.in-Open.is (may_do w c.args.caller c.args.deed c.requires.may c.requires.kept c.requires.chosen)).0
 
-pub open-requires-clause-anew : goal.open-requires-clause-anew
-open-requires-clause-anew c =
+pub open-requires-clause-room : goal.open-requires-clause-room
+open-requires-clause-room c =
     let w : World = world_of c.args.setup.now c.args.core.now in
     (subst (MayDo w c.args.caller) c.in-Open.is (may_do w c.args.caller c.args.deed c.requires.may c.requires.kept c.requires.chosen)).1
 
