@@ -15,7 +15,7 @@ abbrev pub attaches : Event → Bool
 attaches e = is_some (attached_name e.act)
 
 abbrev pub finds_none : Act → Bool
-finds_none (act.Found parent None) = true
+finds_none (act.Found parent spot None) = true
 finds_none _ = false
 
 -- whether an event says that no driver takes what was found

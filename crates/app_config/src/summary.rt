@@ -13,7 +13,10 @@ fn attaches(event: &Event) -> bool
     ensures { result ≡ attaches event.now }
 {
     match &event.act {
-        Act::Found { got, .. } | Act::Final { got, .. } => got.is_some(),
+        Act::Found { got, .. } => got.is_some(),
+        Act::Final {
+            shown: Some(shown), ..
+        } => shown.got.is_some(),
         _ => false,
     }
 }

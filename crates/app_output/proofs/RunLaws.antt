@@ -16,18 +16,18 @@ use Rattle.app_output.specs.declared.stop.OutputStop.{OutputStop}
 use Rattle.app_output.proofs.Puts.{puts_stops, puts_then}
 
 -- the history begins with its first line
-history_parts : (h : List Event) → codes "history 1\n" ++ text_of (map history.line_of h) ≡ history.lines h
+history_parts : (h : List Event) → codes "history 2\n" ++ text_of (map history.line_of h) ≡ history.lines h
 unfolding history.lines
 history_parts h = refl
 
-pub history_stops : (h : List Event) (old new : Told) (stop : OutputStop) → Stops (codes "history 1\n") old new stop → Stops (history.lines h) old new stop
+pub history_stops : (h : List Event) (old new : Told) (stop : OutputStop) → Stops (codes "history 2\n") old new stop → Stops (history.lines h) old new stop
 history_stops h old new stop stops =
-    subst (λ (text : List ℕ). Stops text old new stop) (history_parts h) (puts_stops (codes "history 1\n") (text_of (map history.line_of h)) old new stop stops)
+    subst (λ (text : List ℕ). Stops text old new stop) (history_parts h) (puts_stops (codes "history 2\n") (text_of (map history.line_of h)) old new stop stops)
 
 pub history_then : {A : Type 0} (h : List Event) (old mid new : Told) (result : Result A OutputStop)
-    → Grows (codes "history 1\n") old mid × (mid.faults ≡ old.faults) → Puts (text_of (map history.line_of h)) mid new result → Puts (history.lines h) old new result
+    → Grows (codes "history 2\n") old mid × (mid.faults ≡ old.faults) → Puts (text_of (map history.line_of h)) mid new result → Puts (history.lines h) old new result
 history_then h old mid new result head lines =
-    subst (λ (text : List ℕ). Puts text old new result) (history_parts h) (puts_then (codes "history 1\n") (text_of (map history.line_of h)) old mid new result head lines)
+    subst (λ (text : List ℕ). Puts text old new result) (history_parts h) (puts_then (codes "history 2\n") (text_of (map history.line_of h)) old mid new result head lines)
 
 -- so does the tree
 tree_parts : (w : World) (devices : List DevLine) → devices ≡ tree.tree_lines w → codes "tree\n" ++ text_of (map tree.dev_text devices) ≡ tree.tree_text w

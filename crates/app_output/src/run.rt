@@ -57,7 +57,7 @@ impl<'a> Lines for Devices<'a> {
 fn put_history<S: Sink>(alloc: Global, board: &Board, out: &mut S) -> Result<(), OutputStop>
     ensures { Puts (history.lines board.now.events) (S.told out.old) (S.told out.new) result }
 {
-    put_piece(b"history 1\n", out)?;
+    put_piece(b"history 2\n", out)?;
     put_lines(alloc, &Events { board }, out)
 }
 
