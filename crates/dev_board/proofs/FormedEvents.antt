@@ -1,5 +1,5 @@
 -- Each event that a caller does next is formed, and the devices that it names are live.
-use Rattle.std.proofs.Common.{◌≡◌, ◌<◌, ◌≤◌, ◌^◌, ◌%◌, nat_lt, ℕ, zero, suc, ◌+◌, ◌-◌, ◌==◌, Bool, true, false, ◌&&◌, ◌||◌, cond, List, [], ◌∷◌, length, map, find, is_some, option_map, slice_get, Option, Some, None, refl, sym, ◌∙◌, ap, subst, inl, inr, arith, eqb-true}
+use Rattle.std.proofs.Common.{◌≡◌, ◌<◌, ◌≤◌, ◌^◌, ◌%◌, nat_lt, ℕ, zero, suc, ◌+◌, ◌-◌, ◌==◌, Bool, true, false, ◌&&◌, ◌||◌, cond, List, [], ◌∷◌, length, map, find, option_map, slice_get, Option, Some, None, refl, sym, ◌∙◌, subst, inl, inr, arith, eqb-true}
 use Rattle.std.specs.Prelude.{⊤, All, IfSome, IsTrue}
 use Rattle.std.specs.List.{AllByRecursion, slice_index_or}
 use Rattle.std.specs.Option.{option_map_or}
@@ -411,6 +411,7 @@ row_there w k d may kept chosen = cases (got_of d) (deed_arrives w k d may kept 
 
 -- the names of the machine's spots
 spot_known : (s : Setup) (x : ℕ) → MayRun s → x < length s.machine.spots → IsSpotName (spot_name s x)
+unfolding root_name
 spot_known s x may inside = named s.machine.spots x inside may.machine.spot_names.shaped
   where
     named : (spots : List Spot) (i : ℕ) → i < length spots → All (λ n. is_free_name n ≡ true) (map (λ spot. spot.name) spots) → IsSpotName (option_map_or (λ spot. spot.name) (slice_get spots i) [])
@@ -494,7 +495,7 @@ may_be_told w k (Search p spot to got) may kept calls chosen = (searched_inside 
 may_be_told w k (EndScan p) may kept calls chosen = tt
 may_be_told w k BeginInterrupts may kept calls chosen = tt
 may_be_told w k (Finalise s shown got listed anew) may kept calls chosen = (
-  call_live w k s listed anew kept calls (doing_so w k (Finalise s shown got listed anew) chosen).unended (has_reason w k (Finalise s shown got listed anew) chosen  ).called,
+  call_live w k s listed anew kept calls (doing_so w k (Finalise s shown got listed anew) chosen).unended (has_reason w k (Finalise s shown got listed anew) chosen).called,
   shown_there w k s shown got listed anew chosen,
   row_there w k (Finalise s shown got listed anew) may kept chosen,
 )
@@ -544,10 +545,10 @@ power_formed w k end named scripts kept why =
 deed_printed : (w : World) (k : ℕ) (d : Deed) → MayRun w.setup → FormedScripts w.setup → Kept w → CallsDevices w → next w k ≡ Does d → IsFormedAct (printed w k d)
 unfolding printed
 deed_printed w k (Search p spot to got) may scripts kept calls chosen = (
-      parent_known w p (all_named w may kept),
-      spot_known w.setup spot may (searched_inside w k p spot to got chosen),
-      searched_formed w k p spot to got may kept chosen,
-    )
+  parent_known w p (all_named w may kept),
+  spot_known w.setup spot may (searched_inside w k p spot to got chosen),
+  searched_formed w k p spot to got may kept chosen,
+)
 deed_printed w k (EndScan p) may scripts kept calls chosen = parent_known w p (all_named w may kept)
 deed_printed w k BeginInterrupts may scripts kept calls chosen = tt
 deed_printed w k (Finalise s shown got listed anew) may scripts kept calls chosen =

@@ -77,12 +77,7 @@ fn plan_open(setup: &Setup, core: &Core, caller: u8, name: &[u8]) -> Result<Deed
 
 /// The only reference is asked for.
 #[tactic(auto, unfolding(run_rules::specs::Next::command_deed))]
-fn plan_open_sole(
-    setup: &Setup,
-    core: &Core,
-    caller: u8,
-    name: &[u8],
-) -> Result<Deed, Refusal>
+fn plan_open_sole(setup: &Setup, core: &Core, caller: u8, name: &[u8]) -> Result<Deed, Refusal>
     ensures { (number : ℕ) → command_deed (world_of setup.now core.now) caller number (command.OpenSole name.now) ≡ or_refused (λ deed. deed) result }
 {
     let device = spared(setup, core, name)?;

@@ -55,7 +55,10 @@ fn deed_act(
     let tree = &core.tree;
     match deed {
         Deed::Search {
-            parent, spot, got, ..
+            parent,
+            spot,
+            got,
+            ..
         } => {
             let parent = parent_name(alloc, setup, tree, parent)?;
             let spot = spot_name(setup, spot)?;
