@@ -16,9 +16,12 @@ use Rattle.cf_types.specs.declared.tables.Tables.{Tables}
 use Rattle.run_rules.specs.declared.event.Act.{Act}
 use Rattle.run_rules.specs.declared.event.DepthName.{DepthName}
 use Rattle.run_rules.specs.declared.event.Event.{Event}
+use Rattle.run_rules.specs.declared.event.Got.{Got}
+use Rattle.run_rules.specs.declared.event.Shown.{Shown}
 use Rattle.run_rules.specs.declared.world.Activity.{Activity}
 use Rattle.run_rules.specs.declared.world.Dev.{Dev}
 use Rattle.run_rules.specs.declared.world.Frame.{Frame}
+use Rattle.run_rules.specs.declared.world.Ref.{Ref}
 use Rattle.run_rules.specs.World.{Caller}
 
 -- ---- tables
@@ -81,6 +84,14 @@ given name value = record { name = name; value = value }
 abbrev pub event : ℕ → ℕ → Act → Event
 event caller number act = record { caller = caller; number = number; act = act }
 
+-- a device that came, and its row
+abbrev pub got : List ℕ → ℕ → Got
+got name row = record { name = name; row = row }
+
+-- a late spot that was shown, and what came there
+abbrev pub shown : List ℕ → Option Got → Shown
+shown spot got = record { spot = spot; got = got }
+
 -- its serial, row and unit, its parent and its spot
 abbrev pub dev : ℕ → ℕ → ℕ → ℕ → ℕ → Dev
 dev serial row unit parent spot = record { serial = serial; row = row; unit = unit; parent = parent; spot = spot; asleep = false; condemned = None }
@@ -91,6 +102,10 @@ going d asleep condemned = record d { asleep = asleep; condemned = condemned }
 
 abbrev pub caller : ℕ → Activity → List Frame → Caller
 caller over doing stack = record { over = over; doing = doing; stack = stack }
+
+-- a reference to a device, and its holder
+abbrev pub ref : ℕ → ℕ → Ref
+ref serial caller = record { serial = serial; caller = caller }
 
 abbrev pub deep : ℕ → List ℕ → DepthName
 deep depth name = record { depth = depth; name = name }

@@ -1,10 +1,10 @@
 -- A history that passes the test over all its names and callers is lawful.
-use Rattle.std.proofs.Common.{◌≡◌, ◌⊎◌, ℕ, ◌==◌, Bool, true, false, cond, not, ◌&&◌, ◌||◌, List, [], ◌∷◌, ◌++◌, reverse, Option, Some, None, refl, sym, ◌∙◌, ap, subst, inl, inr}
-use Rattle.std.specs.Prelude.{bytes_eq, count_by, ℤ, pos, ◌-ℤ◌}
+use Rattle.std.proofs.Common.{◌≡◌, ◌≢◌, ◌⊎◌, ℕ, ◌==◌, Bool, true, false, cond, not, ◌&&◌, ◌||◌, List, [], ◌∷◌, ◌++◌, reverse, Option, Some, None, refl, sym, ◌∙◌, ap, subst, inl, inr, arith}
+use Rattle.std.specs.Prelude.{bytes_eq, count_by, nat_le, option_and_then, option_map, ℤ, pos, negsuc, ◌-ℤ◌}
 use Rattle.std.specs.List.{AllByRecursion, list_all, list_any}
 use Rattle.std.specs.Option.{option_map_or}
 use Rattle.std.specs.Ordering.{int_eq}
-use Rattle.std.proofs.lemmas.Bool.{eqb-true, not-true, false_from_ne_true, cases_Bool, and_from, or_from}
+use Rattle.std.proofs.lemmas.Bool.{eqb-true, leb-true, not-true, false_from_ne_true, cases_Bool, and_from, or_from}
 use Rattle.std.proofs.lemmas.Bool.Decides.{Decides-int_eq}
 use Rattle.std.proofs.lemmas.Slice.Eq.{bytes_eq-Decides}
 use Rattle.std.proofs.lemmas.List.{reverse-append}
@@ -13,19 +13,24 @@ use Rattle.run_rules.specs.declared.event.Event.{Event}
 use Rattle.run_rules.specs.declared.event.Act.{Act}
 use Rattle.run_rules.specs.declared.event.Act.TheVariants as act
 use Rattle.run_rules.specs.World.{has, root_name}
-use Rattle.run_rules.specs.Laws.{attached_name, attached_below, freed_name, slept_name, woken_name, is_name, is_ok, opens, returns, transfers, last_that, lives, parent_in, is_asleep_in, holds, IsLawfulNext, LawfulFrom, Lawful}
+use Rattle.run_rules.specs.Laws.{attached_name, attached_below, freed_name, slept_name, woken_name, is_name, is_ok, opens, returns, transfers, last_that, lives, parent_in, is_asleep_in, holds, opens_sole, sole_in, IsCount, IsLawfulNext, LawfulFrom, Lawful}
 use Rattle.run_rules.proofs.Below.{and_both}
-use Rattle.run_laws.proofs.LawTest.{is_free_of, is_child, is_lawful_here, lawful_test}
+use Rattle.run_laws.proofs.LawTest.{is_free_of, is_count, is_child, free_test, children_sleep, count_test, sole_test, transfer_test, is_below_awake, comes_test, is_lawful_here, lawful_test}
 
 -- ---- the names of an event
 
+abbrev pub names_in : Option (List ℕ) → List (List ℕ)
+names_in None = []
+names_in (Some x) = x ∷ []
+
 abbrev pub names_of : Act → List (List ℕ)
-names_of (act.Found parent (Some x)) = x ∷ []
-names_of (act.Final device answer (Some x)) = x ∷ []
+names_of (act.Found parent spot got) = names_in (option_map (λ g. g.name) got)
+names_of (act.Final device shown) = names_in (option_map (λ g. g.name) (option_and_then (λ s. s.got) shown))
 names_of (act.Free x) = x ∷ []
 names_of (act.Sleep x) = x ∷ []
 names_of (act.Wake x) = x ∷ []
 names_of (act.OpenDev x r) = x ∷ []
+names_of (act.OpenSole x r) = x ∷ []
 names_of (act.CloseDev x r) = x ∷ []
 names_of (act.DropRef x) = x ∷ []
 names_of (act.IoStart x v r) = x ∷ []
@@ -56,13 +61,13 @@ at_name p (n ∷ ns) h x a =
       | inr e ↦ at_name p ns both.1 x (sym (ap (λ (b : Bool). b || is_among ns x) e) ∙ a)
     ]
 
-at_caller : (p : ℕ → Bool) (callers : List ℕ) → list_all p callers ≡ true → (k : ℕ) → has callers k ≡ true → p k ≡ true
-at_caller p [] h k a = absurd cc
-at_caller p (n ∷ ns) h k a =
+pub at_number : (p : ℕ → Bool) (callers : List ℕ) → list_all p callers ≡ true → (k : ℕ) → has callers k ≡ true → p k ≡ true
+at_number p [] h k a = absurd cc
+at_number p (n ∷ ns) h k a =
     let both = and_both (p n) (list_all p ns) h in
     elim (cases_Bool (n == k)) [
       | inl e ↦ subst (λ (y : ℕ). p y ≡ true) (eqb-true n k e) both.0
-      | inr e ↦ at_caller p ns both.1 k (sym (ap (λ (b : Bool). b || has ns k) e) ∙ a)
+      | inr e ↦ at_number p ns both.1 k (sym (ap (λ (b : Bool). b || has ns k) e) ∙ a)
     ]
 
 among_all : (ns names : List (List ℕ)) (x : List ℕ) → list_all (λ n. is_among names n) ns ≡ true → is_among ns x ≡ true → is_among names x ≡ true
@@ -73,11 +78,13 @@ among_all ns names x h a = at_name (λ n. is_among names n) ns h x a
 one : (y x : List ℕ) → bytes_eq y x ≡ true → is_among (y ∷ []) x ≡ true
 one y x h = rw h refl
 
+in_names : (o : Option (List ℕ)) (x : List ℕ) → is_name o x ≡ true → is_among (names_in o) x ≡ true
+in_names None x h = absurd cc
+in_names (Some y) x h = one y x h
+
 attached_has : (a : Act) (x : List ℕ) → is_name (attached_name a) x ≡ true → is_among (names_of a) x ≡ true
-attached_has (act.Found parent (Some y)) x h = one y x h
-attached_has (act.Found parent None) x h = absurd cc
-attached_has (act.Final device answer (Some y)) x h = one y x h
-attached_has (act.Final device answer None) x h = absurd cc
+attached_has (act.Found parent spot got) x h = in_names (option_map (λ g. g.name) got) x h
+attached_has (act.Final device shown) x h = in_names (option_map (λ g. g.name) (option_and_then (λ s. s.got) shown)) x h
 attached_has _ x h = absurd cc
 
 freed_has : (a : Act) (x : List ℕ) → is_name (freed_name a) x ≡ true → is_among (names_of a) x ≡ true
@@ -94,7 +101,12 @@ woken_has _ x h = absurd cc
 
 opens_has : (a : Act) (x : List ℕ) → opens a x ≡ true → is_among (names_of a) x ≡ true
 opens_has (act.OpenDev y r) x h = one y x (and_both (is_ok r) (bytes_eq y x) h).1
+opens_has (act.OpenSole y r) x h = one y x (and_both (is_ok r) (bytes_eq y x) h).1
 opens_has _ x h = absurd cc
+
+sole_has : (a : Act) (x : List ℕ) → opens_sole a x ≡ true → is_among (names_of a) x ≡ true
+sole_has (act.OpenSole y r) x h = one y x (and_both (is_ok r) (bytes_eq y x) h).1
+sole_has _ x h = absurd cc
 
 returns_has : (a : Act) (x : List ℕ) → returns a x ≡ true → is_among (names_of a) x ≡ true
 returns_has (act.CloseDev y r) x h = one y x (and_both (is_ok r) (bytes_eq y x) h).1
@@ -114,6 +126,7 @@ record IsQuiet (x : List ℕ) (e : Event) : Type 0 where
   attached : is_name (attached_name e.act) x ≡ false
   freed : is_name (freed_name e.act) x ≡ false
   opened : opens e.act x ≡ false
+  opened_solely : opens_sole e.act x ≡ false
   returned : returns e.act x ≡ false
 
 quiet_from : (names : List (List ℕ)) (callers : List ℕ) (e : Event) (x : List ℕ) → covers names callers e ≡ true → is_among names x ≡ false → IsQuiet x e
@@ -124,6 +137,7 @@ quiet_from names callers e x h n =
       attached = false_from_ne_true (is_name (attached_name e.act) x) (λ t. never (attached_has e.act x t));
       freed = false_from_ne_true (is_name (freed_name e.act) x) (λ t. never (freed_has e.act x t));
       opened = false_from_ne_true (opens e.act x) (λ t. never (opens_has e.act x t));
+      opened_solely = false_from_ne_true (opens_sole e.act x) (λ t. never (sole_has e.act x t));
       returned = false_from_ne_true (returns e.act x) (λ t. never (returns_has e.act x t));
     }
 
@@ -194,22 +208,55 @@ holds_nobody names callers es k x h n =
     (count_none (λ e. e.caller == k && returns e.act x) es
     (all_imp (λ e. covers names callers e ≡ true) (λ e. (e.caller == k && returns e.act x) ≡ false) (λ e c. false_and (e.caller == k) (returns e.act x) (other_caller names callers k e n c)) es h))
 
+sole_from : (es : List Event) (k : ℕ) (x : List ℕ) → AllByRecursion (λ e. (e.caller == k && (opens_sole e.act x || returns e.act x)) ≡ false) es → sole_in es k x ≡ false
+unfolding sole_in
+sole_from es k x none =
+    ap (λ (o : Option Event). option_map_or (λ e. opens_sole e.act x) o false) (last_none (λ e. e.caller == k && (opens_sole e.act x || returns e.act x)) es none)
+
+sole_none : (es : List Event) (k : ℕ) (x : List ℕ) → AllByRecursion (IsQuiet x) es → sole_in es k x ≡ false
+sole_none es k x q =
+    sole_from es k x (all_imp (IsQuiet x) (λ e. (e.caller == k && (opens_sole e.act x || returns e.act x)) ≡ false)
+    (λ e t. and_false (e.caller == k) (opens_sole e.act x || returns e.act x) (or_from (opens_sole e.act x) (returns e.act x) t.opened_solely t.returned)) es q)
+
+sole_nobody : (names : List (List ℕ)) (callers : List ℕ) (es : List Event) (k : ℕ) (x : List ℕ) → AreCovered names callers es → has callers k ≡ false → sole_in es k x ≡ false
+unfolding AreCovered
+sole_nobody names callers es k x h n =
+    sole_from es k x (all_imp (λ e. covers names callers e ≡ true) (λ e. (e.caller == k && (opens_sole e.act x || returns e.act x)) ≡ false)
+    (λ e c. false_and (e.caller == k) (opens_sole e.act x || returns e.act x) (other_caller names callers k e n c)) es h)
+
 -- ---- one event
 
 int_is : (a b : ℤ) → int_eq a b ≡ true → a ≡ b
 int_is a b h = (Decides-int_eq a b).0 h
 
--- what the test on holding says of any caller and name
+-- what a test of each caller and name says of any, where it says nothing of those that no event has
+at_each : (p : ℕ → List ℕ → Bool) (names : List (List ℕ)) (callers : List ℕ) → list_all (λ k. list_all (p k) names) callers ≡ true
+    → (k : ℕ) (x : List ℕ) → has callers k ≡ true → is_among names x ≡ true → p k x ≡ true
+at_each p names callers h k x y z = at_name (p k) names (at_number (λ k. list_all (p k) names) callers h k y) x z
+
+record IsMentioned (names : List (List ℕ)) (callers : List ℕ) (k : ℕ) (x : List ℕ) : Type 0 where
+  caller : has callers k ≡ true
+  name : is_among names x ≡ true
+
 held_at : (names : List (List ℕ)) (callers : List ℕ) (g : List Event) → AreCovered names callers g
-    → list_all (λ k. list_all (λ x. (is_free_of g k x || int_eq (holds g k x) (pos 1)) && (lives g x || is_free_of g k x)) names) callers ≡ true
-    → (k : ℕ) (x : List ℕ) → (holds g k x ≡ pos 0) ⊎ (((is_free_of g k x || int_eq (holds g k x) (pos 1)) && (lives g x || is_free_of g k x)) ≡ true)
-held_at names callers g c h k x =
+    → (k : ℕ) (x : List ℕ) → (holds g k x ≡ pos 0) ⊎ IsMentioned names callers k x
+held_at names callers g c k x =
     elim (cases_Bool (has callers k)) [
       | inr n ↦ inl (holds_nobody names callers g k x c n)
       | inl y ↦ elim (cases_Bool (is_among names x)) [
         | inr n ↦ inl (holds_none g k x (quiet_all names callers g x c n))
-        | inl z ↦ inr (at_name (λ x. (is_free_of g k x || int_eq (holds g k x) (pos 1)) && (lives g x || is_free_of g k x)) names
-            (at_caller (λ k. list_all (λ x. (is_free_of g k x || int_eq (holds g k x) (pos 1)) && (lives g x || is_free_of g k x)) names) callers h k y) x z)
+        | inl z ↦ inr (record { caller = y; name = z })
+      ]
+    ]
+
+sole_at : (names : List (List ℕ)) (callers : List ℕ) (g : List Event) → AreCovered names callers g
+    → (k : ℕ) (x : List ℕ) → sole_in g k x ≡ true → IsMentioned names callers k x
+sole_at names callers g c k x s =
+    elim (cases_Bool (has callers k)) [
+      | inr n ↦ absurd (clash (sole_in g k x) s (sole_nobody names callers g k x c n))
+      | inl y ↦ elim (cases_Bool (is_among names x)) [
+        | inr n ↦ absurd (clash (sole_in g k x) s (sole_none g k x (quiet_all names callers g x c n)))
+        | inl z ↦ record { caller = y; name = z }
       ]
     ]
 
@@ -235,59 +282,85 @@ asleep_lives : (g : List Event) (x : List ℕ) → is_asleep_in g x ≡ true →
 unfolding is_asleep_in
 asleep_lives g x s = (and_both (lives g x) _ s).0
 
+count_is : (least : ℕ) (z : ℤ) → is_count least z ≡ true → IsCount least z
+count_is least (pos n) h =
+    let both = and_both (nat_le least n) (nat_le n 15) h in
+    record { count = n; many = leb-true least n both.0; few = leb-true n 15 both.1; is = refl }
+count_is least (negsuc n) h = absurd cc
+
+none_is_count : (z : ℤ) → z ≡ pos 0 → IsCount 0 z
+none_is_count z e = record { count = 0; many = omega arith; few = omega arith; is = e }
+
+-- nobody else, be it one of the callers or not
+others_none : (names : List (List ℕ)) (callers : List ℕ) (g : List Event) (k : ℕ) (x : List ℕ) → AreCovered names callers g
+    → list_all (λ j. j == k || is_free_of g j x) callers ≡ true → (j : ℕ) → j ≢ k → holds g j x ≡ pos 0
+others_none names callers g k x c h j apart =
+    elim (cases_Bool (has callers j)) [
+      | inr n ↦ holds_nobody names callers g j x c n
+      | inl y ↦ elim (or_is (j == k) (is_free_of g j x) (at_number (λ j. j == k || is_free_of g j x) callers h j y)) [
+        | inl e ↦ absurd (apart (eqb-true j k e))
+        | inr z ↦ int_is (holds g j x) (pos 0) z
+      ]
+    ]
+
 lawful_here : (names : List (List ℕ)) (callers : List ℕ) (before : List Event) (e : Event) (g : List Event) → AreCovered names callers g
     → covers names callers e ≡ true → is_lawful_here names callers before e g ≡ true → IsLawfulNext before e g
 lawful_here names callers before e g c ce h =
-    let t1 : Bool = option_map_or (λ x. list_all (λ k. is_free_of g k x) callers && list_all (λ y. not (is_child g x y)) names) (freed_name e.act) true in
-    let t2 : Bool = list_all (λ x. not (is_asleep_in g x) || list_all (λ y. not (is_child g x y) || is_asleep_in g y) names) names in
-    let t3 : Bool = list_all (λ k. list_all (λ x. (is_free_of g k x || int_eq (holds g k x) (pos 1)) && (lives g x || is_free_of g k x)) names) callers in
-    let t4 : Bool = list_all (λ x. not (transfers e.act x) || int_eq (holds g e.caller x) (pos 1)) names in
-    let comes : List ℕ → Bool = λ x. not (lives before x) && (bytes_eq (attached_below e.act) root_name || (lives before (attached_below e.act) && not (is_asleep_in before (attached_below e.act)))) in
-    let t5 : Bool = option_map_or comes (attached_name e.act) true in
-    let a = and_both t1 (t2 && (t3 && (t4 && t5))) h in
-    let b = and_both t2 (t3 && (t4 && t5)) a.1 in
-    let d = and_both t3 (t4 && t5) b.1 in
-    let f = and_both t4 t5 d.1 in
+    let t1 : Bool = option_map_or (free_test names callers g) (freed_name e.act) true in
+    let t2 : Bool = list_all (children_sleep names g) names in
+    let t3 : Bool = list_all (λ k. list_all (count_test g k) names) callers in
+    let t4 : Bool = list_all (λ k. list_all (sole_test callers g k) names) callers in
+    let t5 : Bool = list_all (transfer_test e g) names in
+    let t6 : Bool = option_map_or (comes_test before e) (attached_name e.act) true in
+    let a = and_both t1 (t2 && (t3 && (t4 && (t5 && t6)))) h in
+    let b = and_both t2 (t3 && (t4 && (t5 && t6))) a.1 in
+    let d = and_both t3 (t4 && (t5 && t6)) b.1 in
+    let f = and_both t4 (t5 && t6) d.1 in
+    let i = and_both t5 t6 f.1 in
     let all : list_all (λ m. is_among names m) (names_of e.act) ≡ true = (and_both (list_all (λ m. is_among names m) (names_of e.act)) (has callers e.caller) ce).0 in
-    let freed : (x : List ℕ) → freed_name e.act ≡ Some x → (list_all (λ k. is_free_of g k x) callers && list_all (λ y. not (is_child g x y)) names) ≡ true =
-    λ x is. at_some (λ x. list_all (λ k. is_free_of g k x) callers && list_all (λ y. not (is_child g x y)) names) (freed_name e.act) x a.0 is in
-    let came : (x : List ℕ) → attached_name e.act ≡ Some x → comes x ≡ true = λ x is. at_some comes (attached_name e.act) x f.1 is in
+    let freed : (x : List ℕ) → freed_name e.act ≡ Some x → (list_all (λ k. is_free_of g k x) callers ≡ true) × (list_all (λ y. not (is_child g x y)) names ≡ true) =
+    λ x is. and_both (list_all (λ k. is_free_of g k x) callers) (list_all (λ y. not (is_child g x y)) names) (at_some (free_test names callers g) (freed_name e.act) x a.0 is) in
+    let came : (x : List ℕ) → attached_name e.act ≡ Some x → (not (lives before x) ≡ true) × (is_below_awake before (attached_below e.act) ≡ true) =
+    λ x is. and_both (not (lives before x)) (is_below_awake before (attached_below e.act)) (at_some (comes_test before e) (attached_name e.act) x i.1 is) in
+    let counted : (k : ℕ) (x : List ℕ) → IsMentioned names callers k x → (is_count 0 (holds g k x) ≡ true) × ((lives g x || is_free_of g k x) ≡ true) =
+    λ k x m. and_both (is_count 0 (holds g k x)) (lives g x || is_free_of g k x) (at_each (count_test g) names callers d.0 k x m.caller m.name) in
     record {
       unreferred = λ x is k. elim (cases_Bool (has callers k)) [
-        | inl y ↦ int_is (holds g k x) (pos 0) (at_caller (λ k. is_free_of g k x) callers (and_both (list_all (λ k. is_free_of g k x) callers) (list_all (λ y. not (is_child g x y)) names) (freed x is)).0 k y)
+        | inl y ↦ int_is (holds g k x) (pos 0) (at_number (λ k. is_free_of g k x) callers (freed x is).0 k y)
         | inr n ↦ holds_nobody names callers g k x c n
       ];
       childless = λ x y is l p.
-          let none : not (is_child g x y) ≡ true = at_name (λ y. not (is_child g x y)) names (and_both (list_all (λ k. is_free_of g k x) callers) (list_all (λ y. not (is_child g x y)) names) (freed x is)).1 y (lives_known names callers g y c l) in
+          let none : not (is_child g x y) ≡ true = at_name (λ y. not (is_child g x y)) names (freed x is).1 y (lives_known names callers g y c l) in
           clash (is_child g x y) (and_from (lives g y) (is_name (parent_in g y) x) l (named (parent_in g y) x p)) (not-true (is_child g x y) none);
       sleeping = λ x y s l p.
-          let x_lives : lives g x ≡ true = asleep_lives g x s in
           let below : list_all (λ y. not (is_child g x y) || is_asleep_in g y) names ≡ true =
           if_held (is_asleep_in g x) (list_all (λ y. not (is_child g x y) || is_asleep_in g y) names)
-          (at_name (λ x. not (is_asleep_in g x) || list_all (λ y. not (is_child g x y) || is_asleep_in g y) names) names b.0 x (lives_known names callers g x c x_lives)) s in
+          (at_name (children_sleep names g) names b.0 x (lives_known names callers g x c (asleep_lives g x s))) s in
           if_held (is_child g x y) (is_asleep_in g y) (at_name (λ y. not (is_child g x y) || is_asleep_in g y) names below y (lives_known names callers g y c l))
           (and_from (lives g y) (is_name (parent_in g y) x) l (named (parent_in g y) x p));
-      held = λ k x. elim (held_at names callers g c d.0 k x) [
-        | inl z ↦ inl z
-        | inr t ↦ elim (or_is (is_free_of g k x) (int_eq (holds g k x) (pos 1)) (and_both (is_free_of g k x || int_eq (holds g k x) (pos 1)) (lives g x || is_free_of g k x) t).0) [
-          | inl z ↦ inl (int_is (holds g k x) (pos 0) z)
-          | inr o ↦ inr (int_is (holds g k x) (pos 1) o)
-        ]
+      held = λ k x. elim (held_at names callers g c k x) [
+        | inl z ↦ none_is_count (holds g k x) z
+        | inr m ↦ count_is 0 (holds g k x) (counted k x m).0
       ];
-      held_live = λ k x l. elim (held_at names callers g c d.0 k x) [
+      held_live = λ k x l. elim (held_at names callers g c k x) [
         | inl z ↦ z
-        | inr t ↦ elim (or_is (lives g x) (is_free_of g k x) (and_both (is_free_of g k x || int_eq (holds g k x) (pos 1)) (lives g x || is_free_of g k x) t).1) [
+        | inr m ↦ elim (or_is (lives g x) (is_free_of g k x) (counted k x m).1) [
           | inl y ↦ absurd (clash (lives g x) y l)
           | inr z ↦ int_is (holds g k x) (pos 0) z
         ]
       ];
-      held_in_use = λ x t. int_is (holds g e.caller x) (pos 1)
-          (if_held (transfers e.act x) (int_eq (holds g e.caller x) (pos 1))
-          (at_name (λ x. not (transfers e.act x) || int_eq (holds g e.caller x) (pos 1)) names f.0 x (among_all (names_of e.act) names x all (transfers_has e.act x t))) t);
-      fresh = λ x is. not-true (lives before x) (and_both (not (lives before x)) (bytes_eq (attached_below e.act) root_name || (lives before (attached_below e.act) && not (is_asleep_in before (attached_below e.act)))) (came x is)).0;
+      held_in_use = λ x t. count_is 1 (holds g e.caller x)
+          (if_held (transfers e.act x) (is_count 1 (holds g e.caller x))
+          (at_name (transfer_test e g) names i.0 x (among_all (names_of e.act) names x all (transfers_has e.act x t))) t);
+      sole = λ k x s.
+          let m : IsMentioned names callers k x = sole_at names callers g c k x s in
+          let one = and_both (int_eq (holds g k x) (pos 1)) (list_all (λ j. j == k || is_free_of g j x) callers)
+          (if_held (sole_in g k x) (int_eq (holds g k x) (pos 1) && list_all (λ j. j == k || is_free_of g j x) callers)
+          (at_each (sole_test callers g) names callers f.0 k x m.caller m.name) s) in
+          (int_is (holds g k x) (pos 1) one.0, others_none names callers g k x c one.1);
+      fresh = λ x is. not-true (lives before x) (came x is).0;
       below_awake = λ x is.
-          let t = (and_both (not (lives before x)) (bytes_eq (attached_below e.act) root_name || (lives before (attached_below e.act) && not (is_asleep_in before (attached_below e.act)))) (came x is)).1 in
-          elim (or_is (bytes_eq (attached_below e.act) root_name) (lives before (attached_below e.act) && not (is_asleep_in before (attached_below e.act))) t) [
+          elim (or_is (bytes_eq (attached_below e.act) root_name) (lives before (attached_below e.act) && not (is_asleep_in before (attached_below e.act))) (came x is).1) [
             | inl r ↦ inl (same_bytes (attached_below e.act) root_name r)
             | inr r ↦ let both = and_both (lives before (attached_below e.act)) (not (is_asleep_in before (attached_below e.act))) r in
                 inr (both.0, not-true (is_asleep_in before (attached_below e.act)) both.1)
@@ -319,6 +392,7 @@ lawful_on names callers before (e ∷ es) c h t =
 
 -- the test has all names and callers of the history, and the history passes it
 unfoldable pub passes_laws : List (List ℕ) → List ℕ → List Event → Bool
+unfolding root_name lives parent_in is_asleep_in holds sole_in
 passes_laws names callers h = list_all (covers names callers) h && lawful_test names callers [] h
 
 pub lawful_from : (names : List (List ℕ)) (callers : List ℕ) (h : List Event) → passes_laws names callers h ≡ true → Lawful h

@@ -76,6 +76,7 @@ rescan_none w d (Some name) given = search steps
 command_none : (w : World) (k n : ℕ) (c : Command) → FreesNone (Does (command_deed w k n c))
 unfolding command_deed
 command_none w k n (command.OpenDev name) = search steps
+command_none w k n (command.OpenSole name) = search steps
 command_none w k n (command.CloseDev name) = search steps
 command_none w k n (command.Io name value) = search steps
 command_none w k n (command.Detach name) = search steps

@@ -1,9 +1,9 @@
 -- Soundness as a test to compute with, and that a world which passes it is sound.
 use Rattle.std.proofs.Common.{◌≡◌, ◌≢◌, ◌↔◌, ℕ, ◌≤◌, ◌==◌, Bool, true, false, not, ◌&&◌, ◌||◌, List, [], ◌∷◌, length, Option, Some, None, refl, ap, subst, inl, inr, arith}
-use Rattle.std.specs.Prelude.{IsTrue, nat_lt}
+use Rattle.std.specs.Prelude.{◌⊎◌, IsTrue, nat_le, nat_lt}
 use Rattle.std.specs.List.{AllByRecursion, list_all, list_any}
 use Rattle.std.specs.Option.{option_map_or}
-use Rattle.std.proofs.lemmas.Bool.{ltb-true, eqb-true, eq-eqb, eqb-false, not-true, cases_lt}
+use Rattle.std.proofs.lemmas.Bool.{ltb-true, leb-true, eqb-true, eq-eqb, eqb-false, not-true, cases_Bool, cases_lt}
 use Rattle.std.proofs.lemmas.List.{get_or_past}
 use Rattle.cf_types.specs.declared.machine.Ticket.{Ticket}
 use Rattle.run_rules.specs.declared.world.Dev.{Dev}
@@ -13,13 +13,16 @@ use Rattle.run_rules.specs.declared.world.Key.TheVariants as key
 use Rattle.run_rules.specs.declared.world.Activity.{Activity}
 use Rattle.run_rules.specs.declared.world.Activity.TheVariants as activity
 use Rattle.run_rules.specs.declared.world.Setup.{Setup}
-use Rattle.run_rules.specs.World.{World, Caller, nobody, is_live, is_under, driver_of, is_number, is_pinned, is_held, caller_at, frame_serial, is_ended}
+use Rattle.run_rules.specs.World.{World, Caller, opening, nobody, is_live, is_under, driver_of, is_number, is_pinned, is_held, caller_at, frame_serial, is_ended}
 use Rattle.run_rules.specs.declared.world.Ref.{Ref}
+use Rattle.run_rules.specs.References.{AreCounted, count_in, is_of, refs_to}
 use Rattle.cf_types.specs.Numbers.{below}
 use Rattle.run_rules.specs.Sound.{EachLater, IsApart, IsPlaced, IsSoundlyCondemned, IsSoundlyAsleep, is_scan_of, is_known, IsSoundlyDeferred, is_power, is_empty, IsSoundCaller, IsSoundBoot, IsUnbegun, others, Sound}
 use Rattle.run_rules.specs.Next.{next}
 use Rattle.run_rules.specs.Run.{taken, played}
 use Rattle.run_rules.proofs.Below.{and_both, at_below}
+use Rattle.run_laws.proofs.LawsHold.{at_number}
+use Rattle.run_laws.proofs.Outcome.{outcome}
 
 -- ---- the test
 
@@ -33,8 +36,9 @@ placed_test live next d = nat_lt d.serial next && (nat_lt d.parent d.serial && (
 abbrev pub apart_test : Setup → Dev → Dev → Bool
 apart_test s d e = nat_lt d.serial e.serial && (not (driver_of s d.row == driver_of s e.row && d.unit == e.unit) && not (d.spot == e.spot))
 
-abbrev pub once_test : Ref → Ref → Bool
-once_test a b = not (a.serial == b.serial && a.caller == b.caller)
+-- each pair stands at most 15 times, and a device that is held solely in one pair, once
+abbrev pub counted_test : List Ref → List ℕ → Bool
+counted_test refs sole = list_all (λ r. nat_le (count_in refs r.caller r.serial) 15) refs && list_all (λ s. refs_to refs s == 1) sole
 
 abbrev pub frees_above : World → ℕ → Activity → Bool
 frees_above w s (activity.Frees target) = is_under w.live target s
@@ -107,7 +111,7 @@ range_test w = option_map_or (λ j. nat_lt j (length w.callers)) w.power_owner t
 abbrev pub sound_test : World → Bool
 sound_test w =
     (list_all (placed_test w.live w.next) w.live && each_later (apart_test w.setup) w.live)
-    && ((list_all (λ r. is_live w.live r.serial) w.refs && each_later once_test w.refs)
+    && ((list_all (λ r. is_live w.live r.serial) w.refs && counted_test w.refs w.sole)
     && (list_all (λ d. condemned_by w d d.condemned) w.live
     && (list_all (asleep_test w) w.live
     && (list_all (λ c. list_all (λ f. is_known w (frame_serial f)) c.stack) w.callers
@@ -164,6 +168,26 @@ apart_from s d e h =
     let a = and_both (nat_lt d.serial e.serial) (not (driver_of s d.row == driver_of s e.row && d.unit == e.unit) && not (d.spot == e.spot)) h in
     let b = and_both (not (driver_of s d.row == driver_of s e.row && d.unit == e.unit)) (not (d.spot == e.spot)) a.1 in
     record { later = ltb-true d.serial e.serial a.0; names = b.0; spots = differ d.spot e.spot b.1 }
+
+few_from : (all refs : List Ref) (k s : ℕ) → list_all (λ r. nat_le (count_in all r.caller r.serial) 15) refs ≡ true
+    → (count_in refs k s ≡ 0) ⊎ (count_in all k s ≤ 15)
+few_from all [] k s h = inl refl
+few_from all (r ∷ rs) k s h =
+    let both = and_both (nat_le (count_in all r.caller r.serial) 15) (list_all (λ r. nat_le (count_in all r.caller r.serial) 15) rs) h in
+    elim (cases_Bool (is_of k s r)) [
+      | inl e ↦
+          let same = and_both (r.serial == s) (r.caller == k) e in
+          inr (rw (← eqb-true r.serial s same.0, ← eqb-true r.caller k same.1) (leb-true (count_in all r.caller r.serial) 15 both.0))
+      | inr e ↦ elim (few_from all rs k s both.1) [ inl z ↦ inl (rw (e, z) refl) | inr few ↦ inr few ]
+    ]
+
+counted_from : (refs : List Ref) (sole : List ℕ) → counted_test refs sole ≡ true → AreCounted refs sole
+counted_from refs sole h =
+    let both = and_both (list_all (λ r. nat_le (count_in refs r.caller r.serial) 15) refs) (list_all (λ s. refs_to refs s == 1) sole) h in
+    record {
+      few = λ k s. elim (few_from refs refs k s both.0) [ inl z ↦ omega (arith, z) | inr few ↦ few ];
+      alone = λ s has. eqb-true (refs_to refs s) 1 (at_number (λ s. refs_to refs s == 1) sole both.1 s has);
+    }
 
 frees_is : (w : World) (s : ℕ) (a : Activity) → frees_above w s a ≡ true → (target : ℕ) × (a ≡ activity.Frees target) × IsTrue (is_under w.live target s)
 frees_is w s (activity.Frees target) h = (target, refl, h)
@@ -349,7 +373,7 @@ sound_from w h =
     let h5 : Bool = list_all (λ c. list_all (λ f. is_known w (frame_serial f)) c.stack) w.callers in
     let h4 : Bool = list_all (asleep_test w) w.live in
     let h3 : Bool = list_all (λ d. condemned_by w d d.condemned) w.live in
-    let h2 : Bool = list_all (λ r. is_live w.live r.serial) w.refs && each_later once_test w.refs in
+    let h2 : Bool = list_all (λ r. is_live w.live r.serial) w.refs && counted_test w.refs w.sole in
     let h1 : Bool = list_all (placed_test w.live w.next) w.live && each_later (apart_test w.setup) w.live in
     let a = and_both h1 (h2 && (h3 && (h4 && (h5 && (h6 && (h7 && (h8 && h9))))))) h in
     let b = and_both h2 (h3 && (h4 && (h5 && (h6 && (h7 && (h8 && h9)))))) a.1 in
@@ -360,7 +384,7 @@ sound_from w h =
     let g = and_both h7 (h8 && h9) f.1 in
     let i = and_both h8 h9 g.1 in
     let devices = and_both (list_all (placed_test w.live w.next) w.live) (each_later (apart_test w.setup) w.live) a.0 in
-    let refs = and_both (list_all (λ r. is_live w.live r.serial) w.refs) (each_later once_test w.refs) b.0 in
+    let refs = and_both (list_all (λ r. is_live w.live r.serial) w.refs) (counted_test w.refs w.sole) b.0 in
     record {
       devices = record {
         placed = all_from (placed_test w.live w.next) (IsPlaced w.live w.next) (placed_from w.live w.next) w.live devices.0;
@@ -368,7 +392,7 @@ sound_from w h =
       };
       refs = record {
         live_ones = all_from (λ r. is_live w.live r.serial) (λ r. IsTrue (is_live w.live r.serial)) (λ r t. t) w.refs refs.0;
-        once = later_from once_test (λ x y. IsTrue (not (x.serial == y.serial && x.caller == y.caller))) (λ x y t. t) w.refs refs.1;
+        counted = counted_from w.refs w.sole refs.1;
       };
       condemned = all_from (λ d. condemned_by w d d.condemned) (λ d. (k : ℕ) → d.condemned ≡ Some k → IsSoundlyCondemned w d k)
           (λ d t k is. condemned_from w d k (subst (λ (o : Option ℕ). condemned_by w d o ≡ true) is t)) w.live c.0;
@@ -393,3 +417,8 @@ pub sound_at_end : (w : World) (ks : List ℕ) → sound_along w ks ≡ true →
 unfolding played
 sound_at_end w [] h = sound_from w h
 sound_at_end w (k ∷ ks) h = sound_at_end (taken w k (next w k)).1 ks (and_both (sound_test w) (sound_along (taken w k (next w k)).1 ks) h).1
+
+-- each world of a run from its opening on passes; opened, it opens all that a run is computed by
+unfoldable pub is_sound_run : Setup → List ℕ → Bool
+unfolding outcome
+is_sound_run s order = sound_along (opening s) order

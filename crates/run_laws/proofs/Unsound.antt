@@ -13,6 +13,7 @@ use Rattle.run_rules.specs.declared.world.Activity.TheVariants as activity
 use Rattle.run_rules.specs.World.{World, Caller, has, scan_of, lineage, is_under, is_pinned}
 use Rattle.run_rules.specs.Sound.{Sound}
 use Rattle.run_laws.proofs.SoundTest.{sound_from}
+use Rattle.run_laws.proofs.Inputs.{ref}
 
 -- two drivers and a row of each
 abbrev small : Setup
@@ -57,6 +58,7 @@ good = record {
   live = bus ∷ leaf ∷ [];
   next = 3;
   refs = [];
+  sole = [];
   absent = [];
   hidden = [];
   interrupts_on = true;
@@ -100,11 +102,31 @@ one_spot h = h.devices.apart.0.0.spots refl
 
 -- ---- references
 
-held_dead : Sound (record good { refs = record { serial = 7; caller = 1 } ∷ [] }) → ⊥
+held_dead : Sound (record good { refs = ref 7 1 ∷ [] }) → ⊥
 held_dead h = not_either h.refs.live_ones.0
 
-held_twice : Sound (record good { refs = record { serial = 2; caller = 1 } ∷ record { serial = 2; caller = 1 } ∷ [] }) → ⊥
-held_twice h = not_either h.refs.once.0.0
+-- a device that two callers hold, one of them twice, and one that is held solely
+abbrev held : World
+held = record good { refs = ref 1 2 ∷ ref 2 2 ∷ ref 2 1 ∷ ref 2 1 ∷ []; sole = 1 ∷ [] }
+
+held_is_sound : Sound held
+unfolding lineage is_under is_pinned
+held_is_sound = sound_from held refl
+
+held_16_times : Sound (record good {
+  refs = ref 2 1 ∷ ref 2 1 ∷ ref 2 1 ∷ ref 2 1 ∷ ref 2 1 ∷ ref 2 1 ∷ ref 2 1 ∷ ref 2 1 ∷ ref 2 1 ∷ ref 2 1 ∷ ref 2 1 ∷ ref 2 1 ∷ ref 2 1 ∷ ref 2 1
+      ∷ ref 2 1 ∷ ref 2 1 ∷ [];
+}) → ⊥
+held_16_times h = omega (arith, h.refs.counted.few 1 2)
+
+sole_and_shared : Sound (record good { refs = ref 2 1 ∷ ref 2 2 ∷ []; sole = 2 ∷ [] }) → ⊥
+sole_and_shared h = omega (arith, h.refs.counted.alone 2 refl)
+
+sole_twice : Sound (record good { refs = ref 2 1 ∷ ref 2 1 ∷ []; sole = 2 ∷ [] }) → ⊥
+sole_twice h = omega (arith, h.refs.counted.alone 2 refl)
+
+sole_and_free : Sound (record good { sole = 2 ∷ [] }) → ⊥
+sole_and_free h = omega (arith, h.refs.counted.alone 2 refl)
 
 -- ---- condemned devices
 
@@ -183,13 +205,13 @@ turn_of_nobody h = not_either ((h.callers 9).turn.0 refl)
 transfer_unheld : Sound (record good { callers = ended ∷ doing (activity.Transfer (record { caller = 1; number = 1; serial = 2; slot = 1; bad = false; value = 0 })) ∷ idle ∷ [] }) → ⊥
 transfer_unheld h = not_either ((h.callers 1).transfer (record { caller = 1; number = 1; serial = 2; slot = 1; bad = false; value = 0 }) refl)
 
-ended_with_reference : Sound (record good { refs = record { serial = 2; caller = 1 } ∷ []; callers = ended ∷ ended ∷ idle ∷ [] }) → ⊥
+ended_with_reference : Sound (record good { refs = ref 2 1 ∷ []; callers = ended ∷ ended ∷ idle ∷ [] }) → ⊥
 ended_with_reference h = ((h.callers 1).ended refl).1.0 refl
 
-held_by_the_boot : Sound (record good { refs = record { serial = 2; caller = 0 } ∷ [] }) → ⊥
+held_by_the_boot : Sound (record good { refs = ref 2 0 ∷ [] }) → ⊥
 held_by_the_boot h = ((h.callers 0).ended refl).1.0 refl
 
-held_by_nobody : Sound (record good { refs = record { serial = 2; caller = 9 } ∷ [] }) → ⊥
+held_by_nobody : Sound (record good { refs = ref 2 9 ∷ [] }) → ⊥
 held_by_nobody h = ((h.callers 9).ended refl).1.0 refl
 
 ended_with_frame : Sound (record good { callers = ended ∷ record { over = 0; doing = activity.Ended; stack = scan_of 2 ∷ [] } ∷ idle ∷ [] }) → ⊥
