@@ -101,7 +101,7 @@ under_scans stack s p rest e h = rw e (rw e at h)
 -- ---- a turn
 
 -- the scan on top pins its device
-topped_pinned : (w : World) (k : ℕ) (f : Frame) (rest : List Frame) → (caller_at w k).stack ≡ f ∷ rest → is_pinned w (frame_serial f) ≡ true
+pub topped_pinned : (w : World) (k : ℕ) (f : Frame) (rest : List Frame) → (caller_at w k).stack ≡ f ∷ rest → is_pinned w (frame_serial f) ≡ true
 topped_pinned w k f rest stack = pinned_by_frame w k (frame_serial f) (rw stack (or_left (frame_serial f == frame_serial f) (pins_of rest (frame_serial f)) (eq-eqb (frame_serial f) (frame_serial f) refl)))
 
 turned_frames : (to : Position) (p : ℕ) (only : Option ℕ) (wanted : List Wanted) (from : Position) (rest stack : List Frame) → stack ≡ Scan p only wanted from ∷ rest → moved_top to stack ≡ Scan p only wanted to ∷ rest
@@ -236,7 +236,7 @@ sound_interrupts w k sound e =
 -- ---- a finaliser
 
 -- its device is pinned by its frame, or the boot goes on
-called_spared : (w : World) (k s : ℕ) (listed : Option ℕ) (anew : Bool) → Sound w → has_ended w k ≡ false → IsCalled w k s listed anew → IsSpared w.live s
+pub called_spared : (w : World) (k s : ℕ) (listed : Option ℕ) (anew : Bool) → Sound w → has_ended w k ≡ false → IsCalled w k s listed anew → IsSpared w.live s
 called_spared w k s None anew sound goes called = pinned_spared w s sound (topped_pinned w k (Finaliser s) called.0 called.1)
 called_spared w k s (Some place) false sound goes called = boot_spared w s sound (rw called.0 at goes)
 called_spared w k s (Some place) true sound goes called = boot_spared w s sound (rw called.0 at goes)

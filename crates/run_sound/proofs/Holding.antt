@@ -211,7 +211,7 @@ holds_others w k j Tell other s = holds_same w k Tell refl refl j s
 
 -- ---- a device goes
 
-unreferred : (refs : List Ref) (j s : ℕ) → refers_to refs s ≡ false → holds_in refs j s ≡ false
+pub unreferred : (refs : List Ref) (j s : ℕ) → refers_to refs s ≡ false → holds_in refs j s ≡ false
 unreferred [] j s h = refl
 unreferred (r ∷ rs) j s h = let parts = or_false (r.serial == s) (refers_to rs s) h in rw (parts.0, unreferred rs j s parts.1) refl
 

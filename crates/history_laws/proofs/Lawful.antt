@@ -1,0 +1,104 @@
+-- A run's history is lawful.
+use Rattle.std.proofs.Common.{◌≡◌, ◌≢◌, ◌⊎◌, ◌≤◌, ℕ, ◌+◌, ◌==◌, Bool, true, false, not, ◌&&◌, List, [], ◌∷◌, ◌++◌, bytes_eq, Option, Some, None, is_some, refl, sym, ap, ◌∙◌, subst, inl, inr, eqb-true, eq-eqb, arith, append_assoc}
+use Rattle.std.specs.Prelude.{ℤ, pos, ◌-ℤ◌, IsTrue, count_by}
+use Rattle.std.proofs.Common.{ints}
+use Rattle.std.specs.List.{AllByRecursion, Contains}
+use Rattle.std.proofs.lemmas.Bool.{and_parts, ne_eqb}
+use Rattle.std.proofs.lemmas.Option.{same_Some}
+use Rattle.run_rules.specs.declared.event.Event.{Event}
+use Rattle.run_rules.specs.declared.world.Dev.{Dev}
+use Rattle.run_rules.specs.declared.world.Ref.{Ref}
+use Rattle.run_rules.specs.declared.world.Setup.{Setup}
+use Rattle.run_rules.specs.World.{World, device_at, device_named, has, holds_in, name_of, parent_name, root_name}
+use Rattle.run_rules.specs.Laws.{IsCount, holds, is_asleep_in, lives, parent_in, sole_in}
+use Rattle.run_rules.specs.References.{AreCounted, count_in, refs_to}
+use Rattle.run_rules.specs.Sound.{IsSoundlyAsleep}
+use Rattle.run_rules.proofs.References.{held_counts, some_of_all}
+use Rattle.run_sound.proofs.Members.{of_each}
+use Rattle.history_laws.specs.Counted.{Counted, IsTold, granted, held_of, is_sole_of, returned}
+use Rattle.history_laws.proofs.Names.{HasNames, at_serial, at_there, first_is, named_so, named_there, parent_named, parent_root, world_names}
+use Rattle.history_laws.proofs.Referring.{two_of_all}
+use Rattle.history_laws.proofs.Stands.{Stands}
+
+-- ---- who lives
+
+pub named : (g : List Event) (w : World) (x : List ℕ) → Stands g w → lives g x ≡ true → (d : Dev) × (device_named w.setup w.live x ≡ Some d)
+named g w x at alive = cases (device_named w.setup w.live x) refl (sym ((at.counted.names x).lives) ∙ alive)
+  where
+    cases : (o : Option Dev) → device_named w.setup w.live x ≡ o → is_some o ≡ true → (d : Dev) × (device_named w.setup w.live x ≡ Some d)
+    cases None e h = absurd cc
+    cases (Some d) e h = (d, e)
+
+pub unnamed : (g : List Event) (w : World) (x : List ℕ) → Stands g w → lives g x ≡ false → device_named w.setup w.live x ≡ None
+unnamed g w x at dead = cases (device_named w.setup w.live x) refl (sym ((at.counted.names x).lives) ∙ dead)
+  where
+    cases : (o : Option Dev) → device_named w.setup w.live x ≡ o → is_some o ≡ false → o ≡ None
+    cases None e h = refl
+    cases (Some d) e h = absurd cc
+
+-- the device of a parent's name is the parent
+pub parent_is : (w : World) (x : List ℕ) (d e : Dev) → HasNames w.setup w.live w.next → device_named w.setup w.live x ≡ Some d → parent_name w.setup w.live e.parent ≡ x → e.parent ≡ d.serial
+parent_is w x d e names is same = cases (device_at w.live e.parent) refl
+  where
+    cases : (o : Option Dev) → device_at w.live e.parent ≡ o → e.parent ≡ d.serial
+    cases None at = absurd (names.unlike_root d (named_there w.setup w.live x d is) (named_so w.setup w.live x d is ∙ sym same ∙ parent_root w.setup w.live e.parent at))
+    cases (Some c) at =
+        let one : c ≡ d = first_is w.setup w.live x d c names.own is (at_there w.live e.parent c at) (sym (parent_named w.setup w.live e.parent c at) ∙ same) in
+        sym (at_serial w.live e.parent c at) ∙ ap (λ (b : Dev). b.serial) one
+
+-- ---- what sleeps
+
+asleep_lives : (g : List Event) (x : List ℕ) → is_asleep_in g x ≡ true → lives g x ≡ true
+unfolding is_asleep_in
+asleep_lives g x h = (and_parts (lives g x) _ h).0
+
+pub sleeping_below : (g : List Event) (w : World) → Stands g w → (x y : List ℕ) → is_asleep_in g x ≡ true → lives g y ≡ true → parent_in g y ≡ Some x → is_asleep_in g y ≡ true
+sleeping_below g w at x y sleeps alive below =
+    let up = named g w x at (asleep_lives g x sleeps) in
+    let down = named g w y at alive in
+    let d : Dev = up.0 in
+    let e : Dev = down.0 in
+    let names : HasNames w.setup w.live w.next = world_names w at.may at.kept in
+    let name : parent_name w.setup w.live e.parent ≡ x = same_Some _ x (sym ((at.counted.names y).parent e down.1) ∙ below) in
+    let parent : e.parent ≡ d.serial = parent_is w x d e names up.1 name in
+    let asleep : IsTrue d.asleep = sym ((at.counted.names x).asleep d up.1) ∙ sleeps in
+    let soundly : IsSoundlyAsleep w d = of_each (λ c. IsTrue c.asleep → IsSoundlyAsleep w c) w.live d at.kept.sound.asleep (named_there w.setup w.live x d up.1) asleep in
+    (at.counted.names y).asleep e down.1 ∙ of_each (λ c. c.parent ≡ d.serial → IsTrue c.asleep) w.live e soundly.children (named_there w.setup w.live y e down.1) parent
+
+-- ---- what is held
+
+pub less_back : (n b : ℕ) → (pos (n + b) -ℤ pos b) ≡ pos n
+less_back n b = omega (arith, ints)
+
+pub holds_is : (g : List Event) (w : World) (k : ℕ) (x : List ℕ) → Stands g w → holds g k x ≡ pos (held_of w.refs k (device_named w.setup w.live x))
+unfolding holds granted returned
+holds_is g w k x at =
+    ap (λ (n : ℕ). pos n -ℤ pos (returned g k x)) ((at.counted.names x).held k) ∙ less_back (held_of w.refs k (device_named w.setup w.live x)) (returned g k x)
+
+pub held_few : (g : List Event) (w : World) → Stands g w → (k : ℕ) (x : List ℕ) → IsCount 0 (holds g k x)
+held_few g w at k x = record { count = held_of w.refs k (device_named w.setup w.live x); many = omega arith; few = cases (device_named w.setup w.live x); is = holds_is g w k x at }
+  where
+    cases : (o : Option Dev) → held_of w.refs k o ≤ 15
+    cases None = omega arith
+    cases (Some d) = at.kept.sound.refs.counted.few k d.serial
+
+pub dead_unheld : (g : List Event) (w : World) → Stands g w → (k : ℕ) (x : List ℕ) → lives g x ≡ false → holds g k x ≡ pos 0
+dead_unheld g w at k x dead = holds_is g w k x at ∙ ap (λ (o : Option Dev). pos (held_of w.refs k o)) (unnamed g w x at dead)
+
+-- one reference is one caller's
+alone_is : (refs : List Ref) (k s : ℕ) → holds_in refs k s ≡ true → refs_to refs s ≡ 1 → count_in refs k s ≡ 1
+alone_is refs k s held one = omega (arith, held_counts refs k s held, some_of_all refs k s, one)
+
+others_none : (refs : List Ref) (k j s : ℕ) → holds_in refs k s ≡ true → refs_to refs s ≡ 1 → j ≢ k → count_in refs j s ≡ 0
+others_none refs k j s held one other = omega (arith, held_counts refs k s held, two_of_all refs k j s (ne_eqb k j (λ same. other (sym same))), one)
+
+pub sole_alone : (g : List Event) (w : World) → Stands g w → (k : ℕ) (x : List ℕ) → sole_in g k x ≡ true → (holds g k x ≡ pos 1) × ((j : ℕ) → j ≢ k → holds g j x ≡ pos 0)
+sole_alone g w at k x sole = cases (device_named w.setup w.live x) refl (sym ((at.counted.names x).solely k) ∙ sole)
+  where
+    cases : (o : Option Dev) → device_named w.setup w.live x ≡ o → is_sole_of w.refs w.sole k o ≡ true → (holds g k x ≡ pos 1) × ((j : ℕ) → j ≢ k → holds g j x ≡ pos 0)
+    cases None e h = absurd cc
+    cases (Some d) e h =
+        let both = and_parts (has w.sole d.serial) (holds_in w.refs k d.serial) h in
+        let one : refs_to w.refs d.serial ≡ 1 = at.kept.sound.refs.counted.alone d.serial both.0 in
+        let count : (j : ℕ) → holds g j x ≡ pos (count_in w.refs j d.serial) = λ j. holds_is g w j x at ∙ ap (λ (o : Option Dev). pos (held_of w.refs j o)) e in
+        (count k ∙ ap pos (alone_is w.refs k d.serial both.1 one), λ j other. count j ∙ ap pos (others_none w.refs k j d.serial both.1 one other))

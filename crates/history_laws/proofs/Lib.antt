@@ -1,0 +1,14 @@
+pub mod Found
+pub mod FormedDevices
+pub mod Names
+pub mod Grown
+pub mod Told
+pub mod Going
+pub mod Referring
+pub mod Worlds
+pub mod Acts
+pub mod Sleeping
+pub mod All
+pub mod Kept
+pub mod Stands
+pub mod Lawful
