@@ -42,7 +42,7 @@ plainly {a} come go sleep wake refs grant back = record {
 
 -- ---- replies
 
-refused : (w : World) (why : Refusal) → is_ok (reply_of w why) ≡ false
+pub refused : (w : World) (why : Refusal) → is_ok (reply_of w why) ≡ false
 refused w refusal.NoDevice = refl
 refused w refusal.Gone = refl
 refused w refusal.Exclusive = refl

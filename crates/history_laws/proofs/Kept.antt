@@ -55,7 +55,7 @@ gather : (h : List Event) (w v : World) (live : List Dev) (refs : List Ref) (sol
 gather h w v live refs sole a b c d names all = record { names = λ x. rw (a, b, c, d) (names x); refs = rw c all }
 
 -- the world after a deed has the names of a world
-names_after : (w : World) (k : ℕ) (d : Deed) → MayRun w.setup → Kept w → next w k ≡ Does d → HasNames w.setup (after w k d).live (after w k d).next
+pub names_after : (w : World) (k : ℕ) (d : Deed) → MayRun w.setup → Kept w → next w k ≡ Does d → HasNames w.setup (after w k d).live (after w k d).next
 names_after w k d may kept e = rw (after_setup w k d) at (world_names (after w k d) (rw (after_setup w k d) may) (kept_after w k d may kept e))
 
 -- ---- nothing comes of it
@@ -252,7 +252,7 @@ unreferred_new : (refs : List Ref) (live : List Dev) (n : ℕ) → AllByRecursio
 unreferred_new [] live n old low k = refl
 unreferred_new (r ∷ rs) live n old low k = rw (ne_eqb r.serial n (λ same. absurd (omega (arith, same, low r.serial old.0))), unreferred_new rs live n old.1 low k) refl
 
-newcomer : (w : World) (a : Arrival) (high : ℕ) → Kept w → HasNames w.setup w.live w.next → HasNames w.setup (w.live ++ new_device w a ∷ []) high → IsNewcomer w.setup w.live w.refs (new_device w a)
+pub newcomer : (w : World) (a : Arrival) (high : ℕ) → Kept w → HasNames w.setup w.live w.next → HasNames w.setup (w.live ++ new_device w a ∷ []) high → IsNewcomer w.setup w.live w.refs (new_device w a)
 newcomer w a high kept old new = record {
   own = new.own;
   serials = all_imp (IsPlaced w.live w.next) (λ d. d.serial < w.next) (λ d p. p.below_next) w.live old.placed;

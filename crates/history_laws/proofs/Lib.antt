@@ -12,3 +12,4 @@ pub mod All
 pub mod Kept
 pub mod Stands
 pub mod Lawful
+pub mod Events

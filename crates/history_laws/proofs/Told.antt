@@ -110,7 +110,7 @@ named_newcomer : (s : Setup) (live : List Dev) (refs : List Ref) (n : Dev) → I
 named_newcomer s live refs n new = named_is s (live ++ n ∷ []) (name_of s n) n new.own (newcomer_there live n) refl
 
 -- its name was free
-name_fresh : (s : Setup) (live : List Dev) (refs : List Ref) (n : Dev) → IsNewcomer s live refs n → device_named s live (name_of s n) ≡ None
+pub name_fresh : (s : Setup) (live : List Dev) (refs : List Ref) (n : Dev) → IsNewcomer s live refs n → device_named s live (name_of s n) ≡ None
 name_fresh s live refs n new = cases (device_named s live (name_of s n)) refl
   where
     cases : (o : Option Dev) → device_named s live (name_of s n) ≡ o → o ≡ None

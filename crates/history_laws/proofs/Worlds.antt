@@ -1,5 +1,5 @@
 -- What each deed leaves of the devices and of those that are held solely.
-use Rattle.std.proofs.Common.{◌≡◌, ℕ, Bool, true, false, List, [], ◌∷◌, Option, Some, None, refl, ◌∙◌}
+use Rattle.std.proofs.Common.{◌≡◌, ℕ, Bool, true, false, List, [], ◌∷◌, ◌++◌, Option, Some, None, refl, ◌∙◌}
 use Rattle.std.specs.Prelude.{is_some, if◌then◌else◌}
 use Rattle.run_rules.specs.declared.world.Arrival.{Arrival}
 use Rattle.run_rules.specs.declared.world.Deferred.{Deferred}
@@ -8,7 +8,7 @@ use Rattle.run_rules.specs.declared.world.Placing.TheVariants.{Nowhere, Queued, 
 use Rattle.run_rules.specs.declared.deed.Deed.{Deed}
 use Rattle.run_rules.specs.declared.deed.Deed.TheVariants.{Search, EndScan, BeginInterrupts, Finalise, EndCaller, Drop, Refuse, Open, Close, Start, Done, Detach, Free, Rescan, BeginPower, Sleep, Wake, EndPower, Plug, Unplug, Tell}
 use Rattle.run_rules.specs.World.{World, Caller, caller_at, has_ended, offered_by, policy_of}
-use Rattle.run_rules.specs.After.{after, arrived, attached, finaliser_done, finaliser_placed, finaliser_placing, freed, freeing_target, list_moved, listed, moved_top, over, place_finaliser, place_scan, released, scan_placed, scan_placing, show_spot, with_stack}
+use Rattle.run_rules.specs.After.{after, arrived, attached, finaliser_done, finaliser_placed, finaliser_placing, freed, freeing_target, list_moved, listed, moved_top, new_device, over, place_finaliser, place_scan, released, scan_placed, scan_placing, show_spot, with_stack}
 use Rattle.run_sound.specs.Holding.{opened_by, returned_by}
 
 -- a part of a world that callers, lists and spots have nothing to do with
@@ -144,17 +144,17 @@ live_same w k Tell h = refl
 
 -- ---- which come
 
-pub live_found : (w : World) (k p spot : ℕ) (to : _) (a : Arrival) → (after w k (Search p spot to (Some a))).live ≡ (listed w a).live
+pub live_found : (w : World) (k p spot : ℕ) (to : _) (a : Arrival) → (after w k (Search p spot to (Some a))).live ≡ w.live ++ new_device w a ∷ []
 unfolding after listed
 live_found w k p spot to a = placed_part (λ (w : World). w.live) live_beside (with_stack w k (moved_top to (caller_at w k).stack)) k a true
 
-pub live_shown : (w : World) (k s : ℕ) (shown : Option ℕ) (a : Arrival) (place : Option ℕ) (anew : Bool) → (after w k (Finalise s shown (Some a) place anew)).live ≡ (listed w a).live
+pub live_shown : (w : World) (k s : ℕ) (shown : Option ℕ) (a : Arrival) (place : Option ℕ) (anew : Bool) → (after w k (Finalise s shown (Some a) place anew)).live ≡ w.live ++ new_device w a ∷ []
 unfolding after listed
 live_shown w k s shown a place anew =
     finalised_part (λ (w : World). w.live) live_beside (arrived (show_spot w shown) k (Some a) false) k place anew (is_some shown)
     ∙ placed_part (λ (w : World). w.live) live_beside (show_spot w shown) k a false
     ∙ cases shown
   where
-    cases : (o : Option ℕ) → (listed (show_spot w o) a).live ≡ (listed w a).live
+    cases : (o : Option ℕ) → (listed (show_spot w o) a).live ≡ w.live ++ new_device w a ∷ []
     cases None = refl
     cases (Some x) = refl
