@@ -11,5 +11,9 @@ pub mod Sleeping
 pub mod All
 pub mod Kept
 pub mod Stands
-pub mod Lawful
+pub mod LawsHold
 pub mod Events
+pub mod Sums
+pub mod TreeCounts
+pub mod TreeTold
+pub mod Always

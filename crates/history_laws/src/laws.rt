@@ -1,13 +1,86 @@
-//! Laws of every history; nothing here runs.
-ghost use Rattle.std.specs.Prelude.{List};
-ghost use Rattle.run_rules.specs.World.{World, opening};
-ghost use Rattle.run_rules.specs.Run.{Run};
-ghost use Rattle.run_rules.specs.declared.world.Setup.{Setup};
-ghost use Rattle.run_rules.specs.declared.event.Event.{Event};
-ghost use Rattle.run_sound.specs.Kept.{MayRun};
-ghost use Rattle.history_laws.specs.Counted.{Counted};
+//! Laws of every history, counted on its lines. What holds of every run holds of each prefix of a history, since that is a
+//! run too.
+ghost use Rattle.run_rules.specs.Laws.{Lawful};
+ghost use Rattle.run_rules.specs.Sound.{HaveOwnNames};
+ghost use Rattle.run_rules.specs.Tree.{tree_lines};
+ghost use Rattle.history_laws.specs.Counted.{AreAllCounted, Counted};
+ghost use Rattle.history_laws.specs.Tells.{TellsTree};
+ghost use Rattle.history_laws.specs.Always.{
+    OfEveryRun, OfEveryEvent, FreesUnheld, FreesChildless, FreesLiving, SleepsBelow, HoldsFew, HoldsLiving, HoldsInUse, HoldsAlone,
+    ComesFresh, ComesBelowAwake,
+};
 
 /// What is counted on the lines of a run is what the world has that the run leads to.
 pub fn counted()
-    ensures { (s : Setup) (h : List Event) (v : World) → MayRun s → Run (opening s) h v → Counted h v }
+    ensures { OfEveryRun Counted }
+{}
+
+/// Every history of a run is lawful: all laws below that hold of callers, names and events.
+pub fn lawful()
+    ensures { OfEveryRun (λ h v. Lawful h) }
+{}
+
+/// Nobody holds a device that is freed.
+pub fn freed_unheld()
+    ensures { OfEveryEvent FreesUnheld }
+{}
+
+/// Nothing lives below a device that is freed.
+pub fn freed_childless()
+    ensures { OfEveryEvent FreesChildless }
+{}
+
+/// A device that is freed came before, and was not freed since.
+pub fn freed_living()
+    ensures { OfEveryEvent FreesLiving }
+{}
+
+/// What lives below a sleeping device sleeps. See pmf(9).
+pub fn sleep_below()
+    ensures { OfEveryRun (λ h v. SleepsBelow h) }
+{}
+
+/// A caller holds a device 0 to 15 times.
+pub fn held_few()
+    ensures { OfEveryRun (λ h v. HoldsFew h) }
+{}
+
+/// Only devices that live are held.
+pub fn held_living()
+    ensures { OfEveryRun (λ h v. HoldsLiving h) }
+{}
+
+/// A caller holds the device of each transfer that it starts or ends.
+pub fn held_in_use()
+    ensures { OfEveryEvent HoldsInUse }
+{}
+
+/// A caller that has a device solely holds it once, and nobody else holds it.
+pub fn held_alone()
+    ensures { OfEveryRun (λ h v. HoldsAlone h) }
+{}
+
+/// References granted, less those that came back, are those that are held: of each caller, and in all.
+pub fn references_counted()
+    ensures { OfEveryRun (λ h v. AreAllCounted h v.refs) }
+{}
+
+/// A device that comes did not live under that name. See autoconf(9).
+pub fn comes_fresh()
+    ensures { OfEveryEvent ComesFresh }
+{}
+
+/// A device comes below the root, or below a device that lives and is awake.
+pub fn comes_below_awake()
+    ensures { OfEveryEvent ComesBelowAwake }
+{}
+
+/// Live devices print different names.
+pub fn names_differ()
+    ensures { OfEveryRun (λ h v. HaveOwnNames v.setup v.live) }
+{}
+
+/// The tree has one line for each device that lives, with its parent, its sleep and who holds it how often.
+pub fn tree_told()
+    ensures { OfEveryRun (λ h v. TellsTree h (tree_lines v)) }
 {}

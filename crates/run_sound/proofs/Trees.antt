@@ -27,7 +27,7 @@ less_pass p q (x ∷ xs) h = cases (p x) (q x) (h x) (less_pass p q xs h)
     cases false false k rest = rest
 
 -- and one that fails the first passes the second
-fewer_pass : {A : Type 0} (p q : A → Bool) (xs : List A) (i : ℕ) (y : A) → ((x : A) → p x ≡ true → q x ≡ true) → p y ≡ false → q y ≡ true → i < length xs → get_or xs i y ≡ y
+pub fewer_pass : {A : Type 0} (p q : A → Bool) (xs : List A) (i : ℕ) (y : A) → ((x : A) → p x ≡ true → q x ≡ true) → p y ≡ false → q y ≡ true → i < length xs → get_or xs i y ≡ y
     → length (filter p xs) < length (filter q xs)
 fewer_pass p q [] i y h out in' lt at = absurd (omega arith)
 fewer_pass p q (x ∷ xs) zero y h out in' lt at =
@@ -83,11 +83,11 @@ parent_cases live x = cases (device_at live x) refl
     cases None e = inr (none_found (λ d. d.serial == x) live e, ap (λ (o : Option Dev). option_map_or (λ d. d.parent) o 0) e)
 
 -- a device's parent is earlier
-child_rises : (live : List Dev) (d : Dev) → AreRising live → Contains live d → d.parent < d.serial
+pub child_rises : (live : List Dev) (d : Dev) → AreRising live → Contains live d → d.parent < d.serial
 child_rises live d up here = of_each (λ (e : Dev). e.parent < e.serial) live d up here
 
 -- a parent is not above
-parent_low : (live : List Dev) (x : ℕ) → AreRising live → parent_of live x ≤ x
+pub parent_low : (live : List Dev) (x : ℕ) → AreRising live → parent_of live x ≤ x
 parent_low live x up = elim (parent_cases live x) [
   | inl h ↦ omega (arith, h.is, h.named, child_rises live h.child up h.there)
   | inr none ↦ omega (arith, none.1)
@@ -103,10 +103,10 @@ parent_is s live d apart here = elim (parent_cases live d.serial) [
 -- ---- steps enough
 
 -- how many devices come no later than x
-abbrev rank : List Dev → ℕ → ℕ
+abbrev pub rank : List Dev → ℕ → ℕ
 rank live x = length (filter (λ d. nat_le d.serial x) live)
 
-rank_parent : (live : List Dev) (x n : ℕ) → AreRising live → rank live x ≤ suc n → rank live (parent_of live x) ≤ n
+pub rank_parent : (live : List Dev) (x n : ℕ) → AreRising live → rank live x ≤ suc n → rank live (parent_of live x) ≤ n
 rank_parent live x n up most = elim (parent_cases live x) [
   | inl h ↦
       let low : h.child.parent < h.child.serial = child_rises live h.child up h.there in
@@ -137,7 +137,7 @@ enough : (live : List Dev) (s n m x : ℕ) → AreRising live → is_live live s
 enough live s n zero x up is most = rw add-zero refl
 enough live s n (suc m) x up is most = rw add-suc (one_more live s (n + m) x up is (omega (arith, most)) ∙ enough live s n m x up is most)
 
-rank_low : (live : List Dev) (x : ℕ) → rank live x ≤ length live
+pub rank_low : (live : List Dev) (x : ℕ) → rank live x ≤ length live
 rank_low live x = omega (arith, length-filter_both (λ (d : Dev). nat_le d.serial x) (λ d. not (nat_le d.serial x)) (λ d. refl) live)
 
 -- any number of steps that is not below the number of devices serves
@@ -172,7 +172,7 @@ under_parent s live t d apart up is here below other =
       | inr more ↦ rw (parent_is s live d apart here) at more
     ]
 
-chain_low : (live : List Dev) (s n x : ℕ) → AreRising live → has (lineage n live x) s ≡ true → s ≤ x
+pub chain_low : (live : List Dev) (s n x : ℕ) → AreRising live → has (lineage n live x) s ≡ true → s ≤ x
 unfolding lineage
 chain_low live s zero x up h = absurd cc
 chain_low live s (suc n) x up h = elim (or_cases (x == s) (has (lineage n live (parent_of live x)) s) h) [

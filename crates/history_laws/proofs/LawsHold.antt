@@ -149,6 +149,9 @@ module _ (g : List Event) (w v : World) (e : Event) (at : Stands g w) (step : St
       let named : is_name (freed_name e.act) x ≡ true = rw is (same_bytes x x refl) in
       (freed_lived w e.caller d x at.may at.kept step.chosen (rw line at is), lives_on g e x ∙ rw (goes_alone e.act x is, named) refl)
 
+  pub frees_living : (x : List ℕ) → freed_name e.act ≡ Some x → lives g x ≡ true
+  frees_living x is = (at.counted.names x).lives ∙ ap (λ (o : Option Dev). is_some o) (freed_dead x is).0.found
+
   no_child : (x y : List ℕ) → freed_name e.act ≡ Some x → lives (g ++ e ∷ []) y ≡ true → parent_in (g ++ e ∷ []) y ≢ Some x
   no_child x y is alive below =
       let gone = freed_dead x is in
@@ -167,7 +170,7 @@ module _ (g : List Event) (w v : World) (e : Event) (at : Stands g w) (step : St
   in_use x is =
       held_so (g ++ e ∷ []) v w e.caller d x after_it step.world at.kept.sound.refs.counted (holds_in_use w e.caller d x at.may at.kept step.chosen (rw line at is))
 
-  lawful_next : IsLawfulNext g e (g ++ e ∷ [])
+  pub lawful_next : IsLawfulNext g e (g ++ e ∷ [])
   lawful_next = record {
     unreferred = λ x is k. dead_unheld (g ++ e ∷ []) v after_it k x (freed_dead x is).1;
     childless = no_child;

@@ -1,0 +1,7 @@
+use Rattle.history_laws.specs.Always.{HoldsAlone}
+use Rattle.history_laws.proofs.Always.{of_run}
+use Rattle.history_laws.proofs.LawsHold.{sole_alone}
+use Rattle.history_laws.proofs.laws.held_alone.Goals as goal
+
+pub returns : goal.returns
+returns c = of_run (λ h v. HoldsAlone h) sole_alone

@@ -1,0 +1,7 @@
+use Rattle.history_laws.specs.Always.{HoldsLiving}
+use Rattle.history_laws.proofs.Always.{of_run}
+use Rattle.history_laws.proofs.LawsHold.{dead_unheld}
+use Rattle.history_laws.proofs.laws.held_living.Goals as goal
+
+pub returns : goal.returns
+returns c = of_run (λ h v. HoldsLiving h) dead_unheld
