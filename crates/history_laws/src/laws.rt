@@ -6,8 +6,18 @@ ghost use Rattle.run_rules.specs.Tree.{tree_lines};
 ghost use Rattle.history_laws.specs.Counted.{AreAllCounted, Counted};
 ghost use Rattle.history_laws.specs.Tells.{TellsTree};
 ghost use Rattle.history_laws.specs.Always.{
-    OfEveryRun, OfEveryEvent, FreesUnheld, FreesChildless, FreesLiving, SleepsBelow, HoldsFew, HoldsLiving, HoldsInUse, HoldsAlone,
-    ComesFresh, ComesBelowAwake,
+  OfEveryRun,
+  OfEveryEvent,
+  FreesUnheld,
+  FreesChildless,
+  FreesLiving,
+  SleepsBelow,
+  HoldsFew,
+  HoldsLiving,
+  HoldsInUse,
+  HoldsAlone,
+  ComesFresh,
+  ComesBelowAwake,
 };
 
 /// What is counted on the lines of a run is what the world has that the run leads to.
