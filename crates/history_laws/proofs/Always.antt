@@ -1,16 +1,19 @@
 -- The laws one by one.
-use Rattle.std.proofs.Common.{◌≡◌, ℕ, List, [], ◌∷◌, ◌++◌, Some, is_some, refl, sym, ap, ◌∙◌, subst}
+use Rattle.std.proofs.Common.{◌≡◌, ℕ, List, [], ◌∷◌, ◌++◌, Some, is_some, refl, sym, ap, ◌∙◌, subst, append_assoc}
+use Rattle.std.proofs.lemmas.List.{append-nil}
 use Rattle.run_rules.specs.declared.event.Event.{Event}
 use Rattle.run_rules.specs.declared.world.Setup.{Setup}
 use Rattle.run_rules.specs.World.{World, opening}
-use Rattle.run_rules.specs.Laws.{IsLawfulNext}
+use Rattle.run_rules.specs.Laws.{IsLawfulNext, Lawful, LawfulFrom}
 use Rattle.run_rules.specs.Run.{Run, Step}
 use Rattle.run_rules.specs.Sound.{HaveOwnNames}
 use Rattle.run_sound.specs.Kept.{MayRun}
-use Rattle.history_laws.specs.Always.{OfEveryEvent, OfEveryRun}
-use Rattle.history_laws.proofs.LawsHold.{lawful_next}
+use Rattle.history_laws.specs.Always.{FreesChildless, FreesUnheld, OfEveryEvent, OfEveryRun}
+use Rattle.history_laws.specs.Reliable.{AtEach, IsReliable}
+use Rattle.history_laws.proofs.LawsHold.{always_lawful, lawful_next}
 use Rattle.history_laws.proofs.Names.{world_names}
 use Rattle.history_laws.proofs.Stands.{Stands, stands_always}
+use Rattle.history_laws.proofs.TreeTold.{tells_tree}
 
 -- the last event of a run
 record Ends (w : World) (h : List Event) (e : Event) (v : World) : Type 0 where
@@ -35,3 +38,25 @@ of_lawful P f = of_event P (λ h w v e at step. f h e (lawful_next h w v e at st
 
 pub own_names : (h : List Event) (w : World) → Stands h w → HaveOwnNames w.setup w.live
 own_names h w at = (world_names w at.may at.kept).own
+
+-- ---- what may be relied on
+
+-- what is lawful where an event stands
+lawful_at : (g before rest : List Event) (e : Event) → LawfulFrom g (before ++ e ∷ rest) → IsLawfulNext (g ++ before) e ((g ++ before) ++ e ∷ [])
+lawful_at g [] rest e all = subst (λ (f : List Event). IsLawfulNext f e (f ++ e ∷ [])) (sym (append-nil g)) all.0
+lawful_at g (f ∷ before) rest e all =
+    subst (λ (i : List Event). IsLawfulNext i e (i ++ e ∷ [])) (append_assoc g (f ∷ []) before) (lawful_at (g ++ f ∷ []) before rest e all.1)
+
+at_each : (P : List Event → Event → Type 0) → ((before : List Event) (e : Event) → IsLawfulNext before e (before ++ e ∷ []) → P before e) → (h : List Event) → Lawful h → AtEach P h
+at_each P f h lawful before rest e is = f before e (lawful_at [] before rest e (subst Lawful is lawful))
+
+pub reliable : (h : List Event) (w : World) → Stands h w → Lawful h → IsReliable h w
+reliable h w at lawful = record {
+  references_first = at_each FreesUnheld (λ before e law. law.unreferred) h lawful;
+  children_first = at_each FreesChildless (λ before e law. law.childless) h lawful;
+  lawful = lawful;
+  tree = tells_tree h w at;
+}
+
+pub always_reliable : (s : Setup) (h : List Event) (v : World) → MayRun s → Run (opening s) h v → IsReliable h v
+always_reliable s h v may run = reliable h v (stands_always s h v may run) (always_lawful s h v may run)

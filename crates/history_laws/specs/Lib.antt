@@ -1,3 +1,4 @@
 pub mod Counted
 pub mod Tells
 pub mod Always
+pub mod Reliable

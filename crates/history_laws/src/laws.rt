@@ -4,6 +4,7 @@ ghost use Rattle.run_rules.specs.Laws.{Lawful};
 ghost use Rattle.run_rules.specs.Sound.{HaveOwnNames};
 ghost use Rattle.run_rules.specs.Tree.{tree_lines};
 ghost use Rattle.history_laws.specs.Counted.{AreAllCounted, Counted};
+ghost use Rattle.history_laws.specs.Reliable.{IsReliable};
 ghost use Rattle.history_laws.specs.Tells.{TellsTree};
 ghost use Rattle.history_laws.specs.Always.{
   OfEveryRun,
@@ -93,4 +94,10 @@ pub fn names_differ()
 /// The tree has one line for each device that lives, with its parent, its sleep and who holds it how often.
 pub fn tree_told()
     ensures { OfEveryRun (λ h v. TellsTree h (tree_lines v)) }
+{}
+
+/// What may be relied on in what a run prints: no device is freed before its references are returned and its children are
+/// freed, its history is lawful, and its tree tells what the history tells.
+pub fn reliable()
+    ensures { OfEveryRun IsReliable }
 {}

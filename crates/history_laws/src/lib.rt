@@ -7,5 +7,5 @@ mod laws;
 pub use laws::{
     comes_below_awake, comes_fresh, counted, freed_childless, freed_living, freed_unheld,
     held_alone, held_few, held_in_use, held_living, lawful, names_differ, references_counted,
-    sleep_below, tree_told,
+    reliable, sleep_below, tree_told,
 };
