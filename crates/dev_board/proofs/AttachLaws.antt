@@ -7,8 +7,8 @@ use Rattle.run_rules.specs.declared.world.Placing.TheVariants.{Nowhere, Queued, 
 use Rattle.run_rules.specs.World.{World, Caller, caller_at, has_ended, nobody, scan_of, policy_of, offered_by}
 use Rattle.run_rules.specs.After.{attached, listed, finaliser_placed, scan_placed, finaliser_placing, scan_placing, place_finaliser, place_scan}
 use Rattle.run_sound.proofs.Callers.{caller_here}
-use Rattle.dev_board.specs.Arrivals.{called_too, finalised_too, put_off_too, searched_too}
-use Rattle.dev_board.proofs.CallerLaws.{pushed_is, set_again, set_own}
+use Rattle.run_world.specs.Arrivals.{called_too, finalised_too, put_off_too, searched_too}
+use Rattle.run_world.proofs.CallerLaws.{pushed_is, set_again, set_own}
 
 -- the world with this caller, these finalisers and what was put off
 abbrev finalised : World → ℕ → Placing → ℕ → World

@@ -17,15 +17,12 @@ use Rattle.run_rules.specs.After.{after, released, under_top, moved_top, with_st
 use Rattle.defer_queue.specs.Queue.{others_of}
 use Rattle.run_sound.specs.Coming.{IsCall, IsCalled}
 use Rattle.scan_engine.specs.Frames.{is_scanning}
-use Rattle.dev_board.specs.declared.caller.CallerState.{CallerState}
-use Rattle.dev_board.specs.declared.parts.Core.{Core}
-use Rattle.dev_board.specs.View.{caller_of, callers_of, world_of}
-use Rattle.dev_board.specs.Callers.{stacked, framed, released_frames}
+use Rattle.run_world.specs.declared.caller.CallerState.{CallerState}
+use Rattle.run_world.specs.declared.parts.Core.{Core}
+use Rattle.run_world.specs.View.{caller_of, callers_of, world_of}
+use Rattle.run_world.specs.Callers.{stacked, framed, released_frames}
 use Rattle.dev_board.specs.Commits.{shown_now}
-use Rattle.dev_board.proofs.CallerLaws.{at_is, settled_frames, set_again, set_own}
-
-abbrev pub with_callers : World → List Caller → World
-with_callers w cs = record w { callers = cs }
+use Rattle.run_world.proofs.CallerLaws.{with_callers, at_is, settled_frames, set_again, set_own}
 
 -- ---- a scan is over, interrupts work
 

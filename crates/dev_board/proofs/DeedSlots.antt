@@ -18,8 +18,9 @@ use Rattle.ref_ledger.specs.declared.state.SlotState.TheVariants as slot
 use Rattle.dev_board.specs.Agreement.{state_at, slots_of}
 use Rattle.dev_board.specs.SlotDeeds.{SlotsLag, condemned_by}
 use Rattle.dev_board.proofs.Agree.{map_below_same}
-use Rattle.dev_board.specs.Arrivals.{MayArrive}
-use Rattle.dev_board.specs.Publishing.{got_of, published}
+use Rattle.run_world.specs.Arrivals.{MayArrive}
+use Rattle.run_world.specs.Arrivals.{got_of}
+use Rattle.dev_board.specs.Publishing.{published}
 use Rattle.dev_board.proofs.SlotLaws.{marked_on}
 use Rattle.dev_board.proofs.SlotSteps.{call_slots, search_slots}
 

@@ -1,5 +1,5 @@
 -- What a deed needs is there where it is chosen, and what it leaves is the world after its deed.
-use Rattle.std.proofs.Common.{◌≡◌, ◌≢◌, ◌<◌, ◌≤◌, ◌^◌, ◌-◌, ℕ, zero, suc, Bool, true, false, List, [], ◌∷◌, length, Option, Some, None, refl, sym, ◌∙◌, ap, arith}
+use Rattle.std.proofs.Common.{◌≡◌, ◌≢◌, ◌<◌, ◌≤◌, ◌^◌, ◌-◌, ℕ, zero, suc, Bool, true, false, List, [], ◌∷◌, length, Option, Some, None, refl, arith}
 use Rattle.std.specs.Prelude.{IsTrue, IfSome, OnOk, OnErr}
 use Rattle.std.specs.declared.result.Result.{Result}
 use Rattle.std.specs.declared.result.Result.TheVariants.{Ok, Err}
@@ -8,12 +8,10 @@ use Rattle.cf_types.specs.Locators.{locators_at}
 use Rattle.cf_types.specs.declared.machine.Given.{Given}
 use Rattle.cf_types.specs.declared.tables.Attr.{Attr}
 use Rattle.cf_types.specs.declared.tables.Place.TheVariants.{At}
-use Rattle.run_rules.specs.declared.world.Activity.TheVariants as activity
 use Rattle.run_rules.specs.declared.world.Dev.{Dev}
-use Rattle.run_rules.specs.declared.world.Frame.{Frame}
 use Rattle.run_rules.specs.declared.world.Setup.{Setup}
-use Rattle.run_rules.specs.World.{World, Caller, caller_at, children, is_live}
-use Rattle.run_rules.specs.After.{doing, given_by, pushed, settled, with_caller}
+use Rattle.run_rules.specs.World.{World, caller_at, children, is_live}
+use Rattle.run_rules.specs.After.{given_by}
 use Rattle.run_rules.specs.declared.deed.Deed.{Deed}
 use Rattle.run_rules.specs.declared.deed.Deed.TheVariants.{Search, EndScan, BeginInterrupts, Finalise, EndCaller, Drop, Refuse, Open, Close, Start, Done, Detach, Free, Rescan, BeginPower, Sleep, Wake, EndPower, Plug, Unplug, Tell}
 use Rattle.run_rules.specs.declared.world.Arrival.{Arrival}
@@ -22,14 +20,13 @@ use Rattle.run_rules.specs.declared.deed.Choice.TheVariants.{Does}
 use Rattle.run_rules.specs.Next.{command_of, next, next_sleep, next_wake}
 use Rattle.run_sound.specs.Commands.{IsOnly}
 use Rattle.run_sound.specs.Kept.{Kept, MayRun}
-use Rattle.run_sound.proofs.Callers.{caller_here}
 use Rattle.run_sound.proofs.Members.{contained_live, found_contained, found_from_end}
 use Rattle.run_sound.proofs.Reasons.{has_command_reason}
 use Rattle.run_sound.proofs.ScriptLaws.{between_script, over_low}
 use Rattle.detach_engine.proofs.FreeLaws.{next_free_alone}
-use Rattle.dev_board.specs.Effects.{IsKnown, MayDo, is_of_frame, is_plain}
-use Rattle.dev_board.proofs.CallerLaws.{set_again}
-use Rattle.dev_board.proofs.InputLaws.{by_recursion}
+use Rattle.run_world.specs.Rescans.{IsKnown}
+use Rattle.dev_board.specs.Effects.{MayDo, is_of_frame, is_plain}
+use Rattle.run_world.proofs.InputLaws.{by_recursion}
 
 pub ok_more : {A B : Type 0} {P Q : Type 0} (r : Result A B) → OnOk r P → (P → Q) → OnOk r Q
 ok_more (Ok x) h f = f h
@@ -38,15 +35,6 @@ ok_more (Err x) h f = h
 pub err_more : {A B : Type 0} {P Q : Type 0} (r : Result A B) → OnErr r P → (P → Q) → OnErr r Q
 err_more (Ok x) h f = h
 err_more (Err x) h f = f h
-
--- a frame is pushed onto a caller that scans from now on
-pub scans_on : (w : World) (k : ℕ) (f : Frame) → k < length w.callers
-    → with_caller w k (record { over = (caller_at w k).over; doing = activity.Scans; stack = f ∷ (caller_at w k).stack }) ≡ pushed (doing w k activity.Scans) k f
-scans_on w k f lt =
-    let c : Caller = record { over = (caller_at w k).over; doing = activity.Scans; stack = (caller_at w k).stack } in
-    let m : World = with_caller w k c in
-    sym (ap (λ (x : Caller). with_caller m k (settled (record { over = x.over; doing = x.doing; stack = f ∷ x.stack }))) (caller_here w k c lt)
-    ∙ ap (λ (cs : List Caller). record w { callers = cs }) (set_again w.callers k c (record { over = c.over; doing = activity.Scans; stack = f ∷ c.stack })))
 
 -- ---- what a work needs
 

@@ -18,7 +18,7 @@ use Rattle.match_search.specs.Best.{live_rows}
 use Rattle.dev_tree.proofs.Alike.{SamePlain}
 use Rattle.run_sound.proofs.Callers.{clash}
 use Rattle.dev_board.specs.Marks.{hits, rows_set}
-use Rattle.dev_board.specs.UnitsOf.{AreUnitsOf}
+use Rattle.run_world.specs.UnitsOf.{AreUnitsOf}
 use Rattle.dev_board.proofs.MarkLaws.{marks_by}
 
 -- ---- devices are marked: rows and units stay

@@ -22,10 +22,11 @@ use Rattle.run_sound.proofs.Steps.{kept_after}
 use Rattle.run_sound.specs.Kept.{Kept}
 use Rattle.dev_board.specs.declared.answer.LeaseStep.{LeaseStep}
 use Rattle.dev_board.specs.declared.answer.LeaseStep.TheVariants.{Keep}
-use Rattle.dev_board.specs.declared.parts.Core.{Core}
+use Rattle.run_world.specs.declared.parts.Core.{Core}
 use Rattle.dev_board.specs.Commits.{Performed}
 use Rattle.dev_board.specs.Stepping.{DoesNext}
-use Rattle.dev_board.specs.View.{Books, CoreKept, shown_of, world_of}
+use Rattle.run_world.specs.View.{Books, world_of}
+use Rattle.dev_board.specs.KeptCore.{CoreKept, shown_of}
 use Rattle.dev_board.specs.Witness.{Witness, lease_step, told_did}
 
 -- ---- the caller that boots

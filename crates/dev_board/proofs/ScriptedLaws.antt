@@ -9,7 +9,7 @@ use Rattle.config_rules.specs.ScriptText.{FormedScript}
 use Rattle.run_rules.specs.World.{setup_of}
 use Rattle.run_rules.proofs.Devices.{all_imp}
 use Rattle.run_sound.specs.Kept.{MayRun}
-use Rattle.dev_board.proofs.InputLaws.{by_recursion}
+use Rattle.run_world.proofs.InputLaws.{by_recursion}
 
 -- formed tables, a fitting machine and at most 16 formed scripts
 pub scripts_may : (t : Tables) (m : Machine) (scripts : List (List Command)) → FormedTables t → FittingMachine t m → length scripts ≤ 16 → All FormedScript scripts → MayRun (setup_of t m scripts)

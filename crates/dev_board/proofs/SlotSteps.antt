@@ -11,7 +11,7 @@ use Rattle.run_rules.specs.After.{after, arrived, new_device, show_spot, list_mo
 use Rattle.ref_ledger.specs.declared.state.SlotState.{SlotState}
 use Rattle.run_sound.proofs.Comings.{attached_comes}
 use Rattle.dev_board.specs.Agreement.{state_at, slots_of}
-use Rattle.dev_board.specs.Arrivals.{MayArrive}
+use Rattle.run_world.specs.Arrivals.{MayArrive}
 use Rattle.dev_board.specs.Publishing.{SlotReady, published}
 use Rattle.dev_board.proofs.Agree.{get_map_below, state_free, slots_come}
 

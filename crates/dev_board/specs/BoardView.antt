@@ -2,7 +2,7 @@
 use Rattle.dev_board.specs.declared.board.Board.TheInside.{Inside}
 use Rattle.attr_graph.specs.Graphs.{IsGraphOf, declared_by}
 use Rattle.dev_board.specs.Shown.{Shown}
-use Rattle.dev_board.specs.View.{shown_of, CoreKept}
+use Rattle.dev_board.specs.KeptCore.{shown_of, CoreKept}
 
 abbrev pub board_view : Inside → Shown
 board_view b = shown_of b.setup b.core

@@ -7,11 +7,11 @@ use Rattle.run_rules.specs.declared.deed.Deed.TheVariants.{Search, EndScan, Begi
 use Rattle.run_rules.specs.After.{after}
 use Rattle.run_rules.specs.Lines.{IsFormed}
 use Rattle.run_rules.specs.Run.{event_of}
-use Rattle.dev_board.specs.View.{world_of}
+use Rattle.run_world.specs.View.{world_of}
 use Rattle.run_rules.specs.declared.world.Key.TheVariants as key
 use Rattle.defer_queue.specs.Queue.{entries_of}
-use Rattle.dev_board.specs.declared.parts.Core.{Core}
-use Rattle.dev_board.specs.Arrivals.{state_at}
+use Rattle.run_world.specs.declared.parts.Core.{Core}
+use Rattle.run_world.specs.Arrivals.{state_at}
 
 -- how many frames a deed may push, beside the one of a rescan
 abbrev pub frames_for : List Deferred → Deed → ℕ

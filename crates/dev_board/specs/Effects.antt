@@ -1,19 +1,10 @@
 -- What a deed of a script needs of the world, and which deeds take no memory.
-use Rattle.std.specs.Prelude.{◌≡◌, ⊤, ℕ, Bool, true, false, not, List, IsTrue, Some, is_some, map, []}
-use Rattle.cf_types.specs.Locators.{locators_at}
-use Rattle.cf_types.specs.declared.machine.Given.{Given}
-use Rattle.cf_types.specs.declared.tables.Place.TheVariants.{At}
-use Rattle.run_rules.specs.Next.{wanted_of}
-use Rattle.run_rules.specs.declared.world.Setup.{Setup}
+use Rattle.std.specs.Prelude.{◌≡◌, ⊤, ℕ, Bool, true, false, not, IsTrue, Some, []}
 use Rattle.run_rules.specs.World.{World, is_live, is_held, children}
 use Rattle.run_rules.specs.declared.deed.Deed.{Deed}
 use Rattle.run_rules.specs.declared.deed.Deed.TheVariants.{Search, EndScan, BeginInterrupts, Finalise, Open, Close, Drop, Detach, Unplug, Sleep, Wake, Free, Rescan}
 use Rattle.run_rules.specs.References.{MayHold}
 use Rattle.ref_ledger.specs.Refs.{IsHolder}
-
--- the values that a command gives are of locators of the attribute, each of another
-abbrev pub IsKnown : Setup → List Given → ℕ → Type 0
-IsKnown s given a = is_some (wanted_of (map (λ l. l.name) (locators_at s.tables.attrs (At a))) given) ≡ true
 
 -- the deeds of frames
 abbrev pub is_of_frame : Deed → Bool

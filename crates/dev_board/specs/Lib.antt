@@ -1,14 +1,7 @@
-pub mod Input
-pub mod Turns
-pub mod Callers
-pub mod Arrivals
 pub mod Commits
-pub mod Events
-pub mod Late
 pub mod Marks
 pub mod Effects
 pub mod SlotDeeds
-pub mod UnitsOf
 pub mod Witness
 pub mod Agreement
 pub mod Shown
@@ -17,10 +10,7 @@ pub mod Booting
 pub mod Posting
 pub mod Playing
 pub mod Publishing
-pub mod Scripted
-pub mod Sayings
-pub mod Choices
-pub mod View
+pub mod KeptCore
 pub mod BoardView
 pub use Rattle.config_rules.specs.Formed
 pub use Rattle.config_rules.specs.ScriptText

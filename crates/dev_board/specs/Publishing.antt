@@ -2,15 +2,7 @@
 use Rattle.std.specs.Prelude.{◌≡◌, List, Some, None, Option, slice_get, slice_set, IfSome}
 use Rattle.ref_ledger.specs.declared.state.SlotState.{SlotState}
 use Rattle.ref_ledger.specs.declared.state.SlotState.TheVariants.{Free, Live}
-use Rattle.run_rules.specs.declared.deed.Deed.{Deed}
-use Rattle.run_rules.specs.declared.deed.Deed.TheVariants.{Search, Finalise}
 use Rattle.run_rules.specs.declared.world.Arrival.{Arrival}
-
--- the device that comes by a deed
-abbrev pub got_of : Deed → Option Arrival
-got_of (Search parent spot moved got) = got
-got_of (Finalise of shown got listed anew) = got
-got_of _ = None
 
 -- its slot is free before
 abbrev pub SlotReady : Option Arrival → List SlotState → Type 0

@@ -2,20 +2,17 @@
 ghost use Rattle.std.specs.Prelude.{◌≡◌, ◌≤◌, ◌<◌, ◌-◌, ◌^◌, ℕ, List, IfOk, IfSome, OnOk, OnErr, length, vec_len, vec_capacity};
 ghost use Rattle.run_rules.specs.After as after;
 ghost use Rattle.attr_graph.specs.Graphs.{IsGraphOf, declared_by};
-ghost use Rattle.dev_board.specs.Arrivals.{IsListed, MayArrive, StaysAsIs, called_too, finalised_too, put_off_too, searched_too, state_at};
+ghost use Rattle.run_world.specs.Arrivals.{IsListed, MayArrive, StaysAsIs, called_too, put_off_too, state_at};
 ghost use Rattle.run_rules.specs.declared.world.Deferred as entry;
-ghost use Rattle.dev_board.specs.Input.{Bounded};
-ghost use Rattle.dev_board.specs.View.{caller_of, world_of, Books, SameAside};
+ghost use Rattle.run_world.specs.Input.{Bounded};
+ghost use Rattle.run_world.specs.View.{world_of, Books, SameAside};
 
-use crate::activity::is_ended;
-use crate::caller::{CallerState, new_scan};
-use crate::parts::{Core, append};
 use crate::row_liveness::set_rows;
-use crate::spots::{driver_of, policy_of};
 use attr_graph::Graph;
 use cf_types::{Memory, Policy};
 use defer_queue::Deferred;
-use run_rules::{Arrival, Frame, Key, Placing, Setup};
+use run_rules::{Arrival, Key, Placing, Setup};
+use run_world::{Core, append, driver_of, is_ended, policy_of};
 use scan_engine::offered;
 use std::alloc::Global;
 
@@ -142,21 +139,6 @@ fn call_later(finalisers: &mut Vec<u64>, placing: Placing, serial: u64)
         Placing::Nowhere => {}
         Placing::PutOff => {}
         Placing::Pushed => {}
-    }
-}
-
-impl CallerState {
-    /// The finaliser of a new device, and above it its scan, if these are their places.
-    fn place(&mut self, alloc: Global, finaliser: Placing, scan: Placing, serial: u64)
-        requires room { 2 ≤ self.old.stack.room }
-        ensures { caller_of self.new ≡ searched_too scan (finalised_too finaliser (caller_of self.old) serial) serial }
-    {
-        if matches!(finaliser, Placing::Pushed) {
-            self.push(Frame::Finaliser { serial });
-        }
-        if matches!(scan, Placing::Pushed) {
-            self.push(new_scan(alloc, serial));
-        }
     }
 }
 

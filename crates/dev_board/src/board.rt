@@ -1,3 +1,4 @@
+//! The board, and what it answers.
 ghost use Rattle.std.specs.Prelude.{◌≡◌, ◌<◌, ◌≤◌, ◌+◌, ◌^◌, ◌-◌, [], All, IfOk, Some, None, length, min, slice_get};
 ghost use Rattle.std.specs.List.{AllByRecursion};
 ghost use Rattle.std.specs.Option.{option_or};
@@ -6,7 +7,7 @@ ghost use Rattle.config_rules.specs.ScriptText.{FormedScript};
 ghost use Rattle.run_rules.specs.Counts.{ends_of};
 ghost use Rattle.run_rules.specs.Lines.{IsFormed};
 ghost use Rattle.run_rules.specs.Run.{Run};
-ghost use Rattle.run_rules.specs.Search.{is_occupied};
+ghost use Rattle.run_rules.specs.Search as search;
 ghost use Rattle.run_rules.specs.Sound.{Sound, HaveOwnNames};
 ghost use Rattle.run_rules.specs.Tree as tree;
 ghost use Rattle.run_rules.specs.World.{opening, setup_of};
@@ -18,17 +19,16 @@ ghost use Rattle.dev_board.specs.Stepping.{StepIs, IsDid, IsOfBoot, DenialsAre};
 
 use crate::closed::closed_in;
 use crate::io_result::IoResult;
-use crate::parts::{Core, begin};
 use crate::post::post_core;
 use crate::posted::Posted;
-use crate::search;
 use crate::step::step_core;
 use crate::stepped::Stepped;
-use crate::tree::tree_of;
 use attr_graph::{Graph, graph_of};
 use cf_types::{DevLine, List, Machine, Memory, Script, Tables};
+use deed_event::tree_of;
 use ref_ledger::Slots;
 use run_rules::{Event, Setup};
+use run_world::{Core, is_occupied, opening_core};
 use std::alloc::Global;
 use std::marker::Model;
 
@@ -75,7 +75,7 @@ impl Board {
             machine,
             scripts,
         };
-        let core = begin(alloc, &setup)?;
+        let core = opening_core(alloc, &setup)?;
         Ok(Board {
             alloc,
             graph,
@@ -161,9 +161,9 @@ impl Board {
     /// Whether a live device stands on a spot.
     pub fn occupied(&self, slot: u16) -> bool
         requires { slot < length self.now.world.setup.machine.spots }
-        ensures { result ≡ is_occupied self.now.world.live slot }
+        ensures { result ≡ search.is_occupied self.now.world.live slot }
     {
-        search::is_occupied(&self.core.tree, slot)
+        is_occupied(&self.core.tree, slot)
     }
 
     /// The lines of the device tree, depth first, children by serial. See drvctl(8).

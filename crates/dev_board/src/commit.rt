@@ -1,7 +1,6 @@
 //! What a deed changes.
 ghost use Rattle.std.specs.Prelude.{◌≡◌, ◌≤◌, ◌<◌, ◌-◌, ◌^◌, ◌||◌, ◌&&◌, not, is_some, ℕ, IsTrue, IfSome, OnOk, OnErr, None, length, vec_len, vec_capacity};
 ghost use Rattle.run_rules.specs.After as after;
-ghost use Rattle.run_rules.specs.World.{caller_at};
 ghost use Rattle.run_rules.specs.declared.deed.Deed.TheVariants as deeds;
 ghost use Rattle.run_rules.specs.declared.world.Activity.TheVariants.{Scans};
 ghost use Rattle.attr_graph.specs.Graphs.{IsGraphOf, declared_by};
@@ -9,17 +8,17 @@ ghost use Rattle.run_rules.specs.declared.deed.Choice.TheVariants.{Does};
 ghost use Rattle.run_rules.specs.Next.{next};
 ghost use Rattle.run_sound.specs.Kept.{Kept, MayRun};
 ghost use Rattle.scan_engine.specs.Frames.{is_scanning};
-ghost use Rattle.dev_board.specs.Arrivals.{MayArrive, state_at};
+ghost use Rattle.run_world.specs.Arrivals.{MayArrive, state_at};
 ghost use Rattle.dev_board.specs.Commits.{HasRoom, shown_now};
-ghost use Rattle.dev_board.specs.Input.{Bounded};
-ghost use Rattle.dev_board.specs.View.{world_of, Books, SameAside};
+ghost use Rattle.run_world.specs.Input.{Bounded};
+ghost use Rattle.run_world.specs.View.{world_of, Books, SameAside};
 
 use crate::attach::arrive;
 use crate::effect::do_command;
-use crate::parts::Core;
 use attr_graph::Graph;
 use cf_types::Memory;
 use run_rules::{Arrival, Deed, Key, Position, Setup};
+use run_world::Core;
 use std::alloc::Global;
 
 /// A turn of a scan: the scan moves, and what was found comes.

@@ -7,26 +7,24 @@ ghost use Rattle.run_rules.specs.declared.deed.PowerEnd.{PowerEnd};
 ghost use Rattle.run_rules.specs.World as world;
 ghost use Rattle.run_rules.specs.declared.world.Setup as from;
 ghost use Rattle.ref_ledger.specs.Refs.{IsHolder, MayGrant};
-ghost use Rattle.dev_board.specs.Arrivals.{state_at};
+ghost use Rattle.run_world.specs.Arrivals.{state_at};
 ghost use Rattle.run_rules.specs.Sound.{HasSoundDevices};
-ghost use Rattle.dev_board.specs.Events.{HaveRows};
+ghost use Rattle.run_world.specs.Events.{HaveRows};
 ghost use Rattle.cf_types.specs.Locators as shared;
 ghost use Rattle.cf_types.specs.declared.tables.Place.TheVariants.{At};
 ghost use Rattle.run_rules.specs.Next as next;
 ghost use Rattle.run_rules.specs.declared.deed.Choice.TheVariants.{Does};
 ghost use Rattle.run_sound.specs.Kept.{Kept, MayRun};
-ghost use Rattle.dev_board.specs.Effects.{IsKnown, MayDo, is_of_frame, is_plain};
-ghost use Rattle.dev_board.specs.Input.{Bounded};
-ghost use Rattle.dev_board.specs.View.{world_of, Books, SameAside};
+ghost use Rattle.run_world.specs.Rescans.{IsKnown};
+ghost use Rattle.dev_board.specs.Effects.{MayDo, is_of_frame, is_plain};
+ghost use Rattle.run_world.specs.Input.{Bounded};
+ghost use Rattle.run_world.specs.View.{world_of, Books, SameAside};
 
 use crate::absent::{pull, remove_spot};
-use crate::activity::{begin, begin_scan, finish};
 use crate::freed::free;
-use crate::parts::Core;
-use crate::rescan_filter::wanted_by;
-use crate::script::given_by;
 use cf_types::Memory;
 use run_rules::{Activity, Deed, Frame, Position, PowerKind, Setup};
+use run_world::{Core, begin, begin_scan, finish, given_by, wanted_by};
 use std::alloc::Global;
 
 /// The caller holds a device once more. At `Memory` all is as before.

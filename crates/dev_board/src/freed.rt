@@ -3,17 +3,15 @@ ghost use Rattle.std.specs.Prelude.{◌≡◌, ◌<◌, ◌-◌, ◌^◌, [], le
 ghost use Rattle.run_rules.specs.After as rule;
 ghost use Rattle.run_rules.specs.declared.deed.Deed.TheVariants as deed;
 ghost use Rattle.run_rules.specs.World as world;
-ghost use Rattle.dev_board.specs.Arrivals.{state_at};
+ghost use Rattle.run_world.specs.Arrivals.{state_at};
 ghost use Rattle.run_rules.specs.Sound.{HasSoundDevices};
-ghost use Rattle.dev_board.specs.Events.{HaveRows};
-ghost use Rattle.dev_board.specs.Input.{Bounded};
-ghost use Rattle.dev_board.specs.View.{world_of, Books, SameAside};
+ghost use Rattle.run_world.specs.Events.{HaveRows};
+ghost use Rattle.run_world.specs.Input.{Bounded};
+ghost use Rattle.run_world.specs.View.{world_of, Books, SameAside};
 
-use crate::activity::finish;
-use crate::parts::Core;
 use crate::row_liveness::set_rows;
-use crate::spots::driver_of;
 use run_rules::{Activity, Setup};
+use run_world::{Core, driver_of, finish};
 
 /// A device without children goes: its unit is given back, and its rows are live again.
 fn free_device(setup: &Setup, core: &mut Core, of: u64)

@@ -10,8 +10,8 @@ ghost use Rattle.dev_board.specs.declared.answer.LeaseStep.TheVariants.{Keep, Ta
 ghost use Rattle.dev_board.specs.Witness.{lease_step};
 
 use crate::answer::LeaseStep;
-use crate::parts::Core;
 use run_rules::Deed;
+use run_world::Core;
 
 /// The slot of a device is taken.
 fn take_of(core: &Core, of: u64) -> LeaseStep

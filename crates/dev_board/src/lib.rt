@@ -2,48 +2,25 @@
 #![tactic(auto)]
 
 mod absent;
-mod activity;
 mod answer;
 mod attach;
 mod board;
 mod boot;
-mod caller;
-mod choose;
 mod closed;
-mod command;
-mod command_act;
 mod commit;
-mod deed_event;
-mod due;
 mod effect;
 mod freed;
-mod freeing;
-mod hindered;
 mod io_result;
-mod late;
 mod lease;
-mod listed_names;
-mod named;
-mod names;
-mod parts;
-mod plan;
 mod post;
 mod posted;
-mod power;
-mod rescan;
-mod rescan_filter;
 mod row_liveness;
-mod script;
-mod search;
 mod seen;
 mod slots;
-mod spots;
 mod step;
 mod stepped;
 mod told;
-mod tree;
 mod turns;
-mod unit;
 
 pub use answer::{Answer, LeaseStep};
 pub use board::Board;

@@ -10,18 +10,19 @@ ghost use Rattle.dev_board.specs.Agreement.{slots_of};
 ghost use Rattle.dev_board.specs.Commits.{Performed};
 ghost use Rattle.dev_board.specs.Stepping as stepping;
 ghost use Rattle.dev_board.specs.Posting.{PostIs};
-ghost use Rattle.dev_board.specs.View.{world_of, shown_of, Books, CoreKept};
+ghost use Rattle.run_world.specs.View.{world_of, Books};
+ghost use Rattle.dev_board.specs.KeptCore.{shown_of, CoreKept};
 ghost use Rattle.dev_board.specs.Witness.{told_did};
 ghost use Rattle.dev_board.specs.declared.answer.LeaseStep.TheVariants.{Keep};
 
 use crate::answer::LeaseStep;
-use crate::deed_event::deed_event;
 use crate::effect::finish_transfer;
-use crate::parts::{Core, append};
 use crate::posted::Posted;
 use crate::told::Told;
 use cf_types::{Memory, Ticket};
+use deed_event::deed_event;
 use run_rules::{Activity, Deed, Setup};
+use run_world::{Core, append};
 use std::alloc::Global;
 
 /// The transfer that a caller is in the middle of.

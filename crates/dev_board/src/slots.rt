@@ -9,23 +9,23 @@ ghost use Rattle.run_rules.specs.Next.{next};
 ghost use Rattle.run_sound.specs.Kept.{Kept, MayRun};
 ghost use Rattle.dev_board.specs.SlotDeeds as slot_deeds;
 ghost use Rattle.dev_board.specs.SlotDeeds.{HaltIs, IsDenied, LatelyCondemned, SlotsLag, WaitsForLeases};
-ghost use Rattle.dev_board.specs.Input.{Bounded};
+ghost use Rattle.run_world.specs.Input.{Bounded};
 ghost use Rattle.attr_graph.specs.Graphs.{IsGraphOf, declared_by};
 ghost use Rattle.dev_board.specs.Commits.{HasRoom};
-ghost use Rattle.dev_board.specs.Publishing as publishing;
+ghost use Rattle.run_world.specs.Arrivals as arrivals;
 ghost use Rattle.dev_board.specs.Publishing.{SlotReady, published};
 ghost use Rattle.run_rules.specs.World as world;
 ghost use Rattle.dev_board.specs.Agreement.{slots_of};
-ghost use Rattle.dev_board.specs.View.{world_of, Books, SameAside};
+ghost use Rattle.run_world.specs.View.{world_of, Books, SameAside};
 
 use crate::commit::commit;
 use crate::freed::free;
-use crate::parts::Core;
 use attr_graph::Graph;
 use cf_types::Memory;
 use dev_tree::DevTree;
 use ref_ledger::{Bury, Slots};
 use run_rules::{Arrival, Deed, Setup, Wait};
+use run_world::Core;
 use std::alloc::Global;
 
 /// Why a deed was not done.
@@ -139,7 +139,7 @@ fn condemn_too<S: Slots>(slots: &mut S, setup: &Setup, core: &Core, target: Opti
 
 /// The device that comes by a deed.
 fn got_of(deed: Deed) -> Option<Arrival>
-    ensures { result ≡ publishing.got_of deed }
+    ensures { result ≡ arrivals.got_of deed }
 {
     match deed {
         Deed::Search { got, .. } => got,

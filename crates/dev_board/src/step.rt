@@ -16,20 +16,20 @@ ghost use Rattle.dev_board.specs.Commits.{HasRoom, Performed};
 ghost use Rattle.dev_board.specs.SlotDeeds.{HaltIs};
 ghost use Rattle.dev_board.specs.Witness.{told_did, lease_step};
 ghost use Rattle.dev_board.specs.Stepping.{StepIs, IsDid, IsOfBoot, DenialsAre};
-ghost use Rattle.dev_board.specs.View.{world_of, shown_of, Books, CoreKept};
+ghost use Rattle.run_world.specs.View.{world_of, Books};
+ghost use Rattle.dev_board.specs.KeptCore.{shown_of, CoreKept};
 
-use crate::activity::is_ended;
-use crate::choose::choose;
-use crate::deed_event::deed_event;
 use crate::lease::lease_of;
-use crate::parts::{Core, append};
 use crate::slots::{Halt, run_deed};
 use crate::stepped::Stepped;
 use crate::told::Told;
 use attr_graph::Graph;
 use cf_types::Memory;
+use deed_event::deed_event;
+use next_deed::choose;
 use ref_ledger::Slots;
 use run_rules::{Choice, Deed, Event, Key, Setup};
+use run_world::{Core, append, is_ended};
 use std::alloc::Global;
 
 /// How many frames a deed may push, beside the one of a rescan.

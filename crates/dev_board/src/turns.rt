@@ -8,11 +8,11 @@ ghost use Rattle.dev_board.specs.Agreement.{slots_of};
 ghost use Rattle.dev_board.specs.Playing.{Plays, PlaysSome};
 
 use crate::board::Board;
-use crate::command_act::answer_for;
 use crate::io_result::IoResult;
 use crate::posted::Posted;
 use crate::stepped::Stepped;
 use cf_types::{Memory, Ticket};
+use deed_event::answer_for;
 use ref_ledger::PlainSlots;
 
 /// A transfer gets its answer at once. At `Memory` all is as before.

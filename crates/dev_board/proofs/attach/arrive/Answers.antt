@@ -2,9 +2,9 @@ use Rattle.std.proofs.Common.{◌≡◌, ◌<◌, ◌∙◌, refl, ap, arith, le
 use Rattle.std.specs.List.{slice_index_or}
 use Rattle.std.proofs.lemmas.List.{length-map}
 use Rattle.run_rules.specs.World.{World, caller_at, nobody}
-use Rattle.dev_board.specs.View.{world_of, callers_of, caller_of}
-use Rattle.dev_board.specs.Arrivals.{searched_too, finalised_too, called_too}
-use Rattle.dev_board.proofs.CallerLaws.{map_set, at_is}
+use Rattle.run_world.specs.View.{world_of, callers_of, caller_of}
+use Rattle.run_world.specs.Arrivals.{searched_too, finalised_too, called_too}
+use Rattle.run_world.proofs.CallerLaws.{map_set, at_is}
 use Rattle.dev_board.proofs.AttachLaws.{attached_is}
 use Rattle.dev_board.proofs.attach.arrive.Goals as goal
 

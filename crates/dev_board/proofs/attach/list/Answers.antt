@@ -2,11 +2,11 @@ use Rattle.std.proofs.Common.{◌≡◌, ◌∷◌, [], ◌∙◌, refl, ap}
 use Rattle.std.proofs.lemmas.List.{map-append}
 use Rattle.run_rules.specs.After.{listed, new_device}
 use Rattle.run_rules.specs.World.{driver_of}
-use Rattle.dev_board.specs.View.{world_of}
-use Rattle.dev_board.specs.Arrivals.{put_off_too}
+use Rattle.run_world.specs.View.{world_of}
+use Rattle.run_world.specs.Arrivals.{put_off_too}
 use Rattle.dev_board.proofs.ArriveLaws.{named_is, ok_of}
 use Rattle.dev_board.proofs.MarkLaws.{more_marks}
-use Rattle.dev_board.proofs.UnitLaws.{more_units}
+use Rattle.run_world.proofs.UnitLaws.{more_units}
 use Rattle.dev_board.proofs.attach.list.Goals as goal
 
 pub attach-requires-clause-name : goal.attach-requires-clause-name

@@ -1,7 +1,7 @@
 use Rattle.std.proofs.Common.{◌∙◌, ap}
 use Rattle.run_rules.specs.declared.world.Key.TheVariants as key
 use Rattle.run_rules.specs.declared.world.Placing.{Placing}
-use Rattle.dev_board.specs.Arrivals.{put_off_too}
+use Rattle.run_world.specs.Arrivals.{put_off_too}
 use Rattle.dev_board.proofs.ArriveLaws.{taken_back}
 use Rattle.dev_board.proofs.attach.take_back.Goals as goal
 

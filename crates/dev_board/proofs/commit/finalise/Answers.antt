@@ -3,11 +3,11 @@ use Rattle.run_rules.specs.declared.world.Arrival.{Arrival}
 use Rattle.run_rules.specs.declared.world.Activity.TheVariants.{Scans}
 use Rattle.run_rules.specs.After.{arrived, under_top, finaliser_done}
 use Rattle.run_rules.specs.World.{World, Caller, caller_at}
-use Rattle.dev_board.specs.Arrivals.{state_at}
+use Rattle.run_world.specs.Arrivals.{state_at}
 use Rattle.dev_board.specs.Commits.{shown_now}
-use Rattle.dev_board.specs.View.{world_of, callers_of, caller_of}
-use Rattle.dev_board.specs.Callers.{framed}
-use Rattle.dev_board.proofs.CallerLaws.{map_set, state_is}
+use Rattle.run_world.specs.View.{world_of, callers_of, caller_of}
+use Rattle.run_world.specs.Callers.{framed}
+use Rattle.run_world.proofs.CallerLaws.{map_set, state_is}
 use Rattle.dev_board.proofs.CommitLaws.{caller_same, finalised, hidden_now, none_is, some_is, frame_over}
 use Rattle.dev_board.proofs.commit.finalise.Goals as goal
 

@@ -6,11 +6,12 @@ use Rattle.run_rules.specs.After.{moved_top}
 use Rattle.run_rules.specs.World.{World, Caller, caller_at, nobody}
 use Rattle.scan_engine.specs.Frames.{is_scanning}
 use Rattle.run_sound.proofs.Callers.{caller_here}
-use Rattle.dev_board.specs.View.{world_of, callers_of, caller_of}
-use Rattle.dev_board.specs.Callers.{stacked}
+use Rattle.run_world.specs.View.{world_of, callers_of, caller_of}
+use Rattle.run_world.specs.Callers.{stacked}
 use Rattle.dev_board.proofs.ArriveLaws.{ok_of, err_of}
-use Rattle.dev_board.proofs.CallerLaws.{map_set, at_is, state_is}
-use Rattle.dev_board.proofs.CommitLaws.{searched, moved_back, moved_scans, with_callers}
+use Rattle.run_world.proofs.CallerLaws.{map_set, at_is, state_is}
+use Rattle.dev_board.proofs.CommitLaws.{searched, moved_back, moved_scans}
+use Rattle.run_world.proofs.CallerLaws.{with_callers}
 use Rattle.dev_board.proofs.commit.search.Goals as goal
 
 pub returns-clause-ok : goal.returns-clause-ok

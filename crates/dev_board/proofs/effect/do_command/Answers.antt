@@ -1,8 +1,8 @@
 use Rattle.std.proofs.Common.{◌<◌, sym, subst}
 use Rattle.run_rules.specs.World.{World, Caller}
 use Rattle.dev_board.specs.Effects.{MayDo}
-use Rattle.dev_board.specs.View.{world_of}
-use Rattle.dev_board.proofs.CallerLaws.{state_is}
+use Rattle.run_world.specs.View.{world_of}
+use Rattle.run_world.proofs.CallerLaws.{state_is}
 use Rattle.dev_board.proofs.EffectLaws.{err_more, few_locators, known_given, may_do, over_fits, unplug_may, plain_is_left}
 use Rattle.dev_board.proofs.effect.do_command.Goals as goal
 

@@ -4,7 +4,7 @@ use Rattle.run_rules.specs.World.{World, start}
 use Rattle.run_rules.specs.declared.world.Activity.TheVariants as activity
 use Rattle.run_rules.specs.declared.world.Wanted.{Wanted}
 use Rattle.run_rules.specs.declared.world.Frame.TheVariants.{Scan}
-use Rattle.dev_board.specs.View.{world_of}
+use Rattle.run_world.specs.View.{world_of}
 use Rattle.dev_board.proofs.EffectLaws.{ok_more, err_more}
 use Rattle.dev_board.proofs.effect.rescan.Goals as goal
 

@@ -1,8 +1,8 @@
 use Rattle.std.proofs.Common.{◌≡◌, ◌∙◌, Bool, true, cond, ap, sym}
 use Rattle.run_rules.specs.After.{after, freed, freeing_target, over}
 use Rattle.run_rules.specs.World.{World, Caller, caller_at, nobody}
-use Rattle.dev_board.specs.View.{world_of, caller_of}
-use Rattle.dev_board.proofs.CallerLaws.{at_is}
+use Rattle.run_world.specs.View.{world_of, caller_of}
+use Rattle.run_world.proofs.CallerLaws.{at_is}
 use Rattle.dev_board.proofs.freed.free.Goals as goal
 
 pub returns-then-is_over-clause-world : goal.returns-then-is_over-clause-world

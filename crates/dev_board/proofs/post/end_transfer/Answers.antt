@@ -1,4 +1,4 @@
-use Rattle.dev_board.proofs.TellLaws.{doer_there, few_over}
+use Rattle.run_world.proofs.TellLaws.{doer_there, few_over}
 use Rattle.dev_board.proofs.post.end_transfer.Goals as goal
 
 pub finish_transfer-requires-clause-caller : goal.finish_transfer-requires-clause-caller

@@ -3,7 +3,7 @@ use Rattle.run_rules.specs.World.{World}
 use Rattle.run_rules.specs.declared.deed.Deed.TheVariants.{Done}
 use Rattle.run_sound.proofs.Holding.{refs_same}
 use Rattle.dev_board.specs.Agreement.{slots_of}
-use Rattle.dev_board.specs.View.{world_of}
+use Rattle.run_world.specs.View.{world_of}
 use Rattle.dev_board.proofs.Kept.{kept_step, does_next, no_lease}
 use Rattle.dev_board.proofs.NextLaws.{kept_next}
 use Rattle.dev_board.proofs.DeedSlots.{slots_done}

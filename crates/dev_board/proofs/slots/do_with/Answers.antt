@@ -2,12 +2,13 @@ use Rattle.std.proofs.Common.{ap, sym, subst, List}
 use Rattle.run_rules.specs.World.{World}
 use Rattle.run_rules.specs.declared.world.Dev.{Dev}
 use Rattle.dev_board.specs.Agreement.{slots_of}
-use Rattle.dev_board.specs.Publishing.{got_of, published}
+use Rattle.run_world.specs.Arrivals.{got_of}
+use Rattle.dev_board.specs.Publishing.{published}
 use Rattle.dev_board.specs.SlotDeeds.{SlotsLag, condemned_by}
-use Rattle.dev_board.specs.View.{world_of}
+use Rattle.run_world.specs.View.{world_of}
 use Rattle.dev_board.proofs.DeedSlots.{slots_lag}
 use Rattle.dev_board.proofs.SlotSteps.{slot_ready}
-use Rattle.dev_board.proofs.StepLaws.{deed_arrives}
+use Rattle.run_world.proofs.StepLaws.{deed_arrives}
 use Rattle.dev_board.proofs.slots.do_with.Goals as goal
 
 pub publish-requires : goal.publish-requires

@@ -6,8 +6,8 @@ use Rattle.run_sound.proofs.Reasons.{has_command_reason}
 use Rattle.ref_ledger.specs.declared.state.SlotState.{SlotState}
 use Rattle.ref_ledger.specs.declared.state.SlotState.TheVariants.{Free}
 use Rattle.dev_board.specs.Agreement.{slots_of}
-use Rattle.dev_board.specs.View.{world_of}
-use Rattle.dev_board.proofs.CallerLaws.{state_is}
+use Rattle.run_world.specs.View.{world_of}
+use Rattle.run_world.proofs.CallerLaws.{state_is}
 use Rattle.dev_board.proofs.EffectLaws.{free_may, over_fits}
 use Rattle.dev_board.proofs.GoneLaws.{found_there}
 use Rattle.dev_board.proofs.GoneSpots.{next_condemned, slot_condemned, slot_freed, slots_free}

@@ -1,6 +1,6 @@
 use Rattle.std.proofs.Common.{◌∙◌, refl, sym}
 use Rattle.run_rules.specs.World.{World}
-use Rattle.dev_board.specs.View.{world_of}
+use Rattle.run_world.specs.View.{world_of}
 use Rattle.dev_board.proofs.NextLaws.{ended_so, quiet_wait, wait_is}
 use Rattle.dev_board.proofs.step.next_step.Goals as goal
 

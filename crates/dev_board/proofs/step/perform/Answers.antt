@@ -1,6 +1,6 @@
 use Rattle.std.proofs.Common.{subst, sym}
 use Rattle.run_sound.specs.Kept.{Kept}
-use Rattle.dev_board.proofs.InputLaws.{bounded}
+use Rattle.run_world.proofs.InputLaws.{bounded}
 use Rattle.dev_board.proofs.step.perform.Goals as goal
 
 pub run_deed-requires-clause-bounded : goal.run_deed-requires-clause-bounded

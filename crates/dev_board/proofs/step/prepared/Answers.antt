@@ -1,7 +1,7 @@
 use Rattle.std.proofs.Common.{subst, sym}
 use Rattle.run_sound.specs.Calls.{CallsDevices}
 use Rattle.run_sound.specs.Kept.{Kept}
-use Rattle.dev_board.proofs.TellLaws.{doer_there}
+use Rattle.run_world.proofs.TellLaws.{doer_there}
 use Rattle.dev_board.proofs.step.prepared.Goals as goal
 
 pub deed_event-requires-clause-kept : goal.deed_event-requires-clause-kept

@@ -1,5 +1,5 @@
 use Rattle.std.proofs.Common.{refl}
-use Rattle.dev_board.proofs.CallerLaws.{room_made}
+use Rattle.run_world.proofs.CallerLaws.{room_made}
 use Rattle.dev_board.proofs.step.reserve.Goals as goal
 
 pub returns-in_err-reserve-clause-world : goal.returns-in_err-reserve-clause-world

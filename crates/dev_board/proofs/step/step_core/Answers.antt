@@ -1,6 +1,6 @@
 use Rattle.std.proofs.Common.{ℕ, subst}
 use Rattle.dev_board.specs.Stepping.{StepIs}
-use Rattle.dev_board.specs.View.{shown_of}
+use Rattle.dev_board.specs.KeptCore.{shown_of}
 use Rattle.dev_board.proofs.NextLaws.{of_boot}
 use Rattle.dev_board.proofs.step.step_core.Goals as goal
 

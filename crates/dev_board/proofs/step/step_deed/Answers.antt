@@ -6,7 +6,7 @@ use Rattle.run_rules.specs.After.{after}
 use Rattle.run_sound.specs.Left.{boot_left}
 use Rattle.run_sound.proofs.Callers.{doing_so}
 use Rattle.run_sound.proofs.Falls.{boot_falls}
-use Rattle.dev_board.specs.View.{world_of}
+use Rattle.run_world.specs.View.{world_of}
 use Rattle.dev_board.specs.Witness.{lease_step}
 use Rattle.dev_board.proofs.Kept.{does_next, kept_step}
 use Rattle.dev_board.proofs.NextLaws.{none_kept}

@@ -2,7 +2,7 @@ use Rattle.std.proofs.Common.{refl}
 use Rattle.run_rules.specs.declared.deed.Deed.TheVariants.{Done}
 use Rattle.run_rules.specs.World.{World}
 use Rattle.run_sound.proofs.Reasons.{has_command_reason}
-use Rattle.dev_board.specs.View.{world_of}
+use Rattle.run_world.specs.View.{world_of}
 use Rattle.dev_board.proofs.step.step_or_wait.Goals as goal
 
 pub returns-in-Done-clause-step : goal.returns-in-Done-clause-step

@@ -1,5 +1,5 @@
 use Rattle.run_rules.proofs.OwnNames.{names_own}
-use Rattle.dev_board.proofs.InputLaws.{formed_devices}
+use Rattle.run_world.proofs.InputLaws.{formed_devices}
 use Rattle.dev_board.proofs.board.Board.stands.Goals as goal
 
 pub returns-clause-names : goal.returns-clause-names

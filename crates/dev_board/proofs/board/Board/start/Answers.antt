@@ -6,8 +6,8 @@ use Rattle.dev_board.proofs.board.Board.start.Goals as goal
 pub graph_of-requires : goal.graph_of-requires
 graph_of-requires c = c.requires.tables.graph
 
-pub begin-requires : goal.begin-requires
-begin-requires c = record { few = c.requires.machine.few_spots; few_devices = c.requires.tables.graph.few_devices }
+pub opening_core-requires : goal.opening_core-requires
+opening_core-requires c = record { few = c.requires.machine.few_spots; few_devices = c.requires.tables.graph.few_devices }
 
 pub invariant_of-result : goal.invariant_of-result
 invariant_of-result c =

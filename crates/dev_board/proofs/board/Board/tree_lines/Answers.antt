@@ -1,4 +1,4 @@
-use Rattle.dev_board.proofs.InputLaws.{bounded}
+use Rattle.run_world.proofs.InputLaws.{bounded}
 use Rattle.dev_board.proofs.board.Board.tree_lines.Goals as goal
 
 pub tree_of-requires-clause-bounded : goal.tree_of-requires-clause-bounded

@@ -1,0 +1,4 @@
+pub mod FormedNames
+pub mod LateLaws
+pub mod BelowLaws
+pub mod FormedEvents

@@ -1,0 +1,54 @@
+-- What the event of a deed is made of.
+use Rattle.std.specs.Prelude.{◌≡◌, ◌<◌, ⊤, ℕ, true, false, length, IfSome, List, Option, Some, None}
+use Rattle.std.specs.Option.{option_map_or}
+use Rattle.run_rules.specs.declared.deed.Deed.{Deed}
+use Rattle.run_rules.specs.declared.deed.Deed.TheVariants.{Search, Finalise, Drop, Refuse, Done, Free, Sleep, Wake, EndPower}
+use Rattle.run_rules.specs.declared.deed.PowerEnd.{PowerEnd}
+use Rattle.run_rules.specs.declared.deed.PowerEnd.TheVariants as ends
+use Rattle.run_rules.specs.declared.deed.Refusal.{Refusal}
+use Rattle.run_rules.specs.declared.deed.Refusal.TheVariants as refusal
+use Rattle.run_rules.specs.declared.event.Reply.{Reply}
+use Rattle.run_rules.specs.declared.event.Reply.TheVariants as reply
+use Rattle.run_rules.specs.declared.world.Arrival.{Arrival}
+use Rattle.run_rules.specs.declared.world.Dev.{Dev}
+use Rattle.run_rules.specs.declared.world.Setup.{Setup}
+use Rattle.run_rules.specs.World.{World}
+use Rattle.run_rules.specs.Next.{command_of, is_power}
+use Rattle.run_rules.specs.Run.{reply_of}
+use Rattle.run_world.specs.Events.{IsLive}
+
+-- the reply of a command: that of a refusal, or that it had its effect
+abbrev pub answer_by : World → Option Refusal → Reply
+answer_by w None = reply.Ok
+answer_by w (Some why) = reply_of w why
+
+-- the device that a reply names is live
+abbrev pub RefusesLive : List Dev → Refusal → Type 0
+RefusesLive live (refusal.Busy s) = IsLive live s
+RefusesLive live _ = ⊤
+
+abbrev pub AnswersLive : List Dev → Option Refusal → Type 0
+AnswersLive live None = ⊤
+AnswersLive live (Some why) = RefusesLive live why
+
+abbrev pub EndsLive : List Dev → PowerEnd → Type 0
+EndsLive live (ends.NotSupported s) = IsLive live s
+EndsLive live (ends.Failed s) = IsLive live s
+EndsLive live _ = ⊤
+
+-- what comes has a row
+abbrev pub HasRow : Setup → Option Arrival → Type 0
+HasRow s got = IfSome got (λ a. a.row < length s.tables.rows)
+
+-- the devices that the line of a deed names are live, its spots are of the machine, what comes has a row, and what ends as a power command is one
+abbrev pub MayBeTold : World → ℕ → Deed → Type 0
+MayBeTold w k (Search p spot to got) = (spot < length w.setup.machine.spots) × HasRow w.setup got
+MayBeTold w k (Finalise s shown got listed anew) = IsLive w.live s × IfSome shown (λ x. x < length w.setup.machine.spots) × HasRow w.setup got
+MayBeTold w k (Refuse why) = RefusesLive w.live why
+MayBeTold w k (Done ticket) = IsLive w.live ticket.serial
+MayBeTold w k (Free s) = IsLive w.live s
+MayBeTold w k (Sleep s) = IsLive w.live s
+MayBeTold w k (Wake s) = IsLive w.live s
+MayBeTold w k (Drop s) = IsLive w.live s
+MayBeTold w k (EndPower end) = EndsLive w.live end × (option_map_or is_power (command_of w k) false ≡ true)
+MayBeTold w k _ = ⊤

@@ -1,0 +1,131 @@
+//! The event of a deed.
+ghost use Rattle.std.specs.Prelude.{◌≡◌, ◌<◌, ◌+◌, ◌-◌, ◌^◌, IfOk, length};
+ghost use Rattle.run_rules.specs.declared.world.Setup.{Setup};
+ghost use Rattle.run_rules.specs.declared.deed.Choice.TheVariants.{Does};
+ghost use Rattle.run_rules.specs.Lines.{IsFormed};
+ghost use Rattle.run_rules.specs.Next.{next};
+ghost use Rattle.run_rules.specs.Run as run;
+ghost use Rattle.run_rules.specs.Run.{event_of};
+ghost use Rattle.run_sound.specs.Calls.{CallsDevices};
+ghost use Rattle.run_sound.specs.Kept.{Kept, MayRun};
+ghost use Rattle.run_world.specs.Arrivals.{state_at};
+ghost use Rattle.run_world.specs.Events.{HaveRows};
+ghost use Rattle.run_world.specs.Input.{Bounded};
+ghost use Rattle.deed_event.specs.Sayings.{MayBeTold};
+ghost use Rattle.run_world.specs.Scripted.{FormedScripts};
+ghost use Rattle.run_world.specs.View.{world_of};
+
+use crate::command_act::{answer_for, answered_act, power_end_act};
+use crate::listed_names::live_name;
+use crate::names::{got_of, parent_name, shown_of, spot_name};
+use cf_types::Memory;
+use run_rules::{Act, Deed, Event, Setup};
+use run_world::Core;
+use std::alloc::Global;
+
+/// The number of a caller's next event.
+pub fn number_of(core: &Core, caller: u8) -> u32
+    requires caller { caller < length core.now.callers.items }
+    requires low { (state_at core.now.callers.items caller).over < 2 ^ 32 - 1 }
+    ensures { (s : Setup) → run.number_of (world_of s core.now) caller ≡ result }
+{
+    if caller == 0 {
+        0
+    } else {
+        core.callers[caller as usize].over + 1
+    }
+}
+
+/// What happens by a deed of a scan, of a finaliser or of a device; a deed of a command is told by its command.
+#[tactic(auto, unfolding(run_rules::specs::Run::printed))]
+fn deed_act(
+    alloc: Global,
+    setup: &Setup,
+    core: &Core,
+    caller: u8,
+    deed: Deed,
+) -> Result<Act, Memory>
+    requires bounded { Bounded setup.now }
+    requires rows { HaveRows setup.now core.now.tree.live }
+    requires few { length core.now.tree.live + 1 < 2 ^ 32 }
+    requires caller { caller < length core.now.callers.items }
+    requires may { MayBeTold (world_of setup.now core.now) caller deed }
+    ensures { IfOk result (λ a. a ≡ run.printed (world_of setup.now core.now) caller deed) }
+{
+    let tree = &core.tree;
+    match deed {
+        Deed::Search {
+            parent,
+            spot,
+            got,
+            ..
+        } => {
+            let parent = parent_name(alloc, setup, tree, parent)?;
+            let spot = spot_name(setup, spot)?;
+            let got = got_of(alloc, setup, got)?;
+            Ok(Act::Found { parent, spot, got })
+        }
+        Deed::EndScan { of } => {
+            let device = parent_name(alloc, setup, tree, of)?;
+            Ok(Act::ScanEnd { device })
+        }
+        Deed::BeginInterrupts => Ok(Act::Interrupts),
+        Deed::Finalise { of, shown, got, .. } => {
+            let device = live_name(alloc, setup, tree, of)?;
+            let shown = shown_of(alloc, setup, shown, got)?;
+            Ok(Act::Final { device, shown })
+        }
+        Deed::EndCaller => Ok(Act::End),
+        Deed::Drop { of } => {
+            let device = live_name(alloc, setup, tree, of)?;
+            Ok(Act::DropRef { device })
+        }
+        Deed::Done(ticket) => {
+            let device = live_name(alloc, setup, tree, ticket.serial)?;
+            Ok(Act::IoDone {
+                device,
+                answer: answer_for(ticket),
+            })
+        }
+        Deed::Free { of } => {
+            let device = live_name(alloc, setup, tree, of)?;
+            Ok(Act::Free { device })
+        }
+        Deed::Sleep { of } => {
+            let device = live_name(alloc, setup, tree, of)?;
+            Ok(Act::Sleep { device })
+        }
+        Deed::Wake { of } => {
+            let device = live_name(alloc, setup, tree, of)?;
+            Ok(Act::Wake { device })
+        }
+        Deed::EndPower(end) => power_end_act(alloc, setup, core, caller, end),
+        Deed::Refuse(why) => answered_act(alloc, setup, core, caller, Some(why)),
+        _ => answered_act(alloc, setup, core, caller, None),
+    }
+}
+
+/// The event of what a caller does next.
+#[tactic(auto, unfolding(run_rules::specs::Run::event_of))]
+pub fn deed_event(
+    alloc: Global,
+    setup: &Setup,
+    core: &Core,
+    caller: u8,
+    deed: Deed,
+) -> Result<Event, Memory>
+    requires kept { Kept (world_of setup.now core.now) }
+    requires may { MayRun setup.now }
+    requires calls { CallsDevices (world_of setup.now core.now) }
+    requires scripts { FormedScripts setup.now }
+    requires chosen { next (world_of setup.now core.now) caller ≡ Does deed }
+    ensures event { IfOk result (λ e. e ≡ event_of (world_of setup.now core.now) caller deed) }
+    ensures formed { IfOk result IsFormed }
+{
+    let act = deed_act(alloc, setup, core, caller, deed)?;
+    Ok(Event {
+        caller,
+        number: number_of(core, caller),
+        act,
+    })
+}

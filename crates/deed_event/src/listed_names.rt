@@ -1,0 +1,190 @@
+//! The names that events tell: of one device, of children, and of trees.
+ghost use Rattle.std.specs.Prelude.{◌≡◌, ◌<◌, ◌+◌, ◌++◌, ◌^◌, ◌∷◌, IfOk, OnOk, length, map};
+ghost use Rattle.run_rules.specs.Run as run;
+ghost use Rattle.run_rules.specs.Tree.{tree_below};
+ghost use Rattle.run_rules.specs.World as world;
+ghost use Rattle.run_world.specs.Events.{HaveRows, IsLive, name_live};
+ghost use Rattle.run_world.specs.Input.{Bounded};
+ghost use Rattle.run_world.specs.View.{world_of};
+
+use crate::names::{parent_name, unit_name};
+use cf_types::{List, Memory, Name};
+use dev_tree::DevTree;
+use run_rules::{DepthName, Dev, Setup};
+use run_world::{Core, device_named};
+use std::alloc::Global;
+
+/// The name of a live device.
+pub fn live_name(alloc: Global, setup: &Setup, tree: &DevTree, serial: u64) -> Result<Name, Memory>
+    requires bounded { Bounded setup.now }
+    requires rows { HaveRows setup.now tree.now.live }
+    requires live { IsLive tree.now.live serial }
+    ensures { IfOk result (λ n. n ≡ name_live setup.now tree.now.live serial) }
+{
+    parent_name(alloc, setup, tree, serial)
+}
+
+/// The names of the children of a device, or of the root for 0, by serial.
+fn child_names(
+    alloc: Global,
+    setup: &Setup,
+    live: &[Dev],
+    serial: u64,
+) -> Result<List<Name>, Memory>
+    requires bounded { Bounded setup.now }
+    requires rows { HaveRows setup.now live.now }
+    ensures { IfOk result (λ names. names ≡ map (world.name_of setup.now) (world.children live.now serial)) }
+{
+    let mut names = List::make(alloc);
+    for device in live {
+        if device.parent == serial {
+            let name = unit_name(alloc, setup, device.row, device.unit)?;
+            names.push(name)?;
+        }
+    }
+    Ok(names)
+}
+
+/// What `list` tells: the names of children; none where no device has the name. See drvctl(8).
+#[tactic(auto, unfolding(run_rules::specs::Run::list_names))]
+pub fn list_names(
+    alloc: Global,
+    setup: &Setup,
+    core: &Core,
+    name: &Option<Name>,
+) -> Result<Option<List<Name>>, Memory>
+    requires bounded { Bounded setup.now }
+    requires rows { HaveRows setup.now core.now.tree.live }
+    ensures { IfOk result (λ names. names ≡ run.list_names (world_of setup.now core.now) name.now) }
+{
+    let live = core.tree.devices();
+    match name {
+        Some(name) => match device_named(setup, core, name.bytes()) {
+            Some(device) => {
+                let names = child_names(alloc, setup, live, device.serial)?;
+                Ok(Some(names))
+            }
+            None => Ok(None),
+        },
+        None => {
+            let names = child_names(alloc, setup, live, 0)?;
+            Ok(Some(names))
+        }
+    }
+}
+
+/// The name of a device in a tree, with its depth.
+fn depth_name(alloc: Global, setup: &Setup, depth: u32, device: Dev) -> Result<DepthName, Memory>
+    requires bounded { Bounded setup.now }
+    requires row { device.row < length setup.now.tables.rows }
+    ensures { IfOk result (λ d. d ≡ run.depth_name setup.now (depth, device)) }
+{
+    let name = unit_name(alloc, setup, device.row, device.unit)?;
+    Ok(DepthName { depth, name })
+}
+
+/// Appends the names below a parent, of so many levels.
+fn push_names(
+    alloc: Global,
+    setup: &Setup,
+    live: &[Dev],
+    levels: u32,
+    depth: u32,
+    parent: u64,
+    names: &mut List<DepthName>,
+) -> Result<(), Memory>
+    requires bounded { Bounded setup.now }
+    requires rows { HaveRows setup.now live.now }
+    requires shallow { depth + levels < 2 ^ 32 }
+    ensures { OnOk result (names.new ≡ names.old ++ map (run.depth_name setup.now) (tree_below levels live.now depth parent)) }
+{
+    if levels == 0 {
+        return Ok(());
+    }
+    for index in 0..live.len() {
+        let device = live[index];
+        if device.parent == parent {
+            let name = depth_name(alloc, setup, depth, device)?;
+            names.push(name)?;
+            push_names(
+                alloc,
+                setup,
+                live,
+                levels - 1,
+                depth + 1,
+                device.serial,
+                names,
+            )?;
+        }
+    }
+    Ok(())
+}
+
+/// The names of a device and of what stands below it, depth first.
+fn names_from(
+    alloc: Global,
+    setup: &Setup,
+    live: &[Dev],
+    top: Dev,
+) -> Result<List<DepthName>, Memory>
+    requires bounded { Bounded setup.now }
+    requires rows { HaveRows setup.now live.now }
+    requires row { top.row < length setup.now.tables.rows }
+    requires few { length live.now + 1 < 2 ^ 32 }
+    ensures { IfOk result (λ names. names ≡ map (run.depth_name setup.now) ((0, top) ∷ tree_below (length live.now) live.now 1 top.serial)) }
+{
+    let mut names = List::make(alloc);
+    let first = depth_name(alloc, setup, 0, top)?;
+    names.push(first)?;
+    push_names(
+        alloc,
+        setup,
+        live,
+        live.len() as u32,
+        1,
+        top.serial,
+        &mut names,
+    )?;
+    Ok(names)
+}
+
+/// The names of all that stands below the root, depth first.
+fn names_of_all(alloc: Global, setup: &Setup, live: &[Dev]) -> Result<List<DepthName>, Memory>
+    requires bounded { Bounded setup.now }
+    requires rows { HaveRows setup.now live.now }
+    requires few { length live.now + 1 < 2 ^ 32 }
+    ensures { IfOk result (λ names. names ≡ map (run.depth_name setup.now) (tree_below (length live.now) live.now 0 0)) }
+{
+    let mut names = List::make(alloc);
+    push_names(alloc, setup, live, live.len() as u32, 0, 0, &mut names)?;
+    Ok(names)
+}
+
+/// What `tree` tells: names with their depths; none where no device has the name. See drvctl(8).
+#[tactic(auto, unfolding(run_rules::specs::Run::tree_names))]
+pub fn tree_names(
+    alloc: Global,
+    setup: &Setup,
+    core: &Core,
+    name: &Option<Name>,
+) -> Result<Option<List<DepthName>>, Memory>
+    requires bounded { Bounded setup.now }
+    requires rows { HaveRows setup.now core.now.tree.live }
+    requires few { length core.now.tree.live + 1 < 2 ^ 32 }
+    ensures { IfOk result (λ names. names ≡ run.tree_names (world_of setup.now core.now) name.now) }
+{
+    let live = core.tree.devices();
+    match name {
+        Some(name) => match device_named(setup, core, name.bytes()) {
+            Some(device) => {
+                let names = names_from(alloc, setup, live, device)?;
+                Ok(Some(names))
+            }
+            None => Ok(None),
+        },
+        None => {
+            let names = names_of_all(alloc, setup, live)?;
+            Ok(Some(names))
+        }
+    }
+}

@@ -1,0 +1,104 @@
+//! The external names of devices.
+ghost use Rattle.std.specs.Prelude.{◌≡◌, ◌<◌, ◌++◌, length, IfOk, IfSome, IsTrue, decimal};
+ghost use Rattle.cf_text.specs.Shapes.{is_written};
+ghost use Rattle.run_rules.specs.Lines.{IsDeviceName, IsFormedName};
+ghost use Rattle.run_rules.specs.Run as run;
+ghost use Rattle.run_rules.specs.World as world;
+ghost use Rattle.run_world.specs.Input.{Bounded};
+ghost use Rattle.run_world.specs.Events.{HaveRows};
+ghost use Rattle.deed_event.specs.Sayings.{HasRow};
+
+use cf_types::{Memory, Name};
+use dev_tree::DevTree;
+use run_rules::{Arrival, Got, Setup, Shown};
+use run_world::{driver_name, driver_of};
+use std::alloc::Global;
+
+fn joined(alloc: Global, name: &[u8], unit: u32) -> Result<Name, Memory>
+    requires { IsTrue (is_written name.now) }
+    ensures text { IfOk result (λ n. n ≡ name.now ++ decimal unit) }
+    ensures formed { IfOk result IsDeviceName }
+{
+    let mut bytes = Vec::from_slice(alloc, name)?;
+    let digits = format!(in alloc; "{unit}")?;
+    bytes.extend_from_slice(digits.as_bytes())?;
+    Name::make(alloc, &bytes)
+}
+
+/// The name of a row's driver and a unit.
+#[tactic(auto, unfolding(run_rules::specs::World::unit_name))]
+pub fn unit_name(alloc: Global, setup: &Setup, row: u32, unit: u32) -> Result<Name, Memory>
+    requires bounded { Bounded setup.now }
+    requires row { row < length setup.now.tables.rows }
+    ensures text { IfOk result (λ n. n ≡ world.unit_name setup.now row unit) }
+    ensures formed { IfOk result IsDeviceName }
+{
+    joined(alloc, driver_name(setup, driver_of(setup, row)), unit)
+}
+
+/// The name of a parent, which may be the root.
+#[tactic(auto, unfolding(run_rules::specs::World::parent_name, run_rules::specs::World::root_name))]
+pub fn parent_name(
+    alloc: Global,
+    setup: &Setup,
+    tree: &DevTree,
+    serial: u64,
+) -> Result<Name, Memory>
+    requires bounded { Bounded setup.now }
+    requires rows { HaveRows setup.now tree.now.live }
+    ensures text { IfOk result (λ n. n ≡ world.parent_name setup.now tree.now.live serial) }
+    ensures formed { IfOk result IsFormedName }
+{
+    match tree.get(serial) {
+        Some(d) => unit_name(alloc, setup, d.row, d.unit),
+        None => Name::make(alloc, b"root"),
+    }
+}
+
+/// The name of a spot.
+pub fn spot_name(setup: &Setup, spot: u16) -> Result<Name, Memory>
+    requires { spot < length setup.now.machine.spots }
+    ensures { IfOk result (λ n. n ≡ run.spot_name setup.now spot) }
+{
+    match setup.machine.spots.items().get(spot as usize) {
+        Some(s) => Ok(s.name.clone()?),
+        None => unreachable!(),
+    }
+}
+
+/// The name and the row of what came, if anything did.
+pub fn got_of(alloc: Global, setup: &Setup, got: Option<Arrival>) -> Result<Option<Got>, Memory>
+    requires bounded { Bounded setup.now }
+    requires row { HasRow setup.now got }
+    ensures { IfOk result (λ named. named ≡ run.got_of setup.now got) }
+{
+    match got {
+        Some(a) => {
+            let name = unit_name(alloc, setup, a.row, a.unit)?;
+            Ok(Some(Got { name, row: a.row }))
+        }
+        None => Ok(None),
+    }
+}
+
+/// The spot that a finaliser showed, and what came there.
+pub fn shown_of(
+    alloc: Global,
+    setup: &Setup,
+    shown: Option<u16>,
+    got: Option<Arrival>,
+) -> Result<Option<Shown>, Memory>
+    requires bounded { Bounded setup.now }
+    requires spot { IfSome shown (λ x. x < length setup.now.machine.spots) }
+    requires row { HasRow setup.now got }
+    ensures { IfOk result (λ told. told ≡ run.shown_of setup.now shown got) }
+{
+    match shown {
+        Some(spot) => {
+            let spot = spot_name(setup, spot)?;
+            let got = got_of(alloc, setup, got)?;
+            Ok(Some(Shown { spot, got }))
+        }
+        None => Ok(None),
+    }
+}

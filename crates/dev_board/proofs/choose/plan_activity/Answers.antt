@@ -1,7 +1,0 @@
-use Rattle.std.proofs.Common.{◌∙◌, ap}
-use Rattle.run_rules.specs.Next.{by_activity}
-use Rattle.dev_board.specs.View.{world_of}
-use Rattle.dev_board.proofs.choose.plan_activity.Goals as goal
-
-pub returns-in-Power : goal.returns-in-Power
-returns-in-Power c = ap (by_activity (world_of c.args.setup.now c.args.core.now) c.args.caller) c.in-Power.is ∙ c.plan_power.ensures c.args.caller

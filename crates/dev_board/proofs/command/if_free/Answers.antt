@@ -1,7 +1,0 @@
-use Rattle.std.proofs.Common.{◌∙◌, sym}
-use Rattle.dev_board.specs.View.{world_of}
-use Rattle.dev_board.proofs.ChoiceLaws.{busy_with}
-use Rattle.dev_board.proofs.command.if_free.Goals as goal
-
-pub returns-in-Some : goal.returns-in-Some
-returns-in-Some c = busy_with (world_of c.args.setup.now c.args.core.now) c.args.caller c.args.target c.in-Some.other c.args.forced c.args.deed (sym c.in-Some.is ∙ c.in_ok-other.ensures)

@@ -1,7 +1,0 @@
-use Rattle.std.proofs.Common.{◌≡◌, take}
-use Rattle.run_rules.specs.World.{policy_of}
-use Rattle.dev_board.specs.Choices.{serials_where}
-use Rattle.dev_board.proofs.hindered.undetachable_of.Given as goal
-
-abbrev pub invariant-loop-device : goal.invariant-loop-device
-invariant-loop-device l = l.serials ≡ serials_where (λ d. (policy_of l.setup d.row).nodetach) (take l.device-index l.core.tree.live)

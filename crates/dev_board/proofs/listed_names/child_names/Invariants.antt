@@ -1,6 +1,0 @@
-use Rattle.std.proofs.Common.{◌≡◌, map, take}
-use Rattle.run_rules.specs.World.{children, name_of}
-use Rattle.dev_board.proofs.listed_names.child_names.Given as goal
-
-abbrev pub invariant-loop-device : goal.invariant-loop-device
-invariant-loop-device l = l.names ≡ map (name_of l.setup) (children (take l.device-index l.live) l.serial)

@@ -1,8 +1,0 @@
-use Rattle.std.proofs.Common.{◌≡◌, List, ℕ, subst}
-use Rattle.std.specs.Prelude.{IfOk}
-use Rattle.dev_board.proofs.LateLaws.{live_named}
-use Rattle.dev_board.proofs.listed_names.live_name.Goals as goal
-
-pub returns : goal.returns
-returns c =
-    subst (λ (x : List ℕ). IfOk c.parent_name.result (λ n. n ≡ x)) (live_named c.args.setup.now c.args.tree.now.live c.args.serial c.requires.live) c.parent_name.ensures.text

@@ -1,6 +1,0 @@
-use Rattle.std.proofs.Common.{◌≡◌, ◌+◌, drop, option_map}
-use Rattle.std.specs.Prelude.{bytes_eq, position}
-use Rattle.dev_board.proofs.named.attr_named.Given as goal
-
-abbrev pub invariant-loop-place : goal.invariant-loop-place
-invariant-loop-place l = option_map (λ k. k + l.place) (position (λ x. bytes_eq x.name l.name) (drop l.place l.setup.tables.attrs)) ≡ position (λ x. bytes_eq x.name l.name) l.setup.tables.attrs

@@ -1,7 +1,0 @@
-use Rattle.std.proofs.Common.{◌≡◌, length, arith}
-use Rattle.run_rules.specs.World.{absent_spots}
-use Rattle.dev_board.proofs.parts.absent_spots.Goals as goal
-
-pub returns : goal.returns
-unfolding absent_spots
-returns c = let end : c.loop-spot.spot ≡ length c.args.setup.now.machine.spots = omega arith in rw end at c.loop-spot.invariant

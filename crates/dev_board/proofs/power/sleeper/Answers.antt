@@ -1,6 +1,0 @@
-use Rattle.std.proofs.Common.{◌∙◌, sym}
-use Rattle.dev_board.proofs.ChoiceLaws.{sleeper_is}
-use Rattle.dev_board.proofs.power.sleeper.Goals as goal
-
-pub returns-in-Some : goal.returns-in-Some
-returns-in-Some c = sleeper_is c.args.core.now.tree.live c.args.target c.in-Some.serial c.requires.later c.in-Some.ensures ∙ sym c.get.ensures

@@ -1,6 +1,0 @@
-use Rattle.run_rules.specs.Tree.{tree_lines}
-use Rattle.dev_board.proofs.tree.tree_of.Goals as goal
-
-pub returns : goal.returns
-unfolding tree_lines
-returns c = rw (c.make-lines.ensures, c.devices.ensures, c.count.ensures) at c.in_ok-push_below.ensures

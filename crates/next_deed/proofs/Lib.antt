@@ -1,0 +1,5 @@
+pub mod ChoiceLaws
+pub mod ChooseLaws
+pub mod DueLaws
+pub mod PlanLaws
+pub mod RescanLaws

@@ -1,0 +1,335 @@
+//! What a command does, or why it does nothing. See drvctl(8) and pmf(9).
+ghost use Rattle.std.specs.Prelude.{◌≡◌, ◌≤◌, ℕ, false, Some, length, IsTrue, IfOk, slice_get};
+ghost use Rattle.std.specs.Option.{option_map_or};
+ghost use Rattle.cf_types.specs.declared.machine.Command.TheVariants as command;
+ghost use Rattle.run_rules.specs.declared.deed.Deed.{Deed};
+ghost use Rattle.run_rules.specs.declared.deed.Deed.TheVariants.{BeginPower};
+ghost use Rattle.run_rules.specs.declared.world.Dev.{Dev};
+ghost use Rattle.run_rules.specs.Next.{command_deed, on_device, on_held, rescanning, telling, unless_hindered, unplugging};
+ghost use Rattle.run_rules.specs.World.{World, is_live};
+ghost use Rattle.run_rules.specs.World as world;
+ghost use Rattle.attr_graph.specs.Graphs.{IsGraphOf, declared_by};
+ghost use Rattle.run_sound.specs.Kept.{Kept};
+ghost use Rattle.next_deed.specs.Choices.{or_refused};
+ghost use Rattle.run_world.specs.View.{world_of};
+
+use crate::hindered::in_the_way;
+use crate::rescan::plan_search;
+use attr_graph::Graph;
+use cf_types::{Command, Given, Memory, Name, Ticket};
+use run_rules::{Deed, Dev, PowerKind, Refusal, Setup};
+use run_world::{Core, device_named, spot_named};
+use std::alloc::Global;
+
+/// The device of a name, unless it is condemned.
+fn spared(setup: &Setup, core: &Core, name: &[u8]) -> Result<Dev, Refusal>
+    ensures deed { (body : Dev → Deed) → on_device (world_of setup.now core.now) name.now body ≡ or_refused body result }
+    ensures live { IfOk result (λ d. IsTrue (is_live core.now.tree.live d.serial)) }
+    ensures found { IfOk result (λ d. world.device_named setup.now core.now.tree.live name.now ≡ Some d) }
+{
+    match device_named(setup, core, name) {
+        None => Err(Refusal::NoDevice),
+        Some(device) => {
+            if device.condemned.is_some() {
+                Err(Refusal::Gone)
+            } else {
+                Ok(device)
+            }
+        }
+    }
+}
+
+/// The device of a name, if the caller holds it.
+fn held(setup: &Setup, core: &Core, caller: u8, name: &[u8]) -> Result<Dev, Refusal>
+    ensures { (body : Dev → Deed) → on_held (world_of setup.now core.now) caller name.now body ≡ or_refused body result }
+{
+    match device_named(setup, core, name) {
+        None => Err(Refusal::NotHeld),
+        Some(device) => {
+            if core.refs.holds(device.serial, caller) {
+                Ok(device)
+            } else {
+                Err(Refusal::NotHeld)
+            }
+        }
+    }
+}
+
+/// A reference is asked for.
+#[tactic(auto, unfolding(run_rules::specs::Next::command_deed))]
+fn plan_open(setup: &Setup, core: &Core, caller: u8, name: &[u8]) -> Result<Deed, Refusal>
+    ensures { (number : ℕ) → command_deed (world_of setup.now core.now) caller number (command.OpenDev name.now) ≡ or_refused (λ deed. deed) result }
+{
+    let device = spared(setup, core, name)?;
+    if core.refs.is_sole(device.serial) {
+        return Err(Refusal::Exclusive);
+    }
+    if core.refs.count(device.serial, caller) < 15 {
+        Ok(Deed::Open {
+            of: device.serial,
+            sole: false,
+        })
+    } else {
+        Err(Refusal::TooMany)
+    }
+}
+
+/// The only reference is asked for.
+#[tactic(auto, unfolding(run_rules::specs::Next::command_deed))]
+fn plan_open_sole(setup: &Setup, core: &Core, caller: u8, name: &[u8]) -> Result<Deed, Refusal>
+    ensures { (number : ℕ) → command_deed (world_of setup.now core.now) caller number (command.OpenSole name.now) ≡ or_refused (λ deed. deed) result }
+{
+    let device = spared(setup, core, name)?;
+    if core.refs.refers(device.serial) {
+        return Err(Refusal::Shared);
+    }
+    Ok(Deed::Open {
+        of: device.serial,
+        sole: true,
+    })
+}
+
+/// A reference is given back.
+#[tactic(auto, unfolding(run_rules::specs::Next::command_deed))]
+fn plan_close(setup: &Setup, core: &Core, caller: u8, name: &[u8]) -> Result<Deed, Refusal>
+    ensures { (number : ℕ) → command_deed (world_of setup.now core.now) caller number (command.CloseDev name.now) ≡ or_refused (λ deed. deed) result }
+{
+    let device = held(setup, core, caller, name)?;
+    Ok(Deed::Close { of: device.serial })
+}
+
+/// Whether a spot answers with a device error.
+fn is_bad(setup: &Setup, spot: u16) -> bool
+    ensures { result ≡ option_map_or (λ spot. spot.bad) (slice_get setup.now.machine.spots spot) false }
+{
+    match setup.machine.spots.items().get(spot as usize) {
+        Some(s) => s.bad,
+        None => false,
+    }
+}
+
+/// A transfer is asked for, by the command of this number.
+#[tactic(auto, unfolding(run_rules::specs::Next::command_deed))]
+fn plan_io(
+    setup: &Setup,
+    core: &Core,
+    caller: u8,
+    number: u32,
+    name: &[u8],
+    value: u32,
+) -> Result<Deed, Refusal>
+    ensures { command_deed (world_of setup.now core.now) caller number (command.Io name.now value) ≡ or_refused (λ deed. deed) result }
+{
+    let device = held(setup, core, caller, name)?;
+    if device.asleep {
+        return Err(Refusal::Asleep);
+    }
+    Ok(Deed::Start(Ticket {
+        caller,
+        number,
+        serial: device.serial,
+        slot: device.spot,
+        bad: is_bad(setup, device.spot),
+        value,
+    }))
+}
+
+/// A list or a tree is asked for, of a device or of the root.
+fn plan_tell(setup: &Setup, core: &Core, of: &Option<Name>) -> Result<Deed, Refusal>
+    ensures { telling (world_of setup.now core.now) of.now ≡ or_refused (λ deed. deed) result }
+{
+    match of {
+        None => Ok(Deed::Tell),
+        Some(name) => match device_named(setup, core, name.bytes()) {
+            None => Err(Refusal::NoDevice),
+            Some(_) => Ok(Deed::Tell),
+        },
+    }
+}
+
+/// A power command is asked for.
+fn plan_begin(setup: &Setup, core: &Core, kind: PowerKind, name: &[u8]) -> Result<Deed, Refusal>
+    ensures { on_device (world_of setup.now core.now) name.now (λ d. BeginPower kind d.serial) ≡ or_refused (λ deed. deed) result }
+{
+    let device = spared(setup, core, name)?;
+    Ok(Deed::BeginPower {
+        kind,
+        of: device.serial,
+    })
+}
+
+/// Hardware comes to a spot.
+#[tactic(auto, unfolding(run_rules::specs::Next::command_deed))]
+fn plan_plug(setup: &Setup, name: &[u8]) -> Result<Deed, Refusal>
+    requires few { length setup.now.machine.spots ≤ 1024 }
+    ensures { (w : World) (k number : ℕ) → w.setup ≡ setup.now → command_deed w k number (command.Plug name.now) ≡ or_refused (λ deed. deed) result }
+{
+    match spot_named(setup, name) {
+        None => Err(Refusal::NoSpot),
+        Some(spot) => Ok(Deed::Plug { spot }),
+    }
+}
+
+/// The deed, unless a device keeps the target's subtree from going.
+fn if_free(
+    alloc: Global,
+    setup: &Setup,
+    core: &Core,
+    caller: u8,
+    target: u64,
+    forced: bool,
+    deed: Deed,
+) -> Result<Deed, Memory>
+    requires kept { Kept (world_of setup.now core.now) }
+    requires live { IsTrue (is_live core.now.tree.live target) }
+    ensures { IfOk result (λ does. unless_hindered (world_of setup.now core.now) caller target forced deed ≡ does) }
+{
+    match in_the_way(alloc, setup, core, caller, target, forced)? {
+        Some(other) => Ok(Deed::Refuse(Refusal::Busy(other))),
+        None => Ok(deed),
+    }
+}
+
+/// A device is to go with all that is below it.
+#[tactic(auto, unfolding(run_rules::specs::Next::command_deed))]
+fn plan_detach(
+    alloc: Global,
+    setup: &Setup,
+    core: &Core,
+    caller: u8,
+    name: &[u8],
+) -> Result<Deed, Memory>
+    requires kept { Kept (world_of setup.now core.now) }
+    ensures { (number : ℕ) → IfOk result (λ does. command_deed (world_of setup.now core.now) caller number (command.Detach name.now) ≡ does) }
+{
+    match spared(setup, core, name) {
+        Err(why) => Ok(Deed::Refuse(why)),
+        Ok(device) => {
+            let deed = Deed::Detach { of: device.serial };
+            if_free(alloc, setup, core, caller, device.serial, false, deed)
+        }
+    }
+}
+
+/// Hardware goes from a spot, with what stands on it.
+fn plan_unplug(
+    alloc: Global,
+    setup: &Setup,
+    core: &Core,
+    caller: u8,
+    spot: u16,
+) -> Result<Deed, Memory>
+    requires kept { Kept (world_of setup.now core.now) }
+    ensures { IfOk result (λ does. unplugging (world_of setup.now core.now) caller spot ≡ does) }
+{
+    match core.tree.on_spot(spot) {
+        None => Ok(Deed::Unplug { spot, of: None }),
+        Some(serial) => {
+            let deed = Deed::Unplug {
+                spot,
+                of: Some(serial),
+            };
+            if_free(alloc, setup, core, caller, serial, true, deed)
+        }
+    }
+}
+
+/// A device is to be searched again.
+fn plan_rescan(
+    graph: &Graph,
+    setup: &Setup,
+    core: &Core,
+    name: &[u8],
+    attr: &Option<Name>,
+    given: &[Given],
+) -> Result<Deed, Refusal>
+    requires graph { IsGraphOf (declared_by setup.now.tables) graph.now }
+    requires few { length setup.now.tables.attrs ≤ 65536 }
+    requires kept { Kept (world_of setup.now core.now) }
+    ensures { on_device (world_of setup.now core.now) name.now (λ d. rescanning (world_of setup.now core.now) d attr.now given.now) ≡ or_refused (λ deed. deed) result }
+{
+    let device = spared(setup, core, name)?;
+    plan_search(graph, setup, core, device, attr, given)
+}
+
+/// Hardware goes from the spot of a name.
+#[tactic(auto, unfolding(run_rules::specs::Next::command_deed))]
+fn plan_pull(
+    alloc: Global,
+    setup: &Setup,
+    core: &Core,
+    caller: u8,
+    name: &[u8],
+) -> Result<Deed, Memory>
+    requires few { length setup.now.machine.spots ≤ 1024 }
+    requires kept { Kept (world_of setup.now core.now) }
+    ensures { (number : ℕ) → IfOk result (λ does. command_deed (world_of setup.now core.now) caller number (command.Unplug name.now) ≡ does) }
+{
+    match spot_named(setup, name) {
+        None => Ok(Deed::Refuse(Refusal::NoSpot)),
+        Some(spot) => plan_unplug(alloc, setup, core, caller, spot),
+    }
+}
+
+/// What was answered: the deed, or a refusal.
+fn settled(answer: Result<Deed, Refusal>) -> Deed
+    ensures { or_refused (λ deed. deed) answer ≡ result }
+{
+    match answer {
+        Ok(deed) => deed,
+        Err(why) => Deed::Refuse(why),
+    }
+}
+
+/// A transfer is asked for, or refused.
+#[tactic(auto, unfolding(run_rules::specs::Next::command_deed))]
+fn ask_io(setup: &Setup, core: &Core, caller: u8, number: u32, name: &Name, value: u32) -> Deed
+    ensures { command_deed (world_of setup.now core.now) caller number (command.Io name.now value) ≡ result }
+{
+    settled(plan_io(setup, core, caller, number, name.bytes(), value))
+}
+
+/// A power command is asked for, or refused.
+fn ask_power(setup: &Setup, core: &Core, kind: PowerKind, name: &Name) -> Deed
+    ensures { on_device (world_of setup.now core.now) name.now (λ d. BeginPower kind d.serial) ≡ result }
+{
+    settled(plan_begin(setup, core, kind, name.bytes()))
+}
+
+/// What a command does, which has this number.
+#[tactic(auto, unfolding(run_rules::specs::Next::command_deed))]
+pub fn plan_command(
+    alloc: Global,
+    graph: &Graph,
+    setup: &Setup,
+    core: &Core,
+    caller: u8,
+    number: u32,
+    said: &Command,
+) -> Result<Deed, Memory>
+    requires graph { IsGraphOf (declared_by setup.now.tables) graph.now }
+    requires few { length setup.now.machine.spots ≤ 1024 }
+    requires few_attrs { length setup.now.tables.attrs ≤ 65536 }
+    requires kept { Kept (world_of setup.now core.now) }
+    ensures { IfOk result (λ does. command_deed (world_of setup.now core.now) caller number said.now ≡ does) }
+{
+    match said {
+        Command::OpenDev(name) => Ok(settled(plan_open(setup, core, caller, name.bytes()))),
+        Command::OpenSole(name) => Ok(settled(plan_open_sole(setup, core, caller, name.bytes()))),
+        Command::CloseDev(name) => Ok(settled(plan_close(setup, core, caller, name.bytes()))),
+        Command::Io(name, value) => Ok(ask_io(setup, core, caller, number, name, *value)),
+        Command::Detach(name) => plan_detach(alloc, setup, core, caller, name.bytes()),
+        Command::Rescan {
+            device,
+            attr,
+            given,
+        } => Ok(settled(plan_rescan(graph, setup, core, device.bytes(), attr, given.items()))),
+        Command::ListDev(of) => Ok(settled(plan_tell(setup, core, of))),
+        Command::TreeDev(of) => Ok(settled(plan_tell(setup, core, of))),
+        Command::Suspend(name) => Ok(ask_power(setup, core, PowerKind::Suspend, name)),
+        Command::Resume(name) => Ok(ask_power(setup, core, PowerKind::Resume, name)),
+        Command::ResumeTree(name) => Ok(ask_power(setup, core, PowerKind::ResumeTree, name)),
+        Command::Plug(name) => Ok(settled(plan_plug(setup, name.bytes()))),
+        Command::Unplug(name) => plan_pull(alloc, setup, core, caller, name.bytes()),
+    }
+}

@@ -1,0 +1,153 @@
+//! The due turn of a scan.
+ghost use Rattle.std.specs.Prelude.{◌≡◌, ◌<◌, ◌&&◌, false, IfSome, length, slice_get};
+ghost use Rattle.std.specs.Option.{option_map_or};
+ghost use Rattle.std.specs.Ordering.{int_eq};
+ghost use Rattle.run_rules.specs.World as world;
+ghost use Rattle.run_rules.specs.Search as rule;
+ghost use Rattle.attr_graph.specs.Graphs.{IsGraphOf, declared_by};
+ghost use Rattle.run_world.specs.Input.{Bounded};
+ghost use Rattle.run_world.specs.View.{Books};
+ghost use Rattle.next_deed.specs.Turns.{searcher_of};
+
+use crate::search::winner_at;
+use attr_graph::Graph;
+use dev_tree::DevTree;
+use match_search::found_at;
+use run_rules::{Position, Setup, Turn, Wanted};
+use run_world::{Core, attach_of, driver_of, has_spot, is_occupied};
+use scan_engine::next_turn;
+
+/// What searches: the driver, the attachment and the spot of a device, none of them for the root.
+#[derive(Clone, Copy)]
+pub struct Searcher {
+    pub driver: Option<u32>,
+    pub attach: Option<u32>,
+    pub spot: Option<u16>,
+}
+
+fn who_searches(setup: &Setup, tree: &DevTree, serial: u64) -> Searcher
+    ensures { result ≡ searcher_of setup.now tree.now.live serial }
+{
+    match tree.get(serial) {
+        Some(d) => Searcher {
+            driver: Some(driver_of(setup, d.row)),
+            attach: Some(attach_of(setup, d.row)),
+            spot: Some(d.spot),
+        },
+        None => Searcher {
+            driver: None,
+            attach: None,
+            spot: None,
+        },
+    }
+}
+
+/// Whether a spot has the locator value that is wanted.
+fn has_value(found: &[i64], wanted: Wanted) -> bool
+    ensures { result ≡ option_map_or (λ value. int_eq value wanted.value) (slice_get found.now wanted.place) false }
+{
+    match found.get(wanted.place as usize) {
+        Some(value) => *value == wanted.value,
+        None => false,
+    }
+}
+
+/// Whether a spot has all locator values that are wanted.
+fn passes_filter(found: &[i64], filter: &[Wanted]) -> bool
+    ensures { result ≡ rule.passes_filter found.now filter.now }
+{
+    filter.iter().all(|wanted| has_value(found, *wanted))
+}
+
+/// Whether a spot is open to search.
+#[tactic(auto, unfolding(run_rules::specs::Search::is_open))]
+fn is_open(setup: &Setup, core: &Core, filter: &[Wanted], spot: u16) -> bool
+    ensures { rule.is_open setup.now.machine core.now.tree.live core.now.absent.items core.now.hidden.items filter.now spot ≡ result }
+{
+    let absent = has_spot(&core.absent, spot);
+    let hidden = has_spot(&core.hidden, spot);
+    let occupied = is_occupied(&core.tree, spot);
+    let passes = passes_filter(found_at(&setup.machine, spot), filter);
+    !absent && !hidden && !occupied && passes
+}
+
+fn is_row(winner: Option<u32>, row: u32) -> bool
+    ensures { result ≡ world.is_number winner row }
+{
+    match winner {
+        Some(r) => r == row,
+        None => false,
+    }
+}
+
+/// Whether the turn's row is the winner at its spot.
+fn wins(graph: &Graph, setup: &Setup, core: &Core, serial: u64, turn: Turn) -> bool
+    requires graph { IsGraphOf (declared_by setup.now.tables) graph.now }
+    requires bounded { Bounded setup.now }
+    requires books { Books setup.now core.now }
+    ensures { world.is_number (rule.winner_at setup.now core.now.tree.live serial turn.place turn.at.spot) turn.at.row ≡ result }
+{
+    is_row(
+        winner_at(graph, setup, core, serial, turn.place, turn.at.spot),
+        turn.at.row,
+    )
+}
+
+/// Whether a turn is due: its spot is open, and on an indirect bus its row is the winner there.
+#[tactic(auto, unfolding(run_rules::specs::Search::is_due))]
+fn is_due(
+    graph: &Graph,
+    setup: &Setup,
+    core: &Core,
+    serial: u64,
+    filter: &[Wanted],
+    turn: Turn,
+) -> bool
+    requires graph { IsGraphOf (declared_by setup.now.tables) graph.now }
+    requires bounded { Bounded setup.now }
+    requires books { Books setup.now core.now }
+    ensures { rule.is_due setup.now core.now.tree.live core.now.absent.items core.now.hidden.items serial filter.now turn ≡ result }
+{
+    is_open(setup, core, filter, turn.at.spot)
+        && (!turn.indirect || wins(graph, setup, core, serial, turn))
+}
+
+/// The first due turn of a scan from a position on. See autoconf(9).
+pub fn due_turn(
+    graph: &Graph,
+    setup: &Setup,
+    core: &Core,
+    serial: u64,
+    only: Option<u32>,
+    filter: &[Wanted],
+    from: Position,
+) -> Option<Turn>
+    requires graph { IsGraphOf (declared_by setup.now.tables) graph.now }
+    requires bounded { Bounded setup.now }
+    requires books { Books setup.now core.now }
+    ensures due { rule.due setup.now core.now.tree.live core.now.absent.items core.now.hidden.items serial only filter.now from ≡ result }
+    ensures spot { IfSome result (λ t. t.at.spot < length setup.now.machine.spots) }
+{
+    let by = who_searches(setup, &core.tree, serial);
+    let mut position = from;
+    loop {
+        let turn = next_turn(
+            &setup.tables,
+            graph,
+            &setup.machine,
+            only,
+            position,
+            by.driver,
+            by.attach,
+            by.spot,
+        )?;
+        if is_due(graph, setup, core, serial, filter, turn) {
+            return Some(turn);
+        }
+        position = Position {
+            attr: turn.at.attr,
+            row: turn.at.row,
+            spot: turn.at.spot + 1,
+        };
+    }
+}

@@ -1,0 +1,84 @@
+//! What keeps devices from going, or from being searched: see config_detach(9).
+ghost use Rattle.std.specs.Prelude.{◌≡◌, ◌==◌, ℕ, Bool, IfOk, IsTrue};
+ghost use Rattle.std.specs.List.{list_any};
+ghost use Rattle.run_rules.specs.Next as next;
+ghost use Rattle.run_rules.specs.World as world;
+ghost use Rattle.run_rules.specs.World.{frame_serial};
+ghost use Rattle.run_rules.specs.declared.world.Setup as from;
+ghost use Rattle.detach_engine.specs.Hindrance.{AreMarksOf};
+ghost use Rattle.run_sound.specs.Kept.{Kept};
+ghost use Rattle.next_deed.specs.Choices.{serials_where};
+ghost use Rattle.run_world.specs.View.{world_of};
+
+use cf_types::{List, Memory};
+use detach_engine::{Marks, hindered};
+use run_rules::Setup;
+use run_world::{CallerState, Core, policy_of};
+use std::alloc::Global;
+
+/// Whether a frame of a caller is for the device.
+fn is_framed(callers: &[CallerState], serial: u64) -> bool
+    ensures { result ≡ list_any (λ c. list_any (λ f. frame_serial f == serial) c.stack.frames) callers.now }
+{
+    callers.iter().any(|caller| caller.stack.pins(serial))
+}
+
+/// Whether a frame of a caller, or a scan that was put off, is for the device.
+pub fn is_pinned(core: &Core, serial: u64) -> bool
+    ensures { (s : from.Setup) → result ≡ world.is_pinned (world_of s core.now) serial }
+{
+    is_framed(&core.callers, serial) || core.deferred.pinned(serial)
+}
+
+/// The live devices that a frame or a scan that was put off is for.
+fn pinned_of(alloc: Global, core: &Core) -> Result<List<u64>, Memory>
+    ensures { (s : from.Setup) → IfOk result (λ list. list ≡ serials_where (λ d. world.is_pinned (world_of s core.now) d.serial) core.now.tree.live) }
+{
+    let mut serials = List::make(alloc);
+    for device in core.tree.devices() {
+        if is_pinned(core, device.serial) {
+            serials.push(device.serial)?;
+        }
+    }
+    Ok(serials)
+}
+
+/// The live devices whose driver does not support detaching.
+fn undetachable_of(alloc: Global, setup: &Setup, core: &Core) -> Result<List<u64>, Memory>
+    ensures { IfOk result (λ list. list ≡ serials_where (λ d. (world.policy_of setup.now d.row).nodetach) core.now.tree.live) }
+{
+    let mut serials = List::make(alloc);
+    for device in core.tree.devices() {
+        if policy_of(setup, device.row).nodetach {
+            serials.push(device.serial)?;
+        }
+    }
+    Ok(serials)
+}
+
+/// The marks of the live devices.
+fn marks_of(alloc: Global, setup: &Setup, core: &Core) -> Result<Marks, Memory>
+    requires kept { Kept (world_of setup.now core.now) }
+    ensures { (target : ℕ) (forced : Bool) → IfOk result (AreMarksOf (world_of setup.now core.now) target forced) }
+{
+    let pinned = pinned_of(alloc, core)?;
+    let undetachable = undetachable_of(alloc, setup, core)?;
+    Ok(Marks::make(pinned, undetachable))
+}
+
+/// The device that keeps the target's subtree from going. See config_detach(9).
+pub fn in_the_way(
+    alloc: Global,
+    setup: &Setup,
+    core: &Core,
+    caller: u8,
+    target: u64,
+    forced: bool,
+) -> Result<Option<u64>, Memory>
+    requires kept { Kept (world_of setup.now core.now) }
+    requires live { IsTrue (world.is_live core.now.tree.live target) }
+    ensures { IfOk result (λ serial. serial ≡ world.serial_of (next.hindered (world_of setup.now core.now) target caller forced)) }
+{
+    let marks = marks_of(alloc, setup, core)?;
+    Ok(hindered(&core.tree, &core.refs, &marks, target, caller, forced))
+}

@@ -1,0 +1,16 @@
+//! What a caller does next: the choice that the parts of a board lead to.
+#![tactic(auto)]
+
+mod command;
+mod due;
+mod freeing;
+mod hindered;
+mod late;
+mod next;
+mod plan;
+mod power;
+mod rescan;
+mod search;
+mod unit;
+
+pub use next::choose;

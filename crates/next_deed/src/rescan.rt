@@ -1,0 +1,139 @@
+//! What a rescan searches, or why it does not begin. See drvctl(8).
+ghost use Rattle.std.specs.Prelude.{◌≡◌, ◌≤◌, ◌∷◌, true, Some, length, map, is_some};
+ghost use Rattle.std.specs.List.{list_any};
+ghost use Rattle.run_rules.specs.declared.deed.Deed.TheVariants.{Rescan};
+ghost use Rattle.run_rules.specs.declared.world.Dev.{Dev};
+ghost use Rattle.attr_graph.specs.Graphs.{IsGraphOf, declared_by};
+ghost use Rattle.run_rules.specs.Next as next;
+ghost use Rattle.run_rules.specs.Next.{has_nothing, rescan_of, rescanning, wanted_of};
+ghost use Rattle.run_rules.specs.World as world;
+ghost use Rattle.run_rules.specs.World.{World, is_number, offered_by};
+ghost use Rattle.next_deed.specs.Choices.{or_refused};
+ghost use Rattle.run_world.specs.View.{world_of};
+
+use crate::hindered::is_pinned;
+use attr_graph::Graph;
+use cf_types::{Given, Locator, Name, Place};
+use locator_rules::locators_at;
+use run_rules::{Deed, Dev, Refusal, Setup};
+use run_world::{Core, attr_named, driver_of, has, locator_place, policy_of};
+use scan_engine::offered;
+
+/// Whether a locator that is given has this place.
+fn stands_at(locators: &[Locator], given: &Given, place: usize) -> bool
+    ensures { result ≡ is_number (next.locator_place (map (λ l. l.name) locators.now) given.now.name) place }
+{
+    match locator_place(locators, given.name.bytes()) {
+        Some(found) => found == place,
+        None => false,
+    }
+}
+
+/// Whether a locator of this place is given.
+fn is_given(locators: &[Locator], place: usize, given: &[Given]) -> bool
+    ensures { result ≡ list_any (λ h. is_number (next.locator_place (map (λ l. l.name) locators.now) h.name) place) given.now }
+{
+    given.iter().any(|given| stands_at(locators, given, place))
+}
+
+/// Whether a locator may be given beside others: it is one of these, and not given again.
+fn is_new(locators: &[Locator], first: &Given, rest: &[Given]) -> bool
+    requires { is_some (wanted_of (map (λ l. l.name) locators.now) rest.now) ≡ true }
+    ensures { is_some (wanted_of (map (λ l. l.name) locators.now) (first.now ∷ rest.now)) ≡ result }
+{
+    match locator_place(locators, first.name.bytes()) {
+        Some(place) => !is_given(locators, place, rest),
+        None => false,
+    }
+}
+
+/// Whether each locator that is given is one of these, and none is given twice.
+fn are_wanted(locators: &[Locator], given: &[Given]) -> bool
+    ensures { is_some (wanted_of (map (λ l. l.name) locators.now) given.now) ≡ result }
+{
+    match given {
+        [] => true,
+        [first, rest @ ..] => are_wanted(locators, rest) && is_new(locators, first, rest),
+    }
+}
+
+/// Whether there is nothing in a list.
+fn is_nothing(offers: &[u32]) -> bool
+    ensures { result ≡ has_nothing offers.now }
+{
+    match offers {
+        [] => true,
+        [..] => false,
+    }
+}
+
+/// The attribute of a name, if a rescan with these locator values may search it alone.
+fn attr_of(
+    setup: &Setup,
+    offers: &[u32],
+    name: &[u8],
+    given: &[Given],
+) -> Result<Option<u32>, Refusal>
+    requires few { length setup.now.tables.attrs ≤ 65536 }
+    ensures { (w : World) (d : Dev) → w.setup ≡ setup.now → offered_by w.setup d.row ≡ offers.now → rescan_of w d (Some name.now) given.now ≡ or_refused (Rescan d.serial) result }
+{
+    match attr_named(setup, name) {
+        None => Err(Refusal::BadAttribute),
+        Some(attr) => {
+            if !has(offers, attr) {
+                Err(Refusal::BadAttribute)
+            } else if !are_wanted(locators_at(&setup.tables, Place::At(attr)), given) {
+                Err(Refusal::BadLocator)
+            } else {
+                Ok(Some(attr))
+            }
+        }
+    }
+}
+
+/// What a rescan of a device searches: one attribute alone, or all that the device offers.
+fn only_of(
+    setup: &Setup,
+    offers: &[u32],
+    attr: &Option<Name>,
+    given: &[Given],
+) -> Result<Option<u32>, Refusal>
+    requires few { length setup.now.tables.attrs ≤ 65536 }
+    ensures { (w : World) (d : Dev) → w.setup ≡ setup.now → offered_by w.setup d.row ≡ offers.now → rescan_of w d attr.now given.now ≡ or_refused (Rescan d.serial) result }
+{
+    match attr {
+        None => Ok(None),
+        Some(name) => attr_of(setup, offers, name.bytes(), given),
+    }
+}
+
+/// A device is to be searched again.
+pub fn plan_search(
+    graph: &Graph,
+    setup: &Setup,
+    core: &Core,
+    device: Dev,
+    attr: &Option<Name>,
+    given: &[Given],
+) -> Result<Deed, Refusal>
+    requires graph { IsGraphOf (declared_by setup.now.tables) graph.now }
+    requires few { length setup.now.tables.attrs ≤ 65536 }
+    requires there { world.device_at core.now.tree.live device.serial ≡ Some device }
+    ensures { rescanning (world_of setup.now core.now) device attr.now given.now ≡ or_refused (λ deed. deed) result }
+{
+    if is_pinned(core, device.serial) {
+        return Err(Refusal::Busy(device.serial));
+    }
+    if device.asleep {
+        return Err(Refusal::Asleep);
+    }
+    let offers = offered(graph, &setup.tables, driver_of(setup, device.row));
+    if policy_of(setup, device.row).norescan || is_nothing(offers) {
+        return Err(Refusal::NoRescan);
+    }
+    let only = only_of(setup, offers, attr, given)?;
+    Ok(Deed::Rescan {
+        of: device.serial,
+        only,
+    })
+}

@@ -1,0 +1,9 @@
+pub mod InputLaws
+pub mod NameLaws
+pub mod UnitLaws
+pub mod LookLaws
+pub mod CallerLaws
+pub mod Beginnings
+pub mod WantedLaws
+pub mod StepLaws
+pub mod TellLaws

@@ -1,0 +1,8 @@
+use Rattle.std.proofs.Common.{◌≡◌, ◌∷◌, [], map, take}
+use Rattle.run_rules.specs.World.{beginning, scan_of}
+use Rattle.run_world.specs.View.{callers_of}
+use Rattle.run_world.proofs.parts.beginning.Given as goal
+
+abbrev pub invariant-loop-script : goal.invariant-loop-script
+invariant-loop-script l =
+    callers_of l.callers.items ≡ beginning (scan_of 0 ∷ []) ∷ map (λ script. beginning []) (take l._script-index l.setup.scripts)

@@ -1,0 +1,9 @@
+pub mod Input
+pub mod Events
+pub mod Callers
+pub mod UnitsOf
+pub mod View
+pub mod Arrivals
+pub mod Late
+pub mod Rescans
+pub mod Scripted

@@ -1,0 +1,20 @@
+//! The world of a run, as the parts of a board hold it: what is looked up in it, and what its callers are in the middle of.
+#![tactic(auto)]
+
+mod activity;
+mod caller;
+mod named;
+mod parts;
+mod rescan_filter;
+mod script;
+mod spots;
+
+pub use activity::{begin, begin_scan, finish, is_ended};
+pub use caller::CallerState;
+pub use named::{attr_named, device_named, spot_named};
+pub use parts::{Core, append, opening_core};
+pub use rescan_filter::{locator_place, wanted_by};
+pub use script::{command_of, given_by};
+pub use spots::{
+    attach_of, driver_name, driver_of, has, has_spot, is_occupied, place_of, policy_of,
+};

@@ -1,0 +1,128 @@
+//! The parts of a board that events change.
+ghost use Rattle.std.specs.Prelude.{◌≡◌, ◌≤◌, ◌<◌, ◌+◌, ◌++◌, ◌∷◌, [], length, IfOk, vec_len, vec_capacity};
+ghost use Rattle.run_rules.specs.World as world;
+ghost use Rattle.run_world.specs.View.{IsFirst, callers_of};
+
+use crate::caller::{CallerState, new_scan};
+use crate::spots::{is_absent, is_late};
+use cf_types::Memory;
+use defer_queue::Deferred;
+use dev_tree::DevTree;
+use match_search::LiveRows;
+use ref_ledger::Refs;
+use run_rules::{Event, Setup};
+use std::alloc::Global;
+use unit_alloc::Units;
+
+/// What events change.
+#[derive(Drop)]
+pub struct Core {
+    pub tree: DevTree,
+    /// Of each row whether it is live.
+    pub rows: LiveRows,
+    /// The units of live devices.
+    pub units: Units,
+    pub refs: Refs,
+    /// The spots without hardware, and the late spots that no finaliser has shown yet.
+    pub absent: Vec<u16>,
+    pub hidden: Vec<u16>,
+    /// Whether interrupts work.
+    pub interrupts_on: bool,
+    /// The caller in whose hands the power commands are.
+    pub power_owner: Option<u8>,
+    /// The scans that were put off.
+    pub deferred: Deferred,
+    /// The devices with a finaliser, the place in this list, and whether one of this pass answered 1.
+    pub finalisers: Vec<u64>,
+    pub next_finaliser: u64,
+    pub pass_repeats: bool,
+    /// Caller 0, which boots, and then the caller of each script.
+    pub callers: Vec<CallerState>,
+    pub stops: u64,
+    pub stopped: Option<u8>,
+    pub events: Vec<Event>,
+}
+
+/// The late spots.
+fn late_spots(alloc: Global, setup: &Setup) -> Result<Vec<u16>, Memory>
+    requires few { length setup.now.machine.spots ≤ 1024 }
+    ensures { IfOk result (λ spots. spots.items ≡ world.late_spots setup.now) }
+{
+    let mut spots = Vec::new(alloc);
+    for spot in 0..setup.machine.spots.len() as u16 {
+        if is_late(setup, spot) {
+            spots.push(spot)?;
+        }
+    }
+    Ok(spots)
+}
+
+/// The spots without hardware.
+fn absent_spots(alloc: Global, setup: &Setup) -> Result<Vec<u16>, Memory>
+    requires few { length setup.now.machine.spots ≤ 1024 }
+    ensures { IfOk result (λ spots. spots.items ≡ world.absent_spots setup.now) }
+{
+    let mut spots = Vec::new(alloc);
+    for spot in 0..setup.machine.spots.len() as u16 {
+        if is_absent(setup, spot) {
+            spots.push(spot)?;
+        }
+    }
+    Ok(spots)
+}
+
+/// The callers before any event: the one that boots has the scan of the root before it.
+fn beginning(alloc: Global, setup: &Setup) -> Result<Vec<CallerState>, Memory>
+    ensures { IfOk result (λ callers. callers_of callers.items ≡ (world.opening setup.now).callers) }
+{
+    let mut callers = Vec::new(alloc);
+    let mut booting = CallerState::beginning(alloc);
+    booting.stack.reserve(1)?;
+    booting.push(new_scan(alloc, 0));
+    callers.push(booting)?;
+    for _script in setup.scripts.items() {
+        callers.push(CallerState::beginning(alloc))?;
+    }
+    Ok(callers)
+}
+
+/// The parts before any event: the scan of the root is before caller 0, and late spots are hidden.
+pub fn opening_core(alloc: Global, setup: &Setup) -> Result<Core, Memory>
+    requires few { length setup.now.machine.spots ≤ 1024 }
+    requires few_devices { length setup.now.tables.devices ≤ 65536 }
+    ensures { IfOk result (IsFirst setup.now) }
+{
+    let hidden = late_spots(alloc, setup)?;
+    let absent = absent_spots(alloc, setup)?;
+    let rows = LiveRows::make(alloc, &setup.tables)?;
+    let units = Units::make(alloc, setup.tables.devices.len() as u32)?;
+    let callers = beginning(alloc, setup)?;
+    Ok(Core {
+        tree: DevTree::make(alloc),
+        rows,
+        units,
+        refs: Refs::make(alloc),
+        absent,
+        hidden,
+        interrupts_on: false,
+        power_owner: None,
+        deferred: Deferred::make(alloc),
+        finalisers: Vec::new(alloc),
+        next_finaliser: 0,
+        pass_repeats: false,
+        callers,
+        stops: 0,
+        stopped: None,
+        events: Vec::new(alloc),
+    })
+}
+
+/// Appends to a vector that has room.
+pub fn append<T: Drop>(list: &mut Vec<T>, value: T)
+    requires { vec_len list.old < vec_capacity list.old }
+    ensures items { list.new.items ≡ list.old.items ++ value ∷ [] }
+    ensures len { vec_len list.new ≡ vec_len list.old + 1 }
+    ensures room { vec_capacity list.old ≤ vec_capacity list.new }
+{
+    let _ = list.push(value);
+}
