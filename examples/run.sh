@@ -29,3 +29,4 @@ same server.boot amd64 boot GENERIC ../machines/server
 same detach.play pc play GENERIC ../machines/pc ../detach.order ../hold.script ../detach.script
 same plug.play pc play GENERIC ../machines/pc ../plug.order ../plug.script
 same power.play pc play GENERIC ../machines/pc ../power.order ../power.script
+same check.play pc play GENERIC ../machines/pc ../check.order ../mount.script ../check.script

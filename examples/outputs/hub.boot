@@ -10,20 +10,20 @@ attach leaf of leaf at hub
 row 0 bus0 at root by bus on root flags 0
 row 1 hub* from 0 at bus? by hub on bus flags 0
 row 2 leaf* from 0 at hub? by leaf on hub flags 0
-history 1
-0.0 found root: bus0
-0.0 found bus0: hub0
-0.0 found bus0: hub1
+history 2
+0.0 found root on b: bus0 row 0
+0.0 found bus0 on h0: hub0 row 1
+0.0 found bus0 on h1: hub1 row 1
 0.0 scan bus0: done
-0.0 found hub0: leaf0
+0.0 found hub0 on l0: leaf0 row 2
 0.0 scan hub0: done
 0.0 scan hub1: done
 0.0 scan root: done
 0.0 interrupts
 0.0 final hub0: 0
-0.0 final hub1: 1 leaf1
+0.0 final hub1: 1 on l1: leaf1 row 2
 0.0 final hub0: 0
-0.0 final hub1: 1 leaf2
+0.0 final hub1: 1 on l2: leaf2 row 2
 0.0 final hub0: 0
 0.0 final hub1: 0
 0.0 end

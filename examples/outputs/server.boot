@@ -1255,80 +1255,80 @@ file-system NULLFS
 file-system OVERLAY
 file-system UNION
 file-system PUFFS
-history 1
-0.0 found root: mainbus0
-0.0 found mainbus0: cpu0
-0.0 found cpu0: acpicpu0
-0.0 found cpu0: coretemp0
+history 2
+0.0 found root on mb: mainbus0 row 354
+0.0 found mainbus0 on cpu0: cpu0 row 189
+0.0 found cpu0 on p0: acpicpu0 row 190
+0.0 found cpu0 on t0: coretemp0 row 191
 0.0 scan cpu0: done
-0.0 found mainbus0: cpu1
-0.0 found cpu1: acpicpu1
-0.0 found cpu1: coretemp1
+0.0 found mainbus0 on cpu1: cpu1 row 189
+0.0 found cpu1 on p1: acpicpu1 row 190
+0.0 found cpu1 on t1: coretemp1 row 191
 0.0 scan cpu1: done
-0.0 found mainbus0: cpu2
-0.0 found cpu2: acpicpu2
-0.0 found cpu2: coretemp2
+0.0 found mainbus0 on cpu2: cpu2 row 189
+0.0 found cpu2 on p2: acpicpu2 row 190
+0.0 found cpu2 on t2: coretemp2 row 191
 0.0 scan cpu2: done
-0.0 found mainbus0: cpu3
-0.0 found cpu3: acpicpu3
-0.0 found cpu3: coretemp3
+0.0 found mainbus0 on cpu3: cpu3 row 189
+0.0 found cpu3 on p3: acpicpu3 row 190
+0.0 found cpu3 on t3: coretemp3 row 191
 0.0 scan cpu3: done
-0.0 found mainbus0: cpu4
-0.0 found cpu4: acpicpu4
-0.0 found cpu4: coretemp4
+0.0 found mainbus0 on cpu4: cpu4 row 189
+0.0 found cpu4 on p4: acpicpu4 row 190
+0.0 found cpu4 on t4: coretemp4 row 191
 0.0 scan cpu4: done
-0.0 found mainbus0: cpu5
-0.0 found cpu5: acpicpu5
-0.0 found cpu5: coretemp5
+0.0 found mainbus0 on cpu5: cpu5 row 189
+0.0 found cpu5 on p5: acpicpu5 row 190
+0.0 found cpu5 on t5: coretemp5 row 191
 0.0 scan cpu5: done
-0.0 found mainbus0: cpu6
-0.0 found cpu6: acpicpu6
-0.0 found cpu6: coretemp6
+0.0 found mainbus0 on cpu6: cpu6 row 189
+0.0 found cpu6 on p6: acpicpu6 row 190
+0.0 found cpu6 on t6: coretemp6 row 191
 0.0 scan cpu6: done
-0.0 found mainbus0: cpu7
-0.0 found cpu7: acpicpu7
-0.0 found cpu7: coretemp7
+0.0 found mainbus0 on cpu7: cpu7 row 189
+0.0 found cpu7 on p7: acpicpu7 row 190
+0.0 found cpu7 on t7: coretemp7 row 191
 0.0 scan cpu7: done
-0.0 found mainbus0: ioapic0
-0.0 found mainbus0: ioapic1
-0.0 found mainbus0: acpi0
-0.0 found acpi0: acpibut0
-0.0 found acpi0: attimer1
-0.0 found acpi0: tpm0
-0.0 found acpi0: acpitz0
-0.0 found acpi0: not configured
-0.0 found acpi0: not configured
-0.0 found acpi0: not configured
-0.0 found acpi0: hpet0
-0.0 found acpi0: acpiwdrt0
+0.0 found mainbus0 on ioa0: ioapic0 row 195
+0.0 found mainbus0 on ioa1: ioapic1 row 195
+0.0 found mainbus0 on acpi: acpi0 row 197
+0.0 found acpi0 on pwrb: acpibut0 row 200
+0.0 found acpi0 on tmr: attimer1 row 14
+0.0 found acpi0 on tpm: tpm0 row 110
+0.0 found acpi0 on tz0: acpitz0 row 207
+0.0 found acpi0 on ipi: not configured
+0.0 found acpi0 on res0: not configured
+0.0 found acpi0 on res1: not configured
+0.0 found acpi0 on hpt: hpet0 row 34
+0.0 found acpi0 on wdrt: acpiwdrt0 row 208
 0.0 scan acpi0: done
-0.0 found mainbus0: ipmi0
-0.0 found mainbus0: pci0
-0.0 found pci0: pchb0
+0.0 found mainbus0 on bmc: ipmi0 row 196
+0.0 found mainbus0 on pb0: pci0 row 220
+0.0 found pci0 on hb: pchb0 row 223
 0.0 scan pchb0: done
-0.0 found pci0: ppb0
-0.0 found ppb0: pci1
-0.0 found pci1: mpii0
-0.0 found mpii0: scsibus0
+0.0 found pci0 on rp1: ppb0 row 225
+0.0 found ppb0 on pb1: pci1 row 222
+0.0 found pci1 on sas: mpii0 row 68
+0.0 found mpii0 on sasb: scsibus0 row 140
 0.0 scan mpii0: done
 0.0 scan pci1: done
 0.0 scan ppb0: done
-0.0 found pci0: ppb1
-0.0 found ppb1: pci2
-0.0 found pci2: ppb2
-0.0 found ppb2: pci3
-0.0 found pci3: ppb3
-0.0 found ppb3: pci4
-0.0 found pci4: nvme0
-0.0 found nvme0: ld0
+0.0 found pci0 on rp2: ppb1 row 225
+0.0 found ppb1 on pb2: pci2 row 222
+0.0 found pci2 on up: ppb2 row 225
+0.0 found ppb2 on pb3: pci3 row 222
+0.0 found pci3 on dn0: ppb3 row 225
+0.0 found ppb3 on pb4: pci4 row 222
+0.0 found pci4 on nv0: nvme0 row 56
+0.0 found nvme0 on ns0: ld0 row 44
 0.0 scan nvme0: done
 0.0 scan pci4: done
 0.0 scan ppb3: done
-0.0 found pci3: ppb4
-0.0 found ppb4: pci5
-0.0 found pci5: nvme1
-0.0 found nvme1: ld1
-0.0 found nvme1: ld2
+0.0 found pci3 on dn1: ppb4 row 225
+0.0 found ppb4 on pb5: pci5 row 222
+0.0 found pci5 on nv1: nvme1 row 56
+0.0 found nvme1 on ns1: ld1 row 44
+0.0 found nvme1 on ns2: ld2 row 44
 0.0 scan nvme1: done
 0.0 scan pci5: done
 0.0 scan ppb4: done
@@ -1336,182 +1336,182 @@ history 1
 0.0 scan ppb2: done
 0.0 scan pci2: done
 0.0 scan ppb1: done
-0.0 found pci0: ppb5
-0.0 found ppb5: pci6
-0.0 found pci6: ixg0
-0.0 found pci6: ixg1
+0.0 found pci0 on rp3: ppb5 row 225
+0.0 found ppb5 on pb6: pci6 row 222
+0.0 found pci6 on xg0: ixg0 row 259
+0.0 found pci6 on xg1: ixg1 row 259
 0.0 scan pci6: done
 0.0 scan ppb5: done
-0.0 found pci0: not configured
-0.0 found pci0: not configured
-0.0 found pci0: xhci0
-0.0 found xhci0: usb0
-0.0 found xhci0: usb1
+0.0 found pci0 on dma: not configured
+0.0 found pci0 on vtd: not configured
+0.0 found pci0 on xh: xhci0 row 105
+0.0 found xhci0 on ub0: usb0 row 316
+0.0 found xhci0 on ub1: usb1 row 316
 0.0 scan xhci0: done
-0.0 found pci0: not configured
-0.0 found pci0: not configured
-0.0 found pci0: ehci0
-0.0 found ehci0: usb2
+0.0 found pci0 on me0: not configured
+0.0 found pci0 on me1: not configured
+0.0 found pci0 on eh0: ehci0 row 103
+0.0 found ehci0 on ub2: usb2 row 316
 0.0 scan ehci0: done
-0.0 found pci0: ppb6
-0.0 found ppb6: pci7
-0.0 found pci7: ppb7
-0.0 found ppb7: pci8
-0.0 found pci8: vga1
-0.0 found vga1: wsdisplay0
+0.0 found pci0 on rp4: ppb6 row 225
+0.0 found ppb6 on pb7: pci7 row 222
+0.0 found pci7 on asb: ppb7 row 225
+0.0 found ppb7 on pb8: pci8 row 222
+0.0 found pci8 on vga: vga1 row 39
+0.0 found vga1 on scr: wsdisplay0 row 0
 0.0 scan vga1: done
 0.0 scan pci8: done
 0.0 scan ppb7: done
 0.0 scan pci7: done
 0.0 scan ppb6: done
-0.0 found pci0: ppb8
-0.0 found ppb8: pci9
-0.0 found pci9: wm0
-0.0 found wm0: ihphy0
+0.0 found pci0 on rp5: ppb8 row 225
+0.0 found ppb8 on pb9: pci9 row 222
+0.0 found pci9 on lan0: wm0 row 271
+0.0 found wm0 on phy0: ihphy0 row 130
 0.0 scan wm0: done
-0.0 found pci9: wm1
-0.0 found wm1: ihphy1
+0.0 found pci9 on lan1: wm1 row 271
+0.0 found wm1 on phy1: ihphy1 row 130
 0.0 scan wm1: done
 0.0 scan pci9: done
 0.0 scan ppb8: done
-0.0 found pci0: ppb9
-0.0 found ppb9: pci10
+0.0 found pci0 on rp6: ppb9 row 225
+0.0 found ppb9 on pb10: pci10 row 222
 0.0 scan pci10: done
 0.0 scan ppb9: done
-0.0 found pci0: ichlpcib0
-0.0 found pci0: ahcisata0
-0.0 found ahcisata0: atabus0
-0.0 found atabus0: wd0
+0.0 found pci0 on lpc: ichlpcib0 row 227
+0.0 found pci0 on sata: ahcisata0 row 239
+0.0 found ahcisata0 on ch0: atabus0 row 153
+0.0 found atabus0 on hd0: wd0 row 154
 0.0 scan atabus0: done
-0.0 found ahcisata0: atabus1
-0.0 found atabus1: wd1
+0.0 found ahcisata0 on ch1: atabus1 row 153
+0.0 found atabus1 on hd1: wd1 row 154
 0.0 scan atabus1: done
-0.0 found ahcisata0: atabus2
-0.0 found atabus2: wd2
+0.0 found ahcisata0 on ch2: atabus2 row 153
+0.0 found atabus2 on hd2: wd2 row 154
 0.0 scan atabus2: done
-0.0 found ahcisata0: atabus3
-0.0 found atabus3: wd3
+0.0 found ahcisata0 on ch3: atabus3 row 153
+0.0 found atabus3 on hd3: wd3 row 154
 0.0 scan atabus3: done
-0.0 found ahcisata0: atabus4
-0.0 found atabus4: atapibus0
-0.0 found atapibus0: cd0
+0.0 found ahcisata0 on ch4: atabus4 row 153
+0.0 found atabus4 on dvdb: atapibus0 row 141
+0.0 found atapibus0 on dvd: cd0 row 147
 0.0 scan atapibus0: done
 0.0 scan atabus4: done
-0.0 found ahcisata0: atabus5
+0.0 found ahcisata0 on ch5: atabus5 row 153
 0.0 scan atabus5: done
 0.0 scan ahcisata0: done
-0.0 found pci0: ichsmb0
-0.0 found ichsmb0: iic0
-0.0 found iic0: spdmem0
-0.0 found iic0: spdmem1
-0.0 found iic0: spdmem2
-0.0 found iic0: spdmem3
-0.0 found iic0: sdtemp0
-0.0 found iic0: sdtemp1
-0.0 found iic0: not configured
+0.0 found pci0 on smb: ichsmb0 row 274
+0.0 found ichsmb0 on i2c: iic0 row 166
+0.0 found iic0 on spd0: spdmem0 row 167
+0.0 found iic0 on spd1: spdmem1 row 167
+0.0 found iic0 on spd2: spdmem2 row 167
+0.0 found iic0 on spd3: spdmem3 row 167
+0.0 found iic0 on dts0: sdtemp0 row 168
+0.0 found iic0 on dts1: sdtemp1 row 168
+0.0 found iic0 on clk: not configured
 0.0 scan iic0: done
 0.0 scan ichsmb0: done
-0.0 found pci0: not configured
+0.0 found pci0 on thr: not configured
 0.0 scan pci0: done
-0.0 found ichlpcib0: isa0
-0.0 found isa0: attimer0
-0.0 found isa0: pcppi0
-0.0 found pcppi0: spkr0
-0.0 found pcppi0: midi0
-0.0 found pcppi0: sysbeep0
+0.0 found ichlpcib0 on isa: isa0 row 288
+0.0 found isa0 on pit: attimer0 row 13
+0.0 found isa0 on ppi: pcppi0 row 15
+0.0 found pcppi0 on tone: spkr0 row 158
+0.0 found pcppi0 on tune: midi0 row 160
+0.0 found pcppi0 on beep: sysbeep0 row 291
 0.0 scan pcppi0: done
-0.0 found isa0: pckbc0
-0.0 found pckbc0: pckbd0
-0.0 found pckbd0: wskbd0
+0.0 found isa0 on kbc: pckbc0 row 17
+0.0 found pckbc0 on kbck: pckbd0 row 11
+0.0 found pckbd0 on kbdw: wskbd0 row 3
 0.0 scan pckbd0: done
-0.0 found pckbc0: not configured
+0.0 found pckbc0 on kbcm: not configured
 0.0 scan pckbc0: done
-0.0 found isa0: com0
-0.0 found isa0: com1
-0.0 found isa0: lpt0
-0.0 found isa0: wbsio0
-0.0 found wbsio0: lm1
-0.0 found wbsio0: gpio0
-0.0 found gpio0: gpioow0
-0.0 found gpioow0: onewire0
-0.0 found onewire0: owtemp0
+0.0 found isa0 on u0: com0 row 19
+0.0 found isa0 on u1: com1 row 20
+0.0 found isa0 on lp: lpt0 row 28
+0.0 found isa0 on sio: wbsio0 row 300
+0.0 found wbsio0 on hwm: lm1 row 116
+0.0 found wbsio0 on siog: gpio0 row 174
+0.0 found gpio0 on ow: gpioow0 row 175
+0.0 found gpioow0 on owb: onewire0 row 176
+0.0 found onewire0 on owt: owtemp0 row 177
 0.0 scan onewire0: done
 0.0 scan gpioow0: done
 0.0 scan gpio0: done
 0.0 scan wbsio0: done
 0.0 scan isa0: done
-0.0 found ichlpcib0: tco0
+0.0 found ichlpcib0 on tco: tco0 row 230
 0.0 scan ichlpcib0: done
 0.0 scan mainbus0: done
-0.0 found root: ataraid0
+0.0 found root on ar: ataraid0 row 156
 0.0 scan ataraid0: done
 0.0 scan root: done
 0.0 interrupts
-0.0 found scsibus0: sd0
-0.0 found scsibus0: sd1
-0.0 found scsibus0: sd2
-0.0 found scsibus0: sd3
-0.0 found scsibus0: sd4
-0.0 found scsibus0: sd5
-0.0 found scsibus0: ses0
-0.0 found scsibus0: uk0
+0.0 found scsibus0 on shelf0: sd0 row 142
+0.0 found scsibus0 on shelf1: sd1 row 142
+0.0 found scsibus0 on shelf2: sd2 row 142
+0.0 found scsibus0 on shelf3: sd3 row 142
+0.0 found scsibus0 on shelf4: sd4 row 142
+0.0 found scsibus0 on shelf6: sd5 row 142
+0.0 found scsibus0 on box: ses0 row 149
+0.0 found scsibus0 on ctl: uk0 row 151
 0.0 scan scsibus0: done
-0.0 found usb0: uhub0
-0.0 found uhub0: uhub1
-0.0 found uhub1: uhub2
-0.0 found uhub2: ugen0
-0.0 found uhub2: umass0
-0.0 found umass0: scsibus1
-0.0 found scsibus1: sd6
+0.0 found usb0 on rh0: uhub0 row 317
+0.0 found uhub0 on hubA: uhub1 row 318
+0.0 found uhub1 on hubB: uhub2 row 318
+0.0 found uhub2 on ups: ugen0 row 341
+0.0 found uhub2 on stick: umass0 row 323
+0.0 found umass0 on stickb: scsibus1 row 140
+0.0 found scsibus1 on stickd: sd6 row 142
 0.0 scan scsibus1: done
 0.0 scan umass0: done
-0.0 found uhub2: uftdi0
-0.0 found uftdi0: ucom0
+0.0 found uhub2 on ser: uftdi0 row 329
+0.0 found uftdi0 on serp: ucom0 row 327
 0.0 scan uftdi0: done
 0.0 scan uhub2: done
-0.0 found uhub1: uhidev0
-0.0 found uhidev0: ukbd0
-0.0 found ukbd0: wskbd1
+0.0 found uhub1 on kbA: uhidev0 row 319
+0.0 found uhidev0 on kbr: ukbd0 row 321
+0.0 found ukbd0 on kbw: wskbd1 row 5
 0.0 scan ukbd0: done
 0.0 scan uhidev0: done
-0.0 found uhub1: uhidev1
-0.0 found uhidev1: uhid0
+0.0 found uhub1 on kbB: uhidev1 row 319
+0.0 found uhidev1 on kbx: uhid0 row 320
 0.0 scan uhidev1: done
 0.0 scan uhub1: done
 0.0 scan uhub0: done
 0.0 scan usb0: done
-0.0 found usb1: uhub3
-0.0 found uhub3: umass1
-0.0 found umass1: scsibus2
-0.0 found scsibus2: sd7
-0.0 found scsibus2: ses1
+0.0 found usb1 on rh1: uhub3 row 317
+0.0 found uhub3 on bkp: umass1 row 323
+0.0 found umass1 on bkpb: scsibus2 row 140
+0.0 found scsibus2 on bkpd: sd7 row 142
+0.0 found scsibus2 on bkps: ses1 row 149
 0.0 scan scsibus2: done
 0.0 scan umass1: done
 0.0 scan uhub3: done
 0.0 scan usb1: done
-0.0 found usb2: uhub4
-0.0 found uhub4: uhub5
-0.0 found uhub5: uhidev2
-0.0 found uhidev2: ukbd1
-0.0 found ukbd1: wskbd2
+0.0 found usb2 on rh2: uhub4 row 317
+0.0 found uhub4 on rmh: uhub5 row 318
+0.0 found uhub5 on vk: uhidev2 row 319
+0.0 found uhidev2 on vkr: ukbd1 row 321
+0.0 found ukbd1 on vkw: wskbd2 row 5
 0.0 scan ukbd1: done
 0.0 scan uhidev2: done
-0.0 found uhub5: uhidev3
-0.0 found uhidev3: ums0
-0.0 found ums0: wsmouse0
+0.0 found uhub5 on vm: uhidev3 row 319
+0.0 found uhidev3 on vmr: ums0 row 322
+0.0 found ums0 on vmw: wsmouse0 row 8
 0.0 scan ums0: done
 0.0 scan uhidev3: done
-0.0 found uhub5: umass2
-0.0 found umass2: atapibus1
-0.0 found atapibus1: cd1
+0.0 found uhub5 on vcd: umass2 row 323
+0.0 found umass2 on vcda: atapibus1 row 141
+0.0 found atapibus1 on vcdd: cd1 row 147
 0.0 scan atapibus1: done
 0.0 scan umass2: done
 0.0 scan uhub5: done
 0.0 scan uhub4: done
 0.0 scan usb2: done
-0.0 final ataraid0: 1 ld3
-0.0 final ataraid0: 1 ld4
-0.0 final ataraid0: 1 not configured
+0.0 final ataraid0: 1 on vol0: ld3 row 43
+0.0 final ataraid0: 1 on vol1: ld4 row 43
+0.0 final ataraid0: 1 on vol2: not configured
 0.0 final ataraid0: 0
 0.0 end
 tree

@@ -30,12 +30,17 @@ use Rattle.app_config.specs.Summary.{attaches}
 
 -- ---- what a boot does
 
+-- what comes when a finaliser is called comes to the spot that it shows
+abbrev comes_to : Option ℕ → Option Arrival → Bool
+comes_to None got = not (is_some got)
+comes_to (Some x) got = true
+
 -- the deeds of a boot
 abbrev is_of_boot : Deed → Bool
 is_of_boot (Search p spot to got) = true
 is_of_boot (EndScan p) = true
 is_of_boot BeginInterrupts = true
-is_of_boot (Finalise s spot got listed anew) = true
+is_of_boot (Finalise s spot got listed anew) = comes_to spot got
 is_of_boot EndCaller = true
 is_of_boot _ = false
 
@@ -193,22 +198,27 @@ done_live w (Some place) answer = refl
 done_live w None true = refl
 done_live w None false = refl
 
-some_named : {A B : Type 0} (f : A → B) (o : Option A) → is_some (option_map f o) ≡ is_some o
-some_named f None = refl
-some_named f (Some a) = refl
+some_named : {A B C : Type 0} (f : A → B) (g : B → C) (o : Option A) → is_some (option_map g (option_map f o)) ≡ is_some o
+some_named f g None = refl
+some_named f g (Some a) = refl
 
-after_many : (w : World) (d : Deed) → is_of_boot d ≡ true → length (after w 0 d).live ≡ length w.live + one_if (attaches (event_of w 0 d))
-unfolding after released event_of printed
-after_many w (Search p spot to got) of_boot =
-    arrived_many (with_stack w 0 (moved_top to (caller_at w 0).stack)) got true ∙ ap (λ b. length w.live + one_if b) (sym (some_named _ got))
-after_many w (EndScan p) of_boot = omega arith
-after_many w BeginInterrupts of_boot = omega arith
-after_many w (Finalise s spot got place anew) of_boot =
+final_many : (w : World) (spot : Option ℕ) (got : Option Arrival) (place : Option ℕ) (anew : Bool)
+    → length (finaliser_done (list_moved (arrived (show_spot w spot) 0 got false) place anew (is_some spot)) 0 place (is_some spot)).live ≡ length w.live + one_if (is_some got)
+final_many w spot got place anew =
     ap length (done_live (list_moved (arrived (show_spot w spot) 0 got false) place anew (is_some spot)) place (is_some spot)
     ∙ moved_live (arrived (show_spot w spot) 0 got false) place anew (is_some spot))
     ∙ arrived_many (show_spot w spot) got false
     ∙ ap (λ n. n + one_if (is_some got)) (shown_many w spot)
-    ∙ ap (λ b. length w.live + one_if b) (sym (some_named _ got))
+
+after_many : (w : World) (d : Deed) → is_of_boot d ≡ true → length (after w 0 d).live ≡ length w.live + one_if (attaches (event_of w 0 d))
+unfolding after released event_of printed
+after_many w (Search p spot to got) of_boot =
+    arrived_many (with_stack w 0 (moved_top to (caller_at w 0).stack)) got true ∙ ap (λ b. length w.live + one_if b) (sym (some_named _ _ got))
+after_many w (EndScan p) of_boot = omega arith
+after_many w BeginInterrupts of_boot = omega arith
+after_many w (Finalise s (Some x) got place anew) of_boot = final_many w (Some x) got place anew ∙ ap (λ b. length w.live + one_if b) (sym (some_named _ _ got))
+after_many w (Finalise s None None place anew) of_boot = final_many w None None place anew
+after_many w (Finalise s None (Some a) place anew) of_boot = absurd cc
 after_many w EndCaller of_boot = omega arith
 after_many w _ of_boot = absurd cc
 
