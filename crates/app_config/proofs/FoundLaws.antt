@@ -11,6 +11,7 @@ use Rattle.cf_types.specs.declared.machine.Command.{Command}
 use Rattle.cf_types.specs.declared.machine.Machine.{Machine}
 use Rattle.cf_types.specs.declared.tables.Tables.{Tables}
 use Rattle.config_rules.specs.Formed.{FitGraph, FormedTables}
+use Rattle.history_laws.specs.Reliable.{IsReliable}
 use Rattle.run_rules.specs.declared.event.Event.{Event}
 use Rattle.run_rules.specs.declared.world.Setup.{Setup}
 use Rattle.run_rules.specs.Run.{Boot}
@@ -35,17 +36,18 @@ unfolding IsAskedText
 listed i tables is = subst (λ (j : Inputs). IsAskedText j (listing tables)) (sym is) refl
 
 pub boot_ran : (i : Inputs) (tables : Tables) (machine : Machine) (h : List Event) (w : World) → i ≡ inputs.Boot tables machine
-    → Boot (opening (setup_of tables machine [])) h w → w.setup ≡ setup_of tables machine [] → IsAskedText i (run_text w.setup.tables h w)
+    → Boot (opening (setup_of tables machine [])) h w → w.setup ≡ setup_of tables machine [] → IsReliable h w → IsAskedText i (run_text w.setup.tables h w)
 unfolding IsAskedText
-boot_ran i tables machine h w is boots made =
-    subst (λ (j : Inputs). IsAskedText j (run_text w.setup.tables h w)) (sym is) (h, w, boots, ap (λ (s : Setup). run_text s.tables h w) made)
+boot_ran i tables machine h w is boots made laws =
+    subst (λ (j : Inputs). IsAskedText j (run_text w.setup.tables h w)) (sym is) (h, w, boots, laws, ap (λ (s : Setup). run_text s.tables h w) made)
 
 pub play_ran : (i : Inputs) (tables : Tables) (machine : Machine) (scripts : List (List Command)) (order turns : List ℕ) (h : List Event) (w : World) → i ≡ inputs.Play tables machine scripts order
-    → turns ≡ order → IsPlayed (setup_of tables machine scripts) turns h w → w.setup ≡ setup_of tables machine scripts → IsAskedText i (run_text w.setup.tables h w)
+    → turns ≡ order → IsPlayed (setup_of tables machine scripts) turns h w → w.setup ≡ setup_of tables machine scripts → IsReliable h w
+    → IsAskedText i (run_text w.setup.tables h w)
 unfolding IsAskedText
-play_ran i tables machine scripts order turns h w is same played made =
+play_ran i tables machine scripts order turns h w is same played made laws =
     subst (λ (j : Inputs). IsAskedText j (run_text w.setup.tables h w)) (sym is)
-    (h, w, subst (λ (ts : List ℕ). IsPlayed (setup_of tables machine scripts) ts h w) same played, ap (λ (s : Setup). run_text s.tables h w) made)
+    (h, w, subst (λ (ts : List ℕ). IsPlayed (setup_of tables machine scripts) ts h w) same played, laws, ap (λ (s : Setup). run_text s.tables h w) made)
 
 pub load_ran : (i : Inputs) (n : ℕ) (tables : Tables) (machine : Machine) (line : List ℕ) → i ≡ inputs.Load n tables machine → IsSummary n tables machine line → IsAskedText i line
 unfolding IsAskedText

@@ -3,6 +3,7 @@ ghost use Rattle.std.specs.Prelude.{◌≡◌, ◌≤◌, [], All, IfOk, None, l
 ghost use Rattle.config_rules.specs.Formed.{FittingMachine, FormedTables};
 ghost use Rattle.config_rules.specs.ScriptText.{FormedScript};
 ghost use Rattle.dev_board.specs.Agreement.{slots_of};
+ghost use Rattle.history_laws.specs.Reliable.{IsReliable};
 ghost use Rattle.run_rules.specs.Run.{Boot};
 ghost use Rattle.run_rules.specs.World.{opening, setup_of};
 
@@ -24,12 +25,14 @@ pub fn started(
     requires scripts { All FormedScript scripts }
     ensures boot { IfOk result (λ r. Boot (opening (setup_of tables machine scripts)) r.0.events r.0.world) }
     ensures setup { IfOk result (λ r. r.0.world.setup ≡ setup_of tables machine scripts) }
+    ensures reliable { IfOk result (λ r. IsReliable r.0.events r.0.world) }
     ensures goes_on { IfOk result (λ r. r.0.stopped ≡ None) }
     ensures agree { IfOk result (λ r. r.1 ≡ slots_of r.0.world) }
 {
     let mut board = Board::start(alloc, tables, machine, scripts)?;
     let mut slots = PlainSlots::make(alloc, board.spots())?;
     run_boot(&mut board, &mut slots)?;
+    board.stands();
     Ok((board, slots))
 }
 
@@ -37,7 +40,7 @@ pub fn started(
 pub fn booted(alloc: Global, tables: Tables, machine: Machine) -> Result<Board, Memory>
     requires formed { FormedTables tables }
     requires fits { FittingMachine tables machine }
-    ensures { IfOk result (λ board. Boot (opening (setup_of tables machine [])) board.events board.world × (board.world.setup ≡ setup_of tables machine [])) }
+    ensures { IfOk result (λ board. Boot (opening (setup_of tables machine [])) board.events board.world × (board.world.setup ≡ setup_of tables machine []) × IsReliable board.events board.world) }
 {
     let (board, _slots) = started(alloc, tables, machine, List::make(alloc))?;
     Ok(board)

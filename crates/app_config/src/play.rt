@@ -2,6 +2,7 @@
 ghost use Rattle.std.specs.Prelude.{◌≡◌, IfOk};
 ghost use Rattle.config_rules.specs.Formed.{FittingMachine, FormedTables};
 ghost use Rattle.app_input.specs.Played.{FormedPlay};
+ghost use Rattle.history_laws.specs.Reliable.{IsReliable};
 ghost use Rattle.run_rules.specs.World.{setup_of};
 ghost use Rattle.app_config.specs.Run.{IsPlayed};
 
@@ -23,8 +24,10 @@ pub fn played(
     requires play { FormedPlay (record { scripts = scripts; order = order.now }) }
     ensures run { IfOk result (λ board. IsPlayed (setup_of tables machine scripts) order.now board.events board.world) }
     ensures setup { IfOk result (λ board. board.world.setup ≡ setup_of tables machine scripts) }
+    ensures reliable { IfOk result (λ board. IsReliable board.events board.world) }
 {
     let (mut board, mut slots) = started(alloc, tables, machine, scripts)?;
     run_turns(&mut board, &mut slots, order)?;
+    board.stands();
     Ok(board)
 }

@@ -8,6 +8,7 @@ pub mod GoneLaws
 pub mod GoneSpots
 pub mod Agree
 pub mod Boots
+pub mod Began
 pub mod Opening
 pub mod ArriveLaws
 pub mod AttachLaws

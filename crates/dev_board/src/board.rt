@@ -4,6 +4,8 @@ ghost use Rattle.std.specs.List.{AllByRecursion};
 ghost use Rattle.std.specs.Option.{option_or};
 ghost use Rattle.config_rules.specs.Formed.{FormedTables, FittingMachine};
 ghost use Rattle.config_rules.specs.ScriptText.{FormedScript};
+ghost use Rattle.history_laws.specs.Reliable.{IsReliable};
+ghost use Rattle.history_laws.specs.Tells.{TellsTree};
 ghost use Rattle.run_rules.specs.Counts.{ends_of};
 ghost use Rattle.run_rules.specs.Lines.{IsFormed};
 ghost use Rattle.run_rules.specs.Run.{Run};
@@ -12,6 +14,7 @@ ghost use Rattle.run_rules.specs.Sound.{Sound, HaveOwnNames};
 ghost use Rattle.run_rules.specs.Tree as tree;
 ghost use Rattle.run_rules.specs.World.{opening, setup_of};
 ghost use Rattle.dev_board.specs.Agreement.{slots_of};
+ghost use Rattle.run_sound.specs.Kept.{MayRun};
 ghost use Rattle.run_sound.specs.Left.{boot_left};
 ghost use Rattle.dev_board.specs.Posting.{PostIs};
 ghost use Rattle.dev_board.specs.Shown.{began};
@@ -92,6 +95,7 @@ impl Board {
         ensures agree { S.states slots.new ≡ slots_of self.new.world }
         ensures boot { caller ≡ 0 → IsOfBoot result }
         ensures denials { DenialsAre self.old.world.live (S.denials slots.old) (S.last_denial slots.old) result (S.denials slots.new) (S.last_denial slots.new) }
+        ensures began { began self.new ≡ began self.old }
         ensures falls { IsDid result → caller ≡ 0 → boot_left self.new.world < boot_left self.old.world }
     {
         step_core(
@@ -108,6 +112,7 @@ impl Board {
     pub fn post(&mut self, done: IoResult) -> Posted
         ensures post { PostIs self.old done result self.new }
         ensures slots { slots_of self.new.world ≡ slots_of self.old.world }
+        ensures began { began self.new ≡ began self.old }
     {
         post_core(self.alloc, &self.setup, &mut self.core, done.spend())
     }
@@ -116,6 +121,7 @@ impl Board {
     pub fn stop(&mut self, caller: u8)
         ensures world { self.new.world ≡ self.old.world }
         ensures events { self.new.events ≡ self.old.events }
+        ensures began { began self.new ≡ began self.old }
         ensures stops { self.new.stops ≡ min (self.old.stops + 1) (2 ^ 64 - 1) }
         ensures stopped { self.new.stopped ≡ option_or self.old.stopped (Some caller) }
     {
@@ -132,6 +138,10 @@ impl Board {
         ensures names { HaveOwnNames self.now.world.setup self.now.world.live }
         ensures serials { self.now.world.next ≤ length self.now.events + 1 }
         ensures formed { AllByRecursion IsFormed self.now.events }
+        ensures reliable { IsReliable self.now.events self.now.world }
+        ensures spots { AllByRecursion (λ d. d.spot < length self.now.world.setup.machine.spots) self.now.world.live }
+        ensures scripts { length self.now.world.setup.scripts ≤ 16 }
+        ensures may { MayRun self.now.world.setup }
     {
         let _ = &self.core;
     }
@@ -168,7 +178,8 @@ impl Board {
 
     /// The lines of the device tree, depth first, children by serial. See drvctl(8).
     pub fn tree_lines(&self) -> Result<List<DevLine>, Memory>
-        ensures { IfOk result (λ lines. lines ≡ tree.tree_lines self.now.world) }
+        ensures lines { IfOk result (λ lines. lines ≡ tree.tree_lines self.now.world) }
+        ensures told { IfOk result (λ lines. TellsTree self.now.events lines) }
     {
         tree_of(self.alloc, &self.setup, &self.core)
     }

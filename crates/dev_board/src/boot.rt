@@ -1,6 +1,7 @@
-ghost use Rattle.std.specs.Prelude.{◌≡◌, OnOk, OnErr, None};
+ghost use Rattle.std.specs.Prelude.{◌≡◌, [], OnOk, OnErr, None};
 ghost use Rattle.dev_board.specs.Agreement.{slots_of};
 ghost use Rattle.dev_board.specs.Booting.{Boots, GoesOn};
+ghost use Rattle.history_laws.specs.Calm.{IsCalm};
 
 use crate::board::Board;
 use crate::stepped::Stepped;
@@ -13,8 +14,10 @@ pub fn run_boot<S: Slots>(board: &mut Board, slots: &mut S) -> Result<(), Memory
     requires goes_on { board.old.stopped ≡ None }
     ensures agree { S.states slots.new ≡ slots_of board.new.world }
     ensures booted { OnOk result (Boots board.old board.new) }
+    ensures calm { OnOk result (board.old.events ≡ [] → IsCalm board.new.events board.new.world) }
     ensures going_on { OnErr result (GoesOn board.old board.new) }
 {
+    board.stands();
     loop {
         match board.step(0, slots) {
             Stepped::Did(_, _) => {}

@@ -17,3 +17,4 @@ pub mod Sums
 pub mod TreeCounts
 pub mod TreeTold
 pub mod Always
+pub mod Boots

@@ -2,3 +2,4 @@ pub mod Counted
 pub mod Tells
 pub mod Always
 pub mod Reliable
+pub mod Calm

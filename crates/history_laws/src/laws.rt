@@ -5,6 +5,7 @@ ghost use Rattle.run_rules.specs.Sound.{HaveOwnNames};
 ghost use Rattle.run_rules.specs.Tree.{tree_lines};
 ghost use Rattle.history_laws.specs.Counted.{AreAllCounted, Counted};
 ghost use Rattle.history_laws.specs.Reliable.{IsReliable};
+ghost use Rattle.history_laws.specs.Calm.{IsCalm, OfEveryBoot};
 ghost use Rattle.history_laws.specs.Tells.{TellsTree};
 ghost use Rattle.history_laws.specs.Always.{
   OfEveryRun,
@@ -100,4 +101,9 @@ pub fn tree_told()
 /// freed, its history is lawful, and its tree tells what the history tells.
 pub fn reliable()
     ensures { OfEveryRun IsReliable }
+{}
+
+/// After a boot nothing is condemned, nothing is held, and no script has done anything.
+pub fn boot_calm()
+    ensures { OfEveryBoot IsCalm }
 {}

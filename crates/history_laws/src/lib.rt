@@ -5,7 +5,7 @@
 mod laws;
 
 pub use laws::{
-    comes_below_awake, comes_fresh, counted, freed_childless, freed_living, freed_unheld,
-    held_alone, held_few, held_in_use, held_living, lawful, names_differ, references_counted,
-    reliable, sleep_below, tree_told,
+    boot_calm, comes_below_awake, comes_fresh, counted, freed_childless, freed_living,
+    freed_unheld, held_alone, held_few, held_in_use, held_living, lawful, names_differ,
+    references_counted, reliable, sleep_below, tree_told,
 };
