@@ -22,8 +22,3 @@ slots_opening w s slots n is size free =
     free ∙ ap (λ k. replicate k Free) (size ∙ ap (λ (x : World). length x.setup.machine.spots) is)
     ∙ sym (free_states (length s.machine.spots))
     ∙ ap (λ (x : World). map (state_at x.live) (below (length x.setup.machine.spots))) (sym is)
-
--- the world before a boot goes by this
-pub opening_setup : (s : Setup) → (opening s).setup ≡ s
-unfolding opening
-opening_setup s = refl

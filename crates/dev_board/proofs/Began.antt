@@ -3,6 +3,7 @@ use Rattle.std.proofs.Common.{◌≡◌, ℕ, List, [], refl, sym, ap, ◌∙◌
 use Rattle.cf_types.specs.declared.machine.Ticket.{Ticket}
 use Rattle.run_rules.specs.declared.event.Event.{Event}
 use Rattle.run_rules.specs.Run.{Run}
+use Rattle.run_rules.specs.declared.world.Setup.{Setup}
 use Rattle.run_rules.specs.World.{World, opening}
 use Rattle.run_rules.proofs.Setups.{after_setup}
 use Rattle.run_sound.specs.Kept.{MayRun}
@@ -42,3 +43,8 @@ pub calm_booted : (old new : Shown) → MayRun old.world.setup → Run (began ol
 calm_booted old new may run boots none =
     let begun : opening old.world.setup ≡ old.world = subst (λ (h : List Event). Run (began old) h old.world) none run in
     calm_boot old.world.setup new.events new.world may (boot_is old.world.setup old new (sym begun) none boots)
+
+-- an opening world has the setup that it was made of
+pub opening_setup : (s : Setup) → (opening s).setup ≡ s
+unfolding opening
+opening_setup s = refl

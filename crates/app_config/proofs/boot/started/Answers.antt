@@ -1,8 +1,9 @@
 use Rattle.std.proofs.Common.{◌∙◌, ap}
 use Rattle.run_rules.specs.World.{World, setup_of}
 use Rattle.run_rules.proofs.Setups.{run_setup}
+use Rattle.dev_board.proofs.Began.{opening_setup}
 use Rattle.dev_board.proofs.Boots.{boot_is}
-use Rattle.app_config.proofs.Slots.{opening_setup, slots_opening}
+use Rattle.app_config.proofs.Slots.{slots_opening}
 use Rattle.app_config.proofs.boot.started.Goals as goal
 
 pub run_boot-requires-clause-agree : goal.run_boot-requires-clause-agree
