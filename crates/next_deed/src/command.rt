@@ -22,7 +22,7 @@ use run_world::{Core, device_named, spot_named};
 use std::alloc::Global;
 
 /// The device of a name, unless it is condemned.
-fn spared(setup: &Setup, core: &Core, name: &[u8]) -> Result<Dev, Refusal>
+fn device_not_condemned(setup: &Setup, core: &Core, name: &[u8]) -> Result<Dev, Refusal>
     ensures deed { (body : Dev → Deed) → on_device (world_of setup.now core.now) name.now body ≡ or_refused body result }
     ensures live { IfOk result (λ d. IsTrue (is_live core.now.tree.live d.serial)) }
     ensures found { IfOk result (λ d. world.device_named setup.now core.now.tree.live name.now ≡ Some d) }
@@ -40,7 +40,7 @@ fn spared(setup: &Setup, core: &Core, name: &[u8]) -> Result<Dev, Refusal>
 }
 
 /// The device of a name, if the caller holds it.
-fn held(setup: &Setup, core: &Core, caller: u8, name: &[u8]) -> Result<Dev, Refusal>
+fn held_device(setup: &Setup, core: &Core, caller: u8, name: &[u8]) -> Result<Dev, Refusal>
     ensures { (body : Dev → Deed) → on_held (world_of setup.now core.now) caller name.now body ≡ or_refused body result }
 {
     match device_named(setup, core, name) {
@@ -60,7 +60,7 @@ fn held(setup: &Setup, core: &Core, caller: u8, name: &[u8]) -> Result<Dev, Refu
 fn plan_open(setup: &Setup, core: &Core, caller: u8, name: &[u8]) -> Result<Deed, Refusal>
     ensures { (number : ℕ) → command_deed (world_of setup.now core.now) caller number (command.OpenDev name.now) ≡ or_refused (λ deed. deed) result }
 {
-    let device = spared(setup, core, name)?;
+    let device = device_not_condemned(setup, core, name)?;
     if core.refs.is_sole(device.serial) {
         return Err(Refusal::Exclusive);
     }
@@ -79,7 +79,7 @@ fn plan_open(setup: &Setup, core: &Core, caller: u8, name: &[u8]) -> Result<Deed
 fn plan_open_sole(setup: &Setup, core: &Core, caller: u8, name: &[u8]) -> Result<Deed, Refusal>
     ensures { (number : ℕ) → command_deed (world_of setup.now core.now) caller number (command.OpenSole name.now) ≡ or_refused (λ deed. deed) result }
 {
-    let device = spared(setup, core, name)?;
+    let device = device_not_condemned(setup, core, name)?;
     if core.refs.refers(device.serial) {
         return Err(Refusal::Shared);
     }
@@ -94,7 +94,7 @@ fn plan_open_sole(setup: &Setup, core: &Core, caller: u8, name: &[u8]) -> Result
 fn plan_close(setup: &Setup, core: &Core, caller: u8, name: &[u8]) -> Result<Deed, Refusal>
     ensures { (number : ℕ) → command_deed (world_of setup.now core.now) caller number (command.CloseDev name.now) ≡ or_refused (λ deed. deed) result }
 {
-    let device = held(setup, core, caller, name)?;
+    let device = held_device(setup, core, caller, name)?;
     Ok(Deed::Close { of: device.serial })
 }
 
@@ -120,7 +120,7 @@ fn plan_io(
 ) -> Result<Deed, Refusal>
     ensures { command_deed (world_of setup.now core.now) caller number (command.Io name.now value) ≡ or_refused (λ deed. deed) result }
 {
-    let device = held(setup, core, caller, name)?;
+    let device = held_device(setup, core, caller, name)?;
     if device.asleep {
         return Err(Refusal::Asleep);
     }
@@ -151,7 +151,7 @@ fn plan_tell(setup: &Setup, core: &Core, of: &Option<Name>) -> Result<Deed, Refu
 fn plan_begin(setup: &Setup, core: &Core, kind: PowerKind, name: &[u8]) -> Result<Deed, Refusal>
     ensures { on_device (world_of setup.now core.now) name.now (λ d. BeginPower kind d.serial) ≡ or_refused (λ deed. deed) result }
 {
-    let device = spared(setup, core, name)?;
+    let device = device_not_condemned(setup, core, name)?;
     Ok(Deed::BeginPower {
         kind,
         of: device.serial,
@@ -202,7 +202,7 @@ fn plan_detach(
     requires kept { Kept (world_of setup.now core.now) }
     ensures { (number : ℕ) → IfOk result (λ does. command_deed (world_of setup.now core.now) caller number (command.Detach name.now) ≡ does) }
 {
-    match spared(setup, core, name) {
+    match device_not_condemned(setup, core, name) {
         Err(why) => Ok(Deed::Refuse(why)),
         Ok(device) => {
             let deed = Deed::Detach { of: device.serial };
@@ -248,7 +248,7 @@ fn plan_rescan(
     requires kept { Kept (world_of setup.now core.now) }
     ensures { on_device (world_of setup.now core.now) name.now (λ d. rescanning (world_of setup.now core.now) d attr.now given.now) ≡ or_refused (λ deed. deed) result }
 {
-    let device = spared(setup, core, name)?;
+    let device = device_not_condemned(setup, core, name)?;
     plan_search(graph, setup, core, device, attr, given)
 }
 
@@ -271,8 +271,8 @@ fn plan_pull(
     }
 }
 
-/// What was answered: the deed, or a refusal.
-fn settled(answer: Result<Deed, Refusal>) -> Deed
+/// The deed that an answer means; an error means a refusal.
+fn answered_deed(answer: Result<Deed, Refusal>) -> Deed
     ensures { or_refused (λ deed. deed) answer ≡ result }
 {
     match answer {
@@ -286,14 +286,14 @@ fn settled(answer: Result<Deed, Refusal>) -> Deed
 fn ask_io(setup: &Setup, core: &Core, caller: u8, number: u32, name: &Name, value: u32) -> Deed
     ensures { command_deed (world_of setup.now core.now) caller number (command.Io name.now value) ≡ result }
 {
-    settled(plan_io(setup, core, caller, number, name.bytes(), value))
+    answered_deed(plan_io(setup, core, caller, number, name.bytes(), value))
 }
 
 /// A power command is asked for, or refused.
 fn ask_power(setup: &Setup, core: &Core, kind: PowerKind, name: &Name) -> Deed
     ensures { on_device (world_of setup.now core.now) name.now (λ d. BeginPower kind d.serial) ≡ result }
 {
-    settled(plan_begin(setup, core, kind, name.bytes()))
+    answered_deed(plan_begin(setup, core, kind, name.bytes()))
 }
 
 /// What a command does, which has this number.
@@ -314,22 +314,22 @@ pub fn plan_command(
     ensures { IfOk result (λ does. command_deed (world_of setup.now core.now) caller number said.now ≡ does) }
 {
     match said {
-        Command::OpenDev(name) => Ok(settled(plan_open(setup, core, caller, name.bytes()))),
-        Command::OpenSole(name) => Ok(settled(plan_open_sole(setup, core, caller, name.bytes()))),
-        Command::CloseDev(name) => Ok(settled(plan_close(setup, core, caller, name.bytes()))),
+        Command::OpenDev(name) => Ok(answered_deed(plan_open(setup, core, caller, name.bytes()))),
+        Command::OpenSole(name) => Ok(answered_deed(plan_open_sole(setup, core, caller, name.bytes()))),
+        Command::CloseDev(name) => Ok(answered_deed(plan_close(setup, core, caller, name.bytes()))),
         Command::Io(name, value) => Ok(ask_io(setup, core, caller, number, name, *value)),
         Command::Detach(name) => plan_detach(alloc, setup, core, caller, name.bytes()),
         Command::Rescan {
             device,
             attr,
             given,
-        } => Ok(settled(plan_rescan(graph, setup, core, device.bytes(), attr, given.items()))),
-        Command::ListDev(of) => Ok(settled(plan_tell(setup, core, of))),
-        Command::TreeDev(of) => Ok(settled(plan_tell(setup, core, of))),
+        } => Ok(answered_deed(plan_rescan(graph, setup, core, device.bytes(), attr, given.items()))),
+        Command::ListDev(of) => Ok(answered_deed(plan_tell(setup, core, of))),
+        Command::TreeDev(of) => Ok(answered_deed(plan_tell(setup, core, of))),
         Command::Suspend(name) => Ok(ask_power(setup, core, PowerKind::Suspend, name)),
         Command::Resume(name) => Ok(ask_power(setup, core, PowerKind::Resume, name)),
         Command::ResumeTree(name) => Ok(ask_power(setup, core, PowerKind::ResumeTree, name)),
-        Command::Plug(name) => Ok(settled(plan_plug(setup, name.bytes()))),
+        Command::Plug(name) => Ok(answered_deed(plan_plug(setup, name.bytes()))),
         Command::Unplug(name) => plan_pull(alloc, setup, core, caller, name.bytes()),
     }
 }

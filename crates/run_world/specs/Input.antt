@@ -1,4 +1,4 @@
--- What a board may start from: formed tables, a machine that fits them, and, so far, no scripts. The definitions of the run have no such premise.
+-- What a board uses of the tables and of the machine that it starts from. The definitions of the run have no such premise.
 use Rattle.std.specs.Prelude.{ℕ, ◌≤◌, length}
 use Rattle.std.specs.List.{AllByRecursion}
 use Rattle.cf_types.specs.declared.tables.Tables.{Tables}
