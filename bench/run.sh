@@ -22,5 +22,6 @@ rows_of() {
 row benchmark 'processor s' ratio
 rows_of text.sh 'ioconf, a text of' KiB
 rows_of ioconf.sh ioconf, statements
+rows_of files.sh files, statements
 rows_of load.sh 'load, a bus with' disks
 rows_of rescan.sh 'play, 1,024 spots,' rescans

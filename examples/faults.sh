@@ -41,11 +41,15 @@ write() {
     printf '%s' "$2" | tr '\001' '\n' >"$folder/$1"
 }
 
+# The codes from 26 on are those of `files`, and no other command has them.
 try_config() {
+    command=ioconf
+    [ "${1##* }" -lt 26 ] || command=files
     write conf "$2"
-    expect 1 "$1" ioconf conf
+    expect 1 "$1" "$command" conf
+    [ "$command" = ioconf ] || expect 0 '' ioconf conf
     write conf "$3"
-    expect 0 '' ioconf conf
+    expect 0 '' "$command" conf
 }
 
 try_machine() {
@@ -95,6 +99,10 @@ by_number() {
     expect 1 'config conf:8195: code 24' ioconf conf
     { count 65 'define i# {}'; printf 'device a: i0'; count 64 ', i#' | tr -d '\n'; printf ', i64\n'; } >"$folder/conf"
     expect 1 'config conf:66: code 25' ioconf conf
+    { printf 'file a.c '; count 64 '!' | tr -d '\n'; echo com; } >"$folder/conf"
+    expect 0 '' files conf
+    { printf 'file a.c '; count 65 '!' | tr -d '\n'; echo com; } >"$folder/conf"
+    expect 1 'config conf:1: code 28' files conf
 }
 
 machines_by_number() {

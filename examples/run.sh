@@ -25,6 +25,7 @@ same small.boot . boot small.conf small.machine
 same hub.boot . boot hub.conf hub.machine
 same pc.listing pc ioconf GENERIC
 same amd64.listing amd64 ioconf GENERIC
+same amd64.sources amd64 files GENERIC
 same server.boot amd64 boot GENERIC ../machines/server
 same detach.play pc play GENERIC ../machines/pc ../detach.order ../hold.script ../detach.script
 same plug.play pc play GENERIC ../machines/pc ../plug.order ../plug.script

@@ -1,38 +1,92 @@
--- The status that is due, by what was read.
-use Rattle.std.proofs.Common.{inl, inr, ◌≡◌, ℕ, Option, Some, None, List, refl, subst, sym}
+-- The status that is due, by what was read, found and written.
+use Rattle.std.proofs.Common.{inl, inr, ◌≡◌, ℕ, ◌≤◌, Option, Some, None, List, refl, subst, sym, arith}
 use Rattle.std.specs.Prelude.{◌⊎◌, IfSome, Result}
 use Rattle.std.specs.Prelude as std
 use Rattle.cf_io.specs.Faults.{Rose}
+use Rattle.cf_io.specs.Told.{Told}
 use Rattle.config_rules.specs.Reading.{Files}
-use Rattle.app_input.specs.Inputs.{IsDue}
+use Rattle.app_input.specs.Inputs.{Counts, IsDue}
 use Rattle.app_input.specs.Words.{Form}
 use Rattle.app_input.specs.declared.inputs.Inputs.{Inputs}
+use Rattle.app_input.specs.declared.inputs.Inputs.TheVariants as input
 use Rattle.app_input.specs.declared.status.Status.{Status}
-use Rattle.app_input.specs.declared.status.Status.TheVariants.{Memory}
-use Rattle.cf_io.specs.Told.{Told}
+use Rattle.app_input.specs.declared.status.Status.TheVariants.{Ok, ConfigRefused, Usage, MachineRefused, ScriptRefused, Absent, TooLong, ReadFault, WriteFault, Memory}
+use Rattle.app_output.specs.Output.{Writes}
 use Rattle.app_output.specs.declared.stop.OutputStop.{OutputStop}
 use Rattle.app_output.specs.declared.stop.OutputStop.TheVariants as stops
-use Rattle.app_config.specs.Run.{IsDueStatus, WritesOf, status_after}
+use Rattle.app_config.specs.Asked.{IsAskedText}
+use Rattle.app_config.specs.Found.{FindsFor, Unselected, found_text}
+use Rattle.app_config.specs.Run.{IsDueOr, IsInputsStatus, status_after, status_of}
+use Rattle.app_config.specs.declared.found.Found.{Found}
 
--- the status of a run that was asked for
-abbrev pub IsDueOr : Option Form → Files → Status → Type 0
-IsDueOr form files status = (status ≡ Memory) ⊎ IsDueStatus form files status
+-- ---- finding
 
-due_written : {A : Type 0} (P : List ℕ → Type 0) (form : Option Form) (files : Files) (inputs : Inputs) (old new : Told) (result : Result A OutputStop)
-    → (std.Ok inputs ≡ std.Err Memory) ⊎ IsDue form files (std.Ok inputs) → WritesOf P old new result → ¬ Rose old.faults new.faults → IsDueOr form files (status_after result)
-due_written P form files inputs old new (std.Ok done) (inl e) writes none = absurd (cc)
-due_written P form files inputs old new (std.Ok done) (inr due) writes none = inr (std.Ok inputs, due, refl)
-due_written P form files inputs old new (std.Err stops.WriteFault) due (inl nothing) none = absurd (cc)
-due_written P form files inputs old new (std.Err stops.WriteFault) due (inr put) none = absurd (none put.2.1.1)
-due_written P form files inputs old new (std.Err stops.Memory) due writes none = inl refl
+-- inputs that have a text call for it to be written
+asked_status : (files : Files) (asked : Inputs) (text : List ℕ) → IsAskedText (Some files) asked text → IsInputsStatus files asked Ok
+unfolding IsAskedText
+asked_status files (input.Ioconf tables) text is = refl
+asked_status files (input.Files name) text is = (is.0, is.1)
+asked_status files (input.Boot tables machine) text is = refl
+asked_status files (input.Load n tables machine) text is = refl
+asked_status files (input.Play tables machine scripts order) text is = refl
+
+-- why the sources were not selected, where no reading failed
+unselected_status : (files : Files) (name : List ℕ) (before after : ℕ) (status : Status) → Unselected (Some files) name status → Counts {A = Found} before after (std.Err status)
+    → ¬ Rose before after → IsInputsStatus files (input.Files name) status
+unselected_status files name before after (ConfigRefused file line code) why counts quiet = why
+unselected_status files name before after ReadFault why counts quiet = absurd (quiet counts.1)
+unselected_status files name before after Ok why counts quiet = absurd why
+unselected_status files name before after Usage why counts quiet = absurd why
+unselected_status files name before after (MachineRefused line code) why counts quiet = absurd why
+unselected_status files name before after (ScriptRefused which line code) why counts quiet = absurd why
+unselected_status files name before after (Absent absent) why counts quiet = absurd why
+unselected_status files name before after (TooLong long) why counts quiet = absurd why
+unselected_status files name before after WriteFault why counts quiet = absurd why
+unselected_status files name before after Memory why counts quiet = absurd why
+
+due_found : (form : Option Form) (files : Files) (asked : Inputs) (before after : ℕ) (result : Result Found Status) → IsDue form files (std.Ok asked)
+    → FindsFor (Some files) asked result → Counts before after result → ¬ Rose before after → IsDueOr form files (status_of result)
+due_found form files asked before after (std.Ok found) due finds counts quiet = inr (std.Ok asked, due, asked_status files asked (found_text found) finds)
+due_found form files asked before after (std.Err status) due (inl want) counts quiet = inl want
+due_found form files asked before after (std.Err status) due (inr (name, is, why)) counts quiet =
+    inr (std.Ok asked, due, subst (λ (i : Inputs). IsInputsStatus files i status) (sym is) (unselected_status files name before after status why counts quiet))
+
+-- the count of faults of reading does not fall
+counts_rise : (before after : ℕ) (result : Result Found Status) → Counts before after result → before ≤ after
+counts_rise before after (std.Ok found) counts = omega arith
+counts_rise before after (std.Err Ok) counts = omega arith
+counts_rise before after (std.Err (ConfigRefused file line code)) counts = omega arith
+counts_rise before after (std.Err Usage) counts = omega arith
+counts_rise before after (std.Err (MachineRefused line code)) counts = omega arith
+counts_rise before after (std.Err (ScriptRefused which line code)) counts = omega arith
+counts_rise before after (std.Err (Absent name)) counts = omega arith
+counts_rise before after (std.Err (TooLong name)) counts = omega arith
+counts_rise before after (std.Err ReadFault) counts = counts.0
+counts_rise before after (std.Err WriteFault) counts = omega arith
+counts_rise before after (std.Err Memory) counts = omega arith
+
+-- it had not risen before, where it did not rise in the end
+not_risen : (before mid after : ℕ) → mid ≡ before → mid ≤ after → ¬ Rose before after → ¬ Rose before mid
+not_risen before mid after same up quiet (inl less) = absurd (omega arith)
+not_risen before mid after same up quiet (inr most) = quiet (inr (omega arith))
+
+-- the answer that these inputs are
+abbrev pub answer : Inputs → Result Inputs Status
+answer asked = std.Ok asked
+
+due_given : (form : Option Form) (files : Files) (asked : Inputs) → (answer asked ≡ std.Err Memory) ⊎ IsDue form files (answer asked) → IsDue form files (answer asked)
+due_given form files asked (inl e) = absurd (cc)
+due_given form files asked (inr due) = due
 
 -- where inputs were read
-pub due_put : {A : Type 0} (P : List ℕ → Type 0) (told : Option Files) (form : Option Form) (inputs : Inputs) (reads reads' : ℕ) (old new : Told) (result : Result A OutputStop)
-    → IfSome told (λ files. ¬ Rose reads reads' → (std.Ok inputs ≡ std.Err Memory) ⊎ IsDue form files (std.Ok inputs)) → WritesOf P old new result
-    → IfSome told (λ files. ¬ Rose reads reads' → ¬ Rose old.faults new.faults → IsDueOr form files (status_after result))
-due_put P None form inputs reads reads' old new result due writes = due
-due_put P (Some files) form inputs reads reads' old new result due writes =
-    λ unread unwritten. due_written P form files inputs old new result (due unread) writes unwritten
+pub due_by : (told reading : Option Files) (form : Option Form) (asked : Inputs) (before mid after : ℕ) (result : Result Found Status) → reading ≡ told → mid ≡ before
+    → IfSome told (λ files. ¬ Rose before mid → (answer asked ≡ std.Err Memory) ⊎ IsDue form files (answer asked)) → FindsFor reading asked result → Counts mid after result
+    → IfSome told (λ files. ¬ Rose before after → IsDueOr form files (status_of result))
+due_by None reading form asked before mid after result is same due finds counts = tt
+due_by (Some files) reading form asked before mid after result is same due finds counts =
+    λ quiet. due_found form files asked before after result
+    (due_given form files asked (due (not_risen before mid after same (counts_rise mid after result counts) quiet)))
+    (subst (λ (f : Option Files). FindsFor f asked result) is finds) (subst (λ (n : ℕ). Counts n after result) same counts) quiet
 
 -- the answer that this refusal is
 abbrev pub refusal : Status → Result Inputs Status
@@ -43,11 +97,33 @@ refused_due form files status (inl e) = inl (cc)
 refused_due form files status (inr due) = inr (refusal status, due, refl)
 
 -- where they were refused
-pub due_refused : (told : Option Files) (form : Option Form) (reads reads' writes writes' : ℕ) (status : Status)
-    → IfSome told (λ files. ¬ Rose reads reads' → (refusal status ≡ refusal Memory) ⊎ IsDue form files (refusal status))
-    → IfSome told (λ files. ¬ Rose reads reads' → ¬ Rose writes writes' → IsDueOr form files status)
-due_refused None form reads reads' writes writes' status due = due
-due_refused (Some files) form reads reads' writes writes' status due = λ unread unwritten. refused_due form files status (due unread)
+pub due_refused : (told : Option Files) (form : Option Form) (before after : ℕ) (status : Status)
+    → IfSome told (λ files. ¬ Rose before after → (refusal status ≡ refusal Memory) ⊎ IsDue form files (refusal status))
+    → IfSome told (λ files. ¬ Rose before after → IsDueOr form files status)
+due_refused None form before after status due = due
+due_refused (Some files) form before after status due = λ quiet. refused_due form files status (due quiet)
+
+-- ---- writing
+
+due_written : {A : Type 0} (form : Option Form) (files : Files) (text : List ℕ) (old new : Told) (result : Result A OutputStop)
+    → IsDueOr form files Ok → Writes text old new result → ¬ Rose old.faults new.faults → IsDueOr form files (status_after result)
+due_written form files text old new (std.Ok done) due put quiet = due
+due_written form files text old new (std.Err stops.WriteFault) due put quiet = absurd (quiet put.1.1)
+due_written form files text old new (std.Err stops.Memory) due put quiet = inl refl
+
+-- where something was found
+pub due_put : {A : Type 0} (told : Option Files) (form : Option Form) (text : List ℕ) (before after : ℕ) (old new : Told) (result : Result A OutputStop)
+    → IfSome told (λ files. ¬ Rose before after → IsDueOr form files Ok) → Writes text old new result
+    → IfSome told (λ files. ¬ Rose before after → ¬ Rose old.faults new.faults → IsDueOr form files (status_after result))
+due_put None form text before after old new result due put = due
+due_put (Some files) form text before after old new result due put = λ unread unwritten. due_written form files text old new result (due unread) put unwritten
+
+-- where nothing was found
+pub due_unfound : (told : Option Files) (form : Option Form) (before after writes writes' : ℕ) (status : Status)
+    → IfSome told (λ files. ¬ Rose before after → IsDueOr form files status)
+    → IfSome told (λ files. ¬ Rose before after → ¬ Rose writes writes' → IsDueOr form files status)
+due_unfound None form before after writes writes' status due = due
+due_unfound (Some files) form before after writes writes' status due = λ unread unwritten. due unread
 
 told_due : (form : Option Form) (files : Files) (status result : Status) → IsDueOr form files status → (result ≡ status) ⊎ (result ≡ Memory) → IsDueOr form files result
 told_due form files status result due (inl e) = subst (IsDueOr form files) (sym e) due

@@ -1,8 +1,8 @@
 -- What was found for the inputs has the text that they ask for.
-use Rattle.std.proofs.Common.{inl, inr, ◌≡◌, ℕ, List, [], refl, sym, ap, ◌∙◌, subst}
-use Rattle.std.specs.Prelude.{IfOk, IsErrAnd, Result, Vec}
+use Rattle.std.proofs.Common.{inl, inr, ◌≡◌, ℕ, List, [], Option, Some, None, refl, sym, ap, ◌∙◌, subst}
+use Rattle.std.specs.Prelude.{◌⊎◌, IfOk, IfSome, IsErrAnd, Result, Vec}
 use Rattle.std.specs.Global.{Global}
-use Rattle.cf_types.specs.Lines.{ended}
+use Rattle.cf_types.specs.Lines.{ended, text_of}
 use Rattle.std.specs.Prelude as std
 use Rattle.cf_io.specs.Faults.{Rises}
 use Rattle.cf_io.proofs.GrowsLemmas.{part_flushed, whole_flushed}
@@ -12,17 +12,29 @@ use Rattle.cf_types.specs.declared.machine.Machine.{Machine}
 use Rattle.cf_types.specs.declared.tables.Tables.{Tables}
 use Rattle.config_rules.specs.Formed.{FitGraph, FormedTables}
 use Rattle.history_laws.specs.Reliable.{IsReliable}
+use Rattle.config_rules.specs.Reading.{Files}
+use Rattle.cf_compile.specs.declared.stop.CompileStop.{CompileStop}
+use Rattle.cf_compile.specs.declared.stop.CompileStop.TheVariants as compile
+use Rattle.file_rules.specs.Sources.{Selects}
+use Rattle.file_select.specs.Answers.{SelectsFrom}
 use Rattle.run_rules.specs.declared.event.Event.{Event}
 use Rattle.run_rules.specs.declared.world.Setup.{Setup}
 use Rattle.run_rules.specs.Run.{Boot}
 use Rattle.run_rules.specs.World.{World, opening, setup_of}
+use Rattle.app_input.specs.Inputs.{Counts, FormedInputs, Reads}
+use Rattle.app_input.specs.Status.{status_of_stop}
+use Rattle.app_input.specs.Words.{Form}
 use Rattle.app_input.specs.declared.inputs.Inputs.{Inputs}
-use Rattle.app_input.specs.declared.inputs.Inputs.TheVariants as inputs
+use Rattle.app_input.specs.declared.inputs.Inputs.TheVariants as input
+use Rattle.app_input.specs.declared.status.Status.{Status}
+use Rattle.app_input.specs.declared.status.Status.TheVariants.{Memory}
 use Rattle.app_output.specs.Output.{IsFlushed, Stops, Writes}
 use Rattle.app_output.specs.RunText.{run_text}
 use Rattle.app_output.specs.declared.stop.OutputStop.{OutputStop}
 use Rattle.app_output.specs.declared.stop.OutputStop.TheVariants as stops
-use Rattle.app_config.specs.Run.{IsAskedText, IsPlayed, WritesOf}
+use Rattle.app_config.specs.Asked.{IsAskedText, IsPlayed}
+use Rattle.app_config.specs.Found.{FindsFor, Finds, Unfound, Unselected}
+use Rattle.app_config.specs.declared.found.Found.{Found}
 use Rattle.app_config.specs.Summary.{IsSummary, summary}
 use Rattle.config_rules.specs.Listing.{listing}
 
@@ -31,27 +43,37 @@ pub run_graph : (tables : Tables) (machine : Machine) (scripts : List (List Comm
     → FormedTables tables → setup ≡ setup_of tables machine scripts → FitGraph setup.tables
 run_graph tables machine scripts setup formed is = subst (λ (s : Setup). FitGraph s.tables) (sym is) formed.graph
 
-pub listed : (i : Inputs) (tables : Tables) → i ≡ inputs.Ioconf tables → IsAskedText i (listing tables)
+pub listed : (told : Option Files) (asked : Inputs) (tables : Tables) → asked ≡ input.Ioconf tables → IsAskedText told asked (listing tables)
 unfolding IsAskedText
-listed i tables is = subst (λ (j : Inputs). IsAskedText j (listing tables)) (sym is) refl
+listed told asked tables is = subst (λ (i : Inputs). IsAskedText told i (listing tables)) (sym is) refl
 
-pub boot_ran : (i : Inputs) (tables : Tables) (machine : Machine) (h : List Event) (w : World) → i ≡ inputs.Boot tables machine
-    → Boot (opening (setup_of tables machine [])) h w → w.setup ≡ setup_of tables machine [] → IsReliable h w → IsAskedText i (run_text w.setup.tables h w)
+pub selected : (told : Option Files) (asked : Inputs) (name given : List ℕ) (paths : List (List ℕ)) → asked ≡ input.Files name → given ≡ name
+    → IfSome told (λ files. Selects files given paths) → IsAskedText told asked (text_of paths)
 unfolding IsAskedText
-boot_ran i tables machine h w is boots made laws =
-    subst (λ (j : Inputs). IsAskedText j (run_text w.setup.tables h w)) (sym is) (h, w, boots, laws, ap (λ (s : Setup). run_text s.tables h w) made)
+selected None asked name given paths is same selects = subst (λ (i : Inputs). IsAskedText None i (text_of paths)) (sym is) tt
+selected (Some files) asked name given paths is same selects =
+    subst (λ (i : Inputs). IsAskedText (Some files) i (text_of paths)) (sym is)
+    (paths, subst (λ (n : List ℕ). Selects files n paths) same selects, refl)
 
-pub play_ran : (i : Inputs) (tables : Tables) (machine : Machine) (scripts : List (List Command)) (order turns : List ℕ) (h : List Event) (w : World) → i ≡ inputs.Play tables machine scripts order
-    → turns ≡ order → IsPlayed (setup_of tables machine scripts) turns h w → w.setup ≡ setup_of tables machine scripts → IsReliable h w
-    → IsAskedText i (run_text w.setup.tables h w)
+pub boot_ran : (told : Option Files) (asked : Inputs) (tables : Tables) (machine : Machine) (h : List Event) (w : World) → asked ≡ input.Boot tables machine
+    → Boot (opening (setup_of tables machine [])) h w → w.setup ≡ setup_of tables machine [] → IsReliable h w
+    → IsAskedText told asked (run_text w.setup.tables h w)
 unfolding IsAskedText
-play_ran i tables machine scripts order turns h w is same played made laws =
-    subst (λ (j : Inputs). IsAskedText j (run_text w.setup.tables h w)) (sym is)
+boot_ran told asked tables machine h w is boots made laws =
+    subst (λ (i : Inputs). IsAskedText told i (run_text w.setup.tables h w)) (sym is) (h, w, boots, laws, ap (λ (s : Setup). run_text s.tables h w) made)
+
+pub play_ran : (told : Option Files) (asked : Inputs) (tables : Tables) (machine : Machine) (scripts : List (List Command)) (order turns : List ℕ) (h : List Event) (w : World)
+    → asked ≡ input.Play tables machine scripts order → turns ≡ order → IsPlayed (setup_of tables machine scripts) turns h w → w.setup ≡ setup_of tables machine scripts → IsReliable h w
+    → IsAskedText told asked (run_text w.setup.tables h w)
+unfolding IsAskedText
+play_ran told asked tables machine scripts order turns h w is same played made laws =
+    subst (λ (i : Inputs). IsAskedText told i (run_text w.setup.tables h w)) (sym is)
     (h, w, subst (λ (ts : List ℕ). IsPlayed (setup_of tables machine scripts) ts h w) same played, laws, ap (λ (s : Setup). run_text s.tables h w) made)
 
-pub load_ran : (i : Inputs) (n : ℕ) (tables : Tables) (machine : Machine) (line : List ℕ) → i ≡ inputs.Load n tables machine → IsSummary n tables machine line → IsAskedText i line
+pub load_ran : (told : Option Files) (asked : Inputs) (n : ℕ) (tables : Tables) (machine : Machine) (line : List ℕ) → asked ≡ input.Load n tables machine
+    → IsSummary n tables machine line → IsAskedText told asked line
 unfolding IsAskedText
-load_ran i n tables machine line is sums = subst (λ (j : Inputs). IsAskedText j line) (sym is) sums
+load_ran told asked n tables machine line is sums = subst (λ (i : Inputs). IsAskedText told i line) (sym is) sums
 
 -- the line of numbers of a boot
 pub summed : {E : Type 0} (n : ℕ) (tables : Tables) (machine : Machine) (h : List Event) (w : World) (line : Result (Vec ℕ Global) E) → Boot (opening (setup_of tables machine [])) h w
@@ -59,22 +81,75 @@ pub summed : {E : Type 0} (n : ℕ) (tables : Tables) (machine : Machine) (h : L
 summed n tables machine h w (std.Ok bytes) boots is = (h, w, boots, is)
 summed n tables machine h w (std.Err stop) boots is = tt
 
+-- ---- why nothing was found
+
+-- memory ran out
+pub wanted : (told : Option Files) (asked : Inputs) (result : Result Found Status) → IsErrAnd result (λ status. status ≡ Memory) → FindsFor told asked result
+wanted told asked (std.Ok found) is = absurd is
+wanted told asked (std.Err status) is = inl is
+
+pub wanted_uncounted : (before : ℕ) (result : Result Found Status) → IsErrAnd result (λ status. status ≡ Memory) → Counts before before result
+wanted_uncounted before (std.Ok found) is = absurd is
+wanted_uncounted before (std.Err status) is = subst (λ (s : Status). Counts {A = Found} before before (std.Err s)) (sym is) refl
+
+-- the sources were not selected
+unselected : (told : Option Files) (name : List ℕ) (before after : ℕ) (stop : CompileStop) → SelectsFrom told name before after (std.Err stop)
+    → (status_of_stop stop ≡ Memory) ⊎ Unselected told name (status_of_stop stop)
+unselected told name before after (compile.Refused refusal) why = inr why.0
+unselected told name before after compile.ReadFault why = inr tt
+unselected told name before after compile.Memory why = inl refl
+
+unfound : (told : Option Files) (asked : Inputs) (name : List ℕ) (status : Status) → asked ≡ input.Files name → (status ≡ Memory) ⊎ Unselected told name status → Unfound told asked status
+unfound told asked name status is (inl want) = inl want
+unfound told asked name status is (inr why) = inr (name, is, why)
+
+pub not_selected : (told : Option Files) (asked : Inputs) (name given : List ℕ) (before after : ℕ) (stop : CompileStop) (result : Result Found Status) → asked ≡ input.Files name → given ≡ name
+    → IsErrAnd result (λ status. status ≡ status_of_stop stop) → SelectsFrom told given before after (std.Err stop) → FindsFor told asked result
+not_selected told asked name given before after stop (std.Ok found) is same came why = absurd came
+not_selected told asked name given before after stop (std.Err status) is same came why =
+    subst (Unfound told asked) (sym came)
+    (unfound told asked name (status_of_stop stop) is
+    (unselected told name before after stop (subst (λ (n : List ℕ). SelectsFrom told n before after (std.Err stop)) same why)))
+
+stop_counted : (told : Option Files) (name : List ℕ) (before after : ℕ) (stop : CompileStop) → SelectsFrom told name before after (std.Err stop)
+    → Counts {A = Found} before after (std.Err (status_of_stop stop))
+stop_counted told name before after (compile.Refused refusal) why = why.1
+stop_counted told name before after compile.ReadFault why = why
+stop_counted told name before after compile.Memory why = why
+
+pub not_selected_counted : (told : Option Files) (name : List ℕ) (before after : ℕ) (stop : CompileStop) (result : Result Found Status)
+    → IsErrAnd result (λ status. status ≡ status_of_stop stop) → SelectsFrom told name before after (std.Err stop) → Counts before after result
+not_selected_counted told name before after stop (std.Ok found) came why = absurd came
+not_selected_counted told name before after stop (std.Err status) came why =
+    subst (λ (s : Status). Counts {A = Found} before after (std.Err s)) (sym came) (stop_counted told name before after stop why)
+
+-- ---- by the words
+
+-- the inputs of the words were read, and this was found for them
+found_asked : (form : Option Form) (told : Option Files) (asked : Inputs) (result : Result Found Status) → Reads form told (std.Ok asked) → FormedInputs asked
+    → FindsFor told asked result → Finds form told result
+found_asked form told asked (std.Ok found) read formed finds = record { inputs = asked; read = read; formed = formed; asked = finds }
+found_asked form told asked (std.Err status) read formed (inl want) = inl (subst (λ (s : Status). Reads form told (std.Err s)) (sym want) tt)
+found_asked form told asked (std.Err status) read formed (inr (name, is, why)) =
+    inr (name, subst (λ (i : Inputs). Reads form told (std.Ok i)) is read, why)
+
+pub found_read : (form : Option Form) (told reading : Option Files) (asked : Inputs) (result : Result Found Status) → reading ≡ told → Reads form told (std.Ok asked) → FormedInputs asked
+    → FindsFor reading asked result → Finds form told result
+found_read form told reading asked result is read formed finds =
+    found_asked form told asked result read formed (subst (λ (f : Option Files). FindsFor f asked result) is finds)
+
 -- ---- writing it
 
 -- a text was put, and then the output was flushed
-writes_flushed : {A : Type 0} (text : List ℕ) (old mid new : Told) (result : Result A OutputStop)
+pub wrote : {A : Type 0} (text : List ℕ) (old mid new : Told) (result : Result A OutputStop)
     → Grows text old mid × (mid.faults ≡ old.faults) → IsFlushed mid new result → Writes text old new result
-writes_flushed text old mid new (std.Ok done) puts flushed = (whole_flushed text old mid new puts.0 flushed.0 flushed.1, flushed.2 ∙ puts.1)
-writes_flushed text old mid new (std.Err stops.WriteFault) puts flushed =
+wrote text old mid new (std.Ok done) puts flushed = (whole_flushed text old mid new puts.0 flushed.0 flushed.1, flushed.2 ∙ puts.1)
+wrote text old mid new (std.Err stops.WriteFault) puts flushed =
     (part_flushed text old mid new puts.0 flushed.0, subst (λ (n : ℕ). Rises n new.faults) puts.1 flushed.1)
-writes_flushed text old mid new (std.Err stops.Memory) puts flushed = absurd flushed
-
-pub wrote : {A : Type 0} (P : List ℕ → Type 0) (text : List ℕ) (old mid new : Told) (result : Result A OutputStop)
-    → P text → Grows text old mid × (mid.faults ≡ old.faults) → IsFlushed mid new result → WritesOf P old new result
-wrote P text old mid new result is puts flushed = inr (text, is, writes_flushed text old mid new result puts flushed)
+wrote text old mid new (std.Err stops.Memory) puts flushed = absurd flushed
 
 -- why a text was not put is passed on
-pub stopped : {A : Type 0} (P : List ℕ → Type 0) (text : List ℕ) (old new : Told) (result : Result A OutputStop) (stop : OutputStop)
-    → IsErrAnd result (λ e. e ≡ stop) → P text → Stops text old new stop → WritesOf P old new result
-stopped P text old new (std.Ok done) stop is asked h = absurd is
-stopped P text old new (std.Err e) stop is asked h = inr (text, asked, subst (Stops text old new) (sym is) h)
+pub stopped : {A : Type 0} (text : List ℕ) (old new : Told) (result : Result A OutputStop) (stop : OutputStop)
+    → IsErrAnd result (λ e. e ≡ stop) → Stops text old new stop → Writes text old new result
+stopped text old new (std.Ok done) stop is h = absurd is
+stopped text old new (std.Err e) stop is h = subst (Stops text old new) (sym is) h

@@ -1,19 +1,56 @@
--- What was found for the inputs, and its text.
-use Rattle.std.specs.Prelude.{ℕ, List, ⊤}
+-- What was found for the inputs, its text, and why nothing was found.
+use Rattle.std.specs.Prelude.{◌≡◌, ℕ, ◌⊎◌, Option, Some, IfSome, Result, List, ⊤}
+use Rattle.std.specs.Prelude as std
+use Rattle.cf_types.specs.Lines.{text_of}
 use Rattle.config_rules.specs.Formed.{FitGraph}
 use Rattle.config_rules.specs.Listing.{listing}
+use Rattle.config_rules.specs.Reading.{Files}
+use Rattle.file_rules.specs.Sources.{IsFirstFault}
+use Rattle.app_input.specs.Inputs.{Reads}
+use Rattle.app_input.specs.Words.{Form, sources}
+use Rattle.app_input.specs.declared.inputs.Inputs.{Inputs}
+use Rattle.app_input.specs.declared.inputs.Inputs.TheVariants as input
+use Rattle.app_input.specs.declared.status.Status.{Status}
+use Rattle.app_input.specs.declared.status.Status.TheVariants.{ConfigRefused, ReadFault, Memory}
 use Rattle.app_output.specs.RunText.{run_text}
+use Rattle.app_config.specs.Asked.{Asks, IsAskedText}
 use Rattle.app_config.specs.declared.found.Found.{Found}
-use Rattle.app_config.specs.declared.found.Found.TheVariants.{Listed, Ran, Line}
+use Rattle.app_config.specs.declared.found.Found.TheVariants.{Listed, Selected, Ran, Line}
 
--- the listing; or the listing, the history and the tree; or the line
+-- the listing; or the paths, one a line; or the listing, the history and the tree; or the line
 abbrev pub found_text : Found → List ℕ
 found_text (Listed tables) = listing tables
+found_text (Selected paths) = text_of paths
 found_text (Ran board) = run_text board.world.setup.tables board.events board.world
 found_text (Line line) = line.items
 
 -- what has to be listed fits into a graph
 abbrev pub HasGraph : Found → Type 0
 HasGraph (Listed tables) = FitGraph tables
+HasGraph (Selected paths) = ⊤
 HasGraph (Ran board) = FitGraph board.world.setup.tables
 HasGraph (Line line) = ⊤
+
+-- why the sources of a configuration were not selected: its first fault, or a fault of reading
+abbrev pub Unselected : Option Files → List ℕ → Status → Type 0
+Unselected told name (ConfigRefused file line code) = IfSome told (λ files. IsFirstFault files name (record { file = file; line = line; code = code }))
+Unselected told name ReadFault = ⊤
+Unselected told name status = ⊥
+
+-- why nothing was found for the inputs: memory ran out, or their sources were not selected
+abbrev pub Unfound : Option Files → Inputs → Status → Type 0
+Unfound told asked status = (status ≡ Memory) ⊎ ((name : List ℕ) × (asked ≡ input.Files name) × Unselected told name status)
+
+-- what was found for the inputs has the text that they ask for
+abbrev pub FindsFor : Option Files → Inputs → Result Found Status → Type 0
+FindsFor told asked (std.Ok found) = IsAskedText told asked (found_text found)
+FindsFor told asked (std.Err status) = Unfound told asked status
+
+-- why the words and the files are refused: while the inputs are read, or while the sources are selected
+abbrev pub IsRefused : Option Form → Option Files → Status → Type 0
+IsRefused form told status = Reads form told (std.Err status) ⊎ ((name : List ℕ) × (form ≡ Some (sources name)) × Unselected told name status)
+
+-- what was found for the words and the files has the text that they ask for
+abbrev pub Finds : Option Form → Option Files → Result Found Status → Type 0
+Finds form told (std.Ok found) = Asks form told (found_text found)
+Finds form told (std.Err status) = IsRefused form told status

@@ -1,18 +1,18 @@
 //! Does what the inputs ask for. Nothing here sees the output, so a run has ended before anything of it is put.
-ghost use Rattle.std.specs.Prelude.{IfOk};
-ghost use Rattle.app_input.specs.Inputs.{FormedInputs};
+ghost use Rattle.std.specs.Prelude.{◌≡◌, IfOk};
+ghost use Rattle.app_input.specs.Inputs.{Counts, FormedInputs};
 ghost use Rattle.app_output.specs.Output.{Puts};
-ghost use Rattle.app_config.specs.Found.{HasGraph, found_text};
-ghost use Rattle.app_config.specs.Run.{IsAskedText};
+ghost use Rattle.app_config.specs.Found.{FindsFor, HasGraph, found_text};
 
 use crate::boot::booted;
 use crate::load::loaded;
 use crate::play::played;
-use app_input::Inputs;
-use app_output::{OutputStop, put_listing, put_piece, put_run};
-use cf_io::Sink;
-use cf_types::{Memory, Tables};
+use app_input::{Inputs, Status};
+use app_output::{OutputStop, put_listing, put_paths, put_piece, put_run};
+use cf_io::{Files, Sink};
+use cf_types::{List, Tables, Text};
 use dev_board::Board;
+use file_select::select;
 use std::alloc::Global;
 
 /// What was found for the inputs.
@@ -20,20 +20,28 @@ use std::alloc::Global;
 pub enum Found {
     /// The tables of a configuration.
     Listed(Tables),
+    /// The paths of the sources that a configuration selects.
+    Selected(List<Text>),
     /// The board of a run that has ended.
     Ran(Board),
     /// A line with its newline.
     Line(Vec<u8>),
 }
 
-/// Compiles, boots and plays as the inputs ask for.
-pub fn found_by(alloc: Global, inputs: Inputs) -> Result<Found, Memory>
+/// Compiles, selects, boots and plays as the inputs ask for. Files are read for the sources alone.
+pub fn found_by<F: Files>(alloc: Global, files: &mut F, inputs: Inputs) -> Result<Found, Status>
     requires { FormedInputs inputs }
-    ensures asked { IfOk result (λ found. IsAskedText inputs (found_text found)) }
+    ensures told { F.told files.new ≡ F.told files.old }
+    ensures found { FindsFor (F.told files.old) inputs result }
+    ensures counted { Counts (F.faults files.old) (F.faults files.new) result }
     ensures graphed { IfOk result HasGraph }
 {
     match inputs {
         Inputs::Ioconf { tables } => Ok(Found::Listed(tables)),
+        Inputs::Files { name } => {
+            let paths = select(alloc, files, name.items())?;
+            Ok(Found::Selected(paths))
+        }
         Inputs::Boot { tables, machine } => {
             let board = booted(alloc, tables, machine)?;
             Ok(Found::Ran(board))
@@ -58,13 +66,14 @@ pub fn found_by(alloc: Global, inputs: Inputs) -> Result<Found, Memory>
     }
 }
 
-/// Puts what was found: the listing, or the listing, the history and the device tree, or the line.
+/// Puts what was found: the listing, or the paths, or the listing, the history and the device tree, or the line.
 pub fn put_found<S: Sink>(alloc: Global, found: &Found, out: &mut S) -> Result<(), OutputStop>
     requires { HasGraph found.now }
     ensures { Puts (found_text found.now) (S.told out.old) (S.told out.new) result }
 {
     match found {
         Found::Listed(tables) => put_listing(alloc, tables, out),
+        Found::Selected(paths) => put_paths(alloc, paths.items(), out),
         Found::Ran(board) => put_run(alloc, board, out),
         Found::Line(line) => put_piece(line, out),
     }

@@ -4,7 +4,7 @@ ghost use Rattle.config_rules.specs.Formed.{FittingMachine, FormedTables};
 ghost use Rattle.app_input.specs.Played.{FormedPlay};
 ghost use Rattle.history_laws.specs.Reliable.{IsReliable};
 ghost use Rattle.run_rules.specs.World.{setup_of};
-ghost use Rattle.app_config.specs.Run.{IsPlayed};
+ghost use Rattle.app_config.specs.Asked.{IsPlayed};
 
 use crate::boot::started;
 use cf_types::{List, Machine, Memory, Script, Tables};

@@ -1,5 +1,5 @@
 -- Where no fault of reading was counted, what was read or refused is what is due.
-use Rattle.std.proofs.Common.{◌≡◌, ℕ, ◌≤◌, ◌<◌, ◌⊎◌, inl, inr, true, false, Bool, List, arith, length, Option, Some, None, ap, sym, ◌∙◌, refl, subst, if◌then◌else◌}
+use Rattle.std.proofs.Common.{◌≡◌, ℕ, ◌≤◌, ◌<◌, ◌⊎◌, inl, inr, true, false, Bool, List, length, Option, Some, None, ap, sym, ◌∙◌, refl, subst, if◌then◌else◌}
 use Rattle.std.proofs.lemmas.Bool.{le-leb, lt-leb}
 use Rattle.std.specs.Prelude as std
 use Rattle.std.specs.Prelude.{Result, IfSome, codes, nat_le}
@@ -15,32 +15,51 @@ use Rattle.config_rules.specs.Meaning.{Means}
 use Rattle.config_rules.specs.Reading.{Files}
 use Rattle.app_input.specs.declared.inputs.Inputs.{Inputs}
 use Rattle.app_input.specs.declared.inputs.Inputs.TheVariants.{Ioconf, Boot, Load, Play}
+use Rattle.app_input.specs.declared.inputs.Inputs.TheVariants as inputs
 use Rattle.app_input.specs.declared.status.Status.{Status}
 use Rattle.app_input.specs.declared.status.Status.TheVariants.{Ok, ConfigRefused, Usage, MachineRefused, ScriptRefused, Absent, TooLong, ReadFault, WriteFault, Memory}
-use Rattle.app_input.specs.Inputs.{Counts, IsDue, IsDueAt, IsRefusedPlay, Reads, booted, booted_from, files_of, given_by, played_with, refused_by, told_of}
-use Rattle.app_input.specs.Words.{Form, boot, config_of, ioconf, load, play, machine_in}
+use Rattle.app_input.specs.Inputs.{Counts, IsDue, IsDueAt, IsDueIf, IsRefusedPlay, Reads, booted, booted_from, files_of, given_by, played_with, refused_by, told_of}
+use Rattle.app_input.specs.Words.{Form, boot, config_of, ioconf, is_compiled, load, machine_in, play, sources}
 
 -- where the files are told, those that a form speaks of are
 at_files : (P : Files → Type 0) (form : Form) (files : Files) → IfSome (told_of form (Some files)) P → P (files_of form files)
 at_files P (ioconf file) files holds = holds
+at_files P (sources file) files holds = holds
 at_files P (boot file name) files holds = holds
 at_files P (load n) files holds = holds
 at_files P (play file name order scripts) files holds = holds
 
+-- what is due where the inputs are compiled
+due_compiled : (form : Form) (files : Files) (answer : Result Inputs Status) → is_compiled form ≡ true
+    → IsDueAt form (files_of form files) (first_fault (files_of form files) (config_of form)) answer → IsDue (Some form) files answer
+due_compiled form files answer compiled due = subst (λ (b : Bool). IsDueIf b form (files_of form files) answer) (sym compiled) due
+
 -- what the tables give is due
-due_by_tables : (form : Form) (files : Files) (tables : Tables) (answer : Result Inputs Status) → Means (files_of form files) (config_of form) tables
+due_by_tables : (form : Form) (files : Files) (tables : Tables) (answer : Result Inputs Status) → is_compiled form ≡ true → Means (files_of form files) (config_of form) tables
     → answer ≡ given_by form (files_of form files) tables → IsDue (Some form) files answer
-due_by_tables form files tables answer meant given =
-    subst (λ (fault : Option Refusal). IsDueAt form (files_of form files) fault answer) (sym meant.accepted) (tables, meant, given)
+due_by_tables form files tables answer compiled meant given =
+    due_compiled form files answer compiled (subst (λ (fault : Option Refusal). IsDueAt form (files_of form files) fault answer) (sym meant.accepted) (tables, meant, given))
 
 -- the first fault is due
-due_by_fault : (form : Form) (files : Files) (refusal : Refusal) → first_fault (files_of form files) (config_of form) ≡ Some refusal → IsDue (Some form) files (refused_by refusal)
-due_by_fault form files refusal fault = subst (λ (found : Option Refusal). IsDueAt form (files_of form files) found (refused_by refusal)) (sym fault) refl
+due_by_fault : (form : Form) (files : Files) (refusal : Refusal) → is_compiled form ≡ true → first_fault (files_of form files) (config_of form) ≡ Some refusal
+    → IsDue (Some form) files (refused_by refusal)
+due_by_fault form files refusal compiled fault =
+    due_compiled form files (refused_by refusal) compiled
+    (subst (λ (found : Option Refusal). IsDueAt form (files_of form files) found (refused_by refusal)) (sym fault) refl)
+
+-- a form with a machine file is compiled
+machine_compiled : (form : Form) (name : List ℕ) → machine_in form ≡ Some name → is_compiled form ≡ true
+machine_compiled (ioconf file) name is = refl
+machine_compiled (sources file) name is = absurd cc
+machine_compiled (boot file machine) name is = refl
+machine_compiled (load n) name is = refl
+machine_compiled (play file machine order scripts) name is = refl
 
 -- what a form with a machine file gives
 machine_given : (form : Form) (files : Files) (name : List ℕ) (tables : Tables) → machine_in form ≡ Some name
     → (next : Machine → Result Inputs Status) × (given_by form files tables ≡ booted_from next tables name (files name))
 machine_given (ioconf file) files name tables is = absurd cc
+machine_given (sources file) files name tables is = absurd cc
 machine_given (boot file other) files name tables is =
     let same : other ≡ name = cc in let next : Machine → Result Inputs Status = λ machine. std.Ok (Boot tables machine) in
     (next, ap (λ (x : List ℕ). booted_from next tables x (files x)) same)
@@ -57,7 +76,7 @@ due_by_machine : (form : Form) (files : Files) (name : List ℕ) (tables : Table
     → IsDue (Some form) files answer
 due_by_machine form files name tables answer is meant gives =
     let given = machine_given form (files_of form files) name tables is in
-    due_by_tables form files tables answer meant (sym (given.1 ∙ gives given.0))
+    due_by_tables form files tables answer (machine_compiled form name is) meant (sym (given.1 ∙ gives given.0))
 
 pub if_true : {A : Type 0} (a b : A) (test : Bool) → test ≡ true → (if test then a else b) ≡ a
 if_true a b test e = rw e refl
@@ -81,7 +100,7 @@ due_by_play : (form : Option Form) (files : Files) (file name order : List ℕ) 
     → played_with files order scripts tables machine ≡ answer → IsDue form files answer
 due_by_play form files file name order scripts tables machine text answer is meant there short described gives =
     let next = played_with files order scripts tables in
-    rw is (due_by_tables (play file name order scripts) files tables answer meant
+    rw is (due_by_tables (play file name order scripts) files tables answer refl meant
     (sym (short_file next tables name text (files name) there short ∙ ap (booted next) described ∙ gives)))
 
 -- the refusal of a script or of the order file is due
@@ -92,12 +111,13 @@ due_refused form files status (file, name, order, scripts, tables, machine, is, 
 
 due : (form : Option Form) (files : Files) (before after : ℕ) (answer : Result Inputs Status) → Reads form (Some files) answer → Counts before after answer
     → ¬ Rose before after → (answer ≡ std.Err Memory) ⊎ IsDue form files answer
-due form files before after (std.Ok (Ioconf tables)) (file, is, meant) counts quiet = inr (rw is (due_by_tables (ioconf file) files tables (std.Ok (Ioconf tables)) meant refl))
+due form files before after (std.Ok (Ioconf tables)) (file, is, meant) counts quiet = inr (rw is (due_by_tables (ioconf file) files tables (std.Ok (Ioconf tables)) refl meant refl))
+due form files before after (std.Ok (inputs.Files name)) is counts quiet = inr (rw is refl)
 due form files before after (std.Ok (Boot tables machine)) (file, name, is, meant, (text, there, short, described)) counts quiet =
-    inr (rw is (due_by_tables (boot file name) files tables (std.Ok (Boot tables machine)) meant
+    inr (rw is (due_by_tables (boot file name) files tables (std.Ok (Boot tables machine)) refl meant
     (sym (short_file (λ m. std.Ok (Boot tables m)) tables name text (files name) there short ∙ ap (booted (λ m. std.Ok (Boot tables m))) described))))
 due form files before after (std.Ok (Load n tables machine)) (is, (meant, (text, there, short, described))) counts quiet =
-    inr (rw is (due_by_tables (load n) files tables (std.Ok (Load n tables machine)) meant
+    inr (rw is (due_by_tables (load n) files tables (std.Ok (Load n tables machine)) refl meant
     (sym (short_file (λ m. std.Ok (Load n tables m)) tables (codes "mach") text _ there short ∙ ap (booted (λ m. std.Ok (Load n tables m))) described))))
 due form files before after (std.Ok (Play tables machine scripts order)) (file, name, turns, names, is, meant, (text, there, short, described), gives) counts quiet =
     inr (due_by_play form files file name turns names tables machine text (std.Ok (Play tables machine scripts order)) is meant there short described
@@ -105,9 +125,9 @@ due form files before after (std.Ok (Play tables machine scripts order)) (file, 
 due form files before after (std.Err (ScriptRefused which line code)) refused counts quiet = inr (due_refused form files (ScriptRefused which line code) refused)
 due form files before after (std.Err (Absent absent)) (inr refused) counts quiet = inr (due_refused form files (Absent absent) refused)
 due form files before after (std.Err (TooLong long)) (inr refused) counts quiet = inr (due_refused form files (TooLong long) refused)
-due form files before after (std.Err (ConfigRefused file line code)) (f, is, fault) counts quiet =
+due form files before after (std.Err (ConfigRefused file line code)) (f, is, compiled, fault) counts quiet =
     let refusal : Refusal = record { file = file; line = line; code = code } in
-    inr (rw is (due_by_fault f files refusal (at_files (λ named. first_fault named (config_of f) ≡ Some refusal) f files fault)))
+    inr (rw is (due_by_fault f files refusal compiled (at_files (λ named. first_fault named (config_of f) ≡ Some refusal) f files fault)))
 due form files before after (std.Err Usage) is counts quiet = inr (rw is refl)
 due form files before after (std.Err (MachineRefused line code)) (f, name, tables, is, named, meant, described) counts quiet =
     let found = at_files (λ named. (text : List ℕ) × (named name ≡ Some text) × (length text ≤ MAX_FILE) × (machine_of tables text ≡ std.Err (line, code))) f files described in

@@ -4,3 +4,4 @@ pub mod MadeLaws
 pub mod OperandLemmas
 pub mod PlayLaws
 pub mod PlayOperands
+pub mod StopLaws

@@ -26,7 +26,7 @@ machine_unread status counts is = never (subst (λ (s : Status). Counts {A = Mac
 pub made_refused : (n : ℕ) (read told : Option Files) (status : Status) → read ≡ Some (file_named (made_files n)) → ReadsTables read (codes "conf") (std.Err status)
     → status ≢ ReadFault → Reads (Some (load n)) told (std.Err status)
 made_refused n read told (ConfigRefused file line code) is why quiet =
-    (load n, refl, subst (λ (files : Option Files). IsFirstFault files (codes "conf") (record { file = file; line = line; code = code })) is why)
+    (load n, refl, refl, subst (λ (files : Option Files). IsFirstFault files (codes "conf") (record { file = file; line = line; code = code })) is why)
 made_refused n read told ReadFault is why quiet = absurd (quiet refl)
 made_refused n read told Memory is why quiet = tt
 made_refused n read told Ok is why quiet = elim why [ ]

@@ -186,17 +186,17 @@ many_scripts n h k = grind (arith, nat_tests)
 
 by_count : (a b c d : Text) (more : List Text) (few : Bool) → is_script_count (length (d ∷ more)) ≡ few → (k : ErrorKind)
     → (k ≡ kind.OutOfMemory) ⊎ IsAmong k (or_else (or_else (range_kinds 1 16 (length (d ∷ more))) []) []) → HasForm (given few (play a b c (d ∷ more))) (Err (stop_of k))
-by_count a b c d more false is k why = refused k
+by_count a b c d more false is k why = refused _ k
 by_count a b c d more true is k why =
     unrefused (Some (play a b c (d ∷ more))) k
     (subst (λ (kinds : Kinds). (k ≡ kind.OutOfMemory) ⊎ IsAmong k (or_else (or_else kinds []) [])) (few_scripts (length (d ∷ more)) is) why)
 
 pub play_refusal : (words : List Text) → list_all is_operand words ≡ true → (k : ErrorKind) → (k ≡ kind.OutOfMemory) ⊎ IsAmong k (fault_of play_app words)
     → HasForm (play_form words) (Err (stop_of k))
-play_refusal [] all k why = refused k
-play_refusal (a ∷ []) all k why = refused k
-play_refusal (a ∷ b ∷ []) all k why = refused k
-play_refusal (a ∷ b ∷ c ∷ []) all k why = refused k
+play_refusal [] all k why = refused _ k
+play_refusal (a ∷ []) all k why = refused _ k
+play_refusal (a ∷ b ∷ []) all k why = refused _ k
+play_refusal (a ∷ b ∷ c ∷ []) all k why = refused _ k
 play_refusal (a ∷ b ∷ c ∷ d ∷ more) all k why =
     let P : Bool → Type 0 = λ few. HasForm (given few (play a b c (d ∷ more))) (Err (stop_of k)) in
     by_count a b c d more (is_script_count (length (d ∷ more))) refl k

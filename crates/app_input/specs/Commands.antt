@@ -12,8 +12,8 @@ abbrev pub bare_app : List ℕ → App
 bare_app name = on_top (λ s. record s { no_binary_name = true; disable_help_flag = true }) (new_app name)
 
 -- `FILE`
-abbrev pub ioconf_app : App
-ioconf_app = with_rule (bare_app (codes "ioconf")) (required_rule (codes "file"))
+abbrev pub file_app : App
+file_app = with_rule (bare_app (codes "file")) (required_rule (codes "file"))
 
 -- `FILE MACHINE`
 abbrev pub boot_app : App

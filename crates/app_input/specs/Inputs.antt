@@ -1,5 +1,5 @@
 -- What the words and the files call for, and what reading them answers.
-use Rattle.std.specs.Prelude.{◌≡◌, ℕ, ◌<◌, ◌≤◌, ◌⊎◌, true, Option, Some, None, IfSome, Result, List, [], ◌∷◌, length, codes, ⊤}
+use Rattle.std.specs.Prelude.{◌≡◌, ℕ, ◌<◌, ◌≤◌, ◌⊎◌, Bool, true, false, Option, Some, None, IfSome, Result, List, [], ◌∷◌, length, codes, ⊤}
 use Rattle.std.specs.Prelude as std
 use Rattle.cf_types.specs.declared.machine.Machine.{Machine}
 use Rattle.cf_types.specs.declared.tables.Refusal.{Refusal}
@@ -17,10 +17,11 @@ use Rattle.config_rules.specs.Reading.{Files}
 use Rattle.load_maker.specs.Generated.{conf_text, machine_text}
 use Rattle.app_input.specs.declared.inputs.Inputs.{Inputs}
 use Rattle.app_input.specs.declared.inputs.Inputs.TheVariants.{Ioconf, Boot, Load, Play}
+use Rattle.app_input.specs.declared.inputs.Inputs.TheVariants as inputs
 use Rattle.app_input.specs.declared.status.Status.{Status}
 use Rattle.app_input.specs.declared.status.Status.TheVariants.{Ok, ConfigRefused, Usage, MachineRefused, ScriptRefused, Absent, TooLong, ReadFault, WriteFault, Memory}
 use Rattle.app_input.specs.Played.{FormedPlay, IsOfPlay, file_gives, played}
-use Rattle.app_input.specs.Words.{Form, ioconf, boot, load, play, config_of, is_from_outside, machine_in}
+use Rattle.app_input.specs.Words.{Form, ioconf, sources, boot, load, play, config_of, is_compiled, is_from_outside, machine_in}
 
 -- the generated files of a machine with so many spots
 unfoldable pub made_files : ℕ → List MemFile
@@ -29,6 +30,7 @@ made_files n = record { name = codes "conf"; bytes = conf_text } ∷ record { na
 -- the files that a form speaks of, where they are told: generated ones are
 abbrev pub told_of : Form → Option Files → Option Files
 told_of (ioconf file) told = told
+told_of (sources file) told = told
 told_of (boot file machine) told = told
 told_of (play file machine order scripts) told = told
 told_of (load n) told = Some (file_named (made_files n))
@@ -36,6 +38,7 @@ told_of (load n) told = Some (file_named (made_files n))
 -- the files that a form speaks of
 abbrev pub files_of : Form → Files → Files
 files_of (ioconf file) files = files
+files_of (sources file) files = files
 files_of (boot file machine) files = files
 files_of (play file machine order scripts) files = files
 files_of (load n) files = file_named (made_files n)
@@ -125,6 +128,7 @@ Made n tables machine =
 -- why the words and the files were read as these inputs, or refused
 abbrev pub Reads : Option Form → Option Files → Result Inputs Status → Type 0
 Reads form told (std.Ok (Ioconf tables)) = (file : List ℕ) × (form ≡ Some (ioconf file)) × IsMeant told file tables
+Reads form told (std.Ok (inputs.Files name)) = form ≡ Some (sources name)
 Reads form told (std.Ok (Boot tables machine)) =
     (file name : List ℕ) × (form ≡ Some (boot file name)) × IsMeant told file tables × IsDescribed told name tables (std.Ok machine)
 Reads form told (std.Ok (Load n tables machine)) = (form ≡ Some (load n)) × Made n tables machine
@@ -132,7 +136,7 @@ Reads form told (std.Ok (Play tables machine scripts order)) =
     (file name turns : List ℕ) × (names : List (List ℕ)) × (form ≡ Some (play file name turns names)) × IsMeant told file tables
     × IsDescribed told name tables (std.Ok machine) × IfSome told (λ files. played files names turns ≡ std.Ok (record { scripts = scripts; order = order }))
 Reads form told (std.Err (ConfigRefused file line code)) =
-    (f : Form) × (form ≡ Some f) × IsFirstFault (told_of f told) (config_of f) (record { file = file; line = line; code = code })
+    (f : Form) × (form ≡ Some f) × (is_compiled f ≡ true) × IsFirstFault (told_of f told) (config_of f) (record { file = file; line = line; code = code })
 Reads form told (std.Err Usage) = form ≡ None
 Reads form told (std.Err (MachineRefused line code)) = Boots form told (λ files name tables. IsDescribed files name tables (std.Err (line, code)))
 Reads form told (std.Err (ScriptRefused which line code)) = IsRefusedPlay form told (ScriptRefused which line code)
@@ -154,6 +158,7 @@ Counts before after (std.Err _) = after ≡ before
 -- the tables are formed, the machine fits them, and so do the scripts and their turns
 abbrev pub FormedInputs : Inputs → Type 0
 FormedInputs (Ioconf tables) = FormedTables tables
+FormedInputs (inputs.Files name) = ⊤
 FormedInputs (Boot tables machine) = FormedTables tables × FittingMachine tables machine
 FormedInputs (Load n tables machine) = FormedTables tables × FittingMachine tables machine
 FormedInputs (Play tables machine scripts order) =
@@ -175,6 +180,7 @@ played_with files order scripts tables machine = played files scripts order >>= 
 -- what a form gives where its configuration means the tables
 abbrev pub given_by : Form → Files → Tables → Result Inputs Status
 given_by (ioconf file) files tables = std.Ok (Ioconf tables)
+given_by (sources file) files tables = std.Ok (inputs.Files file)
 given_by (boot file name) files tables = booted_from (λ machine. std.Ok (Boot tables machine)) tables name (files name)
 given_by (load n) files tables = booted_from (λ machine. std.Ok (Load n tables machine)) tables (codes "mach") (files (codes "mach"))
 given_by (play file name order scripts) files tables = booted_from (played_with files order scripts tables) tables name (files name)
@@ -188,7 +194,12 @@ abbrev pub IsDueAt : Form → Files → Option Refusal → Result Inputs Status 
 IsDueAt form files None answer = (tables : Tables) × Means files (config_of form) tables × (answer ≡ given_by form files tables)
 IsDueAt form files (Some refusal) answer = answer ≡ refused_by refusal
 
+-- the answer is the one that a form and the files call for, where its inputs are compiled or not
+abbrev pub IsDueIf : Bool → Form → Files → Result Inputs Status → Type 0
+IsDueIf false form files answer = answer ≡ std.Ok (inputs.Files (config_of form))
+IsDueIf true form files answer = IsDueAt form files (first_fault files (config_of form)) answer
+
 -- the answer is the one that the words and the files call for
 abbrev pub IsDue : Option Form → Files → Result Inputs Status → Type 0
 IsDue None files answer = answer ≡ std.Err Usage
-IsDue (Some form) files answer = IsDueAt form (files_of form files) (first_fault (files_of form files) (config_of form)) answer
+IsDue (Some form) files answer = IsDueIf (is_compiled form) form (files_of form files) answer

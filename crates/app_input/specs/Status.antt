@@ -1,4 +1,6 @@
 use Rattle.std.specs.Prelude.{ℕ}
+use Rattle.cf_compile.specs.declared.stop.CompileStop.{CompileStop}
+use Rattle.cf_compile.specs.declared.stop.CompileStop.TheVariants as stops
 use Rattle.app_input.specs.declared.status.Status.{Status}
 use Rattle.app_input.specs.declared.status.Status.TheVariants.{Ok, ConfigRefused, Usage, MachineRefused, ScriptRefused, Absent, TooLong, ReadFault, WriteFault, Memory}
 
@@ -14,3 +16,9 @@ status_number (TooLong name) = 7
 status_number ReadFault = 8
 status_number WriteFault = 9
 status_number Memory = 10
+
+-- the status that tells why a configuration was not compiled
+abbrev pub status_of_stop : CompileStop → Status
+status_of_stop (stops.Refused refusal) = ConfigRefused refusal.file refusal.line refusal.code
+status_of_stop stops.ReadFault = ReadFault
+status_of_stop stops.Memory = Memory

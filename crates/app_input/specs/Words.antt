@@ -14,10 +14,12 @@ use Rattle.clap.specs.declared.error.kind.ErrorKind.{ErrorKind}
 use Rattle.clap.specs.declared.error.kind.ErrorKind.TheVariants as kind
 use Rattle.app_input.specs.declared.words.WordStop.TheVariants.{Usage, Memory}
 
--- what words ask for: the listing of a configuration, the boot of a machine by a configuration, the boot of a generated
--- machine with so many spots, or a boot with scripts behind it, whose turns an order file has
+-- what words ask for: the listing of a configuration, the sources that it selects, the boot of a machine by a
+-- configuration, the boot of a generated machine with so many spots, or a boot with scripts behind it, whose turns an order
+-- file has
 pub data Form : Type 0 where
   ioconf : List ℕ → Form
+  sources : List ℕ → Form
   boot : List ℕ → List ℕ → Form
   load : ℕ → Form
   play : List ℕ → List ℕ → List ℕ → List (List ℕ) → Form
@@ -27,10 +29,10 @@ abbrev pub is_operand : List ℕ → Bool
 is_operand word = nat_lt 0 (length word) && not (slice_index word 0 == 45)
 
 -- `FILE`
-abbrev pub ioconf_form : List (List ℕ) → Option Form
-ioconf_form [] = None
-ioconf_form (file ∷ []) = Some (ioconf file)
-ioconf_form (file ∷ other ∷ more) = None
+abbrev pub file_in : List (List ℕ) → Option (List ℕ)
+file_in [] = None
+file_in (file ∷ []) = Some file
+file_in (file ∷ other ∷ more) = None
 
 -- `FILE MACHINE`
 abbrev pub boot_form : List (List ℕ) → Option Form
@@ -67,10 +69,11 @@ play_form (file ∷ machine ∷ order ∷ scripts) = given (is_script_count (len
 -- the operands behind the first word, which is compared byte for byte
 abbrev pub form_named : List ℕ → List (List ℕ) → Option Form
 form_named word operands =
-    if bytes_eq word (codes "ioconf") then ioconf_form operands
+    if bytes_eq word (codes "ioconf") then option_map ioconf (file_in operands)
+    else (if bytes_eq word (codes "files") then option_map sources (file_in operands)
     else (if bytes_eq word (codes "boot") then boot_form operands
     else (if bytes_eq word (codes "load") then load_form operands
-    else (if bytes_eq word (codes "play") then play_form operands else None)))
+    else (if bytes_eq word (codes "play") then play_form operands else None))))
 
 -- the form of the words of `devconf`: each word behind the first is an operand
 abbrev pub devconf_form : List (List ℕ) → Option Form
@@ -84,6 +87,7 @@ form_of Devconf words = devconf_form words
 -- the configuration of a form, by its name
 abbrev pub config_of : Form → List ℕ
 config_of (ioconf file) = file
+config_of (sources file) = file
 config_of (boot file machine) = file
 config_of (play file machine order scripts) = file
 config_of (load n) = codes "conf"
@@ -91,26 +95,41 @@ config_of (load n) = codes "conf"
 -- the machine file of a form, by its name
 abbrev pub machine_in : Form → Option (List ℕ)
 machine_in (ioconf file) = None
+machine_in (sources file) = None
 machine_in (boot file machine) = Some machine
 machine_in (play file machine order scripts) = Some machine
 machine_in (load n) = Some (codes "mach")
 
--- whether a form names files from outside
+-- whether the inputs of a form are compiled; the sources are selected later
+abbrev pub is_compiled : Form → Bool
+is_compiled (ioconf file) = true
+is_compiled (sources file) = false
+is_compiled (boot file machine) = true
+is_compiled (play file machine order scripts) = true
+is_compiled (load n) = true
+
+-- whether the inputs of a form are read from files from outside
 abbrev pub is_from_outside : Form → Bool
 is_from_outside (ioconf file) = true
+is_from_outside (sources file) = false
 is_from_outside (boot file machine) = true
 is_from_outside (play file machine order scripts) = true
 is_from_outside (load n) = false
 
+-- words are refused where they say nothing
+abbrev pub IsStopped : {A : Type 0} → Option A → WordStop → Type 0
+IsStopped said Usage = said ≡ None
+IsStopped said Memory = ⊤
+
 -- the words were read as their form, or refused where they have none
 abbrev pub HasForm : Option Form → Result Words WordStop → Type 0
 HasForm form (std.Ok (words.Ioconf file)) = form ≡ Some (ioconf file.now)
+HasForm form (std.Ok (words.Files file)) = form ≡ Some (sources file.now)
 HasForm form (std.Ok (words.Boot file machine)) = form ≡ Some (boot file.now machine.now)
 HasForm form (std.Ok (words.Load count)) = (form ≡ Some (load count)) × (1 ≤ count) × (count ≤ 1000)
 HasForm form (std.Ok (words.Play file machine order scripts)) =
     (form ≡ Some (play file.now machine.now order.now (map string_bytes scripts.now))) × (1 ≤ length scripts.now) × (length scripts.now ≤ 16)
-HasForm form (std.Err Usage) = form ≡ None
-HasForm form (std.Err Memory) = ⊤
+HasForm form (std.Err stop) = IsStopped form stop
 
 -- a parse that failed for another cause than memory refuses the words
 abbrev pub stop_of : ErrorKind → WordStop

@@ -3,16 +3,16 @@ ghost use Rattle.cf_io.specs.Faults.{Rose};
 ghost use Rattle.config_rules.specs.Formed.{FormedTables};
 ghost use Rattle.config_rules.specs.Reading.{Files as NamedFiles};
 ghost use Rattle.app_input.specs.Inputs.{Counts, FormedInputs, IsDue, Reads, ReadsTables};
-ghost use Rattle.app_input.specs.Words.{boot, form_of, ioconf, load, play};
+ghost use Rattle.app_input.specs.Words.{boot, form_of, ioconf, load, play, sources};
 
 use crate::machine_file::load_machine;
 use crate::made::made_files;
 use crate::scripts::{Played, load_played};
 use crate::status::Status;
 use crate::words::{WordStop, Words, read_words};
-use cf_compile::{CompileStop, compile};
+use cf_compile::compile;
 use cf_io::Files;
-use cf_types::{List, Machine, Refusal, Script, Tables};
+use cf_types::{List, Machine, Script, Tables, Text};
 use std::alloc::Global;
 
 /// The program whose words are read.
@@ -28,6 +28,10 @@ pub enum Inputs {
     /// The tables of a configuration. See config(5).
     Ioconf {
         tables: Tables,
+    },
+    /// The name of a configuration whose sources are to be selected. It is not read yet. See config(5).
+    Files {
+        name: Text,
     },
     /// The tables of a configuration, and a machine that is to boot by them.
     Boot {
@@ -59,11 +63,7 @@ fn read_tables<F: Files>(alloc: Global, files: &mut F, file: &[u8]) -> Result<Ta
 {
     match compile(alloc, files, file) {
         Ok(tables) => Ok(tables),
-        Err(CompileStop::Refused(Refusal { file, line, code })) => {
-            Err(Status::ConfigRefused { file, line, code })
-        }
-        Err(CompileStop::ReadFault) => Err(Status::ReadFault),
-        Err(CompileStop::Memory) => Err(Status::Memory),
+        Err(stop) => Err(Status::from(stop)),
     }
 }
 
@@ -77,6 +77,18 @@ fn read_ioconf<F: Files>(alloc: Global, files: &mut F, file: &[u8]) -> Result<In
     match read_tables(alloc, files, file) {
         Ok(tables) => Ok(Inputs::Ioconf { tables }),
         Err(status) => Err(status),
+    }
+}
+
+/// The inputs of `files FILE`. No file is loaded.
+fn read_files(alloc: Global, file: &[u8]) -> Result<Inputs, Status>
+    ensures reads { (told : Option NamedFiles) → Reads (Some (sources file.now)) told result }
+    ensures quiet { result ≢ Err Status.ReadFault }
+    ensures formed { IfOk result FormedInputs }
+{
+    match Text::copied(alloc, file) {
+        Ok(name) => Ok(Inputs::Files { name }),
+        Err(_) => Err(Status::Memory),
     }
 }
 
@@ -183,6 +195,7 @@ pub fn read_inputs<F: Files>(
 {
     match read_words(alloc, program, words) {
         Ok(Words::Ioconf { file }) => read_ioconf(alloc, files, file.as_bytes()),
+        Ok(Words::Files { file }) => read_files(alloc, file.as_bytes()),
         Ok(Words::Boot { file, machine }) => {
             read_boot(alloc, files, file.as_bytes(), machine.as_bytes())
         }

@@ -1,8 +1,8 @@
-ghost use Rattle.std.specs.Prelude.{◌≡◌, IfOk, false, true, map, string_bytes};
+ghost use Rattle.std.specs.Prelude.{◌≡◌, IfErr, IfOk, Some, false, true, map, string_bytes};
 ghost use Rattle.std.specs.List.{list_all};
 ghost use Rattle.clap.specs.Words.{app_of, kind_of, rule_of};
-ghost use Rattle.app_input.specs.Commands.{bare_app, boot_app, ioconf_app, play_app, required_rule, scripts_rule};
-ghost use Rattle.app_input.specs.Words.{HasForm, boot_form, ioconf_form, is_operand, play_form, stop_of};
+ghost use Rattle.app_input.specs.Commands.{bare_app, boot_app, file_app, play_app, required_rule, scripts_rule};
+ghost use Rattle.app_input.specs.Words.{HasForm, IsStopped, boot_form, file_in, is_operand, play_form, stop_of};
 ghost use Rattle.app_input.specs.declared.words.WordStop.TheVariants as stops;
 
 use crate::words::{WordStop, Words};
@@ -49,10 +49,10 @@ fn bare<'a>(alloc: Global, name: &'a str) -> Command<'a>
         .disable_help_flag(true)
 }
 
-fn ioconf_command<'a>(alloc: Global) -> Result<Command<'a>, AllocError>
-    ensures { IfOk result (λ command. app_of command ≡ ioconf_app) }
+fn file_command<'a>(alloc: Global) -> Result<Command<'a>, AllocError>
+    ensures { IfOk result (λ command. app_of command ≡ file_app) }
 {
-    bare(alloc, "ioconf").arg(required(alloc, "file"))
+    bare(alloc, "file").arg(required(alloc, "file"))
 }
 
 fn boot_command<'a>(alloc: Global) -> Result<Command<'a>, AllocError>
@@ -82,14 +82,15 @@ fn play_command<'a>(alloc: Global) -> Result<Command<'a>, AllocError>
 }
 
 /// Reads the operand `FILE`.
-pub fn ioconf_words<'a>(alloc: Global, operands: &'a [String]) -> Result<Words<'a>, WordStop>
+pub fn file_word<'a>(alloc: Global, operands: &'a [String]) -> Result<&'a str, WordStop>
     requires { list_all is_operand (map string_bytes operands.now) ≡ true }
-    ensures { HasForm (ioconf_form (map string_bytes operands.now)) result }
+    ensures file { IfOk result (λ file. file_in (map string_bytes operands.now) ≡ Some file.now) }
+    ensures stop { IfErr result (IsStopped (file_in (map string_bytes operands.now))) }
 {
-    let command = ioconf_command(alloc)?;
+    let command = file_command(alloc)?;
     let matches = command.try_get_matches_from(operands)?;
     match matches.get_str("file") {
-        Some(file) => Ok(Words::Ioconf { file }),
+        Some(file) => Ok(file),
         None => Err(WordStop::Usage),
     }
 }

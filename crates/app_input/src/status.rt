@@ -1,7 +1,9 @@
 ghost use Rattle.std.specs.Prelude.{◌≡◌};
-ghost use Rattle.app_input.specs.Status.{status_number};
+ghost use Rattle.app_input.specs.Status.{status_number, status_of_stop};
+ghost use Rattle.app_input.specs.declared.status.Status.TheVariants as statuses;
 
-use cf_types::Text;
+use cf_compile::CompileStop;
+use cf_types::{Memory, Refusal, Text};
 
 /// How a run of a program ended.
 #[derive(Drop)]
@@ -46,6 +48,28 @@ impl Status {
             Status::ReadFault => 8,
             Status::WriteFault => 9,
             Status::Memory => 10,
+        }
+    }
+}
+
+impl From<Memory> for Status {
+    ghost from_gives = { λ _ status. status ≡ statuses.Memory };
+
+    fn from(_memory: Memory) -> Status {
+        Status::Memory
+    }
+}
+
+impl From<CompileStop> for Status {
+    ghost from_gives = { λ stop status. status ≡ status_of_stop stop };
+
+    fn from(stop: CompileStop) -> Status {
+        match stop {
+            CompileStop::Refused(Refusal { file, line, code }) => {
+                Status::ConfigRefused { file, line, code }
+            }
+            CompileStop::ReadFault => Status::ReadFault,
+            CompileStop::Memory => Status::Memory,
         }
     }
 }

@@ -1,10 +1,10 @@
-ghost use Rattle.std.specs.Prelude.{◌≡◌, map, string_bytes};
+ghost use Rattle.std.specs.Prelude.{◌≡◌, map, option_map, string_bytes, true};
 ghost use Rattle.std.specs.List.{list_all};
-ghost use Rattle.app_input.specs.Words.{HasForm, devconf_form, form_of, is_operand, load_form};
+ghost use Rattle.app_input.specs.Words.{HasForm, devconf_form, file_in, form_of, ioconf, is_operand, load_form, sources};
 
 use crate::count::count_of;
 use crate::inputs::Program;
-use crate::operands::{boot_words, ioconf_words, play_words};
+use crate::operands::{boot_words, file_word, play_words};
 use std::alloc::Global;
 
 /// What words ask for.
@@ -12,6 +12,10 @@ use std::alloc::Global;
 pub enum Words<'a> {
     /// `ioconf FILE`
     Ioconf {
+        file: &'a str,
+    },
+    /// `files FILE`
+    Files {
         file: &'a str,
     },
     /// `boot FILE MACHINE`
@@ -53,6 +57,28 @@ fn are_operands(words: &[String]) -> bool
     words.iter().all(|word| is_operand(word.as_bytes()))
 }
 
+/// Reads the operand of `ioconf FILE`.
+fn ioconf_words<'a>(alloc: Global, operands: &'a [String]) -> Result<Words<'a>, WordStop>
+    requires { list_all is_operand (map string_bytes operands.now) ≡ true }
+    ensures { HasForm (option_map ioconf (file_in (map string_bytes operands.now))) result }
+{
+    match file_word(alloc, operands) {
+        Ok(file) => Ok(Words::Ioconf { file }),
+        Err(stop) => Err(stop),
+    }
+}
+
+/// Reads the operand of `files FILE`.
+fn files_words<'a>(alloc: Global, operands: &'a [String]) -> Result<Words<'a>, WordStop>
+    requires { list_all is_operand (map string_bytes operands.now) ≡ true }
+    ensures { HasForm (option_map sources (file_in (map string_bytes operands.now))) result }
+{
+    match file_word(alloc, operands) {
+        Ok(file) => Ok(Words::Files { file }),
+        Err(stop) => Err(stop),
+    }
+}
+
 /// Reads the operand `N`.
 fn load_words<'a>(operands: &'a [String]) -> Result<Words<'a>, WordStop>
     ensures { HasForm (load_form (map string_bytes operands.now)) result }
@@ -80,6 +106,9 @@ fn devconf_words<'a>(alloc: Global, words: &'a [String]) -> Result<Words<'a>, Wo
     }
     if word.as_bytes() == b"ioconf".as_slice() {
         return ioconf_words(alloc, operands);
+    }
+    if word.as_bytes() == b"files".as_slice() {
+        return files_words(alloc, operands);
     }
     if word.as_bytes() == b"boot".as_slice() {
         return boot_words(alloc, operands);

@@ -7,7 +7,7 @@ use Rattle.app_input.specs.declared.status.Status.TheVariants.{Ok, ConfigRefused
 
 -- the forms that the words of a program may have
 abbrev pub usage_text : Program → List ℕ
-usage_text Devconf = codes "usage: devconf ioconf FILE | boot FILE MACHINE | play FILE MACHINE ORDER SCRIPT.. | replay FILE MACHINE HISTORY SCRIPT.. | load N"
+usage_text Devconf = codes "usage: devconf ioconf FILE | boot FILE MACHINE | play FILE MACHINE ORDER SCRIPT.. | replay FILE MACHINE HISTORY SCRIPT.. | files FILE | load N"
 
 -- what a refusal of a file at a line says
 abbrev pub refused_text : List ℕ → List ℕ → ℕ → ℕ → List ℕ

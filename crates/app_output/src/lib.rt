@@ -1,15 +1,17 @@
-//! Puts what a run found to a sink, line by line: the listing of its tables, its history and its device tree, and the line
-//! of its status.
+//! Puts what a run found to a sink, line by line: the listing of its tables, its history and its device tree, the sources
+//! that are selected, and the line of its status.
 #![tactic(auto)]
 
 mod lines;
 mod listing;
+mod paths;
 mod piece;
 mod run;
 mod status;
 mod stop;
 
 pub use listing::put_listing;
+pub use paths::put_paths;
 pub use piece::{flush, put_piece};
 pub use run::put_run;
 pub use status::report;

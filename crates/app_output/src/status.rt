@@ -10,7 +10,7 @@ use cf_types::{Memory, put_decimal};
 use std::alloc::Global;
 
 const DEVCONF_USAGE: &[u8] =
-    b"usage: devconf ioconf FILE | boot FILE MACHINE | play FILE MACHINE ORDER SCRIPT.. | replay FILE MACHINE HISTORY SCRIPT.. | load N\n";
+    b"usage: devconf ioconf FILE | boot FILE MACHINE | play FILE MACHINE ORDER SCRIPT.. | replay FILE MACHINE HISTORY SCRIPT.. | files FILE | load N\n";
 
 /// The forms that the words of a program may have, with a newline.
 fn usage(program: Program) -> &'static [u8]

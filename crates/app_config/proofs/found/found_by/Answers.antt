@@ -1,19 +1,33 @@
-use Rattle.app_config.proofs.FoundLaws.{boot_ran, listed, load_ran, play_ran, run_graph}
+use Rattle.app_config.proofs.FoundLaws.{boot_ran, listed, load_ran, not_selected, not_selected_counted, play_ran, selected, wanted, wanted_uncounted}
 use Rattle.app_config.proofs.found.found_by.Goals as goal
 
-pub returns-in-Ioconf-clause-asked : goal.returns-in-Ioconf-clause-asked
-returns-in-Ioconf-clause-asked c = listed c.args.inputs c.in-Ioconf.tables c.in-Ioconf.is
+pub returns-in-Ioconf-clause-found : goal.returns-in-Ioconf-clause-found
+returns-in-Ioconf-clause-found g c = listed _ c.args.inputs c.in-Ioconf.tables c.in-Ioconf.is
 
-pub returns-in_ok-board-in-Boot-clause-asked : goal.returns-in_ok-board-in-Boot-clause-asked
-returns-in_ok-board-in-Boot-clause-asked c =
-    boot_ran c.args.inputs c.in-Boot.tables c.in-Boot.machine c.in_ok-board-in-Boot.board.events c.in_ok-board-in-Boot.board.world c.in-Boot.is
+pub returns-in_ok-paths-clause-found : goal.returns-in_ok-paths-clause-found
+returns-in_ok-paths-clause-found g c =
+    selected (g.F.Files.told c.args.files.now) c.args.inputs c.in-Files.name c.items.result.now c.in_ok-paths.paths c.in-Files.is c.items.ensures c.in_ok-paths.ensures.selects.0
+
+pub returns-in_err-paths-clause-found : goal.returns-in_err-paths-clause-found
+returns-in_err-paths-clause-found g c =
+    not_selected (g.F.Files.told c.args.files.now) c.args.inputs c.in-Files.name c.items.result.now _ _ c.in_err-paths.field-0 c.from_residual-in_err-paths.result
+    c.in-Files.is c.items.ensures c.from_residual-in_err-paths.ensures.1 c.in_err-paths.ensures.selects
+
+pub returns-in_err-paths-clause-counted : goal.returns-in_err-paths-clause-counted
+returns-in_err-paths-clause-counted g c =
+    not_selected_counted (g.F.Files.told c.args.files.now) c.items.result.now _ _ c.in_err-paths.field-0 c.from_residual-in_err-paths.result
+    c.from_residual-in_err-paths.ensures.1 c.in_err-paths.ensures.selects
+
+pub returns-in_ok-board-in-Boot-clause-found : goal.returns-in_ok-board-in-Boot-clause-found
+returns-in_ok-board-in-Boot-clause-found g c =
+    boot_ran _ c.args.inputs c.in-Boot.tables c.in-Boot.machine c.in_ok-board-in-Boot.board.events c.in_ok-board-in-Boot.board.world c.in-Boot.is
     c.in_ok-board-in-Boot.ensures.0 c.in_ok-board-in-Boot.ensures.1 c.in_ok-board-in-Boot.ensures.2
 
-pub returns-in_ok-line-in-Load-clause-asked : goal.returns-in_ok-line-in-Load-clause-asked
-returns-in_ok-line-in-Load-clause-asked c =
-    load_ran c.args.inputs c.in-Load.count c.in-Load.tables c.in-Load.machine c.in_ok-line-in-Load.line.items c.in-Load.is c.in_ok-line-in-Load.ensures
+pub returns-in_ok-line-in-Load-clause-found : goal.returns-in_ok-line-in-Load-clause-found
+returns-in_ok-line-in-Load-clause-found g c =
+    load_ran _ c.args.inputs c.in-Load.count c.in-Load.tables c.in-Load.machine c.in_ok-line-in-Load.line.items c.in-Load.is c.in_ok-line-in-Load.ensures
 
-pub returns-in_ok-board-in-Play-clause-asked : goal.returns-in_ok-board-in-Play-clause-asked
-returns-in_ok-board-in-Play-clause-asked c =
-    play_ran c.args.inputs c.in-Play.tables c.in-Play.machine c.in-Play.scripts c.in-Play.order c.items.result.now c.in_ok-board-in-Play.board.events c.in_ok-board-in-Play.board.world
+pub returns-in_ok-board-in-Play-clause-found : goal.returns-in_ok-board-in-Play-clause-found
+returns-in_ok-board-in-Play-clause-found g c =
+    play_ran _ c.args.inputs c.in-Play.tables c.in-Play.machine c.in-Play.scripts c.in-Play.order c.items.result.now c.in_ok-board-in-Play.board.events c.in_ok-board-in-Play.board.world
     c.in-Play.is c.items.ensures c.in_ok-board-in-Play.ensures.run c.in_ok-board-in-Play.ensures.setup c.in_ok-board-in-Play.ensures.reliable

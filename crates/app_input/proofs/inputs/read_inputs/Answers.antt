@@ -1,6 +1,10 @@
-use Rattle.std.proofs.Common.{rules, Option, map, string_bytes, subst, sym}
+use Rattle.std.proofs.Common.{rules, ◌≡◌, ◌∙◌, ℕ, List, Option, Some, ap, map, string_bytes, subst, sym}
+use Rattle.std.specs.Prelude.{Result}
+use Rattle.config_rules.specs.Reading.{Files}
 use Rattle.app_input.specs.Inputs.{Reads}
-use Rattle.app_input.specs.Words.{Form, form_of}
+use Rattle.app_input.specs.Words.{Form, form_of, sources}
+use Rattle.app_input.specs.declared.inputs.Inputs.{Inputs}
+use Rattle.app_input.specs.declared.status.Status.{Status}
 use Rattle.app_input.proofs.DueLaws.{due_told}
 use Rattle.app_input.proofs.MadeLaws.{counts_quiet}
 use Rattle.app_input.proofs.inputs.read_inputs.Goals as goal
@@ -30,3 +34,20 @@ pub returns-in-Ok-Play-clause-due : goal.returns-in-Ok-Play-clause-due
 returns-in-Ok-Play-clause-due g c =
     let reads : Reads (form_of c.args.program (map string_bytes c.args.words.now)) (g.F.Files.told c.args.files.now) c.read_play.result = search rules in
     due_told _ _ _ _ c.read_play.result reads c.read_play.ensures.counted
+
+files_read : (form : Option Form) (told : Option Files) (file given : List ℕ) (result : Result Inputs Status) → form ≡ Some (sources file) → given ≡ file
+    → ((named : Option Files) → Reads (Some (sources given)) named result) → Reads form told result
+files_read form told file given result is same reads =
+    subst (λ (f : Option Form). Reads f told result) (ap (λ (name : List ℕ). Some (sources name)) same ∙ sym is) (reads told)
+
+pub returns-in-Ok-Files-clause-reads : goal.returns-in-Ok-Files-clause-reads
+returns-in-Ok-Files-clause-reads g c =
+    files_read _ (g.F.Files.told c.args.files.now) c.in-Ok-Files.file.now c.as_bytes-in-Ok-Files.result.now c.read_files.result (rw c.in-Ok-Files.field-0-is at c.in-Ok-Files.ensures)
+    c.as_bytes-in-Ok-Files.ensures.value c.read_files.ensures.reads
+
+pub returns-in-Ok-Files-clause-due : goal.returns-in-Ok-Files-clause-due
+returns-in-Ok-Files-clause-due g c =
+    due_told _ _ _ _ c.read_files.result
+    (files_read (form_of c.args.program (map string_bytes c.args.words.now)) (g.F.Files.told c.args.files.now) c.in-Ok-Files.file.now c.as_bytes-in-Ok-Files.result.now c.read_files.result
+    (rw c.in-Ok-Files.field-0-is at c.in-Ok-Files.ensures) c.as_bytes-in-Ok-Files.ensures.value c.read_files.ensures.reads)
+    (counts_quiet _ c.read_files.result c.read_files.ensures.quiet)

@@ -1,0 +1,56 @@
+-- The text that the words and the files ask for.
+use Rattle.std.specs.Prelude.{◌≡◌, ℕ, Option, IfSome, List, [], ◌++◌}
+use Rattle.std.specs.Prelude as std
+use Rattle.cf_types.specs.Lines.{text_of}
+use Rattle.cf_types.specs.declared.machine.Command.{Command}
+use Rattle.cf_types.specs.declared.machine.Machine.{Machine}
+use Rattle.cf_types.specs.declared.tables.Tables.{Tables}
+use Rattle.config_rules.specs.Listing.{listing}
+use Rattle.config_rules.specs.Reading.{Files}
+use Rattle.file_rules.specs.Sources.{Selects}
+use Rattle.history_laws.specs.Reliable.{IsReliable}
+use Rattle.run_rules.specs.declared.event.Event.{Event}
+use Rattle.run_rules.specs.declared.world.Setup.{Setup}
+use Rattle.run_rules.specs.Run as run
+use Rattle.run_rules.specs.World.{World, opening, setup_of}
+use Rattle.app_input.specs.Inputs.{FormedInputs, Reads}
+use Rattle.app_input.specs.Words.{Form}
+use Rattle.app_input.specs.declared.inputs.Inputs.{Inputs}
+use Rattle.app_input.specs.declared.inputs.Inputs.TheVariants as input
+use Rattle.app_output.specs.RunText.{run_text}
+use Rattle.app_config.specs.Summary.{IsSummary}
+
+-- the paths of the sources that a configuration selects, one a line
+abbrev pub IsSelection : Files → List ℕ → List ℕ → Type 0
+IsSelection files name text = (paths : List (List ℕ)) × Selects files name paths × (text ≡ text_of paths)
+
+-- the text of the boot of a machine by the tables; in its history no device is freed before its references are returned
+-- and its children are freed
+abbrev pub IsBootText : Tables → Machine → List ℕ → Type 0
+IsBootText tables machine text =
+    (h : List Event) × (w : World) × run.Boot (opening (setup_of tables machine [])) h w × IsReliable h w × (text ≡ run_text tables h w)
+
+-- the events and the world of a boot and of the turns of an order after it
+abbrev pub IsPlayed : Setup → List ℕ → List Event → World → Type 0
+IsPlayed setup order events world =
+    (h : List Event) × (w : World) × run.Boot (opening setup) h w × (events ≡ h ++ (run.played w order).0) × (world ≡ (run.played w order).1)
+
+-- the text of a boot and of the turns of an order after it, and the same holds of its history
+abbrev pub IsPlayedText : Tables → Machine → List (List Command) → List ℕ → List ℕ → Type 0
+IsPlayedText tables machine scripts order text =
+    (h : List Event) × (w : World) × IsPlayed (setup_of tables machine scripts) order h w × IsReliable h w × (text ≡ run_text tables h w)
+
+-- the text that these inputs ask for, where the files are told if it is that of the sources
+unfoldable pub IsAskedText : Option Files → Inputs → List ℕ → Type 0
+IsAskedText told (input.Ioconf tables) text = text ≡ listing tables
+IsAskedText told (input.Files name) text = IfSome told (λ files. IsSelection files name text)
+IsAskedText told (input.Boot tables machine) text = IsBootText tables machine text
+IsAskedText told (input.Load n tables machine) text = IsSummary n tables machine text
+IsAskedText told (input.Play tables machine scripts order) text = IsPlayedText tables machine scripts order text
+
+-- the words and the files give inputs, which are formed and ask for the text
+pub record Asks (form : Option Form) (told : Option Files) (text : List ℕ) : Type 0 where
+  pub inputs : Inputs
+  pub read : Reads form told (std.Ok inputs)
+  pub formed : FormedInputs inputs
+  pub asked : IsAskedText told inputs text
