@@ -1,5 +1,5 @@
 -- A boot condemns nothing, refers to nothing, and does nothing in a script's name.
-use Rattle.std.proofs.Common.{◌≡◌, ◌≢◌, ℕ, ◌+◌, Bool, true, false, cond, List, [], ◌∷◌, ◌++◌, Option, Some, None, refl, sym, ap, ◌∙◌, subst, arith, eq-eqb}
+use Rattle.std.proofs.Common.{◌≡◌, ℕ, Bool, true, false, cond, List, [], ◌∷◌, ◌++◌, Some, None, refl, sym, ap, ◌∙◌, subst, arith}
 use Rattle.std.specs.Prelude.{count_by}
 use Rattle.std.specs.List.{AllByRecursion}
 use Rattle.std.proofs.lemmas.List.Sums.{sum_by-cons}
@@ -14,9 +14,8 @@ use Rattle.run_rules.specs.After.{after, new_device}
 use Rattle.run_rules.specs.Counts.{closes_script, dids_of, ends_of, is_of_script}
 use Rattle.run_rules.specs.Next.{next}
 use Rattle.run_rules.specs.Run.{Boot, Run, Step}
-use Rattle.run_rules.specs.World.{World, caller_at, opening}
+use Rattle.run_rules.specs.World.{World, opening}
 use Rattle.run_rules.proofs.Devices.{all_snoc}
-use Rattle.run_rules.proofs.Setups.{after_setup}
 use Rattle.run_sound.specs.Holding.{opened_by, returned_by}
 use Rattle.run_sound.specs.Kept.{Kept, MayRun}
 use Rattle.run_sound.proofs.Holding.{refs_same}

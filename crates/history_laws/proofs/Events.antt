@@ -1,14 +1,12 @@
 -- What holds where an event stands: what is freed, what comes, and what is transferred.
-use Rattle.std.proofs.Common.{◌≡◌, ◌≢◌, ◌⊎◌, ◌≤◌, ℕ, ◌+◌, ◌==◌, Bool, true, false, not, ◌&&◌, List, [], ◌∷◌, ◌++◌, bytes_eq, Option, Some, None, is_some, refl, sym, ap, ◌∙◌, subst, inl, inr, eqb-true, eq-eqb, arith}
-use Rattle.std.specs.Prelude.{pos, IsTrue}
+use Rattle.std.proofs.Common.{◌≡◌, ◌≢◌, ◌⊎◌, ℕ, ◌==◌, Bool, true, false, ◌&&◌, List, [], ◌∷◌, ◌++◌, Option, Some, None, refl, sym, ap, ◌∙◌, inl, inr, eqb-true}
+use Rattle.std.specs.Prelude.{IsTrue}
 use Rattle.std.specs.Option.{option_map_or}
 use Rattle.std.specs.List.{AllByRecursion, Contains}
 use Rattle.std.proofs.lemmas.Bool.{and_parts, or_cases}
 use Rattle.std.proofs.lemmas.Option.{same_Some}
 use Rattle.cf_types.specs.declared.machine.Command.{Command}
 use Rattle.cf_types.specs.declared.machine.Command.TheVariants as command
-use Rattle.cf_types.specs.declared.machine.Ticket.{Ticket}
-use Rattle.run_rules.specs.declared.event.Event.{Event}
 use Rattle.run_rules.specs.declared.event.Act.{Act}
 use Rattle.run_rules.specs.declared.event.Act.TheVariants as act
 use Rattle.run_rules.specs.declared.event.Reply.{Reply}
@@ -18,18 +16,17 @@ use Rattle.run_rules.specs.declared.event.PowerKind.TheVariants as kind
 use Rattle.run_rules.specs.declared.world.Arrival.{Arrival}
 use Rattle.run_rules.specs.declared.world.Dev.{Dev}
 use Rattle.run_rules.specs.declared.world.Frame.TheVariants.{Scan}
-use Rattle.run_rules.specs.declared.world.Position.{Position}
 use Rattle.run_rules.specs.declared.world.Activity.TheVariants as activity
 use Rattle.run_rules.specs.declared.world.Ref.{Ref}
-use Rattle.run_rules.specs.World.{World, caller_at, device_at, device_named, holds_in, is_held, is_live, name_of, parent_name, root_name}
+use Rattle.run_rules.specs.World.{World, caller_at, device_at, device_named, holds_in, is_live, name_of, parent_name, root_name}
 use Rattle.run_rules.specs.declared.deed.Deed.{Deed}
 use Rattle.run_rules.specs.declared.deed.Deed.TheVariants.{Search, EndScan, BeginInterrupts, Finalise, EndCaller, Drop, Refuse, Open, Close, Start, Done, Detach, Free, Rescan, BeginPower, Sleep, Wake, EndPower, Plug, Unplug, Tell}
 use Rattle.run_rules.specs.declared.deed.Choice.TheVariants.{Does}
 use Rattle.run_rules.specs.After.{after, new_device}
 use Rattle.run_rules.specs.Laws.{attached_below, attached_name, freed_name, is_name, is_ok, transfers}
 use Rattle.run_rules.specs.Next.{command_of, name_at, next}
-use Rattle.run_rules.specs.Run.{answered, printed, reply_of, shown_of, told}
-use Rattle.run_sound.specs.Coming.{IsCall, IsTurn, MayCome}
+use Rattle.run_rules.specs.Run.{answered, printed, reply_of, told}
+use Rattle.run_sound.specs.Coming.{IsCall, IsTurn}
 use Rattle.run_sound.specs.Commands.{Begins, StartsHeld, open_command, power_command}
 use Rattle.run_sound.specs.Holding.{GoesUnheld}
 use Rattle.run_sound.specs.Kept.{Kept, MayRun}
@@ -44,7 +41,7 @@ use Rattle.run_sound.proofs.Restacks.{IsSpared}
 use Rattle.history_laws.proofs.Acts.{answered_is, refused}
 use Rattle.history_laws.proofs.Grown.{LeavesTree}
 use Rattle.history_laws.proofs.Kept.{called_device, called_name, name_is, names_after, newcomer}
-use Rattle.history_laws.proofs.Names.{HasNames, at_serial, at_there, bytes_same, named_is, named_so, named_there, parent_named, parent_root, same_bytes, world_names}
+use Rattle.history_laws.proofs.Names.{HasNames, at_serial, at_there, bytes_same, named_is, parent_named, parent_root, same_bytes, world_names}
 use Rattle.history_laws.proofs.Told.{name_fresh}
 use Rattle.history_laws.proofs.Worlds.{live_found, live_same, live_shown}
 

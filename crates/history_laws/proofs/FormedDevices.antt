@@ -1,5 +1,5 @@
 -- The devices of formed tables have names that may be written, that do not end in a digit and that differ.
-use Rattle.std.proofs.Common.{◌≡◌, ◌≢◌, ◌<◌, Bool, true, false, not, List, [], ◌∷◌, map, length, bytes_eq}
+use Rattle.std.proofs.Common.{◌≡◌, ◌≢◌, ◌<◌, true, false, not, List, [], ◌∷◌, map, length, bytes_eq}
 use Rattle.std.specs.List.{AllByRecursion}
 use Rattle.std.proofs.lemmas.Bool.{not-true, not_from_false}
 use Rattle.std.proofs.lemmas.List.Elements.{recursion_from_All}

@@ -1,5 +1,5 @@
 -- What is found in a list that is mapped, filtered, or longer by one.
-use Rattle.std.proofs.Common.{◌≡◌, Bool, true, false, cond, List, [], ◌∷◌, ◌++◌, find, map, Option, Some, None, refl, ap, option_map}
+use Rattle.std.proofs.Common.{◌≡◌, Bool, true, false, cond, List, [], ◌∷◌, find, map, Some, None, refl, option_map}
 use Rattle.std.specs.Prelude.{filter}
 use Rattle.std.specs.List.{AllByRecursion}
 use Rattle.run_sound.proofs.Callers.{clash}

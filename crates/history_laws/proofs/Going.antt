@@ -1,23 +1,22 @@
 -- What the lines tell of a name stays what the world has of it where a device goes.
-use Rattle.std.proofs.Common.{◌≡◌, ◌≢◌, ℕ, ◌+◌, ◌==◌, Bool, true, false, not, ◌&&◌, List, [], ◌∷◌, ◌++◌, bytes_eq, Option, Some, None, refl, sym, ap, ◌∙◌, subst, eqb-true, eq-eqb, arith}
+use Rattle.std.proofs.Common.{◌≡◌, ◌≢◌, ℕ, ◌==◌, Bool, true, false, not, ◌&&◌, List, [], ◌∷◌, ◌++◌, bytes_eq, Some, None, refl, sym, ap, ◌∙◌, subst, eqb-true, eq-eqb, arith}
 use Rattle.std.specs.Prelude.{filter}
 use Rattle.std.specs.List.{AllByRecursion, Contains}
 use Rattle.std.proofs.lemmas.Bool.{ne_eqb}
-use Rattle.std.proofs.lemmas.Option.{same_Some}
 use Rattle.run_rules.specs.declared.event.Event.{Event}
 use Rattle.run_rules.specs.declared.event.Act.{Act}
 use Rattle.run_rules.specs.declared.world.Dev.{Dev}
 use Rattle.run_rules.specs.declared.world.Ref.{Ref}
 use Rattle.run_rules.specs.declared.world.Setup.{Setup}
-use Rattle.run_rules.specs.World.{device_at, device_named, has, holds_in, name_of, parent_name}
-use Rattle.run_rules.specs.Laws.{attached_name, freed_name, is_name, lives}
+use Rattle.run_rules.specs.World.{device_named, has, holds_in, name_of, parent_name}
+use Rattle.run_rules.specs.Laws.{attached_name, freed_name, is_name}
 use Rattle.run_rules.specs.Sound.{EachLater, HaveOwnNames, IsApart}
 use Rattle.run_rules.proofs.References.{not_held_counts}
 use Rattle.run_sound.proofs.Members.{each_of, of_each, one_serial}
 use Rattle.history_laws.specs.Counted.{IsTold}
 use Rattle.history_laws.proofs.Found.{found_gone, found_left}
 use Rattle.history_laws.proofs.Grown.{LeavesRefs, LeavesSleep, LeavesTree, RefsLeft, lives_on, refs_left}
-use Rattle.history_laws.proofs.Names.{bytes_same, first_is, named_is, named_so, named_there, parent_alike, same_bytes}
+use Rattle.history_laws.proofs.Names.{bytes_same, first_is, named_is, named_there, parent_alike, same_bytes}
 use Rattle.history_laws.proofs.Told.{told_quiet}
 
 -- a line that frees a device of this name

@@ -1,34 +1,32 @@
 -- Each step of a run keeps that what is counted on the lines is what the world has.
-use Rattle.std.proofs.Common.{◌≡◌, ◌≢◌, ◌<◌, ℕ, ◌+◌, ◌==◌, Bool, true, false, not, ◌&&◌, ◌||◌, List, [], ◌∷◌, ◌++◌, map, reverse, bytes_eq, Option, Some, None, refl, sym, ap, ◌∙◌, subst, inl, inr, eqb-true, eq-eqb, arith}
+use Rattle.std.proofs.Common.{◌≡◌, ◌≢◌, ◌<◌, ℕ, ◌==◌, Bool, true, false, not, ◌&&◌, ◌||◌, List, [], ◌∷◌, ◌++◌, map, Option, Some, None, refl, sym, ap, ◌∙◌, subst, inl, inr, eqb-true, arith}
 use Rattle.std.specs.Prelude.{filter, if◌then◌else◌, option_and_then}
 use Rattle.std.specs.Option.{option_map_or}
-use Rattle.std.specs.List.{AllByRecursion, Contains, list_any}
+use Rattle.std.specs.List.{AllByRecursion, Contains}
 use Rattle.std.proofs.lemmas.Bool.{ne_eqb, or_cases}
 use Rattle.std.proofs.lemmas.Map.Views.{any-filter_same}
 use Rattle.cf_types.specs.declared.machine.Command.TheVariants as command
 use Rattle.run_rules.specs.declared.event.Event.{Event}
-use Rattle.run_rules.specs.declared.event.Act.{Act}
 use Rattle.run_rules.specs.declared.event.Act.TheVariants as act
 use Rattle.run_rules.specs.declared.event.Reply.TheVariants as reply
 use Rattle.run_rules.specs.declared.world.Arrival.{Arrival}
 use Rattle.run_rules.specs.declared.world.Dev.{Dev}
 use Rattle.run_rules.specs.declared.world.Position.{Position}
 use Rattle.run_rules.specs.declared.world.Ref.{Ref}
-use Rattle.run_rules.specs.declared.world.Setup.{Setup}
 use Rattle.run_rules.specs.World.{World, device_at, device_named, holds_in, is_live, is_under, name_of, parent_name}
 use Rattle.run_rules.specs.declared.deed.Deed.{Deed}
 use Rattle.run_rules.specs.declared.deed.Deed.TheVariants.{Search, EndScan, BeginInterrupts, Finalise, EndCaller, Drop, Refuse, Open, Close, Start, Done, Detach, Free, Rescan, BeginPower, Sleep, Wake, EndPower, Plug, Unplug, Tell}
 use Rattle.run_rules.specs.declared.deed.Choice.TheVariants.{Does}
 use Rattle.run_rules.specs.After.{after, listed, new_device, with_condemner, with_sleep}
-use Rattle.run_rules.specs.Laws.{opens, opens_sole, returns}
+use Rattle.run_rules.specs.Laws.{opens, returns}
 use Rattle.run_rules.specs.Next.{late_spot, name_at, next, next_sleep, next_wake}
 use Rattle.run_rules.specs.References.{given_back, shared_again, sole_with}
 use Rattle.run_rules.specs.Run.{answered, event_of, got_of, printed, shown_of, spot_name, told}
-use Rattle.run_rules.specs.Sound.{EachLater, HaveOwnNames, IsApart, IsPlaced}
+use Rattle.run_rules.specs.Sound.{EachLater, IsApart, IsPlaced}
 use Rattle.run_rules.proofs.Devices.{all_imp, all_front, below_next}
 use Rattle.run_rules.proofs.Setups.{after_setup}
 use Rattle.run_sound.specs.Coming.{IsCall, MayCome}
-use Rattle.run_sound.specs.Commands.{ClosesHeld, FreesLast, OpensFree, ReturnsFirst, SendsToSleep, Wakes, open_command}
+use Rattle.run_sound.specs.Commands.{ClosesHeld, OpensFree, ReturnsFirst, SendsToSleep, Wakes, open_command}
 use Rattle.run_sound.specs.Holding.{GoesUnheld, opened_by, returned_by}
 use Rattle.run_sound.specs.Kept.{Kept, MayRun}
 use Rattle.run_sound.proofs.Arrivals.{finalise_comes, none_shown, search_comes}
@@ -42,10 +40,10 @@ use Rattle.history_laws.specs.Counted.{AreAllCounted, Counted, IsTold, gives_bac
 use Rattle.history_laws.proofs.Acts.{IsPlain, answered_is, is_plain, plain_line}
 use Rattle.history_laws.proofs.All.{all_granted, all_quiet, all_returned}
 use Rattle.history_laws.proofs.Going.{IsDeparture, IsGoing, told_freed, without}
-use Rattle.history_laws.proofs.Grown.{LeavesRefs, LeavesSleep, LeavesTree, asleep_left}
-use Rattle.history_laws.proofs.Names.{HasNames, at_is, at_serial, at_there, named_is, named_so, named_there, parent_named, world_names}
-use Rattle.history_laws.proofs.Referring.{IsGrant, IsOf, IsReturn, told_granted, told_returned, with_one}
-use Rattle.history_laws.proofs.Sleeping.{IsMarked, IsSleepLine, told_slept}
+use Rattle.history_laws.proofs.Grown.{asleep_left}
+use Rattle.history_laws.proofs.Names.{HasNames, at_is, named_is, named_so, parent_named, world_names}
+use Rattle.history_laws.proofs.Referring.{IsGrant, IsReturn, told_granted, told_returned, with_one}
+use Rattle.history_laws.proofs.Sleeping.{IsSleepLine, told_slept}
 use Rattle.history_laws.proofs.Told.{IsArrival, IsNewcomer, told_attached, told_marked, told_quiet}
 use Rattle.history_laws.proofs.Worlds.{leaves_devices, live_found, live_same, live_shown, sole_same}
 

@@ -1,15 +1,14 @@
 -- A run's history is lawful.
-use Rattle.std.proofs.Common.{◌≡◌, ◌≢◌, ◌⊎◌, ◌≤◌, ℕ, ◌+◌, ◌==◌, Bool, true, false, not, ◌&&◌, List, [], ◌∷◌, ◌++◌, bytes_eq, Option, Some, None, is_some, refl, sym, ap, ◌∙◌, subst, inl, inr, eqb-true, eq-eqb, arith, append_assoc}
-use Rattle.std.specs.Prelude.{ℤ, pos, ◌-ℤ◌, IsTrue, count_by}
+use Rattle.std.proofs.Common.{◌≡◌, ◌≢◌, ◌⊎◌, ◌≤◌, ℕ, ◌+◌, true, false, List, [], ◌∷◌, ◌++◌, Option, Some, None, is_some, refl, sym, ap, ◌∙◌, subst, inl, inr, arith}
+use Rattle.std.specs.Prelude.{pos, ◌-ℤ◌, IsTrue}
 use Rattle.std.proofs.lemmas.Int.{ints}
-use Rattle.std.specs.List.{AllByRecursion, Contains}
 use Rattle.std.proofs.lemmas.Bool.{and_parts, ne_eqb}
 use Rattle.std.proofs.lemmas.Option.{same_Some}
 use Rattle.run_rules.specs.declared.event.Event.{Event}
 use Rattle.run_rules.specs.declared.world.Dev.{Dev}
 use Rattle.run_rules.specs.declared.world.Ref.{Ref}
 use Rattle.run_rules.specs.declared.world.Setup.{Setup}
-use Rattle.run_rules.specs.World.{World, device_at, device_named, has, holds_in, name_of, opening, parent_name, root_name}
+use Rattle.run_rules.specs.World.{World, device_at, device_named, has, holds_in, opening, parent_name, root_name}
 use Rattle.run_rules.specs.declared.deed.Deed.{Deed}
 use Rattle.run_rules.specs.declared.event.Act.{Act}
 use Rattle.run_rules.specs.declared.event.Act.TheVariants as act
@@ -22,7 +21,7 @@ use Rattle.run_rules.specs.Sound.{IsSoundlyAsleep}
 use Rattle.run_rules.proofs.References.{held_counts, some_of_all}
 use Rattle.run_sound.specs.Kept.{MayRun}
 use Rattle.run_sound.proofs.Members.{of_each}
-use Rattle.history_laws.specs.Counted.{Counted, IsTold, granted, held_of, is_sole_of, returned}
+use Rattle.history_laws.specs.Counted.{granted, held_of, is_sole_of, returned}
 use Rattle.history_laws.proofs.Events.{HoldsInUse, Lived, comes_free, freed_lived, holds_in_use}
 use Rattle.history_laws.proofs.Grown.{lives_on}
 use Rattle.history_laws.proofs.Names.{HasNames, at_serial, at_there, first_is, named_so, named_there, parent_named, parent_root, same_bytes, world_names}

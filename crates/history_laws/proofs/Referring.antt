@@ -1,7 +1,6 @@
 -- What the lines tell of a name stays what the world has of it where a reference is granted or comes back.
-use Rattle.std.proofs.Common.{◌≡◌, ◌≢◌, ℕ, ◌+◌, ◌≤◌, ◌==◌, Bool, true, false, not, ◌&&◌, ◌||◌, cond, List, [], ◌∷◌, ◌++◌, bytes_eq, Option, Some, None, refl, sym, ap, ◌∙◌, subst, eqb-true, eq-eqb, arith}
-use Rattle.std.specs.Prelude.{filter}
-use Rattle.std.specs.List.{Contains, list_any}
+use Rattle.std.proofs.Common.{◌≡◌, ℕ, ◌+◌, ◌≤◌, ◌==◌, Bool, true, false, not, ◌&&◌, ◌||◌, cond, List, [], ◌∷◌, ◌++◌, bytes_eq, Option, Some, None, refl, sym, ap, ◌∙◌, subst, eqb-true, eq-eqb, arith}
+use Rattle.std.specs.List.{Contains}
 use Rattle.std.proofs.lemmas.Bool.{ne_eqb, and_parts}
 use Rattle.std.proofs.lemmas.List.Folds.{list_any-append}
 use Rattle.std.proofs.lemmas.List.Sums.{sum_by-cons}
@@ -11,11 +10,10 @@ use Rattle.run_rules.specs.declared.event.Act.{Act}
 use Rattle.run_rules.specs.declared.world.Dev.{Dev}
 use Rattle.run_rules.specs.declared.world.Ref.{Ref}
 use Rattle.run_rules.specs.declared.world.Setup.{Setup}
-use Rattle.run_rules.specs.World.{device_named, has, holds_in, name_of, refers_to}
+use Rattle.run_rules.specs.World.{device_named, has, holds_in, name_of}
 use Rattle.run_rules.specs.Laws.{opens, opens_sole, returns, sole_in}
 use Rattle.run_rules.specs.References.{AreCounted, MayHold, count_in, given_back, is_of, refs_to, shared_again, sole_with}
 use Rattle.run_rules.specs.Sound.{EachLater, IsApart}
-use Rattle.run_rules.proofs.Devices.{or_false}
 use Rattle.run_rules.proofs.References.{any_left, count_granted, count_other, count_returned, held_counts}
 use Rattle.run_sound.proofs.Callers.{clash}
 use Rattle.run_sound.proofs.Holding.{unreferred}

@@ -1,9 +1,8 @@
 -- What the lines tell of a name stays what the world has of it where a device sleeps or wakes.
-use Rattle.std.proofs.Common.{◌≡◌, ◌≢◌, ℕ, ◌==◌, Bool, true, false, not, ◌&&◌, ◌||◌, cond, List, [], ◌∷◌, ◌++◌, map, bytes_eq, Option, Some, is_some, refl, sym, ap, ◌∙◌, eqb-true, eq-eqb}
+use Rattle.std.proofs.Common.{◌≡◌, ◌≢◌, ℕ, ◌==◌, Bool, true, false, not, ◌&&◌, ◌||◌, cond, List, [], ◌∷◌, ◌++◌, map, bytes_eq, Option, Some, is_some, refl, sym, ap, ◌∙◌, eq-eqb}
 use Rattle.std.specs.Prelude.{if◌then◌else◌}
 use Rattle.std.specs.List.{Contains}
 use Rattle.std.proofs.lemmas.Bool.{ne_eqb}
-use Rattle.std.proofs.lemmas.Option.{same_Some}
 use Rattle.run_rules.specs.declared.event.Event.{Event}
 use Rattle.run_rules.specs.declared.event.Act.{Act}
 use Rattle.run_rules.specs.declared.world.Dev.{Dev}
@@ -18,7 +17,7 @@ use Rattle.run_sound.proofs.Marks.{sleep_keeps_tree}
 use Rattle.run_sound.proofs.Members.{one_serial}
 use Rattle.history_laws.specs.Counted.{IsTold}
 use Rattle.history_laws.proofs.Grown.{LeavesRefs, LeavesSleep, LeavesTree, asleep_is, asleep_left, lives_left, sleeps, sleeps_on}
-use Rattle.history_laws.proofs.Names.{bytes_same, first_is, named_is, named_so, named_there, same_bytes}
+use Rattle.history_laws.proofs.Names.{bytes_same, first_is, named_so, named_there, same_bytes}
 use Rattle.history_laws.proofs.Told.{told_marked}
 
 -- a line by which a device of this name sleeps or wakes

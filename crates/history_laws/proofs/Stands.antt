@@ -1,9 +1,9 @@
 -- Of every run from an opening world what is counted on its lines is what the world has.
-use Rattle.std.proofs.Common.{◌≡◌, ℕ, List, [], ◌∷◌, ◌++◌, Some, refl, sym, subst, append_assoc, arith}
+use Rattle.std.proofs.Common.{ℕ, List, [], ◌∷◌, ◌++◌, refl, sym, subst, append_assoc, arith}
 use Rattle.std.proofs.lemmas.List.{append-nil}
 use Rattle.run_rules.specs.declared.event.Event.{Event}
 use Rattle.run_rules.specs.declared.world.Setup.{Setup}
-use Rattle.run_rules.specs.World.{World, device_named, opening}
+use Rattle.run_rules.specs.World.{World, opening}
 use Rattle.run_rules.specs.Laws.{is_asleep_in, lives, parent_in, sole_in}
 use Rattle.run_rules.specs.Run.{Run, Step, event_of}
 use Rattle.run_rules.specs.After.{after}
@@ -11,7 +11,7 @@ use Rattle.run_rules.proofs.Setups.{after_setup}
 use Rattle.run_sound.specs.Kept.{Kept, MayRun}
 use Rattle.run_sound.proofs.Opening.{opening_kept}
 use Rattle.run_sound.proofs.Steps.{kept_after}
-use Rattle.history_laws.specs.Counted.{AreAllCounted, Counted, IsTold, granted, returned}
+use Rattle.history_laws.specs.Counted.{Counted, granted, returned}
 use Rattle.history_laws.proofs.Kept.{counted_after}
 
 -- a world of a run, and the history that led to it

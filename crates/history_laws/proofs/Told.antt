@@ -1,28 +1,25 @@
 -- What the lines tell of a name stays what the world has of it, whatever kind of event comes.
-use Rattle.std.proofs.Common.{◌≡◌, ◌≢◌, ℕ, suc, ◌+◌, ◌<◌, ◌==◌, Bool, true, false, not, ◌&&◌, ◌||◌, cond, List, [], ◌∷◌, ◌++◌, find, map, bytes_eq, Option, Some, None, is_some, option_map, refl, sym, ap, ◌∙◌, subst, inl, inr, eqb-true, eq-eqb, arith}
-use Rattle.std.specs.Prelude.{filter, if◌then◌else◌}
-use Rattle.std.specs.List.{AllByRecursion, Contains, list_any}
+use Rattle.std.proofs.Common.{◌≡◌, ℕ, suc, ◌<◌, ◌==◌, Bool, true, false, ◌&&◌, List, [], ◌∷◌, ◌++◌, find, map, bytes_eq, Option, Some, None, option_map, refl, sym, ap, ◌∙◌, subst, arith}
+use Rattle.std.specs.List.{AllByRecursion, Contains}
 use Rattle.std.specs.Option.{option_map_or, option_or}
-use Rattle.std.proofs.lemmas.Bool.{eqb-false, ne_eqb, not-false}
-use Rattle.std.proofs.lemmas.List.Folds.{find-append, list_any-append}
+use Rattle.std.proofs.lemmas.Bool.{ne_eqb}
+use Rattle.std.proofs.lemmas.List.Folds.{find-append}
 use Rattle.std.proofs.lemmas.Option.{same_Some}
 use Rattle.run_rules.specs.declared.event.Event.{Event}
 use Rattle.run_rules.specs.declared.event.Act.{Act}
 use Rattle.run_rules.specs.declared.world.Dev.{Dev}
 use Rattle.run_rules.specs.declared.world.Ref.{Ref}
 use Rattle.run_rules.specs.declared.world.Setup.{Setup}
-use Rattle.run_rules.specs.World.{device_at, device_named, has, holds_in, name_of, parent_name, refers_to, root_name, unit_name}
-use Rattle.run_rules.specs.Laws.{attached_below, attached_name, freed_name, is_asleep_in, is_name, opens, opens_sole, parent_in, returns, slept_name, sole_in, woken_name, lives}
-use Rattle.run_rules.specs.References.{count_in}
-use Rattle.run_rules.specs.Sound.{HaveOwnNames, IsPlaced}
+use Rattle.run_rules.specs.World.{device_at, device_named, has, holds_in, name_of, parent_name, root_name, unit_name}
+use Rattle.run_rules.specs.Laws.{attached_below, attached_name, freed_name, is_asleep_in, is_name, lives}
+use Rattle.run_rules.specs.Sound.{HaveOwnNames}
 use Rattle.run_rules.proofs.References.{not_held_counts}
-use Rattle.run_sound.proofs.Callers.{clash}
 use Rattle.run_sound.proofs.Marks.{KeepsTree}
-use Rattle.run_sound.proofs.Members.{each_of, of_each}
-use Rattle.history_laws.specs.Counted.{IsTold, granted, held_of, is_sole_of, returned}
-use Rattle.history_laws.proofs.Found.{found_gone, found_left, found_mapped}
-use Rattle.history_laws.proofs.Grown.{LeavesRefs, LeavesSleep, LeavesTree, RefsLeft, asleep_is, asleep_left, lives_left, lives_on, parent_left, parent_on, refs_left, sleeps, sleeps_on}
-use Rattle.history_laws.proofs.Names.{at_is, at_serial, at_there, bytes_same, named_is, named_so, named_there, none_named, parent_alike, same_bytes, unnamed}
+use Rattle.run_sound.proofs.Members.{of_each}
+use Rattle.history_laws.specs.Counted.{IsTold}
+use Rattle.history_laws.proofs.Found.{found_mapped}
+use Rattle.history_laws.proofs.Grown.{LeavesRefs, LeavesSleep, LeavesTree, RefsLeft, asleep_is, asleep_left, lives_left, lives_on, parent_left, parent_on, refs_left, sleeps_on}
+use Rattle.history_laws.proofs.Names.{bytes_same, named_is, named_there, parent_alike, same_bytes}
 
 -- ---- nothing comes of it
 

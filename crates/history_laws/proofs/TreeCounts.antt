@@ -1,5 +1,5 @@
 -- The tree below the root has each live device once.
-use Rattle.std.proofs.Common.{◌≡◌, ◌≢◌, ◌⊎◌, ℕ, zero, suc, ◌+◌, ◌<◌, ◌≤◌, ◌==◌, Bool, true, false, ◌&&◌, ◌||◌, cond, List, [], ◌∷◌, length, flat_map, nat_le, refl, sym, ap, ◌∙◌, subst, inl, inr, eqb-true, eq-eqb, arith}
+use Rattle.std.proofs.Common.{◌≡◌, ◌≢◌, ◌⊎◌, ℕ, zero, suc, ◌+◌, ◌<◌, ◌≤◌, ◌==◌, Bool, true, false, ◌&&◌, ◌||◌, cond, List, [], ◌∷◌, length, nat_le, refl, sym, ap, ◌∙◌, subst, inl, inr, eqb-true, eq-eqb, arith}
 use Rattle.std.specs.Prelude.{filter, sum_by}
 use Rattle.std.specs.List.{AllByRecursion, Contains}
 use Rattle.std.proofs.lemmas.Bool.{eqb-false, false_from_ne_true, le-leb, ne_eqb, or_cases, or_right}
@@ -10,8 +10,7 @@ use Rattle.run_rules.specs.World.{has, is_live, lineage, parent_of}
 use Rattle.run_rules.specs.Sound.{EachLater, IsApart, IsPlaced}
 use Rattle.run_rules.specs.Tree.{tree_below}
 use Rattle.run_rules.proofs.Devices.{all_imp}
-use Rattle.run_sound.proofs.Callers.{clash}
-use Rattle.run_sound.proofs.Members.{contained_live, each_of, live_contained, of_each}
+use Rattle.run_sound.proofs.Members.{each_of, live_contained, of_each}
 use Rattle.run_sound.proofs.Trees.{AreRising, chain_low, child_rises, fewer_pass, parent_is, parent_low, rank, rank_low, rank_parent}
 use Rattle.history_laws.proofs.Sums.{sum_both, sum_lists, sum_part, sum_same, sum_swap, sum_zero, zeros}
 

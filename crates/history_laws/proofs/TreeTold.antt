@@ -1,6 +1,6 @@
 -- The tree tells of each device that lives what the history tells of it.
-use Rattle.std.proofs.Common.{◌≡◌, ◌≢◌, ◌⊎◌, ◌<◌, ◌≤◌, ℕ, zero, suc, ◌+◌, ◌-◌, ◌==◌, Bool, true, false, ◌&&◌, cond, nat_lt, List, [], ◌∷◌, length, map, flat_map, bytes_eq, Option, Some, None, is_some, refl, sym, ap, ◌∙◌, subst, inl, inr, eqb-true, arith}
-use Rattle.std.specs.Prelude.{filter, sum_by, count_by, pos, if◌then◌else◌}
+use Rattle.std.proofs.Common.{◌≡◌, ◌≢◌, ◌⊎◌, ◌<◌, ℕ, zero, suc, ◌+◌, ◌-◌, ◌==◌, Bool, true, false, ◌&&◌, nat_lt, List, [], ◌∷◌, length, map, bytes_eq, Option, Some, None, is_some, refl, sym, ap, ◌∙◌, subst, inl, inr, eqb-true, arith}
+use Rattle.std.specs.Prelude.{filter, sum_by, pos}
 use Rattle.std.specs.List.{AllByRecursion, Contains}
 use Rattle.std.proofs.lemmas.Bool.{and_parts, false_from_ne_true, or_cases}
 use Rattle.std.proofs.lemmas.Bool.Decides.{nat_tests}
@@ -12,14 +12,14 @@ use Rattle.run_rules.specs.declared.world.Dev.{Dev}
 use Rattle.run_rules.specs.declared.world.Ref.{Ref}
 use Rattle.run_rules.specs.declared.world.Setup.{Setup}
 use Rattle.run_rules.specs.World.{World, device_named, has, holds_in, name_of, opening}
-use Rattle.run_rules.specs.Laws.{holds, lives, sole_in}
+use Rattle.run_rules.specs.Laws.{holds, sole_in}
 use Rattle.run_rules.specs.References.{count_in, hold_of, holds_on, possible_holders}
 use Rattle.run_rules.specs.Run.{Run}
 use Rattle.run_rules.specs.Tree.{dev_line, tree_below, tree_lines}
 use Rattle.run_rules.proofs.References.{held_is_counted, not_held_counts}
 use Rattle.run_sound.specs.Kept.{MayRun}
 use Rattle.run_sound.specs.Scripts.{IsOfScript}
-use Rattle.run_sound.proofs.Callers.{all_filter, all_passing, clash}
+use Rattle.run_sound.proofs.Callers.{all_filter, all_passing}
 use Rattle.run_sound.proofs.Members.{all_flat_of, all_map, each_of, of_each}
 use Rattle.history_laws.specs.Counted.{IsTold, granted, held_of, returned}
 use Rattle.history_laws.specs.Tells.{TellsDevice, TellsTree, hold_in, holders_in}
