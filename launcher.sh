@@ -1,7 +1,9 @@
 # What the launchers of this repository share; each of them is a script that reads this file. `launch NAME WORD..` runs the
 # proved program NAME on these words. Where it is not built yet, or a source is newer, it is proved and built first: as many
 # crates at once as there are processors and memory for, those first on which the longest chain of work stands. Ctrl-C ends
-# that, and what was proved until then stays.
+# that, and what was proved until then stays. tools/lib/terminal.sh says how the program is run.
+explain=$top/tools/explain
+. "$top/tools/lib/terminal.sh"
 
 # Is the program there, and no source newer?
 is_current() {
@@ -196,5 +198,5 @@ launch() {
     shift
     program=$top/crates/$name/out/$name
     is_current || build
-    exec "$program" "$@"
+    run_program "$program" "$@"
 }

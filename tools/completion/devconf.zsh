@@ -1,0 +1,19 @@
+#compdef devconf drvrun devconf-explain devconf-summary devconf-draw devconf-compare
+# Completion of the words of devconf and its tools for zsh, which reads it behind compinit:
+# `. tools/completion/devconf.zsh`; installed, it stands as _devconf in a folder of $fpath. What may stand where is said in
+# tools/forms.
+: ${_devconf_tools:=${${(%):-%x}:A:h:h}}
+
+_devconf() {
+    local -a given next
+    given=("${${words[1]:t}#devconf-}" "${(@)words[2,CURRENT-1]}")
+    next=(${(f)"$(WORDS=${(F)given} awk -f $_devconf_tools/lib/next_words.awk $_devconf_tools/forms)"})
+    compadd -- ${next:#FILE}
+    (( ${next[(I)FILE]} == 0 )) || _files
+}
+
+if [[ $funcstack[1] = _devconf ]]; then
+    _devconf "$@"
+else
+    compdef _devconf devconf drvrun explain summary draw compare devconf-explain devconf-summary devconf-draw devconf-compare
+fi

@@ -1,0 +1,7 @@
+#!/bin/sh
+# Runs an installed program, the one of this script's own name, and tells a fault in words where a person sees it.
+self=$(readlink -f "$0") || exit 125
+tools=$(dirname "$self")
+explain=$tools/explain
+. "$tools/lib/terminal.sh"
+run_program "$tools/../../../libexec/devconf/$(basename "$self")" "$@"

@@ -1,0 +1,350 @@
+#!/bin/sh
+# Runs the cases of the tools, those of tools/cases and some of its own: a line for each tool, and status 1 where one differs
+# from what is wanted. It needs no program of this repository. What needs a command that is not here is passed over and told.
+# Usage: tools/test.sh [AWK [SHELL]], the commands with which the tools are to run, as "busybox awk" dash
+LC_ALL=C
+export LC_ALL
+unset CI NO_EXPLAIN
+tools=$(cd "$(dirname "$0")" && pwd) || exit 1
+top=$(dirname "$tools")
+work=$(mktemp -d) || exit 1
+trap 'rm -rf "$work"' EXIT
+set -- "${1:-awk}" "${2:-sh}"
+shell=$2
+mkdir "$work/bin"
+found=$(command -v "${1%% *}") || { echo "tools/test.sh: there is no ${1%% *}" >&2; exit 1; }
+printf '#!/bin/sh\nexec %s "$@"\n' "$found${1#"${1%% *}"}" >"$work/bin/awk"
+chmod +x "$work/bin/awk"
+PATH=$work/bin:$PATH
+wrong=0
+
+# Makes a folder for each case of the file: what it runs, its files, its input and what is wanted. A line that begins with
+# "=== case" begins a case, one with "--- " says something about it, and every other line belongs to what was named last.
+#   --- run WORD ..     the words of the tool, as a shell reads them
+#   --- file NAME, --- input, --- output, --- errors    what follows is that; with "= PATH" behind it, the file of that path
+#                       in the repository comes first
+#   --- return TEXT     a line of this text with a carriage return at its end
+#   --- status N        the wanted status, 0 where it is not said
+cut_cases() {
+    awk -v work="$2" -v top="$top" '
+    function to(name, path,   line) {
+        if (into != "") close(into)
+        into = folder "/" name
+        printf "" >into
+        if (path == "") return
+        while ((getline line < (top "/" path)) > 0) print line >into
+        close(top "/" path)
+    }
+    /^=== case / {
+        folder = sprintf("%s/%03d", work, ++cases)
+        system("mkdir -p " folder "/files")
+        print substr($0, 10) >(folder "/name"); close(folder "/name")
+        into = ""
+        next
+    }
+    /^--- run/ { print substr($0, 9) >(folder "/run"); close(folder "/run"); next }
+    /^--- return / { print substr($0, 12) "\r" >into; next }
+    /^--- status / { print $3 >(folder "/status"); close(folder "/status"); next }
+    /^--- file / {
+        if (index($3, "/")) { parts = $3; sub(/\/[^\/]*$/, "", parts); system("mkdir -p " folder "/files/" parts) }
+        to("files/" $3, $4 == "=" ? $5 : "")
+        next
+    }
+    /^--- (input|output|errors)( |$)/ { to($2, $3 == "=" ? $4 : ""); next }
+    /^(---|===) / { print "tools/test.sh: " FILENAME ":" FNR ": no line of a case" | "cat 1>&2"; exit }
+    into != "" { print >into }' "$1"
+}
+
+# Tells where a case differs.
+differ() {
+    wrong=$((wrong + 1))
+    echo "$tool: $1: $2"
+    [ -z "$3" ] || diff "$3" "$4" | head -n 10
+}
+
+run_case() {
+    case=$1
+    name=$(cat "$case/name")
+    [ -e "$case/input" ] || : >"$case/input"
+    [ -e "$case/output" ] || : >"$case/output"
+    [ -e "$case/errors" ] || : >"$case/errors"
+    eval "set -- $(cat "$case/run")"
+    (cd "$case/files" && $shell "$tools/$tool" "$@" <../input >../got_output 2>../got_errors)
+    got=$?
+    cmp -s "$case/output" "$case/got_output" || differ "$name" "the output" "$case/output" "$case/got_output"
+    cmp -s "$case/errors" "$case/got_errors" || differ "$name" "standard error" "$case/errors" "$case/got_errors"
+    [ "$got" = "$(cat "$case/status" 2>/dev/null || echo 0)" ] || differ "$name" "the status is $got" ''
+}
+
+try_tool() {
+    tool=$1
+    before=$wrong
+    cut_cases "$tools/cases/$tool" "$work/$tool"
+    count=0
+    for case in "$work/$tool"/*/; do
+        [ -d "$case" ] || break
+        run_case "${case%/}"
+        count=$((count + 1))
+    done
+    ended "$count cases"
+}
+
+ended() { [ "$wrong" != "$before" ] || echo "$tool: $1 as wanted"; }
+
+# Every stored output of the examples: the tools take it, and the graph has each device of the tree and is one of DOT.
+try_examples() {
+    tool=examples/outputs
+    before=$wrong
+    count=0
+    for output in "$top"/examples/outputs/*.boot "$top"/examples/outputs/*.play; do
+        name=$(basename "$output")
+        count=$((count + 1))
+        $shell "$tools/summary" "$output" >"$work/said" 2>&1 && status=0 || status=$?
+        [ "$status" -le 1 ] || differ "$name" "summary: $(cat "$work/said")" ''
+        $shell "$tools/draw" "$output" >"$work/graph" 2>&1 || differ "$name" "draw: $(cat "$work/graph")" ''
+        drawn=$(grep -c '\[label=' "$work/graph")
+        [ "$drawn" = "$(sed '1,/^tree$/d' "$output" | grep -c .)" ] || differ "$name" "$drawn devices are drawn" ''
+        if command -v dot >/dev/null; then
+            dot -Tsvg "$work/graph" >/dev/null 2>"$work/said" || differ "$name" "dot: $(cat "$work/said")" ''
+        fi
+        said=$($shell "$tools/compare" "$output" "$output" 2>&1) && [ -z "$said" ] \
+            || differ "$name" "compare with itself: $said" ''
+    done
+    ended "$count outputs"
+}
+
+# Each code of the cases of docs/FAULTS.md has its words, and the codes of each kind of file are all there.
+try_words() {
+    tool=docs/FAULTS.md
+    before=$wrong
+    said=$(awk -F '|' '
+    /^## / { heading = $0; kinds[++kind_count] = heading; column = "" }
+    NF == 5 && $3 ~ /in words/ { column = "words"; next }
+    NF == 7 && $2 ~ /code/ { column = "cases"; next }
+    NF < 5 { column = "" }
+    column == "" || $2 !~ /[0-9]/ { next }
+    column == "words" {
+        if ((heading, $2 + 0) in words) print heading ": code " $2 + 0 " twice"
+        words[heading, $2 + 0] = 1
+        if ($2 + 0 > last[heading]) last[heading] = $2 + 0
+        count++
+    }
+    column == "cases" && !((heading, $2 + 0) in words) { print heading ": no words for code " $2 + 0 }
+    END {
+        for (k = 1; k <= kind_count; k++)
+            for (n = kinds[k] ~ /order/ ? 2 : 1; n <= last[kinds[k]]; n++)
+                if (!((kinds[k], n) in words)) print kinds[k] ": no words for code " n
+        print "codes " count
+    }' "$top/docs/FAULTS.md")
+    case $said in "codes "*) ;; *) differ words "$said" '' ;; esac
+    for family in configuration machine script; do
+        codes=$(sed -n "/^pub mod $family {/,/^}/s/^.*: u8 = \([0-9]*\);.*/\1/p" "$top/crates/cf_types/src/code.rt")
+        [ -n "$codes" ] || differ "$family" 'no codes in crates/cf_types/src/code.rt' ''
+        kind=$([ "$family" = configuration ] && echo config || echo "$family")
+        for code in $codes; do
+            # The codes behind 25 are those of `files`.
+            [ "$kind" != config ] || [ "$code" -le 25 ] || grep -q '^devconf files' "$tools/forms" || continue
+            "$tools/explain" "$kind" "$code" >/dev/null 2>&1 \
+                || differ "$kind $code" 'no words for a code of crates/cf_types/src/code.rt' ''
+        done
+    done
+    ended "the words of ${said#codes } codes"
+}
+
+# Each form of a program in tools/forms stands in the usage line that the program writes, and explain shows it below it.
+try_forms() {
+    tool=tools/forms
+    before=$wrong
+    grep -E '^(devconf|drvrun) ' "$tools/forms" | cut -f 1 >"$work/forms"
+    while read -r program form; do
+        usage=$(grep -h "usage: $program " "$top"/crates/*/src/*.rt | sed 's/.*usage: /usage: /; s/\\n.*//')
+        echo "${usage#*"$program "}" | tr '|' '\n' | sed 's/^ *//; s/ *$//' >"$work/known"
+        grep -qxF "$(echo "$form" | sed 's/NUMBER/N/')" "$work/known" || differ "$program $form" 'not in the usage line' ''
+        echo "$usage" | $shell "$tools/explain" -b >"$work/said" 2>&1
+        grep -qF "    $program $form " "$work/said" || differ "$program $form" 'explain does not show it' ''
+        said=$(head -n 1 "$work/said")
+        [ "$said" = '  The words have none of the forms.' ] || differ "$program" "explain: $said" ''
+    done <"$work/forms"
+    ended "$(wc -l <"$work/forms" | tr -d ' ') forms"
+}
+
+# On a terminal the launchers add words to a fault line, and nowhere else; the status is the program's.
+try_terminal() {
+    tool=tools/lib/terminal.sh
+    before=$wrong
+    printf '#!/bin/sh\necho output\n[ $# = 0 ] || { echo "config conf:1: code 4" >&2; exit 1; }\n' >"$work/program"
+    printf '#!/bin/sh\nexplain=%s/explain\n. %s/lib/terminal.sh\nrun_program "%s/program" "$@"\n' "$tools" "$tools" "$work" \
+        >"$work/launcher"
+    chmod +x "$work/program" "$work/launcher"
+    printf 'ident "abc\n' >"$work/conf"
+    said=$(cd "$work" && $shell ./launcher word 2>&1) && status=0 || status=$?
+    [ "$status $said" = "$(printf '1 output\nconfig conf:1: code 4')" ] || differ 'in a pipe' "status $status, $said" ''
+    if ! script -qec true /dev/null >/dev/null 2>&1; then
+        ended 'in a pipe (there is no script(1) of util-linux to try it on a terminal)'
+        return
+    fi
+    bare=$(printf 'output\nconfig conf:1: code 4')
+    on_terminal '' word "$(printf '%s\n     1 | ident "abc\n  A string is open at the end of its line.' "$bare")" 1
+    on_terminal '' '' output 0
+    on_terminal NO_EXPLAIN=1 word "$bare" 1
+    on_terminal CI=true word "$bare" 1
+    ended 'a pipe, a terminal, NO_EXPLAIN and CI'
+}
+
+# The launcher on a terminal, with this in the environment and this word: its first four lines and its status.
+on_terminal() {
+    (cd "$work" && TERM=dumb script -qec "env $1 $shell ./launcher $2" /dev/null </dev/null >"$work/said") \
+        && status=0 || status=$?
+    tr -d '\r' <"$work/said" | head -n 4 >"$work/got"
+    printf '%s\n' "$3" >"$work/wanted"
+    cmp -s "$work/wanted" "$work/got" || differ "on a terminal $1 $2" 'what is written' "$work/wanted" "$work/got"
+    [ "$status" = "$4" ] || differ "on a terminal $1 $2" "the status is $status" ''
+}
+
+try_completion() {
+    tool=tools/completion
+    before=$wrong
+    first=$(sed -n 's/^devconf \([a-z]*\).*/\1/p' "$tools/forms" | sort | tr '\n' ' ')
+    first=${first% }
+    for known in bash zsh; do
+        command -v "$known" >/dev/null || { missing="$missing $known"; continue; }
+        next "$known" '' "$first" devconf ''
+        next "$known" '' boot devconf b
+        next "$known" '' FILE ./devconf boot ''
+        next "$known" '' FILE devconf play a b c d ''
+        next "$known" '' '' devconf load ''
+        next "$known" '' '' devconf boot a b ''
+        next "$known" '' '' devconf fly ''
+        next "$known" '' '-a -m -s FILE' devconf-summary ''
+        next "$known" '' FILE devconf-summary -m ''
+        next "$known" '' 'config machine order script status' devconf-explain ''
+    done
+    ended "bash and zsh${missing:+, but these are not here:$missing;}"
+}
+
+# What this shell completes behind these words, the last of them being the one that is typed.
+next() {
+    known=$1
+    wanted=$3
+    shift 3
+    got=$("$known" "$work/next.$known" "$tools" "$@" 2>&1 | tr ' ' '\n' | grep . | sort | tr '\n' ' ')
+    [ "${got% }" = "$wanted" ] || differ "$known: $*" "'${got% }', where '$wanted' is wanted" ''
+}
+
+make_completers() {
+    cat >"$work/next.bash" <<'END'
+compopt() { plain=1; }
+. "$1/completion/devconf.bash"
+shift
+COMP_WORDS=("$@") COMP_CWORD=$(($# - 1)) plain=
+_devconf "$1"
+echo "${COMPREPLY[*]}"
+[ -n "$plain" ] || echo FILE
+END
+    cat >"$work/next.zsh" <<'END'
+compdef() { }
+compadd() { shift; for word in "$@"; do [[ $word = $words[CURRENT]* ]] && print -r -- $word; done }
+_files() { print FILE }
+. "$1/completion/devconf.zsh"
+shift
+words=("$@") CURRENT=$#
+_devconf
+END
+}
+
+# The example, the vim settings, the makefile and the commands of docs/CI.md.
+try_ci() {
+    tool=docs/CI.md
+    before=$wrong
+    mkdir "$work/ci" "$work/ci/stored"
+    fill_ci "$top/examples/outputs/small.boot"
+    ci_makefile 0 'the first time'
+    fill_ci "$top/examples/outputs/small.boot" 'warning GENERIC:2 orphan'
+    ci_makefile 1 'with a warning'
+    sed 's/on u1: com1 row 3/on u1: not configured/; /com1/d' "$top/examples/outputs/small.boot" >"$work/lacking"
+    fill_ci "$work/lacking"
+    ci_makefile 1 'with a spot without a driver'
+    cp "$top/examples/outputs/small.boot" "$work/ci/stored/GENERIC.boot"
+    sed -n '/^```sh/,/^```/p' "$top/docs/CI.md" | grep -v '^```' \
+        | sed "s#devconf-#$shell $tools/#; s#^devconf #$shell ./devconf #" >"$work/ci/job"
+    said=$(cd "$work/ci" && $shell ./job 2>&1) && status=0 || status=$?
+    [ "$status $(echo "$said" | tail -n 1)" = '1 u1: com1 went, which was below isa0; no driver takes the spot now' ] \
+        || differ job "status $status, $said" ''
+    try_vim
+    ended "the makefile and the job${vim:+, and the settings of vim}"
+}
+
+# A folder with a program that writes this output, with this line before the history.
+fill_ci() {
+    if [ -n "${2-}" ]; then sed "s#^history 2#$2\\
+history 2#" "$1" >"$work/ci/output"; else cp "$1" "$work/ci/output"; fi
+    printf '#!/bin/sh\ncat %s/ci/output\n' "$work" >"$work/ci/devconf"
+    chmod +x "$work/ci/devconf"
+    cp "$top/examples/small.conf" "$work/ci/GENERIC"
+    cp "$top/examples/small.machine" "$work/ci/machine"
+    sed -n '/^```make/,/^```/p' "$top/docs/CI.md" | grep -v '^```' >"$work/ci/Makefile"
+    rm -f "$work/ci/GENERIC.boot"
+}
+
+ci_makefile() {
+    command -v make >/dev/null || return 0
+    (cd "$work/ci" && make DEVCONF=./devconf SUMMARY="$shell $tools/summary") >"$work/said" 2>&1 && status=0 || status=1
+    [ "$status" = "$1" ] || differ "the makefile $2" "$(cat "$work/said")" ''
+}
+
+try_vim() {
+    vim=$(command -v vim) || return 0
+    sed -n 's/^    :set /set /p' "$top/docs/CI.md" >"$work/ci/settings"
+    printf '#!/bin/sh\necho "config sub/conf:7: code 13" >&2\nexit 1\n' >"$work/ci/devconf"
+    mkdir -p "$work/ci/sub" && : >"$work/ci/sub/conf"
+    (cd "$work/ci" && PATH=.:$PATH "$vim" -es -u NONE -c 'source settings' -c 'silent make!' -c 'let to = getqflist()[0]' \
+        -c 'call writefile([bufname(to.bufnr) . ":" . to.lnum . ":" . to.text], "place")' -c 'qa!' </dev/null >/dev/null 2>&1)
+    said=$(cat "$work/ci/place" 2>/dev/null)
+    [ "$said" = 'sub/conf:7:code 13' ] || differ vim "it goes to '$said'" ''
+}
+
+# Each device of the stored outputs stands in its picture.
+try_pictures() {
+    tool=docs
+    before=$wrong
+    for pair in pc:power.play server:server.boot; do
+        output=examples/outputs/${pair#*:}
+        picture=${pair%:*}.svg
+        "$tools/draw" "$top/$output" | sed -n 's/^    "\([^"]*\)" \[label.*/\1/p' | sort >"$work/drawn"
+        sed -n 's/^<title>\([A-Za-z_][A-Za-z0-9_-]*[0-9]\)<\/title>$/\1/p' "$top/docs/$picture" | sort >"$work/pictured"
+        cmp -s "$work/drawn" "$work/pictured" \
+            || differ "$picture" "draw it again: tools/draw -s $output" "$work/drawn" "$work/pictured"
+    done
+    ended 'the pictures of the small PC and of the server'
+}
+
+# What is installed runs from any folder, and nothing of it is left behind.
+try_install() {
+    tool='make install'
+    before=$wrong
+    command -v make >/dev/null || { echo "$tool: not tried: there is no make"; return; }
+    [ -x "$top/crates/devconf/out/devconf" ] || { echo "$tool: not tried: the program is not built"; return; }
+    prefix=$work/usr
+    (cd "$top" && make -s install PREFIX="$prefix") || differ install 'make ends with a fault' ''
+    (cd "$work" && "$prefix/bin/devconf" load 5) >"$work/said" 2>&1 || differ devconf "$(cat "$work/said")" ''
+    (cd "$work" && "$prefix/bin/devconf-explain" 13) >"$work/said" 2>&1 || differ devconf-explain "$(cat "$work/said")" ''
+    "$prefix/bin/devconf" boot "$top/examples/small.conf" "$top/examples/small.machine" 2>&1 \
+        | "$prefix/bin/devconf-draw" >"$work/said" 2>&1 || differ devconf-draw "$(cat "$work/said")" ''
+    [ -f "$prefix/share/man/man1/devconf.1" ] || differ man 'no manual page' ''
+    (cd "$top" && make -s uninstall PREFIX="$prefix") || differ uninstall 'make ends with a fault' ''
+    left=$(find "$prefix" -type f -o -type l)
+    [ -z "$left" ] || differ uninstall "it leaves $left" ''
+    ended 'what it puts there runs, and make uninstall takes it away'
+}
+
+for each in explain summary draw compare; do try_tool "$each"; done
+try_examples
+try_words
+try_forms
+try_terminal
+make_completers
+try_completion
+try_ci
+try_pictures
+try_install
+[ "$wrong" = 0 ]
