@@ -15,7 +15,8 @@ fn attaches(event: &Event) -> bool
     match &event.act {
         Act::Found { got, .. } => got.is_some(),
         Act::Final {
-            shown: Some(shown), ..
+            shown: Some(shown),
+            ..
         } => shown.got.is_some(),
         _ => false,
     }

@@ -315,7 +315,12 @@ pub fn plan_command(
 {
     match said {
         Command::OpenDev(name) => Ok(answered_deed(plan_open(setup, core, caller, name.bytes()))),
-        Command::OpenSole(name) => Ok(answered_deed(plan_open_sole(setup, core, caller, name.bytes()))),
+        Command::OpenSole(name) => Ok(answered_deed(plan_open_sole(
+            setup,
+            core,
+            caller,
+            name.bytes(),
+        ))),
         Command::CloseDev(name) => Ok(answered_deed(plan_close(setup, core, caller, name.bytes()))),
         Command::Io(name, value) => Ok(ask_io(setup, core, caller, number, name, *value)),
         Command::Detach(name) => plan_detach(alloc, setup, core, caller, name.bytes()),
@@ -323,7 +328,14 @@ pub fn plan_command(
             device,
             attr,
             given,
-        } => Ok(answered_deed(plan_rescan(graph, setup, core, device.bytes(), attr, given.items()))),
+        } => Ok(answered_deed(plan_rescan(
+            graph,
+            setup,
+            core,
+            device.bytes(),
+            attr,
+            given.items(),
+        ))),
         Command::ListDev(of) => Ok(answered_deed(plan_tell(setup, core, of))),
         Command::TreeDev(of) => Ok(answered_deed(plan_tell(setup, core, of))),
         Command::Suspend(name) => Ok(ask_power(setup, core, PowerKind::Suspend, name)),
