@@ -7,6 +7,7 @@ ghost use Rattle.config_rules.specs.ScriptText.{FormedScript};
 ghost use Rattle.history_laws.specs.Reliable.{IsReliable};
 ghost use Rattle.history_laws.specs.Tells.{TellsTree};
 ghost use Rattle.run_rules.specs.Counts.{ends_of};
+ghost use Rattle.run_rules.specs.Laws.{Lawful};
 ghost use Rattle.run_rules.specs.Lines.{IsFormed};
 ghost use Rattle.run_rules.specs.Run.{Run};
 ghost use Rattle.run_rules.specs.Search as search;
@@ -96,16 +97,19 @@ impl Board {
         ensures boot { caller ≡ 0 → IsOfBoot result }
         ensures denials { DenialsAre self.old.world.live (S.denials slots.old) (S.last_denial slots.old) result (S.denials slots.new) (S.last_denial slots.new) }
         ensures began { began self.new ≡ began self.old }
+        ensures lawful { Lawful self.new.events }
         ensures falls { IsDid result → caller ≡ 0 → boot_left self.new.world < boot_left self.old.world }
     {
-        step_core(
+        let stepped = step_core(
             self.alloc,
             &self.graph,
             &self.setup,
             &mut self.core,
             caller,
             slots,
-        )
+        );
+        self.stands();
+        stepped
     }
 
     /// The result of a transfer: the transfer ends by it, or nothing changes. The result is spent at every answer.
@@ -113,8 +117,11 @@ impl Board {
         ensures post { PostIs self.old done result self.new }
         ensures slots { slots_of self.new.world ≡ slots_of self.old.world }
         ensures began { began self.new ≡ began self.old }
+        ensures lawful { Lawful self.new.events }
     {
-        post_core(self.alloc, &self.setup, &mut self.core, done.spend())
+        let posted = post_core(self.alloc, &self.setup, &mut self.core, done.spend());
+        self.stands();
+        posted
     }
 
     /// Stops the board in the name of a caller. Each later step answers so, and nothing else changes; the first stop stays.
