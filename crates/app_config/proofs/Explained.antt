@@ -2,7 +2,6 @@
 use Rattle.std.proofs.Common.{inl, inr, ◌≡◌, ℕ, ◌≤◌, Option, List, [], ◌++◌, refl, sym, ap, ◌∙◌, subst, append-nil, arith}
 use Rattle.std.specs.Prelude.{◌⊎◌, Result}
 use Rattle.std.specs.Prelude as std
-use Rattle.cf_io.specs.Faults.{Rises}
 use Rattle.cf_io.specs.Told.{Delivers, Takes, TakesFront, Told}
 use Rattle.config_rules.specs.Reading.{Files}
 use Rattle.app_input.specs.Inputs.{Counts}

@@ -1,4 +1,4 @@
-use Rattle.app_config.proofs.FoundLaws.{boot_ran, listed, load_ran, not_selected, not_selected_counted, play_ran, selected, wanted, wanted_uncounted}
+use Rattle.app_config.proofs.FoundLaws.{boot_ran, listed, load_ran, not_selected, not_selected_counted, play_ran, selected}
 use Rattle.app_config.proofs.found.found_by.Goals as goal
 
 pub returns-in-Ioconf-clause-found : goal.returns-in-Ioconf-clause-found

@@ -1,4 +1,4 @@
-use Rattle.std.proofs.Common.{map, string_bytes, ◌∙◌}
+use Rattle.std.proofs.Common.{map, string_bytes}
 use Rattle.app_input.specs.Words.{devconf_form}
 use Rattle.app_config.proofs.Due.{due_by, due_refused}
 use Rattle.app_config.proofs.FoundLaws.{found_read}
