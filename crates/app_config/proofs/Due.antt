@@ -16,7 +16,8 @@ use Rattle.app_output.specs.declared.stop.OutputStop.{OutputStop}
 use Rattle.app_output.specs.declared.stop.OutputStop.TheVariants as stops
 use Rattle.app_config.specs.Asked.{IsAskedText}
 use Rattle.app_config.specs.Found.{FindsFor, Unselected, found_text}
-use Rattle.app_config.specs.Run.{IsDueOr, IsInputsStatus, status_after, status_of}
+use Rattle.app_input.specs.Status.{status_of}
+use Rattle.app_config.specs.Run.{IsDueOr, IsInputsStatus, status_after}
 use Rattle.app_config.specs.declared.found.Found.{Found}
 
 -- ---- finding

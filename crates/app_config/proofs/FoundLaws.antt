@@ -11,16 +11,14 @@ use Rattle.cf_types.specs.declared.machine.Command.{Command}
 use Rattle.cf_types.specs.declared.machine.Machine.{Machine}
 use Rattle.cf_types.specs.declared.tables.Tables.{Tables}
 use Rattle.config_rules.specs.Formed.{FitGraph, FormedTables}
-use Rattle.history_laws.specs.Reliable.{IsReliable}
 use Rattle.config_rules.specs.Reading.{Files}
+use Rattle.dev_board.specs.Shown.{Shown}
 use Rattle.cf_compile.specs.declared.stop.CompileStop.{CompileStop}
 use Rattle.cf_compile.specs.declared.stop.CompileStop.TheVariants as compile
 use Rattle.file_rules.specs.Sources.{Selects}
 use Rattle.file_select.specs.Answers.{SelectsFrom}
-use Rattle.run_rules.specs.declared.event.Event.{Event}
 use Rattle.run_rules.specs.declared.world.Setup.{Setup}
-use Rattle.run_rules.specs.Run.{Boot}
-use Rattle.run_rules.specs.World.{World, opening, setup_of}
+use Rattle.run_rules.specs.World.{setup_of}
 use Rattle.app_input.specs.Inputs.{Counts, FormedInputs, Reads}
 use Rattle.app_input.specs.Status.{status_of_stop}
 use Rattle.app_input.specs.Words.{Form}
@@ -35,13 +33,22 @@ use Rattle.app_output.specs.declared.stop.OutputStop.TheVariants as stops
 use Rattle.app_config.specs.Asked.{IsAskedText, IsPlayed}
 use Rattle.app_config.specs.Found.{FindsFor, Finds, Unfound, Unselected}
 use Rattle.app_config.specs.declared.found.Found.{Found}
+use Rattle.app_config.specs.Ran.{IsBootOf, IsPlayOf}
 use Rattle.app_config.specs.Summary.{IsSummary, summary}
 use Rattle.config_rules.specs.Listing.{listing}
 
 -- the tables of a run fit into a graph
-pub run_graph : (tables : Tables) (machine : Machine) (scripts : List (List Command)) (setup : Setup)
+run_graph : (tables : Tables) (machine : Machine) (scripts : List (List Command)) (setup : Setup)
     → FormedTables tables → setup ≡ setup_of tables machine scripts → FitGraph setup.tables
 run_graph tables machine scripts setup formed is = subst (λ (s : Setup). FitGraph s.tables) (sym is) formed.graph
+
+pub boot_graph : (asked : Inputs) (tables : Tables) (machine : Machine) (b : Shown) → FormedInputs asked → asked ≡ input.Boot tables machine
+    → IsBootOf (setup_of tables machine []) b → FitGraph b.world.setup.tables
+boot_graph asked tables machine b formed is boots = run_graph tables machine [] b.world.setup (subst FormedInputs is formed).0 boots.made
+
+pub play_graph : (asked : Inputs) (tables : Tables) (machine : Machine) (scripts : List (List Command)) (order turns : List ℕ) (b : Shown)
+    → FormedInputs asked → asked ≡ input.Play tables machine scripts order → IsPlayOf (setup_of tables machine scripts) turns b → FitGraph b.world.setup.tables
+play_graph asked tables machine scripts order turns b formed is plays = run_graph tables machine scripts b.world.setup (subst FormedInputs is formed).0 plays.made
 
 pub listed : (told : Option Files) (asked : Inputs) (tables : Tables) → asked ≡ input.Ioconf tables → IsAskedText told asked (listing tables)
 unfolding IsAskedText
@@ -55,20 +62,25 @@ selected (Some files) asked name given paths is same selects =
     subst (λ (i : Inputs). IsAskedText (Some files) i (text_of paths)) (sym is)
     (paths, subst (λ (n : List ℕ). Selects files n paths) same selects, refl)
 
-pub boot_ran : (told : Option Files) (asked : Inputs) (tables : Tables) (machine : Machine) (h : List Event) (w : World) → asked ≡ input.Boot tables machine
-    → Boot (opening (setup_of tables machine [])) h w → w.setup ≡ setup_of tables machine [] → IsReliable h w
-    → IsAskedText told asked (run_text w.setup.tables h w)
+pub boot_ran : (told : Option Files) (asked : Inputs) (tables : Tables) (machine : Machine) (b : Shown) → asked ≡ input.Boot tables machine
+    → IsBootOf (setup_of tables machine []) b → IsAskedText told asked (run_text b.world.setup.tables b.events b.world)
 unfolding IsAskedText
-boot_ran told asked tables machine h w is boots made laws =
-    subst (λ (i : Inputs). IsAskedText told i (run_text w.setup.tables h w)) (sym is) (h, w, boots, laws, ap (λ (s : Setup). run_text s.tables h w) made)
+boot_ran told asked tables machine b is boots =
+    subst (λ (i : Inputs). IsAskedText told i (run_text b.world.setup.tables b.events b.world)) (sym is)
+    (b.events, b.world, boots.boot, boots.reliable, ap (λ (s : Setup). run_text s.tables b.events b.world) boots.made)
 
-pub play_ran : (told : Option Files) (asked : Inputs) (tables : Tables) (machine : Machine) (scripts : List (List Command)) (order turns : List ℕ) (h : List Event) (w : World)
-    → asked ≡ input.Play tables machine scripts order → turns ≡ order → IsPlayed (setup_of tables machine scripts) turns h w → w.setup ≡ setup_of tables machine scripts → IsReliable h w
-    → IsAskedText told asked (run_text w.setup.tables h w)
+pub play_ran : (told : Option Files) (asked : Inputs) (tables : Tables) (machine : Machine) (scripts : List (List Command)) (order turns : List ℕ) (b : Shown)
+    → asked ≡ input.Play tables machine scripts order → turns ≡ order → IsPlayOf (setup_of tables machine scripts) turns b
+    → IsAskedText told asked (run_text b.world.setup.tables b.events b.world)
 unfolding IsAskedText
-play_ran told asked tables machine scripts order turns h w is same played made laws =
-    subst (λ (i : Inputs). IsAskedText told i (run_text w.setup.tables h w)) (sym is)
-    (h, w, subst (λ (ts : List ℕ). IsPlayed (setup_of tables machine scripts) ts h w) same played, laws, ap (λ (s : Setup). run_text s.tables h w) made)
+play_ran told asked tables machine scripts order turns b is same plays =
+    subst (λ (i : Inputs). IsAskedText told i (run_text b.world.setup.tables b.events b.world)) (sym is) (
+      b.events,
+      b.world,
+      subst (λ (ts : List ℕ). IsPlayed (setup_of tables machine scripts) ts b.events b.world) same plays.played,
+      plays.reliable,
+      ap (λ (s : Setup). run_text s.tables b.events b.world) plays.made,
+    )
 
 pub load_ran : (told : Option Files) (asked : Inputs) (n : ℕ) (tables : Tables) (machine : Machine) (line : List ℕ) → asked ≡ input.Load n tables machine
     → IsSummary n tables machine line → IsAskedText told asked line
@@ -76,21 +88,12 @@ unfolding IsAskedText
 load_ran told asked n tables machine line is sums = subst (λ (i : Inputs). IsAskedText told i line) (sym is) sums
 
 -- the line of numbers of a boot
-pub summed : {E : Type 0} (n : ℕ) (tables : Tables) (machine : Machine) (h : List Event) (w : World) (line : Result (Vec ℕ Global) E) → Boot (opening (setup_of tables machine [])) h w
-    → IfOk line (λ bytes. bytes.items ≡ ended (summary n h w)) → IfOk line (λ bytes. IsSummary n tables machine bytes.items)
-summed n tables machine h w (std.Ok bytes) boots is = (h, w, boots, is)
-summed n tables machine h w (std.Err stop) boots is = tt
+pub summed : {E : Type 0} (n : ℕ) (tables : Tables) (machine : Machine) (b : Shown) (line : Result (Vec ℕ Global) E) → IsBootOf (setup_of tables machine []) b
+    → IfOk line (λ bytes. bytes.items ≡ ended (summary n b.events b.world)) → IfOk line (λ bytes. IsSummary n tables machine bytes.items)
+summed n tables machine b (std.Ok bytes) boots is = (b.events, b.world, boots.boot, is)
+summed n tables machine b (std.Err stop) boots is = tt
 
 -- ---- why nothing was found
-
--- memory ran out
-pub wanted : (told : Option Files) (asked : Inputs) (result : Result Found Status) → IsErrAnd result (λ status. status ≡ Memory) → FindsFor told asked result
-wanted told asked (std.Ok found) is = absurd is
-wanted told asked (std.Err status) is = inl is
-
-pub wanted_uncounted : (before : ℕ) (result : Result Found Status) → IsErrAnd result (λ status. status ≡ Memory) → Counts before before result
-wanted_uncounted before (std.Ok found) is = absurd is
-wanted_uncounted before (std.Err status) is = subst (λ (s : Status). Counts {A = Found} before before (std.Err s)) (sym is) refl
 
 -- the sources were not selected
 unselected : (told : Option Files) (name : List ℕ) (before after : ℕ) (stop : CompileStop) → SelectsFrom told name before after (std.Err stop)

@@ -1,7 +1,9 @@
 //! Does what the inputs ask for. Nothing here sees the output, so a run has ended before anything of it is put.
 ghost use Rattle.std.specs.Prelude.{◌≡◌, IfOk};
 ghost use Rattle.app_input.specs.Inputs.{Counts, FormedInputs};
+ghost use Rattle.app_input.specs.Status.{status_of};
 ghost use Rattle.app_output.specs.Output.{Puts};
+ghost use Rattle.app_config.specs.FilesAsked.{AsksThen};
 ghost use Rattle.app_config.specs.Found.{FindsFor, HasGraph, found_text};
 
 use crate::boot::booted;
@@ -33,6 +35,7 @@ pub fn found_by<F: Files>(alloc: Global, files: &mut F, inputs: Inputs) -> Resul
     requires { FormedInputs inputs }
     ensures told { F.told files.new ≡ F.told files.old }
     ensures found { FindsFor (F.told files.old) inputs result }
+    ensures asked { AsksThen (F.told files.old) inputs (status_of result) (F.asked files.old) (F.asked files.new) }
     ensures counted { Counts (F.faults files.old) (F.faults files.new) result }
     ensures graphed { IfOk result HasGraph }
 {

@@ -1,14 +1,12 @@
 //! Boots a machine and plays scripts on it.
-ghost use Rattle.std.specs.Prelude.{◌≡◌, IfOk};
+ghost use Rattle.std.specs.Prelude.{IfOk};
 ghost use Rattle.config_rules.specs.Formed.{FittingMachine, FormedTables};
 ghost use Rattle.app_input.specs.Played.{FormedPlay};
-ghost use Rattle.history_laws.specs.Reliable.{IsReliable};
 ghost use Rattle.run_rules.specs.World.{setup_of};
-ghost use Rattle.app_config.specs.Asked.{IsPlayed};
+ghost use Rattle.app_config.specs.Ran.{IsPlayOf};
 
-use crate::boot::started;
 use cf_types::{List, Machine, Memory, Script, Tables};
-use dev_board::{Board, run_turns};
+use dev_board::{Board, booted_board, run_turns};
 use std::alloc::Global;
 
 /// The board of a machine after its boot and the turns of an order over its scripts. See drvctl(8).
@@ -22,11 +20,9 @@ pub fn played(
     requires formed { FormedTables tables }
     requires fits { FittingMachine tables machine }
     requires play { FormedPlay (record { scripts = scripts; order = order.now }) }
-    ensures run { IfOk result (λ board. IsPlayed (setup_of tables machine scripts) order.now board.events board.world) }
-    ensures setup { IfOk result (λ board. board.world.setup ≡ setup_of tables machine scripts) }
-    ensures reliable { IfOk result (λ board. IsReliable board.events board.world) }
+    ensures { IfOk result (IsPlayOf (setup_of tables machine scripts) order.now) }
 {
-    let (mut board, mut slots) = started(alloc, tables, machine, scripts)?;
+    let (mut board, mut slots) = booted_board(alloc, tables, machine, scripts)?;
     run_turns(&mut board, &mut slots, order)?;
     board.stands();
     Ok(board)

@@ -85,12 +85,12 @@ pub if_false : {A : Type 0} (a b : A) (test : Bool) → test ≡ false → (if t
 if_false a b test e = rw e refl
 
 -- a file that is short enough
-short_file : (next : Machine → Result Inputs Status) (tables : Tables) (name text : List ℕ) (file : Option (List ℕ)) → file ≡ Some text → length text ≤ MAX_FILE
+pub short_file : (next : Machine → Result Inputs Status) (tables : Tables) (name text : List ℕ) (file : Option (List ℕ)) → file ≡ Some text → length text ≤ MAX_FILE
     → booted_from next tables name file ≡ booted next (machine_of tables text)
 short_file next tables name text file is short = rw is (if_true _ _ (nat_le (length text) MAX_FILE) (le-leb (length text) MAX_FILE short))
 
 -- a file that is too long
-long_file : (next : Machine → Result Inputs Status) (tables : Tables) (name text : List ℕ) (file : Option (List ℕ)) → file ≡ Some text → MAX_FILE < length text
+pub long_file : (next : Machine → Result Inputs Status) (tables : Tables) (name text : List ℕ) (file : Option (List ℕ)) → file ≡ Some text → MAX_FILE < length text
     → booted_from next tables name file ≡ std.Err (TooLong name)
 long_file next tables name text file is long = rw is (if_false _ _ (nat_le (length text) MAX_FILE) (lt-leb (length text) MAX_FILE long))
 

@@ -1,3 +1,5 @@
+pub mod AskedLaws
+mod AskedVectors
 pub mod CountLemmas
 pub mod DueLaws
 pub mod MadeLaws

@@ -65,7 +65,7 @@ scripts_end None names n scripts so_far = inr (inr tt)
 scripts_end (Some files) names n scripts so_far = inr (inr (sym so_far ∙ ap (λ (xs : List (List Command)). std.Ok xs) (append-nil scripts)))
 
 -- the names from a place on
-names_left : {X : Type 0} (f : X → List ℕ) (xs : List X) (i : ℕ) (x : X) → i < length xs → x ≡ get_or xs i x → map f (drop i xs) ≡ f x ∷ map f (drop (i + 1) xs)
+pub names_left : {X : Type 0} (f : X → List ℕ) (xs : List X) (i : ℕ) (x : X) → i < length xs → x ≡ get_or xs i x → map f (drop i xs) ≡ f x ∷ map f (drop (i + 1) xs)
 names_left f xs i x h is = ap (map f) (drop_more xs i x h) ∙ ap (λ y. f y ∷ map f (drop (i + 1) xs)) (sym is)
 
 pub of_script : {X : Type 0} (f : X → List ℕ) (xs : List X) (i : ℕ) (x : X) (status : Status) → i < length xs → x ≡ get_or xs i x → IsOfFile (i + 1) (f x) status
@@ -73,7 +73,7 @@ pub of_script : {X : Type 0} (f : X → List ℕ) (xs : List X) (i : ℕ) (x : X
 of_script f xs i x status h is of = (i, f x, slice_get-map f xs i ∙ ap (std.option_map f) (slice_get_read xs (length xs) i x refl h is), of)
 
 -- the same at a place of the names, where the files that are read are those that are told
-called_at : (told reading : Option Files) (n : ℕ) (name given : List ℕ) (answer : Result (List Command) Status) → reading ≡ told → name ≡ given
+pub called_at : (told reading : Option Files) (n : ℕ) (name given : List ℕ) (answer : Result (List Command) Status) → reading ≡ told → name ≡ given
     → IsCalledFor reading (λ files. script_of files n name) answer → IsCalledFor told (λ files. script_of files n given) answer
 called_at told reading n name given answer same is called =
     let P : Option Files → Type 0 = λ r. IsCalledFor r (λ files. script_of files n given) answer in

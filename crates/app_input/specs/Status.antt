@@ -1,4 +1,5 @@
-use Rattle.std.specs.Prelude.{ℕ}
+use Rattle.std.specs.Prelude.{ℕ, Result}
+use Rattle.std.specs.Prelude as std
 use Rattle.cf_compile.specs.declared.stop.CompileStop.{CompileStop}
 use Rattle.cf_compile.specs.declared.stop.CompileStop.TheVariants as stops
 use Rattle.app_input.specs.declared.status.Status.{Status}
@@ -22,3 +23,8 @@ abbrev pub status_of_stop : CompileStop → Status
 status_of_stop (stops.Refused refusal) = ConfigRefused refusal.file refusal.line refusal.code
 status_of_stop stops.ReadFault = ReadFault
 status_of_stop stops.Memory = Memory
+
+-- the status of what was found, or why nothing was
+abbrev pub status_of : {A : Type 0} → Result A Status → Status
+status_of (std.Ok found) = Ok
+status_of (std.Err status) = status

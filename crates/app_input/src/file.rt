@@ -1,5 +1,7 @@
-ghost use Rattle.std.specs.Prelude.{◌≡◌};
+ghost use Rattle.std.specs.Prelude.{◌≡◌, [], ◌∷◌};
+ghost use Rattle.app_input.specs.Asked.{IsAskedFor};
 ghost use Rattle.app_input.specs.Inputs.{Counts, IsAbsent, IsTooLong, ReadsFile};
+ghost use Rattle.app_input.specs.Status.{status_of};
 
 use crate::status::Status;
 use cf_io::{Files, Load};
@@ -30,6 +32,7 @@ fn too_long(alloc: Global, name: &[u8]) -> Status
 pub fn load_file<F: Files>(alloc: Global, files: &mut F, name: &[u8]) -> Result<Text, Status>
     ensures told { F.told files.new ≡ F.told files.old }
     ensures reads { ReadsFile (F.told files.old) name.now result }
+    ensures asked { IsAskedFor (name.now ∷ []) (status_of result) (F.asked files.old) (F.asked files.new) }
     ensures counted { Counts (F.faults files.old) (F.faults files.new) result }
 {
     let mut text = Vec::new(alloc);

@@ -1,8 +1,10 @@
 ghost use Rattle.std.specs.Prelude.{◌≡◌, ◌≢◌, ◌≤◌, ◌⊎◌, Err, Option, IfOk, IfSome, Some, length, map, string_bytes};
 ghost use Rattle.cf_io.specs.Faults.{Rose};
 ghost use Rattle.config_rules.specs.Formed.{FormedTables};
-ghost use Rattle.config_rules.specs.Reading.{Files as NamedFiles};
+ghost use Rattle.config_rules.specs.Reading.{Files as NamedFiles, reading};
+ghost use Rattle.app_input.specs.Asked.{AsksForm, AsksInputs, IsAskedFor};
 ghost use Rattle.app_input.specs.Inputs.{Counts, FormedInputs, IsDue, Reads, ReadsTables};
+ghost use Rattle.app_input.specs.Status.{status_of};
 ghost use Rattle.app_input.specs.Words.{boot, form_of, ioconf, load, play, sources};
 
 use crate::machine_file::load_machine;
@@ -58,6 +60,8 @@ pub enum Inputs {
 fn read_tables<F: Files>(alloc: Global, files: &mut F, file: &[u8]) -> Result<Tables, Status>
     ensures told { F.told files.new ≡ F.told files.old }
     ensures reads { ReadsTables (F.told files.old) file.now result }
+    ensures asked { IfSome (F.told files.old)
+        (λ named. IsAskedFor (reading named file.now).asked (status_of result) (F.asked files.old) (F.asked files.new)) }
     ensures counted { Counts (F.faults files.old) (F.faults files.new) result }
     ensures formed { IfOk result FormedTables }
 {
@@ -71,6 +75,8 @@ fn read_tables<F: Files>(alloc: Global, files: &mut F, file: &[u8]) -> Result<Ta
 fn read_ioconf<F: Files>(alloc: Global, files: &mut F, file: &[u8]) -> Result<Inputs, Status>
     ensures told { F.told files.new ≡ F.told files.old }
     ensures reads { Reads (Some (ioconf file.now)) (F.told files.old) result }
+    ensures asked { IfSome (F.told files.old)
+        (λ named. AsksForm (ioconf file.now) named (status_of result) (F.asked files.old) (F.asked files.new)) }
     ensures counted { Counts (F.faults files.old) (F.faults files.new) result }
     ensures formed { IfOk result FormedInputs }
 {
@@ -101,6 +107,8 @@ fn read_boot<F: Files>(
 ) -> Result<Inputs, Status>
     ensures told { F.told files.new ≡ F.told files.old }
     ensures reads { Reads (Some (boot file.now name.now)) (F.told files.old) result }
+    ensures asked { IfSome (F.told files.old)
+        (λ named. AsksForm (boot file.now name.now) named (status_of result) (F.asked files.old) (F.asked files.new)) }
     ensures counted { Counts (F.faults files.old) (F.faults files.new) result }
     ensures formed { IfOk result FormedInputs }
 {
@@ -127,6 +135,8 @@ fn read_play<F: Files>(
     requires few { length scripts.now ≤ 16 }
     ensures told { F.told files.new ≡ F.told files.old }
     ensures reads { Reads (Some (play config.now name.now order.now (map string_bytes scripts.now))) (F.told files.old) result }
+    ensures asked { IfSome (F.told files.old)
+        (λ named. AsksForm (play config.now name.now order.now (map string_bytes scripts.now)) named (status_of result) (F.asked files.old) (F.asked files.new)) }
     ensures counted { Counts (F.faults files.old) (F.faults files.new) result }
     ensures formed { IfOk result FormedInputs }
 {
@@ -186,6 +196,7 @@ pub fn read_inputs<F: Files>(
 ) -> Result<Inputs, Status>
     ensures told { F.told files.new ≡ F.told files.old }
     ensures reads { Reads (form_of program (map string_bytes words.now)) (F.told files.old) result }
+    ensures asked { AsksInputs (form_of program (map string_bytes words.now)) (F.told files.old) (status_of result) (F.asked files.old) (F.asked files.new) }
     ensures counted { Counts (F.faults files.old) (F.faults files.new) result }
     ensures formed { IfOk result FormedInputs }
 

@@ -1,8 +1,10 @@
-ghost use Rattle.std.specs.Prelude.{◌≡◌, ◌≤◌, IfOk, length};
+ghost use Rattle.std.specs.Prelude.{◌≡◌, ◌≤◌, [], ◌∷◌, IfOk, length};
 ghost use Rattle.cf_io.specs.declared.files.TheConstants.{MAX_FILE};
 ghost use Rattle.config_rules.specs.MachineText.{machine_of};
 ghost use Rattle.config_rules.specs.Formed.{FittingMachine, FormedTables};
+ghost use Rattle.app_input.specs.Asked.{IsAskedFor};
 ghost use Rattle.app_input.specs.Inputs.{Counts, Describes, ReadsMachine};
+ghost use Rattle.app_input.specs.Status.{status_of};
 
 use crate::file::load_file;
 use crate::status::Status;
@@ -35,6 +37,7 @@ pub fn load_machine<F: Files>(
     requires { FormedTables tables.now }
     ensures told { F.told files.new ≡ F.told files.old }
     ensures reads { ReadsMachine (F.told files.old) name.now tables.now result }
+    ensures asked { IsAskedFor (name.now ∷ []) (status_of result) (F.asked files.old) (F.asked files.new) }
     ensures counted { Counts (F.faults files.old) (F.faults files.new) result }
     ensures fits { IfOk result (λ machine. FittingMachine tables.now machine) }
 {

@@ -1,9 +1,11 @@
 //! Loads the scripts of a play and the order of their turns.
-ghost use Rattle.std.specs.Prelude.{◌≡◌, ◌≤◌, All, IfErr, IfOk, length, map, string_bytes};
+ghost use Rattle.std.specs.Prelude.{◌≡◌, ◌≤◌, [], ◌∷◌, All, IfErr, IfOk, IfSome, length, map, string_bytes};
 ghost use Rattle.cf_io.specs.declared.files.TheConstants.{MAX_FILE};
 ghost use Rattle.config_rules.specs.ScriptText.{FormedScript, commands_of, order_of};
+ghost use Rattle.app_input.specs.Asked.{IsAskedFor, played_files, script_files, up_to_refused};
 ghost use Rattle.app_input.specs.Inputs.{Counts};
 ghost use Rattle.app_input.specs.Played.{FormedPlay, IsCalledFor, IsOfFile, IsOfPlay, IsOfScript, Says, played, script_of, scripts_of, turns_of};
+ghost use Rattle.app_input.specs.Status.{status_of};
 
 use crate::file::load_file;
 use crate::status::Status;
@@ -61,6 +63,7 @@ fn load_script<F: Files>(
     ensures told { F.told files.new ≡ F.told files.old }
     ensures reads { IsCalledFor (F.told files.old) (λ files. script_of files which name.now) result }
     ensures of { IfErr result (IsOfFile which name.now) }
+    ensures asked { IsAskedFor (name.now ∷ []) (status_of result) (F.asked files.old) (F.asked files.new) }
     ensures counted { Counts (F.faults files.old) (F.faults files.new) result }
     ensures formed { IfOk result FormedScript }
 {
@@ -82,6 +85,7 @@ fn load_order<F: Files>(
     ensures told { F.told files.new ≡ F.told files.old }
     ensures reads { IsCalledFor (F.told files.old) (λ files. turns_of files callers name.now) result }
     ensures of { IfErr result (IsOfFile 0 name.now) }
+    ensures asked { IsAskedFor (name.now ∷ []) (status_of result) (F.asked files.old) (F.asked files.new) }
     ensures counted { Counts (F.faults files.old) (F.faults files.new) result }
     ensures turns { IfOk result (λ order. All (λ turn. (1 ≤ turn) × (turn ≤ callers)) order) }
 {
@@ -101,6 +105,8 @@ fn load_scripts<F: Files>(
     ensures told { F.told files.new ≡ F.told files.old }
     ensures reads { IsCalledFor (F.told files.old) (λ files. scripts_of files (map string_bytes names.now)) result }
     ensures of { IfErr result (IsOfScript (map string_bytes names.now)) }
+    ensures asked { IfSome (F.told files.old)
+        (λ named. IsAskedFor (up_to_refused (script_files named 1 (map string_bytes names.now))) (status_of result) (F.asked files.old) (F.asked files.new)) }
     ensures counted { Counts (F.faults files.old) (F.faults files.new) result }
     ensures all { IfOk result (λ scripts. length scripts ≡ length names.now) }
     ensures formed { IfOk result (λ scripts. All FormedScript scripts) }
@@ -133,6 +139,8 @@ pub fn load_played<F: Files>(
     ensures told { F.told files.new ≡ F.told files.old }
     ensures reads { IsCalledFor (F.told files.old) (λ files. played files (map string_bytes names.now) order.now) result }
     ensures of { IfErr result (IsOfPlay (map string_bytes names.now) order.now) }
+    ensures asked { IfSome (F.told files.old)
+        (λ named. IsAskedFor (up_to_refused (played_files named (map string_bytes names.now) order.now)) (status_of result) (F.asked files.old) (F.asked files.new)) }
     ensures counted { Counts (F.faults files.old) (F.faults files.new) result }
     ensures formed { IfOk result FormedPlay }
 {

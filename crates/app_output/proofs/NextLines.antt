@@ -26,19 +26,3 @@ no_line_at lines n old line (Some there) e h = absurd (false≢true h.0)
 -- where none was put, there is none
 pub no_line : (lines : List (List ℕ)) (n : ℕ) (more : Bool) (old line : List ℕ) → more ≡ false → PutsLine (slice_get lines n) more old line → length lines ≤ n
 no_line lines n more old line m h = no_line_at lines n old line (slice_get lines n) refl (subst (λ v. PutsLine (slice_get lines n) v old line) m h)
-
--- ---- lines of a list
-
--- the line of what stands at a place was put
-pub puts_given : {X : Type 0} (f : X → List ℕ) (xs : List X) (n : ℕ) (x : X) (old new : List ℕ) → slice_get xs n ≡ Some x → new ≡ old ++ f x → PutsLine (slice_get (map f xs) n) true old new
-puts_given f xs n x old new e h =
-    subst (λ (o : Option (List ℕ)). PutsLine o true old new) (sym (slice_get-map f xs n ∙ ap (option_map f) e)) (refl, h)
-
--- nothing stands at the place
-pub puts_none : {X : Type 0} (f : X → List ℕ) (xs : List X) (n : ℕ) (old : List ℕ) → slice_get xs n ≡ None → PutsLine (slice_get (map f xs) n) false old old
-puts_none f xs n old e =
-    subst (λ (o : Option (List ℕ)). PutsLine o false old old) (sym (slice_get-map f xs n ∙ ap (option_map f) e)) (refl, refl)
-
--- the place is past the end
-pub puts_past : {X : Type 0} (f : X → List ℕ) (xs : List X) (n : ℕ) (old : List ℕ) → length xs ≤ n → PutsLine (slice_get (map f xs) n) false old old
-puts_past f xs n old h = puts_none f xs n old (slice_get_past xs n h)

@@ -1,6 +1,6 @@
 -- What compiling a configuration finds, by what reading it gave.
 use Rattle.std.proofs.Common.{◌≡◌, ℕ, Option, Some, None, List, refl, ap, sym, ◌∙◌, subst}
-use Rattle.std.specs.Prelude.{IfSome, Result, Ok, Err, IfOk}
+use Rattle.std.specs.Prelude.{IfSome, IsErrAnd, Result, Ok, Err, IfOk}
 use Rattle.cf_types.specs.declared.stmt.Expanded.{Expanded}
 use Rattle.cf_types.specs.declared.tables.Tables.{Tables}
 use Rattle.config_rules.specs.Fault.{fault_in, first_fault}
@@ -8,7 +8,12 @@ use Rattle.config_rules.specs.Formed.{FormedTables}
 use Rattle.config_rules.specs.Meaning.{Means}
 use Rattle.config_rules.specs.Reading.{Files, Reading, reading}
 use Rattle.cf_expand.specs.Steps.{expanded}
-use Rattle.cf_compile.specs.Compiles.{Compiles}
+use Rattle.cf_expand.specs.declared.stop.ExpandStop.{ExpandStop}
+use Rattle.cf_expand.specs.declared.stop.ExpandStop.TheVariants as read
+use Rattle.cf_io.specs.Asked.{AsksFront}
+use Rattle.cf_io.specs.Load.{asked_behind}
+use Rattle.cf_io.proofs.AskedLemmas.{front_all}
+use Rattle.cf_compile.specs.Compiles.{AsksDue, Compiles, stop_of}
 use Rattle.cf_compile.specs.Meant.{Finds, reading_of}
 use Rattle.cf_compile.specs.declared.stop.CompileStop.{CompileStop}
 use Rattle.cf_compile.specs.declared.stop.CompileStop.TheVariants.{Refused, ReadFault, Memory}
@@ -52,3 +57,28 @@ compiles_read told name before after read (Err Memory) is same found = same
 pub found_formed : (r : Reading) (result : Result Tables CompileStop) → Finds r result → IfOk result FormedTables
 found_formed r (Ok tables) found = found.1.formed
 found_formed r (Err stop) found = tt
+
+-- all that is due was asked for
+pub asks_all : {A : Type 0} (due : List (List ℕ)) (result : Result A CompileStop) (old new : Option (List (List ℕ))) → new ≡ asked_behind old due → AsksDue due result old new
+asks_all due (Ok done) old new asked = asked
+asks_all due (Err (Refused refusal)) old new asked = asked
+asks_all due (Err ReadFault) old new asked = front_all due old new asked
+asks_all due (Err Memory) old new asked = front_all due old new asked
+
+-- all that reading asks for was asked for, whatever was found in it
+pub asks_read : (told : Option Files) (name : List ℕ) (result : Result Tables CompileStop) (old new : Option (List (List ℕ)))
+    → IfSome told (λ files. new ≡ asked_behind old (reading files name).asked) → IfSome told (λ files. AsksDue (reading files name).asked result old new)
+asks_read told name result old new = if_told told (λ files. new ≡ asked_behind old (reading files name).asked) (λ files. AsksDue (reading files name).asked result old new)
+    (λ files asked. asks_all (reading files name).asked result old new asked)
+
+-- where reading stopped, a front of what is due was asked for
+pub asks_front : {A : Type 0} (due : List (List ℕ)) (stop : ExpandStop) (result : Result A CompileStop) (old new : Option (List (List ℕ))) → IsErrAnd result (λ e. e ≡ stop_of stop) → AsksFront due old new → AsksDue due result old new
+asks_front {A = A} due stop (Ok done) old new is front = absurd is
+asks_front {A = A} due read.ReadFault (Err e) old new is front = subst (λ (e : CompileStop). AsksDue {A = A} due (Err e) old new) (sym is) front
+asks_front {A = A} due read.Memory (Err e) old new is front = subst (λ (e : CompileStop). AsksDue {A = A} due (Err e) old new) (sym is) front
+
+-- the same of a configuration whose files are told
+pub asks_stopped : (told : Option Files) (name : List ℕ) (stop : ExpandStop) (result : Result Tables CompileStop) (old new : Option (List (List ℕ))) → IsErrAnd result (λ e. e ≡ stop_of stop)
+    → IfSome told (λ files. AsksFront (reading files name).asked old new) → IfSome told (λ files. AsksDue (reading files name).asked result old new)
+asks_stopped told name stop result old new is = if_told told (λ files. AsksFront (reading files name).asked old new) (λ files. AsksDue (reading files name).asked result old new)
+    (λ files front. asks_front (reading files name).asked stop result old new is front)

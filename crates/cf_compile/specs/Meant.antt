@@ -32,7 +32,7 @@ inst_of i = record { device = i.joined.device; unit = written_unit i.mark; star 
 
 -- files and statements that were read without a fault
 abbrev pub read_from : List (List ℕ) → List Placed → Reading
-read_from files placed = record { placed = placed; files = files; prefixes = []; fault = None }
+read_from files placed = record { placed = placed; files = files; asked = []; prefixes = []; fault = None }
 
 -- the tables of what was read, which are formed
 pub record IsMeant (files : List (List ℕ)) (placed : List Placed) (tables : Tables) : Type 0 where
@@ -50,4 +50,4 @@ Finds r (Err Memory) = ⊤
 
 -- what was read, as a reading
 abbrev pub reading_of : Expanded → Reading
-reading_of read = record { placed = read.placed; files = read.files; prefixes = []; fault = read.fault }
+reading_of read = record { placed = read.placed; files = read.files; asked = []; prefixes = []; fault = read.fault }

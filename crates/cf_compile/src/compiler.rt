@@ -1,8 +1,9 @@
-ghost use Rattle.std.specs.Prelude.{◌≡◌, [], IfOk};
+ghost use Rattle.std.specs.Prelude.{◌≡◌, [], IfOk, IfSome};
 ghost use Rattle.config_rules.specs.Fault.{stmts_of};
 ghost use Rattle.config_rules.specs.Formed.{FormedTables};
 ghost use Rattle.config_rules.specs.Meaning.{idle_insts};
-ghost use Rattle.cf_compile.specs.Compiles.{Compiles};
+ghost use Rattle.config_rules.specs.Reading.{reading};
+ghost use Rattle.cf_compile.specs.Compiles.{AsksDue, Compiles};
 ghost use Rattle.cf_compile.specs.Judged.{Judges};
 ghost use Rattle.config_rules.specs.Written.{AreWritten};
 ghost use Rattle.cf_compile.specs.Meant.{Finds, IsMeant, reading_of};
@@ -68,6 +69,7 @@ fn compile_read(alloc: Global, read: Expanded) -> Result<Tables, CompileStop>
 pub fn compile<F: Files>(alloc: Global, files: &mut F, name: &[u8]) -> Result<Tables, CompileStop>
     ensures told { F.told files.new ≡ F.told files.old }
     ensures compiles { Compiles (F.told files.old) name.now (F.faults files.old) (F.faults files.new) result }
+    ensures asked { IfSome (F.told files.old) (λ named. AsksDue (reading named name.now).asked result (F.asked files.old) (F.asked files.new)) }
     ensures formed { IfOk result FormedTables }
 {
     let read = expand(alloc, files, name)?;

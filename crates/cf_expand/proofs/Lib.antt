@@ -1,3 +1,4 @@
+pub mod AskedLemmas
 pub mod StatementLemmas
 pub mod ReaderLemmas
 pub mod ReadLemmas

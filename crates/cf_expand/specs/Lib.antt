@@ -1,3 +1,4 @@
+pub mod Asked
 pub mod Lines
 pub mod Conditions
 pub mod Loaded

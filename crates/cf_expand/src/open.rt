@@ -1,5 +1,7 @@
-ghost use Rattle.std.specs.Prelude.{◌≡◌, ℕ, ◌+◌, ◌-◌, ◌≤◌, ◌<◌, IfOk, IfSome, OnOk, length};
-ghost use Rattle.config_rules.specs.Reading.{Files as Told, Statement, include, nothing_read, read_first, reader};
+ghost use Rattle.std.specs.Prelude.{◌≡◌, ℕ, ◌+◌, ◌-◌, ◌≤◌, ◌<◌, [], ◌∷◌, IfOk, IfSome, OnOk, length};
+ghost use Rattle.config_rules.specs.Reading.{Files as Told, Statement, asking, include, nothing_read, read_first, reader};
+ghost use Rattle.cf_io.specs.Asked.{Asks};
+ghost use Rattle.cf_expand.specs.Asked.{AsksAt, AsksStep};
 ghost use Rattle.cf_expand.specs.Loaded.{IsLoaded, IsShort};
 ghost use Rattle.cf_expand.specs.Stop.{Counted};
 ghost use Rattle.cf_expand.specs.Steps.{IsBelow, WhereTold, entered, here_of, when_absent};
@@ -37,6 +39,7 @@ fn load<F: Files>(alloc: Global, files: &mut F, name: &[u8]) -> Result<Loaded, E
     ensures counted { Counted (F.faults files.old) (F.faults files.new) result }
     ensures short { IfOk result IsShort }
     ensures content { WhereTold (F.told files.old) (λ named. IfOk result (λ loaded. IsLoaded (named name.now) loaded)) }
+    ensures asked { Asks (name.now ∷ []) result (F.asked files.old) (F.asked files.new) }
 {
     let mut text = Vec::new(alloc);
     match files.load(name, &mut text) {
@@ -46,6 +49,24 @@ fn load<F: Files>(alloc: Global, files: &mut F, name: &[u8]) -> Result<Loaded, E
         Load::Failed => Err(ExpandStop::ReadFault),
         Load::Memory => Err(ExpandStop::Memory),
     }
+}
+
+/// Asks for a file, and notes that.
+fn ask<F: Files>(
+    alloc: Global,
+    files: &mut F,
+    progress: &mut Progress,
+    name: &[u8],
+) -> Result<Loaded, ExpandStop>
+    ensures told { F.told files.new ≡ F.told files.old }
+    ensures counted { Counted (F.faults files.old) (F.faults files.new) result }
+    ensures short { IfOk result IsShort }
+    ensures content { WhereTold (F.told files.old) (λ named. IfOk result (λ loaded. IsLoaded (named name.now) loaded)) }
+    ensures noted { OnOk result (progress.new ≡ asking name.now progress.old) }
+    ensures asked { Asks (name.now ∷ []) result (F.asked files.old) (F.asked files.new) }
+{
+    progress.push_asked(alloc, name)?;
+    load(alloc, files, name)
 }
 
 /// Opens a file that was loaded. `None` where it can't be cut into tokens, which is then the fault.
@@ -60,6 +81,7 @@ fn open(
     requires short { length text.items ≤ 1048576 }
     requires few { length progress.old.files < 4096 }
     ensures below { IfOk result (λ opened. IsBelow room levels opened) }
+    ensures asked { OnOk result (progress.new.asked ≡ progress.old.asked) }
     ensures read { IfOk result (λ opened. (files : Told) (around : ℕ) → entered files around opened progress.new ≡ reader (levels + 1) files around name text.items progress.old) }
 {
     let number = progress.files_len() as u32;
@@ -93,8 +115,9 @@ pub fn open_first<F: Files>(
     ensures counted { Counted (F.faults files.old) (F.faults files.new) result }
     ensures below { IfOk result (λ opened. IsBelow 16 16 opened) }
     ensures read { WhereTold (F.told files.old) (λ named. IfOk result (λ opened. entered named 0 opened progress.new ≡ read_first named name.now (named name.now))) }
+    ensures asked { WhereTold (F.told files.old) (λ named. AsksStep (read_first named name.now (named name.now)).asked progress.new.asked result (F.asked files.old) (F.asked files.new)) }
 {
-    match load(alloc, files, name)? {
+    match ask(alloc, files, progress, name)? {
         Loaded::Text(text) => {
             let name = List::copied(alloc, name)?;
             Ok(open(alloc, progress, name, text, MAX_CONDITIONS, MAX_LEVELS)?)
@@ -119,7 +142,7 @@ fn absent(
     wanted: Include,
 ) -> Result<(), Memory>
     requires { length progress.old.placed < 65536 }
-    ensures { OnOk result (progress.new ≡ when_absent source.now line wanted.path wanted.optional progress.old) }
+    ensures read { OnOk result (progress.new ≡ when_absent source.now line wanted.path wanted.optional progress.old) }
 {
     if wanted.optional {
         let Include { path, optional } = wanted;
@@ -145,13 +168,16 @@ pub fn open_include<F: Files>(
     ensures read { WhereTold (F.told files.old) (λ named. IfOk result (λ opened. (around : ℕ) (s : Statement) → s.line ≡ line
         → entered named (around + length conditions.now) opened progress.new
         ≡ include named (reader source.now.levels named) (here_of around source.now) conditions.now s wanted.path wanted.optional progress.old)) }
+    ensures asked { AsksAt (F.told files.old) line progress.old progress.new
+        (λ named around s. include named (reader source.now.levels named) (here_of around source.now) conditions.now s wanted.path wanted.optional progress.old)
+        result (F.asked files.old) (F.asked files.new) }
 {
     if source.levels == 0 || progress.files_len() >= MAX_FILES {
         progress.refuse(alloc, source.name.items(), line, code::TOO_MANY_FILES)?;
         return Ok(None);
     }
     let path = progress.under_prefix(alloc, wanted.path.items())?;
-    match load(alloc, files, path.items())? {
+    match ask(alloc, files, progress, path.items())? {
         Loaded::Text(text) => {
             let Include {
                 path: written,

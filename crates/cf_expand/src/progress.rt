@@ -1,6 +1,6 @@
 ghost use Rattle.std.specs.Prelude.{◌≡◌, ◌<◌, [], ◌∷◌, ◌++◌, IfOk, OnOk, Some, is_some, length};
 ghost use Rattle.config_rules.specs.Cut.{pieces};
-ghost use Rattle.config_rules.specs.Reading.{is_declared, nothing_read, refused, under_prefix};
+ghost use Rattle.config_rules.specs.Reading.{asking, is_declared, nothing_read, refused, under_prefix};
 ghost use Rattle.config_rules.specs.Written.{AreWritten, IsWritten};
 ghost use Rattle.cf_expand.specs.Prefixes.{Pops};
 ghost use Rattle.cf_expand.specs.Steps.{expanded};
@@ -16,6 +16,8 @@ use std::marker::Model;
 pub struct Progress {
     placed: PlacedList,
     files: List<Text>,
+    /// The names of the files that were asked for, in this order.
+    asked: List<Text>,
     /// The prefixes that stand, the top one first.
     prefixes: VecDeque<Text>,
     fault: Option<Refusal>,
@@ -26,7 +28,7 @@ impl Model for Progress {
 
     ghost Value = { Reading };
 
-    ghost view = { λ it. record { placed = it.placed; files = it.files; prefixes = it.prefixes.items; fault = it.fault } };
+    ghost view = { λ it. record { placed = it.placed; files = it.files; asked = it.asked; prefixes = it.prefixes.items; fault = it.fault } };
 }
 
 impl Progress {
@@ -37,6 +39,7 @@ impl Progress {
         Progress {
             placed: PlacedList::make(alloc),
             files: List::make(alloc),
+            asked: List::make(alloc),
             prefixes: VecDeque::new(alloc),
             fault: None,
         }
@@ -94,6 +97,14 @@ impl Progress {
     {
         let name = List::copied(alloc, name)?;
         self.files.push(name)
+    }
+
+    /// Notes that a file is asked for.
+    pub fn push_asked(&mut self, alloc: Global, name: &[u8]) -> Result<(), Memory>
+        ensures { OnOk result (self.new ≡ asking name.now self.old) }
+    {
+        let name = List::copied(alloc, name)?;
+        self.asked.push(name)
     }
 
     /// A path behind the top prefix, unless it begins with `/` or there is none.

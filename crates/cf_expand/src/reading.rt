@@ -1,7 +1,9 @@
 ghost use Rattle.std.specs.Prelude.{◌≡◌, ℕ, ◌-◌, IfOk, IfSome, OnOk, Some};
 ghost use Rattle.cf_grammar.specs.Statement.{AreWithin};
+ghost use Rattle.cf_io.specs.Asked.{Asks};
 ghost use Rattle.config_rules.specs.Written.{AreWritten};
 ghost use Rattle.config_rules.specs.Reading.{nothing_read, read_end, read_statement, reader, reading};
+ghost use Rattle.cf_expand.specs.Asked.{AsksIn};
 ghost use Rattle.cf_expand.specs.Lines.{statement_of};
 ghost use Rattle.cf_expand.specs.Stop.{Counted};
 ghost use Rattle.cf_expand.specs.Steps.{WhereTold, entered, expanded, here_of};
@@ -25,7 +27,8 @@ fn read_end(
     source: &Source,
     conditions: &Conditions,
 ) -> Result<(), Memory>
-    ensures { OnOk result ((around : ℕ) → progress.new ≡ read_end (here_of around source.now) conditions.now progress.old) }
+    ensures asked { OnOk result (progress.new.asked ≡ progress.old.asked) }
+    ensures read { OnOk result ((around : ℕ) → progress.new ≡ read_end (here_of around source.now) conditions.now progress.old) }
 {
     match conditions.innermost() {
         Some(line) => progress.refuse(alloc, source.name.items(), line, code::BAD_NESTING),
@@ -48,6 +51,9 @@ fn read_with_include<F: Files>(
     ensures counted { Counted (F.faults files.old) (F.faults files.new) result }
     ensures read { WhereTold (F.told files.old) (λ named. OnOk result ((around : ℕ) → source.now.room ≡ 16 - around
         → progress.new ≡ read_statement named (reader source.now.levels named) (here_of around source.now) conditions.now (statement_of source.now.text tokens.now) progress.old)) }
+    ensures asked { AsksIn (F.told files.old) source.now progress.old
+        (λ named around. read_statement named (reader source.now.levels named) (here_of around source.now) conditions.now (statement_of source.now.text tokens.now) progress.old)
+        result (F.asked files.old) (F.asked files.new) }
 {
     let Some(wanted) = read_statement(alloc, progress, source, conditions, tokens)? else {
         return Ok(());
@@ -72,6 +78,7 @@ fn read_source<F: Files>(
     ensures counted { Counted (F.faults files.old) (F.faults files.new) result }
     ensures read { WhereTold (F.told files.old) (λ named. OnOk result ((around : ℕ) → source.now.room ≡ 16 - around
         → progress.new ≡ entered named around (Some source.now) progress.old)) }
+    ensures asked { AsksIn (F.told files.old) source.now progress.old (λ named around. entered named around (Some source.now) progress.old) result (F.asked files.old) (F.asked files.new) }
 {
     let mut conditions = Conditions::make(alloc);
     let mut tokens = source.tokens.items();
@@ -99,6 +106,7 @@ fn read_named<F: Files>(
     ensures told { F.told files.new ≡ F.told files.old }
     ensures counted { Counted (F.faults files.old) (F.faults files.new) result }
     ensures read { WhereTold (F.told files.old) (λ named. OnOk result (progress.new ≡ reading named name.now)) }
+    ensures asked { WhereTold (F.told files.old) (λ named. Asks (reading named name.now).asked result (F.asked files.old) (F.asked files.new)) }
 {
     let Some(source) = open_first(alloc, files, progress, name)? else {
         return Ok(());
@@ -114,6 +122,7 @@ pub fn expand<F: Files>(alloc: Global, files: &mut F, name: &[u8]) -> Result<Exp
     ensures told { F.told files.new ≡ F.told files.old }
     ensures counted { Counted (F.faults files.old) (F.faults files.new) result }
     ensures reading { IfSome (F.told files.old) (λ named. IfOk result (λ read. read ≡ expanded (reading named name.now))) }
+    ensures asked { IfSome (F.told files.old) (λ named. Asks (reading named name.now).asked result (F.asked files.old) (F.asked files.new)) }
     ensures written { IfOk result (λ read. AreWritten read.placed) }
 {
     let mut progress = Progress::make(alloc);

@@ -62,7 +62,8 @@ fn turn_prefix(
     path: Option<Text>,
 ) -> Result<(), Memory>
     requires { length progress.old.placed < 65536 }
-    ensures { OnOk result ((around : ℕ) → progress.new ≡ turned (here_of around source.now) (statement_of source.now.text tokens.now) path progress.old) }
+    ensures asked { OnOk result (progress.new.asked ≡ progress.old.asked) }
+    ensures turned { OnOk result ((around : ℕ) → progress.new ≡ turned (here_of around source.now) (statement_of source.now.text tokens.now) path progress.old) }
 {
     let line = line_number(tokens);
     match path {
@@ -91,6 +92,7 @@ fn treat(
     requires few { length progress.old.placed < 65536 }
     requires written { IsWritten stmt }
     ensures few { IfOk result (λ wanted. IfSome wanted (λ _. length progress.new.placed < 65536)) }
+    ensures asked { OnOk result (progress.new.asked ≡ progress.old.asked) }
     ensures steps { Steps source.now conditions.now (statement_of source.now.text tokens.now) (λ files below here. treat files below here conditions.now (statement_of source.now.text tokens.now) stmt progress.old) result progress.new }
 {
     let line = line_number(tokens);
@@ -117,6 +119,7 @@ fn read_placed(
 ) -> Result<Option<Include>, Memory>
     requires { AreWithin source.now.text tokens.now }
     ensures few { IfOk result (λ wanted. IfSome wanted (λ _. length progress.new.placed < 65536)) }
+    ensures asked { OnOk result (progress.new.asked ≡ progress.old.asked) }
     ensures steps { Steps source.now conditions.now (statement_of source.now.text tokens.now) (λ files below here. read_placed files below here conditions.now (statement_of source.now.text tokens.now) progress.old) result progress.new }
 {
     if progress.placed_len() >= MAX_PLACED {
@@ -148,6 +151,7 @@ pub fn read_statement(
 ) -> Result<Option<Include>, Memory>
     requires { AreWithin source.now.text tokens.now }
     ensures few { IfOk result (λ wanted. IfSome wanted (λ _. length progress.new.placed < 65536)) }
+    ensures asked { OnOk result (progress.new.asked ≡ progress.old.asked) }
     ensures steps { Steps source.now conditions.now (statement_of source.now.text tokens.now) (λ files below here. read_statement files below here conditions.now (statement_of source.now.text tokens.now) progress.old) result progress.new }
 {
     if is_placed(source, conditions, tokens) {

@@ -83,6 +83,13 @@ absent_files : (Refused (codes "cinclude \"local\"" ∷ codes "include \"missing
 unfolding parts_within table form_of is_left_out form_fault reader reading declared walk firsts interfaces_of interfaces offers fill_fault fill join fault_of fault_in first_fault
 absent_files = (refl, refl)
 
+-- each file is asked for where its include stands, under its prefix, and nothing in a part that is left out or behind a fault
+asked_in_order : ((reading (files ((codes "conf", text (codes "cinclude \"local\"" ∷ codes "prefix p" ∷ codes "include \"x\"" ∷ codes "include \"y\"" ∷ codes "include \"z\"" ∷ [])) ∷ (codes "p/x", text (codes "define a" ∷ codes "cinclude \"w\"" ∷ [])) ∷ [])) (codes "conf")).asked ≡ codes "conf" ∷ codes "local" ∷ codes "p/x" ∷ codes "p/w" ∷ codes "p/y" ∷ [])
+    × ((reading (files ((codes "conf", text (codes "ifdef a" ∷ codes "include \"x\"" ∷ codes "endif" ∷ codes "endif" ∷ codes "include \"y\"" ∷ [])) ∷ [])) (codes "conf")).asked ≡ codes "conf" ∷ [])
+    × ((reading (files []) (codes "conf")).asked ≡ codes "conf" ∷ [])
+unfolding parts_within table form_of is_left_out form_fault reader reading
+asked_in_order = (refl, refl, refl)
+
 -- at the greatest depth no file is asked for, also for `cinclude`
 too_deep : include (files []) (λ around name bytes r. r) (record { file = codes "conf"; number = 0; around = 0; deepest = true }) [] (record { line = 1; pieces = [] }) (codes "x") true nothing_read ≡ refused (codes "conf") 1 20 nothing_read
 too_deep = refl

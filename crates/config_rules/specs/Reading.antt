@@ -44,16 +44,17 @@ pub record Level : Type 0 where
   pub live : Bool
   pub last : Bool
 
--- what was read so far, and the first fault
+-- what was read so far, the files that were asked for, also those that are not there, and the first fault
 pub record Reading : Type 0 where
   pub placed : List Placed
   pub files : List (List ℕ)
+  pub asked : List (List ℕ)
   pub prefixes : List (List ℕ)
   pub fault : Option Refusal
 
 -- before anything is read
 abbrev pub nothing_read : Reading
-nothing_read = record { placed = []; files = []; prefixes = []; fault = None }
+nothing_read = record { placed = []; files = []; asked = []; prefixes = []; fault = None }
 
 -- ---- conditions
 
@@ -177,6 +178,10 @@ Reader = ℕ → List ℕ → List ℕ → Reading → Reading
 abbrev pub refused : List ℕ → ℕ → ℕ → Reading → Reading
 refused file line code r = record r { fault = Some (record { file = file; line = line; code = code }) }
 
+-- a file is asked for
+abbrev pub asking : List ℕ → Reading → Reading
+asking name r = record r { asked = r.asked ++ name ∷ [] }
+
 -- a statement is placed
 abbrev pub place : Here → Statement → Stmt → Reading → Reading
 place here s form r = record r { placed = r.placed ++ record { stmt = form; file = here.number; line = s.line } ∷ [] }
@@ -191,8 +196,9 @@ abbrev pub include : Files → Reader → Here → List Level → Statement → 
 include files below here levels s path optional r =
     if here.deepest || nat_le 4096 (length r.files) then refused here.file s.line TOO_MANY_FILES r
     else (let name = under_prefix r.prefixes path in
-    let placed = place here s (stmt.Include path optional) r in
-    by_load here s optional placed (λ text. below (here.around + length levels) name text placed) (files name) r)
+    let asked = asking name r in
+    let placed = place here s (stmt.Include path optional) asked in
+    by_load here s optional placed (λ text. below (here.around + length levels) name text placed) (files name) asked)
 
 -- the top prefix goes, where there is one
 abbrev pub pop_prefix : Here → Statement → List (List ℕ) → Reading → Reading
@@ -249,10 +255,11 @@ reader (suc n) files around name text r =
 
 -- the named file, which takes no prefix
 abbrev pub read_first : Files → List ℕ → Option (List ℕ) → Reading
-read_first files name None = refused name 0 FILE_ABSENT nothing_read
+read_first files name None = refused name 0 FILE_ABSENT (asking name nothing_read)
 read_first files name (Some text) =
-    if nat_le (length text) 1048576 then reader 17 files 0 name text nothing_read else refused name 0 FILE_TOO_LONG nothing_read
+    if nat_le (length text) 1048576 then reader 17 files 0 name text (asking name nothing_read)
+    else refused name 0 FILE_TOO_LONG (asking name nothing_read)
 
--- what the named file reads as: its placed statements, its files and its first fault
+-- what the named file reads as: its placed statements, its files, all that was asked for, and its first fault
 unfoldable pub reading : Files → List ℕ → Reading
 reading files name = read_first files name (files name)

@@ -1,4 +1,3 @@
 pub mod FormedNames
 pub mod LateLaws
-pub mod BelowLaws
 pub mod FormedEvents

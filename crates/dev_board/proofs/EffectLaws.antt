@@ -1,4 +1,5 @@
 -- What a deed needs is there where it is chosen, and what it leaves is the world after its deed.
+use Rattle.std.proofs.lemmas.List.Elements.{recursion_from_All}
 use Rattle.std.proofs.Common.{◌≡◌, ◌≢◌, ◌<◌, ◌≤◌, ◌^◌, ◌-◌, ℕ, zero, suc, Bool, true, false, List, [], ◌∷◌, length, Option, Some, None, refl, arith}
 use Rattle.std.specs.Prelude.{IsTrue, IfSome, OnOk, OnErr}
 use Rattle.std.specs.declared.result.Result.{Result}
@@ -26,7 +27,6 @@ use Rattle.run_sound.proofs.ScriptLaws.{between_script, over_low}
 use Rattle.detach_engine.proofs.FreeLaws.{next_free_alone}
 use Rattle.run_world.specs.Rescans.{IsKnown}
 use Rattle.dev_board.specs.Effects.{MayDo, is_of_frame, is_plain}
-use Rattle.run_world.proofs.InputLaws.{by_recursion}
 
 pub ok_more : {A B : Type 0} {P Q : Type 0} (r : Result A B) → OnOk r P → (P → Q) → OnOk r Q
 ok_more (Ok x) h f = f h
@@ -90,7 +90,7 @@ few_in (x ∷ xs) zero h = h.0
 few_in (x ∷ xs) (suc a) h = few_in xs a h.1
 
 pub few_locators : (s : Setup) (a : ℕ) → MayRun s → length (locators_at s.tables.attrs (At a)) ≤ 16
-few_locators s a may = few_in s.tables.attrs a (by_recursion (λ x. length x.locs ≤ 16) s.tables.attrs may.tables.counted.locators)
+few_locators s a may = few_in s.tables.attrs a (recursion_from_All (λ x. length x.locs ≤ 16) s.tables.attrs may.tables.counted.locators)
 
 known_of : (w : World) (d : Dev) (a : ℕ) (attr : Option (List ℕ)) (given : List Given) → IsOnly w d attr given (Some a) → IsKnown w.setup given a
 known_of w d a None given scope = absurd cc

@@ -9,6 +9,8 @@ pub mod GoneSpots
 pub mod Agree
 pub mod Boots
 pub mod Began
+pub mod Started
+pub mod OpenSlots
 pub mod Opening
 pub mod ArriveLaws
 pub mod AttachLaws

@@ -1,4 +1,5 @@
 -- Formed scripts may run.
+use Rattle.std.proofs.lemmas.List.Elements.{recursion_from_All}
 use Rattle.std.proofs.Common.{◌≤◌, List, length}
 use Rattle.std.specs.Prelude.{All}
 use Rattle.cf_types.specs.declared.machine.Command.{Command}
@@ -9,7 +10,6 @@ use Rattle.config_rules.specs.ScriptText.{FormedScript}
 use Rattle.run_rules.specs.World.{setup_of}
 use Rattle.run_rules.proofs.Devices.{all_imp}
 use Rattle.run_sound.specs.Kept.{MayRun}
-use Rattle.run_world.proofs.InputLaws.{by_recursion}
 
 -- formed tables, a fitting machine and at most 16 formed scripts
 pub scripts_may : (t : Tables) (m : Machine) (scripts : List (List Command)) → FormedTables t → FittingMachine t m → length scripts ≤ 16 → All FormedScript scripts → MayRun (setup_of t m scripts)
@@ -17,5 +17,5 @@ scripts_may t m scripts tables machine few formed = record {
   tables = tables;
   machine = machine;
   few_scripts = few;
-  short_scripts = all_imp FormedScript (λ (script : List Command). length script ≤ 500) (λ script f. f.few) scripts (by_recursion FormedScript scripts formed);
+  short_scripts = all_imp FormedScript (λ (script : List Command). length script ≤ 500) (λ script f. f.few) scripts (recursion_from_All FormedScript scripts formed);
 }

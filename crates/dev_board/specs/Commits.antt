@@ -7,11 +7,15 @@ use Rattle.run_rules.specs.declared.deed.Deed.TheVariants.{Search, EndScan, Begi
 use Rattle.run_rules.specs.After.{after}
 use Rattle.run_rules.specs.Lines.{IsFormed}
 use Rattle.run_rules.specs.Run.{event_of}
+use Rattle.run_rules.specs.World.{opening}
 use Rattle.run_world.specs.View.{world_of}
 use Rattle.run_rules.specs.declared.world.Key.TheVariants as key
 use Rattle.defer_queue.specs.Queue.{entries_of}
 use Rattle.run_world.specs.declared.parts.Core.{Core}
+use Rattle.run_world.specs.declared.site.Site.{Site}
+use Rattle.run_world.specs.Sites.{world_at}
 use Rattle.run_world.specs.Arrivals.{state_at}
+use Rattle.dev_board.specs.Witness.{Witness, lease_step, told_did}
 
 -- how many frames a deed may push, beside the one of a rescan
 abbrev pub frames_for : List Deferred → Deed → ℕ
@@ -38,3 +42,12 @@ pub record Performed (s : Setup) (old new : Core) (k : ℕ) (d : Deed) : Type 0 
   pub formed : IsFormed (event_of (world_of s old) k d)
   pub stops : new.stops ≡ old.stops
   pub stopped : new.stopped ≡ old.stopped
+
+-- the world is the one after a deed of a caller
+abbrev pub IsAfter : Site → Core → ℕ → Deed → Core → Type 0
+IsAfter site old k d new = world_at site new ≡ after (world_at site old) k d
+
+-- a witness tells the event of the deed, at the place behind the others, and what becomes of the caller's leases
+abbrev pub TellsDeed : Site → Core → ℕ → Deed → Witness → Type 0
+TellsDeed site old k d told =
+    told ≡ told_did (opening site.setup) k (length old.events.items) (event_of (world_at site old) k d) (lease_step (world_at site old) (after (world_at site old) k d) k)

@@ -1,18 +1,16 @@
 //! A device comes: its unit is taken, it is listed, and its scan and its finaliser are placed. See config_attach(9).
 ghost use Rattle.std.specs.Prelude.{◌≡◌, ◌≤◌, ◌<◌, ◌-◌, ◌^◌, ℕ, List, IfOk, IfSome, OnOk, OnErr, length, vec_len, vec_capacity};
 ghost use Rattle.run_rules.specs.After as after;
-ghost use Rattle.attr_graph.specs.Graphs.{IsGraphOf, declared_by};
 ghost use Rattle.run_world.specs.Arrivals.{IsListed, MayArrive, StaysAsIs, called_too, put_off_too, state_at};
 ghost use Rattle.run_rules.specs.declared.world.Deferred as entry;
-ghost use Rattle.run_world.specs.Input.{Bounded};
-ghost use Rattle.run_world.specs.View.{world_of, Books, SameAside};
+ghost use Rattle.run_world.specs.View.{Books, SameAside};
+ghost use Rattle.run_world.specs.Sites.{world_at};
 
 use crate::row_liveness::set_rows;
-use attr_graph::Graph;
 use cf_types::{Memory, Policy};
 use defer_queue::Deferred;
-use run_rules::{Arrival, Key, Placing, Setup};
-use run_world::{Core, append, driver_of, is_ended, policy_of};
+use run_rules::{Arrival, Key, Placing};
+use run_world::{Core, Site, append, driver_of, is_ended, policy_of};
 use scan_engine::offered;
 use std::alloc::Global;
 
@@ -87,17 +85,16 @@ fn take_back(deferred: &mut Deferred, placing: Placing, parent: u64)
 
 /// Takes the unit of a new device, puts its scan off if that is its place, and lists it: it has the next serial. At
 /// `Memory` what was taken is given back.
-fn list(setup: &Setup, core: &mut Core, arrival: Arrival, placing: Placing) -> Result<u64, Memory>
-    requires bounded { Bounded setup.now }
-    requires books { Books setup.now core.old }
-    requires may { MayArrive setup.now core.old.tree.live arrival }
+fn list(site: &Site, core: &mut Core, arrival: Arrival, placing: Placing) -> Result<u64, Memory>
+    requires books { Books site.now.setup core.old }
+    requires may { MayArrive site.now.setup core.old.tree.live arrival }
     requires next { core.old.tree.next < 2 ^ 64 - 1 }
-    ensures ok { OnOk result (IsListed setup.now core.old core.new arrival placing) }
+    ensures ok { OnOk result (IsListed site.now.setup core.old core.new arrival placing) }
     ensures serial { IfOk result (λ serial. serial ≡ core.old.tree.next) }
-    ensures err { OnErr result (StaysAsIs setup.now core.old core.new) }
-    ensures books { Books setup.now core.new }
+    ensures err { OnErr result (StaysAsIs site.now.setup core.old core.new) }
+    ensures books { Books site.now.setup core.new }
 {
-    let driver = driver_of(setup, arrival.row);
+    let driver = driver_of(&site.setup, arrival.row);
     core.units.take(driver, arrival.unit)?;
     if put_off(
         &mut core.deferred,
@@ -118,7 +115,13 @@ fn list(setup: &Setup, core: &mut Core, arrival: Arrival, placing: Placing) -> R
         arrival.spot,
     ) {
         Ok(serial) => {
-            set_rows(&setup.tables, &mut core.rows, driver, arrival.unit, false);
+            set_rows(
+                &site.setup.tables,
+                &mut core.rows,
+                driver,
+                arrival.unit,
+                false,
+            );
             Ok(serial)
         }
         Err(_) => {
@@ -146,35 +149,36 @@ fn call_later(finalisers: &mut Vec<u64>, placing: Placing, serial: u64)
 #[tactic(auto, unfolding(run_rules::specs::After::attached))]
 pub fn arrive(
     alloc: Global,
-    graph: &Graph,
-    setup: &Setup,
+    site: &Site,
     core: &mut Core,
     caller: u8,
     got: Option<Arrival>,
     may_defer: bool,
 ) -> Result<(), Memory>
-    requires graph { IsGraphOf (declared_by setup.now.tables) graph.now }
-    requires bounded { Bounded setup.now }
-    requires books { Books setup.now core.old }
+    requires books { Books site.now.setup core.old }
     requires caller { caller < length core.old.callers.items }
-    requires may { IfSome got (MayArrive setup.now core.old.tree.live) }
+    requires may { IfSome got (MayArrive site.now.setup core.old.tree.live) }
     requires next { core.old.tree.next < 2 ^ 64 - 1 }
     requires frame_room { 2 ≤ (state_at core.old.callers.items caller).stack.room }
     requires call_room { vec_len core.old.finalisers < vec_capacity core.old.finalisers }
-    ensures ok { OnOk result (world_of setup.now core.new ≡ after.arrived (world_of setup.now core.old) caller got may_defer) }
-    ensures err { OnErr result (world_of setup.now core.new ≡ world_of setup.now core.old) }
-    ensures books { Books setup.now core.new }
+    ensures ok { OnOk result (world_at site.now core.new ≡ after.arrived (world_at site.now core.old) caller got may_defer) }
+    ensures err { OnErr result (world_at site.now core.new ≡ world_at site.now core.old) }
+    ensures books { Books site.now.setup core.new }
     ensures aside { SameAside core.old core.new }
 {
     let arrival = match got {
         Some(arrival) => arrival,
         None => return Ok(()),
     };
-    let policy = policy_of(setup, arrival.row);
-    let offers = offered(graph, &setup.tables, driver_of(setup, arrival.row));
+    let policy = policy_of(&site.setup, arrival.row);
+    let offers = offered(
+        &site.graph,
+        &site.setup.tables,
+        driver_of(&site.setup, arrival.row),
+    );
     let finaliser = finaliser_placing(policy, is_ended(core, 0));
     let scan = scan_placing(policy, offers, core.interrupts_on, may_defer);
-    let serial = list(setup, core, arrival, scan)?;
+    let serial = list(site, core, arrival, scan)?;
     call_later(&mut core.finalisers, finaliser, serial);
     core.callers[caller as usize].place(alloc, finaliser, scan, serial);
     Ok(())

@@ -27,12 +27,12 @@ use crate::post::post_core;
 use crate::posted::Posted;
 use crate::step::step_core;
 use crate::stepped::Stepped;
-use attr_graph::{Graph, graph_of};
+use attr_graph::graph_of;
 use cf_types::{DevLine, List, Machine, Memory, Script, Tables};
 use deed_event::tree_of;
 use ref_ledger::Slots;
 use run_rules::{Event, Setup};
-use run_world::{Core, is_occupied, opening_core};
+use run_world::{Core, Site, is_occupied, opening_core};
 use std::alloc::Global;
 use std::marker::Model;
 
@@ -41,8 +41,7 @@ use std::marker::Model;
 #[derive(Drop)]
 pub struct Board {
     alloc: Global,
-    graph: Graph,
-    setup: Setup,
+    site: Site,
     core: Core,
 }
 
@@ -80,12 +79,8 @@ impl Board {
             scripts,
         };
         let core = opening_core(alloc, &setup)?;
-        Ok(Board {
-            alloc,
-            graph,
-            setup,
-            core,
-        })
+        let site = Site { setup, graph };
+        Ok(Board { alloc, site, core })
     }
 
     /// One step of a caller: the one event that it does next, or nothing. See autoconf(9) for what a boot does, drvctl(8) for scripts.
@@ -100,14 +95,7 @@ impl Board {
         ensures lawful { Lawful self.new.events }
         ensures falls { IsDid result → caller ≡ 0 → boot_left self.new.world < boot_left self.old.world }
     {
-        let stepped = step_core(
-            self.alloc,
-            &self.graph,
-            &self.setup,
-            &mut self.core,
-            caller,
-            slots,
-        );
+        let stepped = step_core(self.alloc, &self.site, &mut self.core, caller, slots);
         self.stands();
         stepped
     }
@@ -119,7 +107,8 @@ impl Board {
         ensures began { began self.new ≡ began self.old }
         ensures lawful { Lawful self.new.events }
     {
-        let posted = post_core(self.alloc, &self.setup, &mut self.core, done.spend());
+        let site = &self.site;
+        let posted = post_core(self.alloc, &site.setup, &mut self.core, done.spend());
         self.stands();
         posted
     }
@@ -188,27 +177,27 @@ impl Board {
         ensures lines { IfOk result (λ lines. lines ≡ tree.tree_lines self.now.world) }
         ensures told { IfOk result (λ lines. TellsTree self.now.events lines) }
     {
-        tree_of(self.alloc, &self.setup, &self.core)
+        tree_of(self.alloc, &self.site.setup, &self.core)
     }
 
     /// The tables of the run.
     pub fn tables(&self) -> &Tables
         ensures { result.now ≡ self.now.world.setup.tables }
     {
-        &self.setup.tables
+        &self.site.setup.tables
     }
 
     /// How many spots the machine has.
     pub fn spots(&self) -> u16
         ensures { result ≡ length self.now.world.setup.machine.spots }
     {
-        self.setup.machine.spots.len() as u16
+        self.site.setup.machine.spots.len() as u16
     }
 
     /// How many scripts there are; their callers are 1, 2 and so on.
     pub fn callers(&self) -> u8
         ensures { result ≡ length self.now.world.setup.scripts }
     {
-        self.setup.scripts.len() as u8
+        self.site.setup.scripts.len() as u8
     }
 }

@@ -1,53 +1,47 @@
 //! What a deed changes.
 ghost use Rattle.std.specs.Prelude.{◌≡◌, ◌≤◌, ◌<◌, ◌-◌, ◌^◌, ◌||◌, ◌&&◌, not, is_some, ℕ, IsTrue, IfSome, OnOk, OnErr, None, length, vec_len, vec_capacity};
-ghost use Rattle.run_rules.specs.After as after;
 ghost use Rattle.run_rules.specs.declared.deed.Deed.TheVariants as deeds;
 ghost use Rattle.run_rules.specs.declared.world.Activity.TheVariants.{Scans};
-ghost use Rattle.attr_graph.specs.Graphs.{IsGraphOf, declared_by};
 ghost use Rattle.run_rules.specs.declared.deed.Choice.TheVariants.{Does};
 ghost use Rattle.run_rules.specs.Next.{next};
 ghost use Rattle.run_sound.specs.Kept.{Kept, MayRun};
 ghost use Rattle.scan_engine.specs.Frames.{is_scanning};
 ghost use Rattle.run_world.specs.Arrivals.{MayArrive, state_at};
-ghost use Rattle.dev_board.specs.Commits.{HasRoom, shown_now};
-ghost use Rattle.run_world.specs.Input.{Bounded};
-ghost use Rattle.run_world.specs.View.{world_of, Books, SameAside};
+ghost use Rattle.dev_board.specs.Commits.{HasRoom, shown_now, IsAfter};
+ghost use Rattle.run_world.specs.View.{Books, SameAside};
+ghost use Rattle.run_world.specs.Sites.{world_at};
 
 use crate::attach::arrive;
 use crate::effect::do_command;
-use attr_graph::Graph;
 use cf_types::Memory;
-use run_rules::{Arrival, Deed, Key, Position, Setup};
-use run_world::Core;
+use run_rules::{Arrival, Deed, Key, Position};
+use run_world::{Core, Site};
 use std::alloc::Global;
 
 /// A turn of a scan: the scan moves, and what was found comes.
 fn search(
     alloc: Global,
-    graph: &Graph,
-    setup: &Setup,
+    site: &Site,
     core: &mut Core,
     caller: u8,
     moved: Position,
     got: Option<Arrival>,
 ) -> Result<(), Memory>
-    requires graph { IsGraphOf (declared_by setup.now.tables) graph.now }
-    requires bounded { Bounded setup.now }
-    requires books { Books setup.now core.old }
+    requires books { Books site.now.setup core.old }
     requires caller { caller < length core.old.callers.items }
-    requires may { IfSome got (MayArrive setup.now core.old.tree.live) }
+    requires may { IfSome got (MayArrive site.now.setup core.old.tree.live) }
     requires next { core.old.tree.next < 2 ^ 64 - 1 }
     requires frame_room { 2 ≤ (state_at core.old.callers.items caller).stack.room }
     requires call_room { vec_len core.old.finalisers < vec_capacity core.old.finalisers }
     requires top { IsTrue (is_scanning (state_at core.old.callers.items caller).stack.frames) }
-    ensures ok { (parent spot : ℕ) → OnOk result (world_of setup.now core.new ≡ after.after (world_of setup.now core.old) caller (deeds.Search parent spot moved got)) }
-    ensures err { OnErr result (world_of setup.now core.new ≡ world_of setup.now core.old) }
-    ensures books { Books setup.now core.new }
+    ensures ok { (parent spot : ℕ) → OnOk result (IsAfter site.now core.old caller (deeds.Search parent spot moved got) core.new) }
+    ensures err { OnErr result (world_at site.now core.new ≡ world_at site.now core.old) }
+    ensures books { Books site.now.setup core.new }
     ensures aside { SameAside core.old core.new }
 {
     let was = core.callers[caller as usize].position();
     core.callers[caller as usize].advance(moved);
-    if arrive(alloc, graph, setup, core, caller, got, true).is_err() {
+    if arrive(alloc, site, core, caller, got, true).is_err() {
         core.callers[caller as usize].advance(was);
         return Err(Memory);
     }
@@ -75,8 +69,7 @@ fn goes_again(shown: Option<u16>, anew: bool, pass_repeats: bool) -> bool
 /// the frame is over.
 fn finalise(
     alloc: Global,
-    graph: &Graph,
-    setup: &Setup,
+    site: &Site,
     core: &mut Core,
     caller: u8,
     shown: Option<u16>,
@@ -84,23 +77,21 @@ fn finalise(
     listed: Option<u64>,
     anew: bool,
 ) -> Result<(), Memory>
-    requires graph { IsGraphOf (declared_by setup.now.tables) graph.now }
-    requires bounded { Bounded setup.now }
-    requires books { Books setup.now core.old }
+    requires books { Books site.now.setup core.old }
     requires caller { caller < length core.old.callers.items }
-    requires may { IfSome got (MayArrive setup.now core.old.tree.live) }
+    requires may { IfSome got (MayArrive site.now.setup core.old.tree.live) }
     requires next { core.old.tree.next < 2 ^ 64 - 1 }
     requires frame_room { 2 ≤ (state_at core.old.callers.items caller).stack.room }
     requires call_room { vec_len core.old.finalisers < vec_capacity core.old.finalisers }
     requires low { (state_at core.old.callers.items caller).doing ≡ Scans → (state_at core.old.callers.items caller).over < 2 ^ 32 - 1 }
     requires place { IfSome listed (λ place. place < 2 ^ 64 - 1) }
     requires frame { listed ≡ None → shown ≡ None → (0 < length (state_at core.old.callers.items caller).stack.frames) × (got ≡ None) }
-    ensures ok { (of : ℕ) → OnOk result (world_of setup.now core.new ≡ after.after (world_of setup.now core.old) caller (deeds.Finalise of shown got listed anew)) }
-    ensures err { OnErr result (world_of setup.now core.new ≡ world_of setup.now core.old) }
-    ensures books { Books setup.now core.new }
+    ensures ok { (of : ℕ) → OnOk result (IsAfter site.now core.old caller (deeds.Finalise of shown got listed anew) core.new) }
+    ensures err { OnErr result (world_at site.now core.new ≡ world_at site.now core.old) }
+    ensures books { Books site.now.setup core.new }
     ensures aside { SameAside core.old core.new }
 {
-    arrive(alloc, graph, setup, core, caller, got, false)?;
+    arrive(alloc, site, core, caller, got, false)?;
     show(&mut core.hidden, shown);
     match listed {
         Some(place) => {
@@ -119,28 +110,25 @@ fn finalise(
 /// Does the deed that the caller chose. At `Memory` all is as before.
 pub fn commit(
     alloc: Global,
-    graph: &Graph,
-    setup: &Setup,
+    site: &Site,
     core: &mut Core,
     caller: u8,
     deed: Deed,
 ) -> Result<(), Memory>
-    requires graph { IsGraphOf (declared_by setup.now.tables) graph.now }
-    requires may { MayRun setup.now }
-    requires bounded { Bounded setup.now }
-    requires books { Books setup.now core.old }
-    requires kept { Kept (world_of setup.now core.old) }
+    requires may { MayRun site.now.setup }
+    requires books { Books site.now.setup core.old }
+    requires kept { Kept (world_at site.now core.old) }
     requires caller { caller < length core.old.callers.items }
-    requires chosen { next (world_of setup.now core.old) caller ≡ Does deed }
+    requires chosen { next (world_at site.now core.old) caller ≡ Does deed }
     requires next { core.old.tree.next < 2 ^ 64 - 1 }
     requires room { HasRoom core.old caller deed }
-    ensures ok { OnOk result (world_of setup.now core.new ≡ after.after (world_of setup.now core.old) caller deed) }
-    ensures err { OnErr result (world_of setup.now core.new ≡ world_of setup.now core.old) }
-    ensures books { Books setup.now core.new }
+    ensures ok { OnOk result (IsAfter site.now core.old caller deed core.new) }
+    ensures err { OnErr result (world_at site.now core.new ≡ world_at site.now core.old) }
+    ensures books { Books site.now.setup core.new }
     ensures aside { SameAside core.old core.new }
 {
     match deed {
-        Deed::Search { moved, got, .. } => search(alloc, graph, setup, core, caller, moved, got),
+        Deed::Search { moved, got, .. } => search(alloc, site, core, caller, moved, got),
         Deed::EndScan { of } => {
             core.callers[caller as usize].end_scan(alloc, &mut core.deferred, Key::Parent(of));
             Ok(())
@@ -156,7 +144,7 @@ pub fn commit(
             listed,
             anew,
             ..
-        } => finalise(alloc, graph, setup, core, caller, shown, got, listed, anew),
-        _ => do_command(alloc, setup, core, caller, deed),
+        } => finalise(alloc, site, core, caller, shown, got, listed, anew),
+        _ => do_command(alloc, site, core, caller, deed),
     }
 }

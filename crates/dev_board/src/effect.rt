@@ -17,14 +17,15 @@ ghost use Rattle.run_rules.specs.declared.deed.Choice.TheVariants.{Does};
 ghost use Rattle.run_sound.specs.Kept.{Kept, MayRun};
 ghost use Rattle.run_world.specs.Rescans.{IsKnown};
 ghost use Rattle.dev_board.specs.Effects.{MayDo, is_of_frame, is_plain};
-ghost use Rattle.run_world.specs.Input.{Bounded};
 ghost use Rattle.run_world.specs.View.{world_of, Books, SameAside};
+ghost use Rattle.run_world.specs.Sites.{world_at};
+ghost use Rattle.dev_board.specs.Commits.{IsAfter};
 
 use crate::absent::{pull, remove_spot};
 use crate::freed::free;
 use cf_types::Memory;
 use run_rules::{Activity, Deed, Frame, Position, PowerKind, Setup};
-use run_world::{Core, begin, begin_scan, finish, given_by, wanted_by};
+use run_world::{Core, Site, begin, begin_scan, finish, given_by, wanted_by};
 use std::alloc::Global;
 
 /// The caller holds a device once more. At `Memory` all is as before.
@@ -157,17 +158,16 @@ fn unplug(core: &mut Core, caller: u8, spot: u16, of: Option<u64>) -> Result<(),
 }
 
 /// Does a deed of a command that takes no memory.
-fn do_plain(setup: &Setup, core: &mut Core, caller: u8, deed: Deed)
-    requires bounded { Bounded setup.now }
-    requires books { Books setup.now core.old }
-    requires sound { HasSoundDevices setup.now core.old.tree.live core.old.tree.next }
-    requires rows { HaveRows setup.now core.old.tree.live }
+fn do_plain(site: &Site, core: &mut Core, caller: u8, deed: Deed)
+    requires books { Books site.now.setup core.old }
+    requires sound { HasSoundDevices site.now.setup core.old.tree.live core.old.tree.next }
+    requires rows { HaveRows site.now.setup core.old.tree.live }
     requires caller { caller < length core.old.callers.items }
     requires low { (state_at core.old.callers.items caller).over < 2 ^ 32 - 1 }
-    requires may { MayDo (world_of setup.now core.old) caller deed }
+    requires may { MayDo (world_at site.now core.old) caller deed }
     requires plain { is_plain deed ≡ true }
-    ensures world { world_of setup.now core.new ≡ rule.after (world_of setup.now core.old) caller deed }
-    ensures books { Books setup.now core.new }
+    ensures world { IsAfter site.now core.old caller deed core.new }
+    ensures books { Books site.now.setup core.new }
     ensures aside { SameAside core.old core.new }
 {
     match deed {
@@ -182,7 +182,7 @@ fn do_plain(setup: &Setup, core: &mut Core, caller: u8, deed: Deed)
         Deed::Sleep { of } => rest(core, of, true),
         Deed::Wake { of } => rest(core, of, false),
         Deed::Plug { spot } => plug(core, caller, spot),
-        Deed::Free { of } => free(setup, core, caller, of),
+        Deed::Free { of } => free(site, core, caller, of),
         Deed::Drop { of } => give_back(core, caller, of),
         Deed::EndCaller => begin(core, caller, Activity::Ended),
         Deed::Open { .. } => unreachable!(),
@@ -198,21 +198,26 @@ fn do_plain(setup: &Setup, core: &mut Core, caller: u8, deed: Deed)
 /// A rescan begins. At `Memory` all is as before.
 fn rescan(
     alloc: Global,
-    setup: &Setup,
+    site: &Site,
     core: &mut Core,
     caller: u8,
     of: u64,
     only: Option<u32>,
 ) -> Result<(), Memory>
+    requires few { (a : ℕ) → length (shared.locators_at site.now.setup.tables.attrs (At a)) ≤ 16 }
     requires caller { caller < length core.old.callers.items }
-    requires few { (a : ℕ) → length (shared.locators_at setup.now.tables.attrs (At a)) ≤ 16 }
-    requires known { IfSome only (IsKnown setup.now (rule.given_by (next.command_of (world_of setup.now core.old) caller))) }
-    ensures ok { OnOk result (world_of setup.now core.new ≡ rule.after (world_of setup.now core.old) caller (deeds.Rescan of only)) }
-    ensures err { OnErr result (world_of setup.now core.new ≡ world_of setup.now core.old) }
+    requires known { IfSome only (IsKnown site.now.setup (rule.given_by (next.command_of (world_at site.now core.old) caller))) }
+    ensures ok { OnOk result (IsAfter site.now core.old caller (deeds.Rescan of only) core.new) }
+    ensures err { OnErr result (world_at site.now core.new ≡ world_at site.now core.old) }
     ensures books { (s : from.Setup) → Books s core.old → Books s core.new }
     ensures aside { SameAside core.old core.new }
 {
-    let filter = wanted_by(alloc, setup, given_by(setup, core, caller), only)?;
+    let filter = wanted_by(
+        alloc,
+        &site.setup,
+        given_by(&site.setup, core, caller),
+        only,
+    )?;
     begin_scan(
         core,
         caller,
@@ -232,29 +237,28 @@ fn rescan(
 /// Does a deed of a command that the caller chose. At `Memory` all is as before.
 pub fn do_command(
     alloc: Global,
-    setup: &Setup,
+    site: &Site,
     core: &mut Core,
     caller: u8,
     deed: Deed,
 ) -> Result<(), Memory>
-    requires may { MayRun setup.now }
-    requires bounded { Bounded setup.now }
-    requires books { Books setup.now core.old }
-    requires kept { Kept (world_of setup.now core.old) }
+    requires may { MayRun site.now.setup }
+    requires books { Books site.now.setup core.old }
+    requires kept { Kept (world_at site.now core.old) }
     requires caller { caller < length core.old.callers.items }
-    requires chosen { next.next (world_of setup.now core.old) caller ≡ Does deed }
+    requires chosen { next.next (world_at site.now core.old) caller ≡ Does deed }
     requires command { is_of_frame deed ≡ false }
-    ensures ok { OnOk result (world_of setup.now core.new ≡ rule.after (world_of setup.now core.old) caller deed) }
-    ensures err { OnErr result (world_of setup.now core.new ≡ world_of setup.now core.old) }
-    ensures books { Books setup.now core.new }
+    ensures ok { OnOk result (IsAfter site.now core.old caller deed core.new) }
+    ensures err { OnErr result (world_at site.now core.new ≡ world_at site.now core.old) }
+    ensures books { Books site.now.setup core.new }
     ensures aside { SameAside core.old core.new }
 {
     match deed {
         Deed::Open { of, sole } => open(core, caller, of, sole),
-        Deed::Rescan { of, only } => rescan(alloc, setup, core, caller, of, only),
+        Deed::Rescan { of, only } => rescan(alloc, site, core, caller, of, only),
         Deed::Unplug { spot, of } => unplug(core, caller, spot, of),
         _ => {
-            do_plain(setup, core, caller, deed);
+            do_plain(site, core, caller, deed);
             Ok(())
         }
     }

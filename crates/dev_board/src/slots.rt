@@ -1,31 +1,28 @@
 //! What deeds do to the slots of spots.
-ghost use Rattle.std.specs.Prelude.{◌≡◌, ◌≢◌, ◌<◌, ◌≤◌, ◌-◌, ◌^◌, ℕ, IfErr, OnErr, OnOk, Some, false, length, slice_get, slice_set};
+ghost use Rattle.std.specs.Prelude.{◌≡◌, ◌≢◌, ◌<◌, ◌-◌, ◌^◌, ℕ, IfErr, OnErr, OnOk, Some, false, length, slice_get, slice_set};
 ghost use Rattle.std.specs.Option.{option_map_or};
 ghost use Rattle.ref_ledger.specs.declared.state.SlotState.TheVariants.{Free, Condemned};
-ghost use Rattle.run_rules.specs.After as rule;
 ghost use Rattle.run_rules.specs.declared.deed.Deed.TheVariants as deeds;
 ghost use Rattle.run_rules.specs.declared.deed.Choice.TheVariants.{Does};
 ghost use Rattle.run_rules.specs.Next.{next};
 ghost use Rattle.run_sound.specs.Kept.{Kept, MayRun};
 ghost use Rattle.dev_board.specs.SlotDeeds as slot_deeds;
 ghost use Rattle.dev_board.specs.SlotDeeds.{HaltIs, IsDenied, LatelyCondemned, SlotsLag, WaitsForLeases};
-ghost use Rattle.run_world.specs.Input.{Bounded};
-ghost use Rattle.attr_graph.specs.Graphs.{IsGraphOf, declared_by};
-ghost use Rattle.dev_board.specs.Commits.{HasRoom};
+ghost use Rattle.dev_board.specs.Commits.{HasRoom, IsAfter};
 ghost use Rattle.run_world.specs.Arrivals as arrivals;
 ghost use Rattle.dev_board.specs.Publishing.{SlotReady, published};
 ghost use Rattle.run_rules.specs.World as world;
 ghost use Rattle.dev_board.specs.Agreement.{slots_of};
-ghost use Rattle.run_world.specs.View.{world_of, Books, SameAside};
+ghost use Rattle.run_world.specs.View.{Books, SameAside};
+ghost use Rattle.run_world.specs.Sites.{world_at};
 
 use crate::commit::commit;
 use crate::freed::free;
-use attr_graph::Graph;
 use cf_types::Memory;
 use dev_tree::DevTree;
 use ref_ledger::{Bury, Slots};
-use run_rules::{Arrival, Deed, Setup, Wait};
-use run_world::Core;
+use run_rules::{Arrival, Deed, Wait};
+use run_world::{Core, Site};
 use std::alloc::Global;
 
 /// Why a deed was not done.
@@ -46,14 +43,13 @@ fn stands_below(tree: &DevTree, spot: u16, target: u64) -> bool
 }
 
 /// Condemns the slots of a device and of all that is below it, on a board whose devices were condemned just now.
-pub fn condemn_slots<S: Slots>(slots: &mut S, setup: &Setup, core: &Core, target: u64)
-    requires few { length setup.now.machine.spots ≤ 1024 }
-    requires lately { LatelyCondemned setup.now core.now.tree.live target (S.states slots.old) }
-    ensures agree { S.states slots.new ≡ slots_of (world_of setup.now core.now) }
+pub fn condemn_slots<S: Slots>(slots: &mut S, site: &Site, core: &Core, target: u64)
+    requires { LatelyCondemned site.now.setup core.now.tree.live target (S.states slots.old) }
+    ensures agree { S.states slots.new ≡ slots_of (world_at site.now core.now) }
     ensures denials { S.denials slots.new ≡ S.denials slots.old }
     ensures last { S.last_denial slots.new ≡ S.last_denial slots.old }
 {
-    for spot in 0..setup.machine.spots.len() as u16 {
+    for spot in 0..site.setup.machine.spots.len() as u16 {
         if stands_below(&core.tree, spot, target) {
             slots.condemn(spot);
         }
@@ -79,31 +75,30 @@ fn bury_slot<S: Slots>(slots: &mut S, slot: u16) -> Result<(), u16>
 
 /// A condemned device goes, its slot first; or callers hold the slot, and nothing changes but the denials.
 pub fn free_with<S: Slots>(
-    setup: &Setup,
+    site: &Site,
     core: &mut Core,
     caller: u8,
     of: u64,
     slots: &mut S,
 ) -> Result<(), Wait>
-    requires may { MayRun setup.now }
-    requires bounded { Bounded setup.now }
-    requires books { Books setup.now core.old }
-    requires kept { Kept (world_of setup.now core.old) }
+    requires may { MayRun site.now.setup }
+    requires books { Books site.now.setup core.old }
+    requires kept { Kept (world_at site.now core.old) }
     requires caller { caller < length core.old.callers.items }
-    requires chosen { next (world_of setup.now core.old) caller ≡ Does (deeds.Free of) }
-    requires agree { S.states slots.old ≡ slots_of (world_of setup.now core.old) }
-    ensures freed { OnOk result (world_of setup.now core.new ≡ rule.after (world_of setup.now core.old) caller (deeds.Free of)) }
+    requires chosen { next (world_at site.now core.old) caller ≡ Does (deeds.Free of) }
+    requires agree { S.states slots.old ≡ slots_of (world_at site.now core.old) }
+    ensures freed { OnOk result (IsAfter site.now core.old caller (deeds.Free of) core.new) }
     ensures quiet { OnOk result ((S.denials slots.new ≡ S.denials slots.old) × (S.last_denial slots.new ≡ S.last_denial slots.old)) }
     ensures same { OnErr result (core.new ≡ core.old) }
     ensures waits { IfErr result (λ wait. WaitsForLeases core.old.tree.live of (S.denials slots.old) wait (S.denials slots.new) (S.last_denial slots.new)) }
-    ensures agree { S.states slots.new ≡ slots_of (world_of setup.now core.new) }
-    ensures books { Books setup.now core.new }
+    ensures agree { S.states slots.new ≡ slots_of (world_at site.now core.new) }
+    ensures books { Books site.now.setup core.new }
     ensures aside { SameAside core.old core.new }
 {
     match core.tree.get(of) {
         Some(device) => match bury_slot(slots, device.spot) {
             Ok(()) => {
-                free(setup, core, caller, of);
+                free(site, core, caller, of);
                 Ok(())
             }
             Err(mask) => Err(Wait::Leases(of, mask)),
@@ -124,15 +119,14 @@ fn condemned_by(deed: Deed) -> Option<u64>
 }
 
 /// Condemns the slots of what was condemned just now, if anything was.
-fn condemn_too<S: Slots>(slots: &mut S, setup: &Setup, core: &Core, target: Option<u64>)
-    requires few { length setup.now.machine.spots ≤ 1024 }
-    requires lag { SlotsLag setup.now core.now.tree.live target (S.states slots.old) }
-    ensures agree { S.states slots.new ≡ slots_of (world_of setup.now core.now) }
+fn condemn_too<S: Slots>(slots: &mut S, site: &Site, core: &Core, target: Option<u64>)
+    requires { SlotsLag site.now.setup core.now.tree.live target (S.states slots.old) }
+    ensures agree { S.states slots.new ≡ slots_of (world_at site.now core.now) }
     ensures denials { S.denials slots.new ≡ S.denials slots.old }
     ensures last { S.last_denial slots.new ≡ S.last_denial slots.old }
 {
     match target {
-        Some(target) => condemn_slots(slots, setup, core, target),
+        Some(target) => condemn_slots(slots, site, core, target),
         None => {}
     }
 }
@@ -165,35 +159,32 @@ fn publish<S: Slots>(slots: &mut S, got: Option<Arrival>)
 /// `Memory` all is as before.
 fn do_with<S: Slots>(
     alloc: Global,
-    graph: &Graph,
-    setup: &Setup,
+    site: &Site,
     core: &mut Core,
     caller: u8,
     deed: Deed,
     slots: &mut S,
 ) -> Result<(), Memory>
-    requires graph { IsGraphOf (declared_by setup.now.tables) graph.now }
-    requires may { MayRun setup.now }
-    requires bounded { Bounded setup.now }
-    requires books { Books setup.now core.old }
-    requires kept { Kept (world_of setup.now core.old) }
+    requires may { MayRun site.now.setup }
+    requires books { Books site.now.setup core.old }
+    requires kept { Kept (world_at site.now core.old) }
     requires caller { caller < length core.old.callers.items }
-    requires chosen { next (world_of setup.now core.old) caller ≡ Does deed }
-    requires agree { S.states slots.old ≡ slots_of (world_of setup.now core.old) }
+    requires chosen { next (world_at site.now core.old) caller ≡ Does deed }
+    requires agree { S.states slots.old ≡ slots_of (world_at site.now core.old) }
     requires next { core.old.tree.next < 2 ^ 64 - 1 }
     requires room { HasRoom core.old caller deed }
     requires other { (of : ℕ) → deed ≢ deeds.Free of }
-    ensures done { OnOk result (world_of setup.now core.new ≡ rule.after (world_of setup.now core.old) caller deed) }
-    ensures same { OnErr result (world_of setup.now core.new ≡ world_of setup.now core.old) }
-    ensures agree { S.states slots.new ≡ slots_of (world_of setup.now core.new) }
+    ensures done { OnOk result (IsAfter site.now core.old caller deed core.new) }
+    ensures same { OnErr result (world_at site.now core.new ≡ world_at site.now core.old) }
+    ensures agree { S.states slots.new ≡ slots_of (world_at site.now core.new) }
     ensures denials { S.denials slots.new ≡ S.denials slots.old }
     ensures last { S.last_denial slots.new ≡ S.last_denial slots.old }
-    ensures books { Books setup.now core.new }
+    ensures books { Books site.now.setup core.new }
     ensures aside { SameAside core.old core.new }
 {
-    commit(alloc, graph, setup, core, caller, deed)?;
+    commit(alloc, site, core, caller, deed)?;
     publish(slots, got_of(deed));
-    condemn_too(slots, setup, core, condemned_by(deed));
+    condemn_too(slots, site, core, condemned_by(deed));
     Ok(())
 }
 
@@ -201,37 +192,34 @@ fn do_with<S: Slots>(
 /// is to be freed, and nothing changes but the denials.
 pub fn run_deed<S: Slots>(
     alloc: Global,
-    graph: &Graph,
-    setup: &Setup,
+    site: &Site,
     core: &mut Core,
     caller: u8,
     deed: Deed,
     slots: &mut S,
 ) -> Result<(), Halt>
-    requires graph { IsGraphOf (declared_by setup.now.tables) graph.now }
-    requires may { MayRun setup.now }
-    requires bounded { Bounded setup.now }
-    requires books { Books setup.now core.old }
-    requires kept { Kept (world_of setup.now core.old) }
+    requires may { MayRun site.now.setup }
+    requires books { Books site.now.setup core.old }
+    requires kept { Kept (world_at site.now core.old) }
     requires caller { caller < length core.old.callers.items }
-    requires chosen { next (world_of setup.now core.old) caller ≡ Does deed }
-    requires agree { S.states slots.old ≡ slots_of (world_of setup.now core.old) }
+    requires chosen { next (world_at site.now core.old) caller ≡ Does deed }
+    requires agree { S.states slots.old ≡ slots_of (world_at site.now core.old) }
     requires next { core.old.tree.next < 2 ^ 64 - 1 }
     requires room { HasRoom core.old caller deed }
-    ensures done { OnOk result (world_of setup.now core.new ≡ rule.after (world_of setup.now core.old) caller deed) }
+    ensures done { OnOk result (IsAfter site.now core.old caller deed core.new) }
     ensures quiet { OnOk result ((S.denials slots.new ≡ S.denials slots.old) × (S.last_denial slots.new ≡ S.last_denial slots.old)) }
-    ensures same { OnErr result (world_of setup.now core.new ≡ world_of setup.now core.old) }
+    ensures same { OnErr result (world_at site.now core.new ≡ world_at site.now core.old) }
     ensures halt { IfErr result (λ why. HaltIs core.old.tree.live deed (S.denials slots.old) (S.last_denial slots.old) why (S.denials slots.new) (S.last_denial slots.new)) }
-    ensures agree { S.states slots.new ≡ slots_of (world_of setup.now core.new) }
-    ensures books { Books setup.now core.new }
+    ensures agree { S.states slots.new ≡ slots_of (world_at site.now core.new) }
+    ensures books { Books site.now.setup core.new }
     ensures aside { SameAside core.old core.new }
 {
     match deed {
-        Deed::Free { of } => match free_with(setup, core, caller, of, slots) {
+        Deed::Free { of } => match free_with(site, core, caller, of, slots) {
             Ok(()) => Ok(()),
             Err(wait) => Err(Halt::Waits(wait)),
         },
-        _ => match do_with(alloc, graph, setup, core, caller, deed, slots) {
+        _ => match do_with(alloc, site, core, caller, deed, slots) {
             Ok(()) => Ok(()),
             Err(_) => Err(Halt::Memory),
         },

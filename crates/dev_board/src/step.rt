@@ -1,35 +1,30 @@
 //! One step over the parts of a board.
 ghost use Rattle.std.specs.Prelude.{◌≡◌, ◌≢◌, ◌<◌, ◌≤◌, length, None, IfErr, IfOk, OnOk, OnErr};
 ghost use Rattle.cf_types.specs.declared.machine.Ticket.{Ticket};
-ghost use Rattle.run_rules.specs.After.{after};
 ghost use Rattle.run_rules.specs.Lines.{IsFormed};
 ghost use Rattle.run_rules.specs.Run.{event_of};
-ghost use Rattle.run_rules.specs.World.{opening};
 ghost use Rattle.run_rules.specs.declared.deed.Deed.TheVariants.{Done};
 ghost use Rattle.run_rules.specs.declared.deed.Choice.TheVariants.{Does};
 ghost use Rattle.run_rules.specs.Next.{next};
-ghost use Rattle.attr_graph.specs.Graphs.{IsGraphOf, declared_by};
-ghost use Rattle.run_sound.specs.Left.{boot_left};
 ghost use Rattle.dev_board.specs.Agreement.{slots_of};
 ghost use Rattle.dev_board.specs.Commits as commits;
-ghost use Rattle.dev_board.specs.Commits.{HasRoom, Performed};
+ghost use Rattle.dev_board.specs.Commits.{HasRoom, Performed, TellsDeed};
 ghost use Rattle.dev_board.specs.SlotDeeds.{HaltIs};
-ghost use Rattle.dev_board.specs.Witness.{told_did, lease_step};
 ghost use Rattle.dev_board.specs.Stepping.{StepIs, IsDid, IsOfBoot, DenialsAre};
 ghost use Rattle.run_world.specs.View.{world_of, Books};
-ghost use Rattle.dev_board.specs.KeptCore.{shown_of, CoreKept};
+ghost use Rattle.dev_board.specs.KeptCore.{CoreKept, BootFalls, shown_at};
+ghost use Rattle.run_world.specs.Sites.{world_at};
 
 use crate::lease::lease_of;
 use crate::slots::{Halt, run_deed};
 use crate::stepped::Stepped;
 use crate::told::Told;
-use attr_graph::Graph;
 use cf_types::Memory;
 use deed_event::deed_event;
 use next_deed::choose;
 use ref_ledger::Slots;
 use run_rules::{Choice, Deed, Event, Key, Setup};
-use run_world::{Core, append, is_ended};
+use run_world::{Core, Site, append, is_ended};
 use std::alloc::Global;
 
 /// How many frames a deed may push, beside the one of a rescan.
@@ -89,33 +84,31 @@ fn prepared(
 /// Does what a caller chose, and appends its event; or nothing changes but the denials.
 fn perform<S: Slots>(
     alloc: Global,
-    graph: &Graph,
-    setup: &Setup,
+    site: &Site,
     core: &mut Core,
     caller: u8,
     deed: Deed,
     slots: &mut S,
 ) -> Result<Told, Halt>
-    requires graph { IsGraphOf (declared_by setup.now.tables) graph.now }
-    requires kept { CoreKept setup.now core.old }
+    requires kept { CoreKept site.now.setup core.old }
     requires caller { caller < length core.old.callers.items }
-    requires agree { S.states slots.old ≡ slots_of (world_of setup.now core.old) }
-    requires chosen { next (world_of setup.now core.old) caller ≡ Does deed }
-    ensures ok { OnOk result (Performed setup.now core.old core.new caller deed) }
-    ensures told { IfOk result (λ told. told ≡ told_did (opening setup.now) caller (length core.old.events.items) (event_of (world_of setup.now core.old) caller deed) (lease_step (world_of setup.now core.old) (after (world_of setup.now core.old) caller deed) caller)) }
+    requires agree { S.states slots.old ≡ slots_of (world_at site.now core.old) }
+    requires chosen { next (world_at site.now core.old) caller ≡ Does deed }
+    ensures ok { OnOk result (Performed site.now.setup core.old core.new caller deed) }
+    ensures told { IfOk result (TellsDeed site.now core.old caller deed) }
     ensures quiet { OnOk result ((S.denials slots.new ≡ S.denials slots.old) × (S.last_denial slots.new ≡ S.last_denial slots.old)) }
-    ensures err { OnErr result (shown_of setup.now core.new ≡ shown_of setup.now core.old) }
+    ensures err { OnErr result (shown_at site.now core.new ≡ shown_at site.now core.old) }
     ensures halt { IfErr result (λ why. HaltIs core.old.tree.live deed (S.denials slots.old) (S.last_denial slots.old) why (S.denials slots.new) (S.last_denial slots.new)) }
-    ensures agree { S.states slots.new ≡ slots_of (world_of setup.now core.new) }
-    ensures books { Books setup.now core.new }
+    ensures agree { S.states slots.new ≡ slots_of (world_at site.now core.new) }
+    ensures books { Books site.now.setup core.new }
 {
-    match prepared(alloc, setup, core, caller, deed) {
+    match prepared(alloc, &site.setup, core, caller, deed) {
         Err(_) => Err(Halt::Memory),
         Ok(event) => {
             let place = core.events.len() as u64;
             let lease = lease_of(core, caller, deed);
-            let told = Told::of_event(setup, caller, place, &event, lease);
-            run_deed(alloc, graph, setup, core, caller, deed, slots)?;
+            let told = Told::of_event(&site.setup, caller, place, &event, lease);
+            run_deed(alloc, site, core, caller, deed, slots)?;
             append(&mut core.events, event);
             Ok(told)
         }
@@ -126,28 +119,26 @@ fn perform<S: Slots>(
 /// frees.
 fn step_deed<S: Slots>(
     alloc: Global,
-    graph: &Graph,
-    setup: &Setup,
+    site: &Site,
     core: &mut Core,
     caller: u8,
     deed: Deed,
     slots: &mut S,
 ) -> Stepped
-    requires graph { IsGraphOf (declared_by setup.now.tables) graph.now }
-    requires kept { CoreKept setup.now core.old }
+    requires kept { CoreKept site.now.setup core.old }
     requires caller { caller < length core.old.callers.items }
-    requires agree { S.states slots.old ≡ slots_of (world_of setup.now core.old) }
+    requires agree { S.states slots.old ≡ slots_of (world_at site.now core.old) }
     requires goes_on { core.old.stopped ≡ None }
-    requires chosen { next (world_of setup.now core.old) caller ≡ Does deed }
+    requires chosen { next (world_at site.now core.old) caller ≡ Does deed }
     requires other { (ticket : Ticket) → deed ≢ Done ticket }
-    ensures step { StepIs (shown_of setup.now core.old) caller result (shown_of setup.now core.new) }
-    ensures kept { CoreKept setup.now core.new }
-    ensures agree { S.states slots.new ≡ slots_of (world_of setup.now core.new) }
+    ensures step { StepIs (shown_at site.now core.old) caller result (shown_at site.now core.new) }
+    ensures kept { CoreKept site.now.setup core.new }
+    ensures agree { S.states slots.new ≡ slots_of (world_at site.now core.new) }
     ensures denials { DenialsAre core.old.tree.live (S.denials slots.old) (S.last_denial slots.old) result (S.denials slots.new) (S.last_denial slots.new) }
-    ensures falls { IsDid result → caller ≡ 0 → boot_left (world_of setup.now core.new) < boot_left (world_of setup.now core.old) }
+    ensures falls { IsDid result → caller ≡ 0 → BootFalls site.now core.old core.new }
 {
     let place = core.events.len() as u64;
-    match perform(alloc, graph, setup, core, caller, deed, slots) {
+    match perform(alloc, site, core, caller, deed, slots) {
         Ok(told) => Stepped::Did(place, told),
         Err(Halt::Memory) => Stepped::Memory,
         Err(Halt::Waits(why)) => Stepped::Waits(why),
@@ -157,84 +148,81 @@ fn step_deed<S: Slots>(
 /// What a caller chose is done, but for the end of a transfer, whose result it waits for.
 fn step_or_wait<S: Slots>(
     alloc: Global,
-    graph: &Graph,
-    setup: &Setup,
+    site: &Site,
     core: &mut Core,
     caller: u8,
     deed: Deed,
     slots: &mut S,
 ) -> Stepped
-    requires graph { IsGraphOf (declared_by setup.now.tables) graph.now }
-    requires kept { CoreKept setup.now core.old }
+    requires kept { CoreKept site.now.setup core.old }
     requires caller { caller < length core.old.callers.items }
-    requires agree { S.states slots.old ≡ slots_of (world_of setup.now core.old) }
+    requires agree { S.states slots.old ≡ slots_of (world_at site.now core.old) }
     requires goes_on { core.old.stopped ≡ None }
-    requires chosen { next (world_of setup.now core.old) caller ≡ Does deed }
-    ensures step { StepIs (shown_of setup.now core.old) caller result (shown_of setup.now core.new) }
-    ensures kept { CoreKept setup.now core.new }
-    ensures agree { S.states slots.new ≡ slots_of (world_of setup.now core.new) }
+    requires chosen { next (world_at site.now core.old) caller ≡ Does deed }
+    ensures step { StepIs (shown_at site.now core.old) caller result (shown_at site.now core.new) }
+    ensures kept { CoreKept site.now.setup core.new }
+    ensures agree { S.states slots.new ≡ slots_of (world_at site.now core.new) }
     ensures denials { DenialsAre core.old.tree.live (S.denials slots.old) (S.last_denial slots.old) result (S.denials slots.new) (S.last_denial slots.new) }
-    ensures falls { IsDid result → caller ≡ 0 → boot_left (world_of setup.now core.new) < boot_left (world_of setup.now core.old) }
+    ensures falls { IsDid result → caller ≡ 0 → BootFalls site.now core.old core.new }
 {
     match deed {
-        Deed::Done(ticket) => Stepped::Transfer(ticket, Told::of_transfer(setup, caller, ticket)),
-        _ => step_deed(alloc, graph, setup, core, caller, deed, slots),
+        Deed::Done(ticket) => Stepped::Transfer(
+            ticket,
+            Told::of_transfer(&site.setup, caller, ticket),
+        ),
+        _ => step_deed(alloc, site, core, caller, deed, slots),
     }
 }
 
 /// The next event of a caller, on a board that was not stopped.
 fn next_step<S: Slots>(
     alloc: Global,
-    graph: &Graph,
-    setup: &Setup,
+    site: &Site,
     core: &mut Core,
     caller: u8,
     slots: &mut S,
 ) -> Stepped
-    requires graph { IsGraphOf (declared_by setup.now.tables) graph.now }
-    requires kept { CoreKept setup.now core.old }
+    requires kept { CoreKept site.now.setup core.old }
     requires caller { caller < length core.old.callers.items }
-    requires agree { S.states slots.old ≡ slots_of (world_of setup.now core.old) }
+    requires agree { S.states slots.old ≡ slots_of (world_at site.now core.old) }
     requires goes_on { core.old.stopped ≡ None }
-    ensures step { StepIs (shown_of setup.now core.old) caller result (shown_of setup.now core.new) }
-    ensures kept { CoreKept setup.now core.new }
-    ensures agree { S.states slots.new ≡ slots_of (world_of setup.now core.new) }
+    ensures step { StepIs (shown_at site.now core.old) caller result (shown_at site.now core.new) }
+    ensures kept { CoreKept site.now.setup core.new }
+    ensures agree { S.states slots.new ≡ slots_of (world_at site.now core.new) }
     ensures denials { DenialsAre core.old.tree.live (S.denials slots.old) (S.last_denial slots.old) result (S.denials slots.new) (S.last_denial slots.new) }
-    ensures falls { IsDid result → caller ≡ 0 → boot_left (world_of setup.now core.new) < boot_left (world_of setup.now core.old) }
+    ensures falls { IsDid result → caller ≡ 0 → BootFalls site.now core.old core.new }
 {
     if is_ended(core, caller) {
         return Stepped::Closed;
     }
-    match choose(alloc, graph, setup, core, caller) {
+    match choose(alloc, site, core, caller) {
         Err(_) => Stepped::Memory,
         Ok(Choice::Ended) => Stepped::Closed,
         Ok(Choice::Waits(why)) => Stepped::Waits(why),
-        Ok(Choice::Does(deed)) => step_or_wait(alloc, graph, setup, core, caller, deed, slots),
+        Ok(Choice::Does(deed)) => step_or_wait(alloc, site, core, caller, deed, slots),
     }
 }
 
 /// One step of a caller: the one that boots, or that of a script.
 pub fn step_core<S: Slots>(
     alloc: Global,
-    graph: &Graph,
-    setup: &Setup,
+    site: &Site,
     core: &mut Core,
     caller: u8,
     slots: &mut S,
 ) -> Stepped
-    requires graph { IsGraphOf (declared_by setup.now.tables) graph.now }
-    requires kept { CoreKept setup.now core.old }
-    requires caller { caller ≤ length setup.now.scripts }
-    requires agree { S.states slots.old ≡ slots_of (world_of setup.now core.old) }
-    ensures step { StepIs (shown_of setup.now core.old) caller result (shown_of setup.now core.new) }
+    requires kept { CoreKept site.now.setup core.old }
+    requires caller { caller ≤ length site.now.setup.scripts }
+    requires agree { S.states slots.old ≡ slots_of (world_at site.now core.old) }
+    ensures step { StepIs (shown_at site.now core.old) caller result (shown_at site.now core.new) }
     ensures boot { caller ≡ 0 → IsOfBoot result }
-    ensures kept { CoreKept setup.now core.new }
-    ensures agree { S.states slots.new ≡ slots_of (world_of setup.now core.new) }
+    ensures kept { CoreKept site.now.setup core.new }
+    ensures agree { S.states slots.new ≡ slots_of (world_at site.now core.new) }
     ensures denials { DenialsAre core.old.tree.live (S.denials slots.old) (S.last_denial slots.old) result (S.denials slots.new) (S.last_denial slots.new) }
-    ensures falls { IsDid result → caller ≡ 0 → boot_left (world_of setup.now core.new) < boot_left (world_of setup.now core.old) }
+    ensures falls { IsDid result → caller ≡ 0 → BootFalls site.now core.old core.new }
 {
     match core.stopped {
-        Some(first) => Stepped::Stopped(first, Told::of_stop(setup, caller, first)),
-        None => next_step(alloc, graph, setup, core, caller, slots),
+        Some(first) => Stepped::Stopped(first, Told::of_stop(&site.setup, caller, first)),
+        None => next_step(alloc, site, core, caller, slots),
     }
 }

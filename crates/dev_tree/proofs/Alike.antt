@@ -1,6 +1,5 @@
 -- Lists of devices that differ in marks alone: who sleeps, and who is condemned.
-use Rattle.std.proofs.Common.{◌≡◌, ◌≢◌, ℕ, zero, suc, Bool, true, false, ◌||◌, ◌==◌, cond, Some, None, List, [], ◌∷◌, length, map, refl, ap, ◌∙◌, subst, ◌<◌, eq-eqb}
-use Rattle.std.proofs.lemmas.Bool.{ne_eqb}
+use Rattle.std.proofs.Common.{◌≡◌, ℕ, zero, suc, Bool, true, false, ◌||◌, ◌==◌, cond, Some, None, List, [], ◌∷◌, length, map, refl, ap, ◌∙◌, subst, ◌<◌}
 use Rattle.std.specs.Prelude.{if◌then◌else◌, ⊤}
 use Rattle.std.specs.Option.{option_map_or}
 use Rattle.std.specs.List.{AllByRecursion}

@@ -1,4 +1,3 @@
-pub mod Chains
 pub mod Places
 pub mod Pairs
 pub mod Named

@@ -1,3 +1,5 @@
+pub mod AskedLemmas
+pub mod Exclusion
 pub mod TextLemmas
 pub mod TreeLemmas
 pub mod MarkLemmas

@@ -218,7 +218,7 @@ module _ (test : List ℕ → Bool) where
   run_symbols [] s = refl
   run_symbols (p ∷ ps) s = one_piece (symbol_of p) (each symbol_of ps) (run test ps) s (run_symbols ps)
 
-  run_of : (ps : List Piece) (d : Disjunction) → Cond ps d → run test ps start ≡ Some (at [] (ended false d 0) false (nat_lt 64 (nesting d)))
+  pub run_of : (ps : List Piece) (d : Disjunction) → Cond ps d → run test ps start ≡ Some (at [] (ended false d 0) false (nat_lt 64 (nesting d)))
   run_of ps d h = run_symbols ps start ∙ ap (λ o. option_and_then (λ xs. steps xs start) o) h ∙ read_whole d
 
   tree_of_symbols : (o : Option (List Symbol)) (t : State) → option_and_then (λ xs. steps xs start) o ≡ Some t → t.outer ≡ [] → t.wants ≡ false → (d : Disjunction) × (o ≡ Some (spelled d))

@@ -1,12 +1,13 @@
 -- How selecting sources ends.
-use Rattle.std.specs.Prelude.{◌≡◌, ℕ, ◌≤◌, ◌⊎◌, Bool, if◌then◌else◌, Option, Some, None, IfSome, Result, Ok, Err, List, [], ◌∷◌, ◌++◌, ⊤}
+use Rattle.std.specs.Prelude.{◌≡◌, ℕ, ◌≤◌, ◌⊎◌, Bool, if◌then◌else◌, Option, Some, None, IfSome, is_some, Result, Ok, Err, List, [], ◌∷◌, ◌++◌, ⊤}
 use Rattle.cf_types.specs.declared.stmt.Expanded.{Expanded}
 use Rattle.cf_types.specs.declared.stmt.Piece.{Piece}
 use Rattle.cf_types.specs.declared.stmt.Placed.{Placed}
 use Rattle.cf_compile.specs.declared.stop.CompileStop.{CompileStop}
 use Rattle.cf_compile.specs.declared.stop.CompileStop.TheVariants.{Refused, ReadFault, Memory}
 use Rattle.cf_io.specs.Faults.{Rose}
-use Rattle.config_rules.specs.Reading.{Files}
+use Rattle.config_rules.specs.Fault.{first_fault}
+use Rattle.config_rules.specs.Reading.{Files, reading}
 use Rattle.config_rules.specs.Select.{has_name}
 use Rattle.file_rules.specs.Sources.{HasCode, IsFirstBad, IsFirstFault, IsSource, Selects, SelectsIn, Source, is_selected}
 
@@ -45,3 +46,8 @@ SelectsFrom told name before after (Ok paths) = IfSome told (λ files. Selects f
 SelectsFrom told name before after (Err (Refused refusal)) = IfSome told (λ files. IsFirstFault files name refusal) × (after ≡ before)
 SelectsFrom told name before after (Err ReadFault) = (before ≤ after) × Rose before after
 SelectsFrom told name before after (Err Memory) = after ≡ before
+
+-- the files that selecting asks for: those of the configuration, and once more where it is accepted
+abbrev pub asked_for : Files → List ℕ → List (List ℕ)
+asked_for files name =
+    let asked = (reading files name).asked in if is_some (first_fault files name) then asked else asked ++ asked

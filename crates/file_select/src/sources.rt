@@ -3,7 +3,8 @@ ghost use Rattle.config_rules.specs.Formed.{FormedTables};
 ghost use Rattle.config_rules.specs.Select.{has_name};
 ghost use Rattle.file_rules.specs.Chosen.{is_chosen};
 ghost use Rattle.file_rules.specs.Sources.{file_pieces};
-ghost use Rattle.file_select.specs.Answers.{SelectsFrom, SelectsPlaced, SelectsRead, Takes, TakesOptional, with_path};
+ghost use Rattle.cf_compile.specs.Compiles.{AsksDue};
+ghost use Rattle.file_select.specs.Answers.{SelectsFrom, SelectsPlaced, SelectsRead, Takes, TakesOptional, asked_for, with_path};
 
 use crate::names::chosen_set;
 use crate::statement::{Finding, file_pieces, find};
@@ -145,6 +146,7 @@ pub fn select<F: Files>(
 ) -> Result<List<Text>, CompileStop>
     ensures told { F.told files.new ≡ F.told files.old }
     ensures selects { SelectsFrom (F.told files.old) name.now (F.faults files.old) (F.faults files.new) result }
+    ensures asked { IfSome (F.told files.old) (λ named. AsksDue (asked_for named name.now) result (F.asked files.old) (F.asked files.new)) }
 {
     let tables = compile(alloc, files, name)?;
     let read = expand(alloc, files, name)?;

@@ -1,5 +1,4 @@
 pub mod Found
-pub mod FormedDevices
 pub mod Names
 pub mod Grown
 pub mod Told

@@ -20,7 +20,7 @@ use Rattle.run_sound.proofs.Callers.{clash}
 use Rattle.run_sound.proofs.Lasts.{first_found}
 use Rattle.run_sound.proofs.Members.{found_contained, of_each, one_serial}
 use Rattle.run_sound.proofs.Trees.{none_found}
-use Rattle.history_laws.proofs.FormedDevices.{formed_devices}
+use Rattle.run_sound.proofs.FormedDevices.{formed_devices}
 
 pub bytes_same : (a b : List ℕ) → bytes_eq a b ≡ true → a ≡ b
 bytes_same a b h = (bytes_eq-Decides a b).0 h

@@ -8,17 +8,16 @@ ghost use Rattle.run_rules.specs.declared.world.Dev.{Dev};
 ghost use Rattle.run_rules.specs.Next.{command_deed, on_device, on_held, rescanning, telling, unless_hindered, unplugging};
 ghost use Rattle.run_rules.specs.World.{World, is_live};
 ghost use Rattle.run_rules.specs.World as world;
-ghost use Rattle.attr_graph.specs.Graphs.{IsGraphOf, declared_by};
 ghost use Rattle.run_sound.specs.Kept.{Kept};
 ghost use Rattle.next_deed.specs.Choices.{or_refused};
 ghost use Rattle.run_world.specs.View.{world_of};
+ghost use Rattle.run_world.specs.Sites.{world_at};
 
 use crate::hindered::in_the_way;
 use crate::rescan::plan_search;
-use attr_graph::Graph;
 use cf_types::{Command, Given, Memory, Name, Ticket};
 use run_rules::{Deed, Dev, PowerKind, Refusal, Setup};
-use run_world::{Core, device_named, spot_named};
+use run_world::{Core, Site, device_named, spot_named};
 use std::alloc::Global;
 
 /// The device of a name, unless it is condemned.
@@ -236,20 +235,17 @@ fn plan_unplug(
 
 /// A device is to be searched again.
 fn plan_rescan(
-    graph: &Graph,
-    setup: &Setup,
+    site: &Site,
     core: &Core,
     name: &[u8],
     attr: &Option<Name>,
     given: &[Given],
 ) -> Result<Deed, Refusal>
-    requires graph { IsGraphOf (declared_by setup.now.tables) graph.now }
-    requires few { length setup.now.tables.attrs ≤ 65536 }
-    requires kept { Kept (world_of setup.now core.now) }
-    ensures { on_device (world_of setup.now core.now) name.now (λ d. rescanning (world_of setup.now core.now) d attr.now given.now) ≡ or_refused (λ deed. deed) result }
+    requires { Kept (world_at site.now core.now) }
+    ensures { on_device (world_at site.now core.now) name.now (λ d. rescanning (world_at site.now core.now) d attr.now given.now) ≡ or_refused (λ deed. deed) result }
 {
-    let device = device_not_condemned(setup, core, name)?;
-    plan_search(graph, setup, core, device, attr, given)
+    let device = device_not_condemned(&site.setup, core, name)?;
+    plan_search(site, core, device, attr, given)
 }
 
 /// Hardware goes from the spot of a name.
@@ -300,48 +296,47 @@ fn ask_power(setup: &Setup, core: &Core, kind: PowerKind, name: &Name) -> Deed
 #[tactic(auto, unfolding(run_rules::specs::Next::command_deed))]
 pub fn plan_command(
     alloc: Global,
-    graph: &Graph,
-    setup: &Setup,
+    site: &Site,
     core: &Core,
     caller: u8,
     number: u32,
     said: &Command,
 ) -> Result<Deed, Memory>
-    requires graph { IsGraphOf (declared_by setup.now.tables) graph.now }
-    requires few { length setup.now.machine.spots ≤ 1024 }
-    requires few_attrs { length setup.now.tables.attrs ≤ 65536 }
-    requires kept { Kept (world_of setup.now core.now) }
-    ensures { IfOk result (λ does. command_deed (world_of setup.now core.now) caller number said.now ≡ does) }
+    requires { Kept (world_at site.now core.now) }
+    ensures { IfOk result (λ does. command_deed (world_at site.now core.now) caller number said.now ≡ does) }
 {
     match said {
-        Command::OpenDev(name) => Ok(answered_deed(plan_open(setup, core, caller, name.bytes()))),
-        Command::OpenSole(name) => Ok(answered_deed(plan_open_sole(
-            setup,
+        Command::OpenDev(name) => Ok(answered_deed(plan_open(
+            &site.setup,
             core,
             caller,
             name.bytes(),
         ))),
-        Command::CloseDev(name) => Ok(answered_deed(plan_close(setup, core, caller, name.bytes()))),
-        Command::Io(name, value) => Ok(ask_io(setup, core, caller, number, name, *value)),
-        Command::Detach(name) => plan_detach(alloc, setup, core, caller, name.bytes()),
+        Command::OpenSole(name) => Ok(answered_deed(plan_open_sole(
+            &site.setup,
+            core,
+            caller,
+            name.bytes(),
+        ))),
+        Command::CloseDev(name) => Ok(answered_deed(plan_close(
+            &site.setup,
+            core,
+            caller,
+            name.bytes(),
+        ))),
+        Command::Io(name, value) => Ok(ask_io(&site.setup, core, caller, number, name, *value)),
+        Command::Detach(name) => plan_detach(alloc, &site.setup, core, caller, name.bytes()),
         Command::Rescan {
             device,
             attr,
             given,
-        } => Ok(answered_deed(plan_rescan(
-            graph,
-            setup,
-            core,
-            device.bytes(),
-            attr,
-            given.items(),
-        ))),
-        Command::ListDev(of) => Ok(answered_deed(plan_tell(setup, core, of))),
-        Command::TreeDev(of) => Ok(answered_deed(plan_tell(setup, core, of))),
-        Command::Suspend(name) => Ok(ask_power(setup, core, PowerKind::Suspend, name)),
-        Command::Resume(name) => Ok(ask_power(setup, core, PowerKind::Resume, name)),
-        Command::ResumeTree(name) => Ok(ask_power(setup, core, PowerKind::ResumeTree, name)),
-        Command::Plug(name) => Ok(answered_deed(plan_plug(setup, name.bytes()))),
-        Command::Unplug(name) => plan_pull(alloc, setup, core, caller, name.bytes()),
+        } => Ok(answered_deed(plan_rescan(site, core, device.bytes(), attr, given.items()))),
+        Command::ListDev(of) => Ok(answered_deed(plan_tell(&site.setup, core, of))),
+        Command::TreeDev(of) => Ok(answered_deed(plan_tell(&site.setup, core, of))),
+        Command::Suspend(name) => Ok(ask_power(&site.setup, core, PowerKind::Suspend, name)),
+        Command::Resume(name) => Ok(ask_power(&site.setup, core, PowerKind::Resume, name)),
+        Command::ResumeTree(name) => Ok(ask_power(&site.setup, core, PowerKind::ResumeTree, name)),
+        Command::Plug(name) => Ok(answered_deed(plan_plug(&site.setup, name.bytes()))),
+        Command::Unplug(name) => plan_pull(alloc, &site.setup, core, caller, name.bytes()),
     }
 }

@@ -4,17 +4,14 @@ ghost use Rattle.std.specs.Option.{option_map_or};
 ghost use Rattle.std.specs.Ordering.{int_eq};
 ghost use Rattle.run_rules.specs.World as world;
 ghost use Rattle.run_rules.specs.Search as rule;
-ghost use Rattle.attr_graph.specs.Graphs.{IsGraphOf, declared_by};
-ghost use Rattle.run_world.specs.Input.{Bounded};
 ghost use Rattle.run_world.specs.View.{Books};
-ghost use Rattle.next_deed.specs.Turns.{searcher_of};
+ghost use Rattle.next_deed.specs.Turns.{due_at, is_due_at, searcher_of};
 
 use crate::search::winner_at;
-use attr_graph::Graph;
 use dev_tree::DevTree;
 use match_search::found_at;
 use run_rules::{Position, Setup, Turn, Wanted};
-use run_world::{Core, attach_of, driver_of, has_spot, is_occupied};
+use run_world::{Core, Site, attach_of, driver_of, has_spot, is_occupied};
 use scan_engine::next_turn;
 
 /// What searches: the driver, the attachment and the spot of a device, none of them for the root.
@@ -81,67 +78,53 @@ fn is_row(winner: Option<u32>, row: u32) -> bool
 }
 
 /// Whether the turn's row is the winner at its spot.
-fn wins(graph: &Graph, setup: &Setup, core: &Core, serial: u64, turn: Turn) -> bool
-    requires graph { IsGraphOf (declared_by setup.now.tables) graph.now }
-    requires bounded { Bounded setup.now }
-    requires books { Books setup.now core.now }
-    ensures { world.is_number (rule.winner_at setup.now core.now.tree.live serial turn.place turn.at.spot) turn.at.row ≡ result }
+fn wins(site: &Site, core: &Core, serial: u64, turn: Turn) -> bool
+    requires { Books site.now.setup core.now }
+    ensures { world.is_number (rule.winner_at site.now.setup core.now.tree.live serial turn.place turn.at.spot) turn.at.row ≡ result }
 {
     is_row(
-        winner_at(graph, setup, core, serial, turn.place, turn.at.spot),
+        winner_at(site, core, serial, turn.place, turn.at.spot),
         turn.at.row,
     )
 }
 
 /// Whether a turn is due: its spot is open, and on an indirect bus its row is the winner there.
 #[tactic(auto, unfolding(run_rules::specs::Search::is_due))]
-fn is_due(
-    graph: &Graph,
-    setup: &Setup,
-    core: &Core,
-    serial: u64,
-    filter: &[Wanted],
-    turn: Turn,
-) -> bool
-    requires graph { IsGraphOf (declared_by setup.now.tables) graph.now }
-    requires bounded { Bounded setup.now }
-    requires books { Books setup.now core.now }
-    ensures { rule.is_due setup.now core.now.tree.live core.now.absent.items core.now.hidden.items serial filter.now turn ≡ result }
+fn is_due(site: &Site, core: &Core, serial: u64, filter: &[Wanted], turn: Turn) -> bool
+    requires { Books site.now.setup core.now }
+    ensures { is_due_at site.now core.now serial filter.now turn ≡ result }
 {
-    is_open(setup, core, filter, turn.at.spot)
-        && (!turn.indirect || wins(graph, setup, core, serial, turn))
+    is_open(&site.setup, core, filter, turn.at.spot)
+        && (!turn.indirect || wins(site, core, serial, turn))
 }
 
 /// The first due turn of a scan from a position on. See autoconf(9).
 pub fn due_turn(
-    graph: &Graph,
-    setup: &Setup,
+    site: &Site,
     core: &Core,
     serial: u64,
     only: Option<u32>,
     filter: &[Wanted],
     from: Position,
 ) -> Option<Turn>
-    requires graph { IsGraphOf (declared_by setup.now.tables) graph.now }
-    requires bounded { Bounded setup.now }
-    requires books { Books setup.now core.now }
-    ensures due { rule.due setup.now core.now.tree.live core.now.absent.items core.now.hidden.items serial only filter.now from ≡ result }
-    ensures spot { IfSome result (λ t. t.at.spot < length setup.now.machine.spots) }
+    requires { Books site.now.setup core.now }
+    ensures due { due_at site.now core.now serial only filter.now from ≡ result }
+    ensures spot { IfSome result (λ t. t.at.spot < length site.now.setup.machine.spots) }
 {
-    let by = who_searches(setup, &core.tree, serial);
+    let by = who_searches(&site.setup, &core.tree, serial);
     let mut position = from;
     loop {
         let turn = next_turn(
-            &setup.tables,
-            graph,
-            &setup.machine,
+            &site.setup.tables,
+            &site.graph,
+            &site.setup.machine,
             only,
             position,
             by.driver,
             by.attach,
             by.spot,
         )?;
-        if is_due(graph, setup, core, serial, filter, turn) {
+        if is_due(site, core, serial, filter, turn) {
             return Some(turn);
         }
         position = Position {

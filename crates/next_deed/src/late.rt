@@ -1,18 +1,16 @@
 //! The late spots that finalisers show.
-ghost use Rattle.std.specs.Prelude.{◌≡◌, ◌≤◌, ◌<◌, length, find, false, slice_get};
+ghost use Rattle.std.specs.Prelude.{◌≡◌, ◌<◌, length, find, false, slice_get};
 ghost use Rattle.std.specs.Option.{option_map_or};
 ghost use Rattle.cf_types.specs.Numbers.{below};
 ghost use Rattle.run_rules.specs.Next as next;
 ghost use Rattle.run_rules.specs.World as world;
-ghost use Rattle.attr_graph.specs.Graphs.{IsGraphOf, declared_by};
 ghost use Rattle.run_world.specs.Late as late;
-ghost use Rattle.run_world.specs.Late.{late_test};
-ghost use Rattle.run_world.specs.View.{world_of};
+ghost use Rattle.run_world.specs.Sites.{world_at};
+ghost use Rattle.next_deed.specs.Turns.{is_late_at};
 
-use attr_graph::Graph;
 use cf_types::Place;
-use run_rules::{Dev, Setup};
-use run_world::{Core, driver_of, has, has_spot};
+use run_rules::Dev;
+use run_world::{Core, Site, driver_of, has, has_spot};
 use scan_engine::offered;
 
 fn is_number(value: Option<u16>, n: u16) -> bool
@@ -34,15 +32,18 @@ fn offers_place(offered: &[u32], place: Place) -> bool
 }
 
 /// Whether a spot hangs below the device, on an attribute that the device offers.
-fn hangs_below(graph: &Graph, setup: &Setup, device: Dev, spot: u16) -> bool
-    requires graph { IsGraphOf (declared_by setup.now.tables) graph.now }
-    ensures { result ≡ option_map_or (next.hangs_below setup.now device) (slice_get setup.now.machine.spots spot) false }
+fn hangs_below(site: &Site, device: Dev, spot: u16) -> bool
+    ensures { result ≡ option_map_or (next.hangs_below site.now.setup device) (slice_get site.now.setup.machine.spots spot) false }
 {
-    match setup.machine.spots.items().get(spot as usize) {
+    match site.setup.machine.spots.items().get(spot as usize) {
         Some(s) => {
             is_number(s.parent, device.spot)
                 && offers_place(
-                    offered(graph, &setup.tables, driver_of(setup, device.row)),
+                    offered(
+                        &site.graph,
+                        &site.setup.tables,
+                        driver_of(&site.setup, device.row),
+                    ),
                     s.place,
                 )
         }
@@ -51,24 +52,21 @@ fn hangs_below(graph: &Graph, setup: &Setup, device: Dev, spot: u16) -> bool
 }
 
 /// Whether a finaliser of the device would show the spot.
-fn is_late_below(graph: &Graph, setup: &Setup, core: &Core, device: Dev, spot: u16) -> bool
-    requires graph { IsGraphOf (declared_by setup.now.tables) graph.now }
-    ensures { late_test setup.now core.now.absent.items core.now.hidden.items device spot ≡ result }
+fn is_late_below(site: &Site, core: &Core, device: Dev, spot: u16) -> bool
+    ensures { is_late_at site.now core.now device spot ≡ result }
 {
     let hidden = has_spot(&core.hidden, spot);
     let absent = has_spot(&core.absent, spot);
-    let below = hangs_below(graph, setup, device, spot);
+    let below = hangs_below(site, device, spot);
     hidden && !absent && below
 }
 
 /// The first spot that is late, hidden and present, and hangs below the device.
-fn late_spot(graph: &Graph, setup: &Setup, core: &Core, device: Dev) -> Option<u16>
-    requires graph { IsGraphOf (declared_by setup.now.tables) graph.now }
-    requires few { length setup.now.machine.spots ≤ 1024 }
-    ensures { find (late_test setup.now core.now.absent.items core.now.hidden.items device) (below (length setup.now.machine.spots)) ≡ result }
+fn late_spot(site: &Site, core: &Core, device: Dev) -> Option<u16>
+    ensures { find (is_late_at site.now core.now device) (below (length site.now.setup.machine.spots)) ≡ result }
 {
-    for spot in 0..setup.machine.spots.len() as u16 {
-        if is_late_below(graph, setup, core, device, spot) {
+    for spot in 0..site.setup.machine.spots.len() as u16 {
+        if is_late_below(site, core, device, spot) {
             return Some(spot);
         }
     }
@@ -76,13 +74,11 @@ fn late_spot(graph: &Graph, setup: &Setup, core: &Core, device: Dev) -> Option<u
 }
 
 /// The spot that the finaliser of a device shows.
-pub fn shown_by(graph: &Graph, setup: &Setup, core: &Core, serial: u64) -> Option<u16>
-    requires graph { IsGraphOf (declared_by setup.now.tables) graph.now }
-    requires few { length setup.now.machine.spots ≤ 1024 }
-    ensures { late.shown_by (world_of setup.now core.now) serial ≡ result }
+pub fn shown_by(site: &Site, core: &Core, serial: u64) -> Option<u16>
+    ensures { late.shown_by (world_at site.now core.now) serial ≡ result }
 {
     match core.tree.get(serial) {
-        Some(d) => late_spot(graph, setup, core, d),
+        Some(d) => late_spot(site, core, d),
         None => None,
     }
 }

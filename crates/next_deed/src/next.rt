@@ -5,19 +5,17 @@ ghost use Rattle.run_rules.specs.World.{caller_at, has_ended};
 ghost use Rattle.run_rules.specs.declared.deed.Choice.TheVariants.{Does};
 ghost use Rattle.run_rules.specs.declared.world.Frame as frames;
 ghost use Rattle.run_rules.specs.declared.world.Setup as from;
-ghost use Rattle.attr_graph.specs.Graphs.{IsGraphOf, declared_by};
 ghost use Rattle.run_sound.specs.Kept.{Kept, MayRun};
-ghost use Rattle.run_world.specs.Input.{Bounded};
 ghost use Rattle.run_world.specs.View.{world_of, Books};
+ghost use Rattle.run_world.specs.Sites.{world_at};
 
 use crate::command::plan_command;
 use crate::freeing::{plan_closing, plan_free};
 use crate::plan::{plan_boot, plan_call, plan_scan};
 use crate::power::plan_power;
-use attr_graph::Graph;
 use cf_types::{Command, Memory};
 use run_rules::{Activity, Choice, Deed, Frame, Setup, Wait};
-use run_world::{Core, command_of, is_ended};
+use run_world::{Core, Site, command_of, is_ended};
 use std::alloc::Global;
 
 /// Whether a command is one of pmf(9).
@@ -54,24 +52,22 @@ fn waits_for(core: &Core, caller: u8, said: &Command) -> Option<u8>
 /// A command begins, or it waits for the power turn.
 fn plan_start(
     alloc: Global,
-    graph: &Graph,
-    setup: &Setup,
+    site: &Site,
     core: &Core,
     caller: u8,
     said: &Command,
 ) -> Result<Choice, Memory>
-    requires graph { IsGraphOf (declared_by setup.now.tables) graph.now }
-    requires may { MayRun setup.now }
-    requires kept { Kept (world_of setup.now core.now) }
+    requires may { MayRun site.now.setup }
+    requires kept { Kept (world_at site.now core.now) }
     requires caller { caller < length core.now.callers.items }
-    requires said { next.command_of (world_of setup.now core.now) caller ≡ Some said.now }
-    ensures { IfOk result (λ does. next.starting (world_of setup.now core.now) caller said.now ≡ does) }
+    requires said { next.command_of (world_at site.now core.now) caller ≡ Some said.now }
+    ensures { IfOk result (λ does. next.starting (world_at site.now core.now) caller said.now ≡ does) }
 {
     match waits_for(core, caller, said) {
         Some(other) => Ok(Choice::Waits(Wait::Power(other))),
         None => {
             let number = core.callers[caller as usize].over + 1;
-            let deed = plan_command(alloc, graph, setup, core, caller, number, said)?;
+            let deed = plan_command(alloc, site, core, caller, number, said)?;
             Ok(Choice::Does(deed))
         }
     }
@@ -79,33 +75,24 @@ fn plan_start(
 
 /// What the caller of a script does without a frame: its next command begins, or it has none left.
 #[tactic(auto, unfolding(run_rules::specs::Next::next_command))]
-fn plan_next(
-    alloc: Global,
-    graph: &Graph,
-    setup: &Setup,
-    core: &Core,
-    caller: u8,
-) -> Result<Choice, Memory>
-    requires graph { IsGraphOf (declared_by setup.now.tables) graph.now }
-    requires may { MayRun setup.now }
-    requires kept { Kept (world_of setup.now core.now) }
+fn plan_next(alloc: Global, site: &Site, core: &Core, caller: u8) -> Result<Choice, Memory>
+    requires may { MayRun site.now.setup }
+    requires kept { Kept (world_at site.now core.now) }
     requires caller { caller < length core.now.callers.items }
     requires script { 1 ≤ caller }
-    ensures { IfOk result (λ does. next.next_command (world_of setup.now core.now) caller ≡ does) }
+    ensures { IfOk result (λ does. next.next_command (world_at site.now core.now) caller ≡ does) }
 {
-    match command_of(setup, core, caller) {
-        Some(said) => plan_start(alloc, graph, setup, core, caller, said),
+    match command_of(&site.setup, core, caller) {
+        Some(said) => plan_start(alloc, site, core, caller, said),
         None => Ok(plan_closing(core, caller)),
     }
 }
 
 /// What a frame on top leads to.
-fn plan_frame(graph: &Graph, setup: &Setup, core: &Core, frame: &Frame) -> Deed
-    requires graph { IsGraphOf (declared_by setup.now.tables) graph.now }
-    requires bounded { Bounded setup.now }
-    requires books { Books setup.now core.now }
+fn plan_frame(site: &Site, core: &Core, frame: &Frame) -> Deed
+    requires books { Books site.now.setup core.now }
     requires live { length core.now.tree.live ≤ 1024 }
-    ensures { (k : ℕ) (rest : List frames.Frame) → next.on_top (world_of setup.now core.now) k (frame.now ∷ rest) ≡ Does result }
+    ensures { (k : ℕ) (rest : List frames.Frame) → next.on_top (world_at site.now core.now) k (frame.now ∷ rest) ≡ Does result }
 {
     match frame {
         Frame::Scan {
@@ -113,42 +100,27 @@ fn plan_frame(graph: &Graph, setup: &Setup, core: &Core, frame: &Frame) -> Deed
             only,
             filter,
             position,
-        } => plan_scan(
-            graph,
-            setup,
-            core,
-            *serial,
-            *only,
-            filter.items(),
-            *position,
-        ),
-        Frame::Finaliser { serial } => plan_call(graph, setup, core, *serial, None, false),
+        } => plan_scan(site, core, *serial, *only, filter.items(), *position),
+        Frame::Finaliser { serial } => plan_call(site, core, *serial, None, false),
     }
 }
 
 /// What a caller does next that is in no transfer, detachment or power command: its frames go first.
-fn plan_stack(
-    alloc: Global,
-    graph: &Graph,
-    setup: &Setup,
-    core: &Core,
-    caller: u8,
-) -> Result<Choice, Memory>
-    requires graph { IsGraphOf (declared_by setup.now.tables) graph.now }
-    requires may { MayRun setup.now }
-    requires kept { Kept (world_of setup.now core.now) }
-    requires books { Books setup.now core.now }
+fn plan_stack(alloc: Global, site: &Site, core: &Core, caller: u8) -> Result<Choice, Memory>
+    requires may { MayRun site.now.setup }
+    requires kept { Kept (world_at site.now core.now) }
+    requires books { Books site.now.setup core.now }
     requires caller { caller < length core.now.callers.items }
-    requires goes { has_ended (world_of setup.now core.now) caller ≡ false }
-    ensures { IfOk result (λ does. next.on_top (world_of setup.now core.now) caller (caller_at (world_of setup.now core.now) caller).stack ≡ does) }
+    requires goes { has_ended (world_at site.now core.now) caller ≡ false }
+    ensures { IfOk result (λ does. next.on_top (world_at site.now core.now) caller (caller_at (world_at site.now core.now) caller).stack ≡ does) }
 {
     match core.callers[caller as usize].stack.top() {
-        Some(frame) => Ok(Choice::Does(plan_frame(graph, setup, core, frame))),
+        Some(frame) => Ok(Choice::Does(plan_frame(site, core, frame))),
         None => {
             if caller == 0 {
-                Ok(Choice::Does(plan_boot(graph, setup, core)))
+                Ok(Choice::Does(plan_boot(site, core)))
             } else {
-                plan_next(alloc, graph, setup, core, caller)
+                plan_next(alloc, site, core, caller)
             }
         }
     }
@@ -157,27 +129,25 @@ fn plan_stack(
 /// What a caller does next that is in the middle of this.
 fn plan_activity(
     alloc: Global,
-    graph: &Graph,
-    setup: &Setup,
+    site: &Site,
     core: &Core,
     caller: u8,
     doing: Activity,
 ) -> Result<Choice, Memory>
-    requires graph { IsGraphOf (declared_by setup.now.tables) graph.now }
-    requires may { MayRun setup.now }
-    requires kept { Kept (world_of setup.now core.now) }
-    requires books { Books setup.now core.now }
+    requires may { MayRun site.now.setup }
+    requires kept { Kept (world_at site.now core.now) }
+    requires books { Books site.now.setup core.now }
     requires caller { caller < length core.now.callers.items }
-    requires goes { has_ended (world_of setup.now core.now) caller ≡ false }
-    ensures { IfOk result (λ does. next.by_activity (world_of setup.now core.now) caller doing ≡ does) }
+    requires goes { has_ended (world_at site.now core.now) caller ≡ false }
+    ensures { IfOk result (λ does. next.by_activity (world_at site.now core.now) caller doing ≡ does) }
 {
     match doing {
         Activity::Ended => Ok(Choice::Ended),
         Activity::Transfer(ticket) => Ok(Choice::Does(Deed::Done(ticket))),
         Activity::Frees(_) => Ok(plan_free(core, caller)),
-        Activity::Power(kind, target) => Ok(plan_power(setup, core, kind, target)),
-        Activity::Scans => plan_stack(alloc, graph, setup, core, caller),
-        Activity::Idle => plan_stack(alloc, graph, setup, core, caller),
+        Activity::Power(kind, target) => Ok(plan_power(&site.setup, core, kind, target)),
+        Activity::Scans => plan_stack(alloc, site, core, caller),
+        Activity::Idle => plan_stack(alloc, site, core, caller),
     }
 }
 
@@ -191,19 +161,12 @@ fn waits_for_boot(core: &Core, caller: u8) -> bool
 
 /// What a caller does next.
 #[tactic(auto, unfolding(run_rules::specs::Next::next))]
-pub fn choose(
-    alloc: Global,
-    graph: &Graph,
-    setup: &Setup,
-    core: &Core,
-    caller: u8,
-) -> Result<Choice, Memory>
-    requires graph { IsGraphOf (declared_by setup.now.tables) graph.now }
-    requires may { MayRun setup.now }
-    requires kept { Kept (world_of setup.now core.now) }
-    requires books { Books setup.now core.now }
+pub fn choose(alloc: Global, site: &Site, core: &Core, caller: u8) -> Result<Choice, Memory>
+    requires may { MayRun site.now.setup }
+    requires kept { Kept (world_at site.now core.now) }
+    requires books { Books site.now.setup core.now }
     requires caller { caller < length core.now.callers.items }
-    ensures { IfOk result (λ does. next.next (world_of setup.now core.now) caller ≡ does) }
+    ensures { IfOk result (λ does. next.next (world_at site.now core.now) caller ≡ does) }
 {
     if is_ended(core, caller) {
         return Ok(Choice::Ended);
@@ -212,5 +175,5 @@ pub fn choose(
         return Ok(Choice::Waits(Wait::Boot));
     }
     let doing = core.callers[caller as usize].doing;
-    plan_activity(alloc, graph, setup, core, caller, doing)
+    plan_activity(alloc, site, core, caller, doing)
 }

@@ -1,18 +1,17 @@
 //! What a caller does next.
 ghost use Rattle.std.specs.Prelude.{◌≡◌, ◌≤◌, ◌<◌, Some, true, false, length};
 ghost use Rattle.run_rules.specs.declared.deed.Choice.TheVariants.{Does};
-ghost use Rattle.run_rules.specs.Next.{next_scan, next_boot, finalise};
+ghost use Rattle.run_rules.specs.Next.{next_boot, finalise};
 ghost use Rattle.run_rules.specs.Search as rule;
-ghost use Rattle.attr_graph.specs.Graphs.{IsGraphOf, declared_by};
-ghost use Rattle.run_world.specs.Input.{Bounded};
-ghost use Rattle.run_world.specs.View.{world_of, Books};
+ghost use Rattle.run_world.specs.View.{Books};
+ghost use Rattle.run_world.specs.Sites.{world_at};
+ghost use Rattle.next_deed.specs.Turns.{next_scan_at};
 
 use crate::due::due_turn;
 use crate::late::shown_by;
 use crate::search::arrival;
-use attr_graph::Graph;
-use run_rules::{Deed, Position, Setup, Turn, Wanted};
-use run_world::{Core, place_of};
+use run_rules::{Deed, Position, Turn, Wanted};
+use run_world::{Core, Site, place_of};
 
 /// The position after a turn: behind it, or at the first pair of the same row.
 #[tactic(auto, unfolding(run_rules::specs::Search::after_turn))]
@@ -38,48 +37,36 @@ fn after_turn(turn: Turn) -> Position
 /// What is done next on a scan.
 #[tactic(auto, unfolding(run_rules::specs::Next::next_scan))]
 pub fn plan_scan(
-    graph: &Graph,
-    setup: &Setup,
+    site: &Site,
     core: &Core,
     serial: u64,
     only: Option<u32>,
     filter: &[Wanted],
     position: Position,
 ) -> Deed
-    requires graph { IsGraphOf (declared_by setup.now.tables) graph.now }
-    requires bounded { Bounded setup.now }
-    requires books { Books setup.now core.now }
+    requires books { Books site.now.setup core.now }
     requires live { length core.now.tree.live ≤ 1024 }
-    ensures { next_scan setup.now core.now.tree.live core.now.absent.items core.now.hidden.items serial only filter.now position ≡ result }
+    ensures { next_scan_at site.now core.now serial only filter.now position ≡ result }
 {
-    match due_turn(graph, setup, core, serial, only, filter, position) {
+    match due_turn(site, core, serial, only, filter, position) {
         None => Deed::EndScan { of: serial },
         Some(turn) => Deed::Search {
             parent: serial,
             spot: turn.at.spot,
             moved: after_turn(turn),
-            got: arrival(graph, setup, core, serial, turn.place, turn.at.spot),
+            got: arrival(site, core, serial, turn.place, turn.at.spot),
         },
     }
 }
 
 /// What the finaliser of a device does.
 #[tactic(auto, unfolding(run_rules::specs::Next::finalise))]
-pub fn plan_call(
-    graph: &Graph,
-    setup: &Setup,
-    core: &Core,
-    serial: u64,
-    listed: Option<u64>,
-    anew: bool,
-) -> Deed
-    requires graph { IsGraphOf (declared_by setup.now.tables) graph.now }
-    requires bounded { Bounded setup.now }
-    requires books { Books setup.now core.now }
+pub fn plan_call(site: &Site, core: &Core, serial: u64, listed: Option<u64>, anew: bool) -> Deed
+    requires books { Books site.now.setup core.now }
     requires live { length core.now.tree.live ≤ 1024 }
-    ensures { finalise (world_of setup.now core.now) serial listed anew ≡ result }
+    ensures { finalise (world_at site.now core.now) serial listed anew ≡ result }
 {
-    match shown_by(graph, setup, core, serial) {
+    match shown_by(site, core, serial) {
         None => Deed::Finalise {
             of: serial,
             shown: None,
@@ -90,7 +77,7 @@ pub fn plan_call(
         Some(spot) => Deed::Finalise {
             of: serial,
             shown: Some(spot),
-            got: arrival(graph, setup, core, serial, place_of(setup, spot), spot),
+            got: arrival(site, core, serial, place_of(&site.setup, spot), spot),
             listed,
             anew,
         },
@@ -99,23 +86,21 @@ pub fn plan_call(
 
 /// What the boot does without a frame: interrupts first, then the finalisers, in passes until none answers 1. See
 /// autoconf(9).
-pub fn plan_boot(graph: &Graph, setup: &Setup, core: &Core) -> Deed
-    requires graph { IsGraphOf (declared_by setup.now.tables) graph.now }
-    requires bounded { Bounded setup.now }
-    requires books { Books setup.now core.now }
+pub fn plan_boot(site: &Site, core: &Core) -> Deed
+    requires books { Books site.now.setup core.now }
     requires live { length core.now.tree.live ≤ 1024 }
     requires called { core.now.pass_repeats ≡ true → 0 < length core.now.finalisers.items }
-    ensures { next_boot (world_of setup.now core.now) ≡ Does result }
+    ensures { next_boot (world_at site.now core.now) ≡ Does result }
 {
     if !core.interrupts_on {
         return Deed::BeginInterrupts;
     }
     if core.next_finaliser < core.finalisers.len() as u64 {
         let serial = core.finalisers[core.next_finaliser as usize];
-        return plan_call(graph, setup, core, serial, Some(core.next_finaliser), false);
+        return plan_call(site, core, serial, Some(core.next_finaliser), false);
     }
     if core.pass_repeats {
-        return plan_call(graph, setup, core, core.finalisers[0], Some(0), true);
+        return plan_call(site, core, core.finalisers[0], Some(0), true);
     }
     Deed::EndCaller
 }

@@ -3,20 +3,18 @@ ghost use Rattle.std.specs.Prelude.{◌≡◌, ◌≤◌, ◌∷◌, true, Some,
 ghost use Rattle.std.specs.List.{list_any};
 ghost use Rattle.run_rules.specs.declared.deed.Deed.TheVariants.{Rescan};
 ghost use Rattle.run_rules.specs.declared.world.Dev.{Dev};
-ghost use Rattle.attr_graph.specs.Graphs.{IsGraphOf, declared_by};
 ghost use Rattle.run_rules.specs.Next as next;
 ghost use Rattle.run_rules.specs.Next.{has_nothing, rescan_of, rescanning, wanted_of};
 ghost use Rattle.run_rules.specs.World as world;
 ghost use Rattle.run_rules.specs.World.{World, is_number, offered_by};
 ghost use Rattle.next_deed.specs.Choices.{or_refused};
-ghost use Rattle.run_world.specs.View.{world_of};
+ghost use Rattle.run_world.specs.Sites.{world_at};
 
 use crate::hindered::is_pinned;
-use attr_graph::Graph;
 use cf_types::{Given, Locator, Name, Place};
 use locator_rules::locators_at;
 use run_rules::{Deed, Dev, Refusal, Setup};
-use run_world::{Core, attr_named, driver_of, has, locator_place, policy_of};
+use run_world::{Core, Site, attr_named, driver_of, has, locator_place, policy_of};
 use scan_engine::offered;
 
 /// Whether a locator that is given has this place.
@@ -109,17 +107,14 @@ fn only_of(
 
 /// A device is to be searched again.
 pub fn plan_search(
-    graph: &Graph,
-    setup: &Setup,
+    site: &Site,
     core: &Core,
     device: Dev,
     attr: &Option<Name>,
     given: &[Given],
 ) -> Result<Deed, Refusal>
-    requires graph { IsGraphOf (declared_by setup.now.tables) graph.now }
-    requires few { length setup.now.tables.attrs ≤ 65536 }
-    requires there { world.device_at core.now.tree.live device.serial ≡ Some device }
-    ensures { rescanning (world_of setup.now core.now) device attr.now given.now ≡ or_refused (λ deed. deed) result }
+    requires { world.device_at core.now.tree.live device.serial ≡ Some device }
+    ensures { rescanning (world_at site.now core.now) device attr.now given.now ≡ or_refused (λ deed. deed) result }
 {
     if is_pinned(core, device.serial) {
         return Err(Refusal::Busy(device.serial));
@@ -127,11 +122,15 @@ pub fn plan_search(
     if device.asleep {
         return Err(Refusal::Asleep);
     }
-    let offers = offered(graph, &setup.tables, driver_of(setup, device.row));
-    if policy_of(setup, device.row).norescan || is_nothing(offers) {
+    let offers = offered(
+        &site.graph,
+        &site.setup.tables,
+        driver_of(&site.setup, device.row),
+    );
+    if policy_of(&site.setup, device.row).norescan || is_nothing(offers) {
         return Err(Refusal::NoRescan);
     }
-    let only = only_of(setup, offers, attr, given)?;
+    let only = only_of(&site.setup, offers, attr, given)?;
     Ok(Deed::Rescan {
         of: device.serial,
         only,

@@ -2,17 +2,14 @@
 ghost use Rattle.std.specs.Prelude.{◌≡◌, ◌≤◌, ◌<◌, length};
 ghost use Rattle.run_rules.specs.Next as next;
 ghost use Rattle.run_rules.specs.Search as rule;
-ghost use Rattle.attr_graph.specs.Graphs.{IsGraphOf, declared_by};
-ghost use Rattle.run_world.specs.Input.{Bounded};
 ghost use Rattle.run_world.specs.View.{Books};
 
 use crate::unit::unit_of;
-use attr_graph::Graph;
 use cf_types::Place;
 use dev_tree::DevTree;
 use match_search::best;
 use run_rules::{Arrival, ParentRef, Setup};
-use run_world::{Core, driver_of};
+use run_world::{Core, Site, driver_of};
 
 /// The parent of a search.
 pub fn parent_ref(setup: &Setup, tree: &DevTree, serial: u64) -> ParentRef
@@ -28,25 +25,16 @@ pub fn parent_ref(setup: &Setup, tree: &DevTree, serial: u64) -> ParentRef
 }
 
 /// The row that takes a spot below a parent.
-pub fn winner_at(
-    graph: &Graph,
-    setup: &Setup,
-    core: &Core,
-    parent: u64,
-    place: Place,
-    spot: u16,
-) -> Option<u32>
-    requires graph { IsGraphOf (declared_by setup.now.tables) graph.now }
-    requires bounded { Bounded setup.now }
-    requires books { Books setup.now core.now }
-    ensures { rule.winner_at setup.now core.now.tree.live parent place spot ≡ result }
+pub fn winner_at(site: &Site, core: &Core, parent: u64, place: Place, spot: u16) -> Option<u32>
+    requires { Books site.now.setup core.now }
+    ensures { rule.winner_at site.now.setup core.now.tree.live parent place spot ≡ result }
 {
     best(
-        &setup.tables,
-        graph,
-        &setup.machine,
+        &site.setup.tables,
+        &site.graph,
+        &site.setup.machine,
         &core.rows,
-        parent_ref(setup, &core.tree, parent),
+        parent_ref(&site.setup, &core.tree, parent),
         place,
         spot,
     )
@@ -54,24 +42,15 @@ pub fn winner_at(
 
 /// The device that comes to a spot below a parent, if a row takes it.
 #[tactic(auto, unfolding(run_rules::specs::Next::arrival))]
-pub fn arrival(
-    graph: &Graph,
-    setup: &Setup,
-    core: &Core,
-    parent: u64,
-    place: Place,
-    spot: u16,
-) -> Option<Arrival>
-    requires graph { IsGraphOf (declared_by setup.now.tables) graph.now }
-    requires bounded { Bounded setup.now }
-    requires books { Books setup.now core.now }
+pub fn arrival(site: &Site, core: &Core, parent: u64, place: Place, spot: u16) -> Option<Arrival>
+    requires books { Books site.now.setup core.now }
     requires live { length core.now.tree.live ≤ 1024 }
-    ensures { next.arrival setup.now core.now.tree.live parent place spot ≡ result }
+    ensures { next.arrival site.now.setup core.now.tree.live parent place spot ≡ result }
 {
-    match winner_at(graph, setup, core, parent, place, spot) {
+    match winner_at(site, core, parent, place, spot) {
         Some(row) => Some(Arrival {
             row,
-            unit: unit_of(setup, &core.units, row),
+            unit: unit_of(&site.setup, &core.units, row),
             parent,
             spot,
         }),

@@ -1,17 +1,14 @@
 -- What a ledger keeps, where a reference is granted and where one is given back.
-use Rattle.std.proofs.Common.{◌≡◌, ℕ, ◌+◌, ◌≤◌, ◌<◌, ◌==◌, Bool, true, false, not, ◌&&◌, cond, List, [], ◌∷◌, ◌++◌, length, drop, suc, append-nil, refl, sym, ap, subst, ◌∙◌, inl, inr, arith, zero-add, eq-eqb, eqb-true}
-use Rattle.std.specs.Prelude.{◌⊎◌, count_by, find, position, Option, Some, None, option_map, MatchOption, nat_lt}
-use Rattle.std.specs.List.{All, position_or_len, remove}
-use Rattle.std.proofs.lemmas.Bool.Decides.{nat_tests}
-use Rattle.std.proofs.lemmas.Bool.{and_parts, ne_eqb, or_cases, or_left, or_right}
-use Rattle.std.proofs.lemmas.List.{drop_all, take_all}
+use Rattle.std.proofs.Common.{◌≡◌, ℕ, ◌==◌, Bool, true, false, cond, List, [], ◌∷◌, refl, ap, arith, eq-eqb}
+use Rattle.std.specs.Prelude.{find, Option, Some, None, option_map, MatchOption}
+use Rattle.std.specs.List.{All}
+use Rattle.std.proofs.lemmas.Bool.{or_left, or_right}
 use Rattle.std.proofs.lemmas.List.Elements.{All-cons, All-head, All-push, All-tail}
-use Rattle.std.proofs.lemmas.List.Folds.{list_any-append}
-use Rattle.std.proofs.lemmas.List.Sums.{sum_by-append, sum_by-cons}
+use Rattle.std.proofs.lemmas.List.Sums.{sum_by-cons}
 use Rattle.run_rules.specs.declared.world.Ref.{Ref}
-use Rattle.run_rules.specs.World.{has, holds_in, refers_to}
+use Rattle.run_rules.specs.World.{has, holds_in}
 use Rattle.run_rules.specs.References.{AreCounted, is_of, refs_to, without_first}
-use Rattle.run_rules.proofs.References.{counted_granted, counted_returned, remove_is}
+use Rattle.run_rules.proofs.References.{counted_granted, counted_returned}
 use Rattle.ref_ledger.specs.Refs.{IsHolder, IsKept, IsSoleHolder, Ledger, MayGrant, granted, ref_of, returned}
 
 abbrev one_if : Bool → ℕ
@@ -44,25 +41,6 @@ kept_returned l s k kept = record {
   few = (counted_returned l.refs l.sole k s (counted l kept)).few;
   alone = (counted_returned l.refs l.sole k s (counted l kept)).alone;
 }
-
--- ---- the first of a caller's references
-
-pub taken_at : {A : Type 0} (p : A → Bool) (xs : List A) (i : ℕ) → position p xs ≡ Some i → (i < length xs) × (remove xs i ≡ without_first p xs)
-taken_at p xs i at = by (nat_lt (position_or_len p xs) (length xs)) refl at
-  where
-    by : (b : Bool) → nat_lt (position_or_len p xs) (length xs) ≡ b → cond b (Some (position_or_len p xs)) None ≡ Some i → (i < length xs) × (remove xs i ≡ without_first p xs)
-    by true less e = let same : position_or_len p xs ≡ i = cc in rw (← same) (grind (arith, nat_tests), remove_is p xs)
-    by false more e = absurd cc
-
-pub none_taken : {A : Type 0} (p : A → Bool) (xs : List A) → position p xs ≡ None → xs ≡ without_first p xs
-none_taken p xs none = by (nat_lt (position_or_len p xs) (length xs)) refl none
-  where
-    by : (b : Bool) → nat_lt (position_or_len p xs) (length xs) ≡ b → cond b (Some (position_or_len p xs)) None ≡ None → xs ≡ without_first p xs
-    by true less e = absurd cc
-    by false more e =
-        let past : length xs ≤ position_or_len p xs = grind (arith, nat_tests) in
-        let past_it : length xs ≤ suc (position_or_len p xs) = omega arith in
-        sym (ap (λ ys. ys ++ drop (suc (position_or_len p xs)) xs) (take_all (position_or_len p xs) xs past) ∙ ap (λ ys. xs ++ ys) (drop_all (suc (position_or_len p xs)) xs past_it) ∙ append-nil xs) ∙ remove_is p xs
 
 -- ---- the holder of what is held solely
 

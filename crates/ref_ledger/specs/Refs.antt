@@ -1,8 +1,8 @@
 -- References that count, and sole use: this project's profile.
-use Rattle.std.specs.Prelude.{◌≡◌, ℕ, ◌≤◌, ◌<◌, ◌==◌, Bool, true, false, if◌then◌else◌, List, [], ◌∷◌, ◌++◌, count_by, filter, map}
+use Rattle.std.specs.Prelude.{◌≡◌, ℕ, ◌≤◌, ◌==◌, Bool, true, List, [], ◌∷◌, ◌++◌, count_by, filter, map}
 use Rattle.std.specs.List.{All}
 use Rattle.run_rules.specs.declared.world.Ref.{Ref}
-use Rattle.run_rules.specs.World.{has, holds_in, refers_to}
+use Rattle.run_rules.specs.World.{has, holds_in}
 use Rattle.run_rules.specs.References.{MayHold, count_in, given_back, shared_again, sole_with}
 
 -- what contracts see: a pair for each reference, in the order in which they were granted, and the devices that are held

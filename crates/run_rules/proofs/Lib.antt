@@ -15,3 +15,6 @@ pub mod Holders
 pub mod Each
 pub mod Marked
 pub mod References
+pub mod Chains
+pub mod Levels
+pub mod Removals

@@ -1,5 +1,5 @@
 -- Only callers of scripts hold references, whatever is done.
-use Rattle.std.proofs.Common.{◌≡◌, ◌≢◌, ◌<◌, ◌≤◌, ℕ, zero, suc, ◌==◌, ◌&&◌, not, List, length, refl, arith}
+use Rattle.std.proofs.Common.{◌≡◌, ◌≢◌, ◌<◌, ◌≤◌, ℕ, zero, suc, List, length, refl, arith}
 use Rattle.std.specs.List.{AllByRecursion}
 use Rattle.run_rules.specs.declared.world.Setup.{Setup}
 use Rattle.run_rules.specs.declared.world.Ref.{Ref}
@@ -16,7 +16,7 @@ use Rattle.run_rules.proofs.Setups.{after_setup}
 use Rattle.run_sound.specs.Commands.{IsBetween}
 use Rattle.run_sound.specs.Kept.{InRange}
 use Rattle.run_sound.specs.Scripts.{IsOfScript}
-use Rattle.run_sound.proofs.Callers.{all_filter, doing_there}
+use Rattle.run_sound.proofs.Callers.{doing_there}
 use Rattle.run_sound.proofs.Holding.{refs_same}
 use Rattle.run_sound.proofs.Reasons.{has_command_reason}
 

@@ -4,6 +4,7 @@ pub mod Reasons
 pub mod Plain
 pub mod References
 pub mod Inputs
+pub mod FormedDevices
 pub mod Arrivals
 pub mod Restacks
 pub mod Stacks

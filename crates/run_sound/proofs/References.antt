@@ -1,14 +1,14 @@
 -- References and transfers: the world stays sound.
-use Rattle.std.proofs.Common.{◌≡◌, ◌≢◌, ◌⊎◌, ℕ, ◌+◌, ◌==◌, true, false, not, ◌&&◌, List, [], ◌∷◌, ◌++◌, refl, sym, ◌∙◌, inl, inr, eqb-true, Bool}
-use Rattle.std.proofs.lemmas.Bool.{ne_eqb, and_parts, and_right, not_from_false, or_left}
+use Rattle.std.proofs.Common.{◌≡◌, ◌≢◌, ◌⊎◌, ℕ, ◌+◌, ◌==◌, true, false, ◌&&◌, List, [], ◌∷◌, ◌++◌, refl, sym, ◌∙◌, inl, inr, eqb-true, Bool}
+use Rattle.std.proofs.lemmas.Bool.{ne_eqb, and_parts, not_from_false, or_left}
 use Rattle.std.proofs.lemmas.List.Folds.{list_any-append}
-use Rattle.std.specs.Prelude.{IsTrue, filter}
+use Rattle.std.specs.Prelude.{IsTrue}
 use Rattle.cf_types.specs.declared.machine.Ticket.{Ticket}
 use Rattle.run_rules.specs.declared.world.Frame.{Frame}
 use Rattle.run_rules.specs.declared.world.Activity.{Activity}
 use Rattle.run_rules.specs.declared.world.Activity.TheVariants as activity
 use Rattle.run_rules.specs.declared.world.Ref.{Ref}
-use Rattle.run_rules.specs.World.{World, is_live, is_held, is_number, caller_at}
+use Rattle.run_rules.specs.World.{World, is_live, is_number, caller_at}
 use Rattle.run_rules.specs.declared.deed.Deed.TheVariants.{Drop, Open, Close, Start, Done}
 use Rattle.run_rules.specs.declared.deed.Choice.TheVariants.{Does}
 use Rattle.run_rules.specs.Next.{next}
@@ -17,9 +17,8 @@ use Rattle.run_rules.specs.References.{MayHold, given_back, is_of, shared_again,
 use Rattle.run_rules.proofs.References.{all_left, any_left, counted_granted, counted_returned}
 use Rattle.run_rules.specs.Sound.{Sound}
 use Rattle.run_sound.specs.Kept.{InRange, Kept}
-use Rattle.run_rules.proofs.Devices.{all_snoc, later_snoc, all_imp, none_of}
-use Rattle.run_sound.proofs.Callers.{all_filter, clash}
-use Rattle.run_sound.proofs.Members.{later_passed, any_passed}
+use Rattle.run_rules.proofs.Devices.{all_snoc}
+use Rattle.run_sound.proofs.Callers.{clash}
 use Rattle.run_sound.specs.Commands.{IsBetween}
 use Rattle.run_sound.proofs.Reasons.{has_command_reason}
 use Rattle.run_sound.proofs.Plain.{AreHeld, IsLater, sound_held, later_held, sound_caller, sound_over, between_later, between_frees, between_power, later_one, no_turn, agrees_idle}

@@ -3,6 +3,7 @@ pub mod Events
 pub mod Callers
 pub mod UnitsOf
 pub mod View
+pub mod Sites
 pub mod Arrivals
 pub mod Late
 pub mod Rescans

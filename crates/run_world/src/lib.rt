@@ -7,6 +7,7 @@ mod named;
 mod parts;
 mod rescan_filter;
 mod script;
+mod site;
 mod spots;
 
 pub use activity::{begin, begin_scan, finish, is_ended};
@@ -15,6 +16,7 @@ pub use named::{attr_named, device_named, spot_named};
 pub use parts::{Core, append, opening_core};
 pub use rescan_filter::{locator_place, wanted_by};
 pub use script::{command_of, given_by};
+pub use site::Site;
 pub use spots::{
     attach_of, driver_name, driver_of, has, has_spot, is_occupied, place_of, policy_of,
 };

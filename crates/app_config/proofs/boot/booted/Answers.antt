@@ -3,10 +3,14 @@ use Rattle.std.specs.Prelude.{All}
 use Rattle.std.proofs.lemmas.List.Elements.{All-nil}
 use Rattle.cf_types.specs.declared.machine.Command.{Command}
 use Rattle.config_rules.specs.ScriptText.{FormedScript}
+use Rattle.app_config.proofs.RanLaws.{boot_of}
 use Rattle.app_config.proofs.boot.booted.Goals as goal
 
-pub started-requires-clause-few_scripts : goal.started-requires-clause-few_scripts
-started-requires-clause-few_scripts c = omega (arith, ap length c.make.ensures)
+pub booted_board-requires-clause-few_scripts : goal.booted_board-requires-clause-few_scripts
+booted_board-requires-clause-few_scripts c = omega (arith, ap length c.make.ensures)
 
-pub started-requires-clause-scripts : goal.started-requires-clause-scripts
-started-requires-clause-scripts c = subst (λ (scripts : List (List Command)). All FormedScript scripts) (sym c.make.ensures) (All-nil FormedScript)
+pub booted_board-requires-clause-scripts : goal.booted_board-requires-clause-scripts
+booted_board-requires-clause-scripts c = subst (λ (scripts : List (List Command)). All FormedScript scripts) (sym c.make.ensures) (All-nil FormedScript)
+
+pub returns : goal.returns
+returns c = boot_of c.args.tables c.args.machine c.make.result c.in_ok-board.board _ c.make.ensures c.in_ok-board.ensures

@@ -1,4 +1,7 @@
-use Rattle.app_config.proofs.FoundLaws.{boot_ran, listed, load_ran, not_selected, not_selected_counted, play_ran, selected}
+use Rattle.app_config.proofs.FoundLaws.{boot_graph, boot_ran, listed, load_ran, not_selected, not_selected_counted, play_graph, play_ran, selected}
+use Rattle.app_input.specs.Status.{status_of}
+use Rattle.app_input.specs.declared.status.Status.TheVariants as status
+use Rattle.app_config.proofs.AskedLaws.{boot_then, ioconf_then, load_then, play_then, selected_then, unselected_then}
 use Rattle.app_config.proofs.found.found_by.Goals as goal
 
 pub returns-in-Ioconf-clause-found : goal.returns-in-Ioconf-clause-found
@@ -20,8 +23,7 @@ returns-in_err-paths-in-Files-clause-counted g c =
 
 pub returns-in_ok-board-in-Boot-clause-found : goal.returns-in_ok-board-in-Boot-clause-found
 returns-in_ok-board-in-Boot-clause-found g c =
-    boot_ran _ c.args.inputs c.in-Boot.tables c.in-Boot.machine c.in_ok-board-in-Boot.board.events c.in_ok-board-in-Boot.board.world c.in-Boot.is
-    c.in_ok-board-in-Boot.ensures.0 c.in_ok-board-in-Boot.ensures.1 c.in_ok-board-in-Boot.ensures.2
+    boot_ran _ c.args.inputs c.in-Boot.tables c.in-Boot.machine c.in_ok-board-in-Boot.board c.in-Boot.is c.in_ok-board-in-Boot.ensures
 
 pub returns-in_ok-line-in-Load-clause-found : goal.returns-in_ok-line-in-Load-clause-found
 returns-in_ok-line-in-Load-clause-found g c =
@@ -29,5 +31,50 @@ returns-in_ok-line-in-Load-clause-found g c =
 
 pub returns-in_ok-board-in-Play-clause-found : goal.returns-in_ok-board-in-Play-clause-found
 returns-in_ok-board-in-Play-clause-found g c =
-    play_ran _ c.args.inputs c.in-Play.tables c.in-Play.machine c.in-Play.scripts c.in-Play.order c.items-in-Play.result.now c.in_ok-board-in-Play.board.events c.in_ok-board-in-Play.board.world
-    c.in-Play.is c.items-in-Play.ensures c.in_ok-board-in-Play.ensures.run c.in_ok-board-in-Play.ensures.setup c.in_ok-board-in-Play.ensures.reliable
+    play_ran _ c.args.inputs c.in-Play.tables c.in-Play.machine c.in-Play.scripts c.in-Play.order c.items-in-Play.result.now c.in_ok-board-in-Play.board
+    c.in-Play.is c.items-in-Play.ensures c.in_ok-board-in-Play.ensures
+
+pub returns-in_ok-board-in-Boot-clause-graphed : goal.returns-in_ok-board-in-Boot-clause-graphed
+returns-in_ok-board-in-Boot-clause-graphed g c =
+    boot_graph c.args.inputs c.in-Boot.tables c.in-Boot.machine c.in_ok-board-in-Boot.board c.requires c.in-Boot.is c.in_ok-board-in-Boot.ensures
+
+pub returns-in_ok-board-in-Play-clause-graphed : goal.returns-in_ok-board-in-Play-clause-graphed
+returns-in_ok-board-in-Play-clause-graphed g c =
+    play_graph c.args.inputs c.in-Play.tables c.in-Play.machine c.in-Play.scripts c.in-Play.order c.items-in-Play.result.now c.in_ok-board-in-Play.board
+    c.requires c.in-Play.is c.in_ok-board-in-Play.ensures
+
+pub returns-in-Ioconf-clause-asked : goal.returns-in-Ioconf-clause-asked
+returns-in-Ioconf-clause-asked g c = ioconf_then (g.F.Files.told c.args.files.now) c.args.inputs c.in-Ioconf.tables status.Ok (g.F.Files.asked c.args.files.now) c.in-Ioconf.is
+
+pub returns-in_ok-paths-in-Files-clause-asked : goal.returns-in_ok-paths-in-Files-clause-asked
+returns-in_ok-paths-in-Files-clause-asked g c =
+    selected_then (g.F.Files.told c.args.files.now) c.args.inputs c.in-Files.name c.items.result.now _ _ c.in-Files.is c.items.ensures c.in_ok-paths-in-Files.ensures.asked
+
+pub returns-in_err-paths-in-Files-clause-asked : goal.returns-in_err-paths-in-Files-clause-asked
+returns-in_err-paths-in-Files-clause-asked g c =
+    unselected_then (g.F.Files.told c.args.files.now) c.args.inputs c.in-Files.name c.items.result.now _ c.from_residual.result _ _ c.in-Files.is c.items.ensures c.from_residual.ensures.1
+    c.in_err-paths-in-Files.ensures.asked
+
+pub returns-in_ok-board-in-Boot-clause-asked : goal.returns-in_ok-board-in-Boot-clause-asked
+returns-in_ok-board-in-Boot-clause-asked g c =
+    boot_then (g.F.Files.told c.args.files.now) c.args.inputs c.in-Boot.tables c.in-Boot.machine status.Ok (g.F.Files.asked c.args.files.now) c.in-Boot.is
+
+pub returns-in_ok-line-in-Load-clause-asked : goal.returns-in_ok-line-in-Load-clause-asked
+returns-in_ok-line-in-Load-clause-asked g c =
+    load_then (g.F.Files.told c.args.files.now) c.args.inputs c.in-Load.count c.in-Load.tables c.in-Load.machine status.Ok (g.F.Files.asked c.args.files.now) c.in-Load.is
+
+pub returns-in_ok-board-in-Play-clause-asked : goal.returns-in_ok-board-in-Play-clause-asked
+returns-in_ok-board-in-Play-clause-asked g c =
+    play_then (g.F.Files.told c.args.files.now) c.args.inputs c.in-Play.tables c.in-Play.machine c.in-Play.scripts c.in-Play.order status.Ok (g.F.Files.asked c.args.files.now) c.in-Play.is
+
+pub returns-in_err-board-in-Boot-clause-asked : goal.returns-in_err-board-in-Boot-clause-asked
+returns-in_err-board-in-Boot-clause-asked g c =
+    boot_then (g.F.Files.told c.args.files.now) c.args.inputs c.in-Boot.tables c.in-Boot.machine (status_of c.from_residual-in_err-board-in-Boot.result) (g.F.Files.asked c.args.files.now) c.in-Boot.is
+
+pub returns-in_err-line-in-Load-clause-asked : goal.returns-in_err-line-in-Load-clause-asked
+returns-in_err-line-in-Load-clause-asked g c =
+    load_then (g.F.Files.told c.args.files.now) c.args.inputs c.in-Load.count c.in-Load.tables c.in-Load.machine (status_of c.from_residual-in_err-line-in-Load.result) (g.F.Files.asked c.args.files.now) c.in-Load.is
+
+pub returns-in_err-board-in-Play-clause-asked : goal.returns-in_err-board-in-Play-clause-asked
+returns-in_err-board-in-Play-clause-asked g c =
+    play_then (g.F.Files.told c.args.files.now) c.args.inputs c.in-Play.tables c.in-Play.machine c.in-Play.scripts c.in-Play.order (status_of c.from_residual-in_err-board-in-Play.result) (g.F.Files.asked c.args.files.now) c.in-Play.is

@@ -1,6 +1,18 @@
-use Rattle.std.proofs.Common.{◌∙◌}
-use Rattle.dev_board.proofs.TurnLaws.{plays_setup}
+use Rattle.run_rules.specs.World.{setup_of}
+use Rattle.app_config.proofs.RanLaws.{callers_of, play_of}
 use Rattle.app_config.proofs.play.played.Goals as goal
 
-pub returns-clause-setup : goal.returns-clause-setup
-returns-clause-setup c = plays_setup c.in_ok-board.board c.run_turns.new.board c.args.order.now c.in_ok-run_turns.ensures.played ∙ c.in_ok-board.ensures.setup
+pub run_turns-requires-clause-agree : goal.run_turns-requires-clause-agree
+run_turns-requires-clause-agree c = c.in_ok-board.ensures.agree
+
+pub run_turns-requires-clause-goes_on : goal.run_turns-requires-clause-goes_on
+run_turns-requires-clause-goes_on c = c.in_ok-board.ensures.goes_on
+
+pub run_turns-requires-clause-callers : goal.run_turns-requires-clause-callers
+run_turns-requires-clause-callers c =
+    callers_of c.args.tables c.args.machine c.args.scripts c.in_ok-board.board c.in_ok-board.slots c.args.order.now c.in_ok-board.ensures c.requires.play
+
+pub returns : goal.returns
+returns c =
+    play_of (setup_of c.args.tables c.args.machine c.args.scripts) c.in_ok-board.board c.run_turns.new.board c.in_ok-board.slots c.args.order.now
+    c.in_ok-board.ensures c.in_ok-run_turns.ensures.played c.stands.ensures.reliable

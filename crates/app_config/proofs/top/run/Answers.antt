@@ -2,6 +2,7 @@ use Rattle.std.proofs.Common.{map, string_bytes, subst, sym}
 use Rattle.app_input.specs.Words.{devconf_form}
 use Rattle.app_config.specs.Found.{found_text}
 use Rattle.app_config.specs.Run.{Explains, Faults}
+use Rattle.app_config.proofs.AskedLaws.{files_all}
 use Rattle.app_config.proofs.Due.{due_put, due_unfound}
 use Rattle.app_config.proofs.Explained.{explains_refused, explains_written, faults_refused, faults_written}
 use Rattle.app_config.proofs.top.run.Goals as goal
@@ -37,3 +38,6 @@ returns-in-Err-clause-faults g c =
 
 pub returns-in-Err-clause-due : goal.returns-in-Err-clause-due
 returns-in-Err-clause-due g c = due_unfound _ _ _ _ _ _ c.in-Err.status c.in-Err.ensures.due
+
+pub returns-in-Ok-clause-asked : goal.returns-in-Ok-clause-asked
+returns-in-Ok-clause-asked g c = files_all (devconf_form (map string_bytes c.args.words.now)) (g.F.Files.told c.args.files.now) _ _ _ c.in-Ok.ensures.asked

@@ -5,6 +5,7 @@ use Rattle.app_input.specs.Inputs.{Reads}
 use Rattle.app_input.specs.Words.{Form, form_of, sources}
 use Rattle.app_input.specs.declared.inputs.Inputs.{Inputs}
 use Rattle.app_input.specs.declared.status.Status.{Status}
+use Rattle.app_input.proofs.AskedLaws.{boot_words, play_words}
 use Rattle.app_input.proofs.DueLaws.{due_told}
 use Rattle.app_input.proofs.MadeLaws.{counts_quiet}
 use Rattle.app_input.proofs.inputs.read_inputs.Goals as goal
@@ -51,3 +52,13 @@ returns-in-Ok-Files-clause-due g c =
     (files_read (form_of c.args.program (map string_bytes c.args.words.now)) (g.F.Files.told c.args.files.now) c.in-Ok-Files.file.now c.as_bytes-in-Ok-Files.result.now c.read_files.result
     (rw c.in-Ok-Files.field-0-is at c.in-Ok-Files.ensures) c.as_bytes-in-Ok-Files.ensures.value c.read_files.ensures.reads)
     (counts_quiet _ c.read_files.result c.read_files.ensures.quiet)
+
+pub returns-in-Ok-Boot-clause-asked : goal.returns-in-Ok-Boot-clause-asked
+returns-in-Ok-Boot-clause-asked g c =
+    boot_words _ _ _ _ c.in-Ok-Boot.file.now c.in-Ok-Boot.machine.now _ _ _ (rw c.in-Ok-Boot.field-0-is at c.in-Ok-Boot.ensures) c.as_bytes-in-Ok-Boot.ensures.value c.as_bytes-in-Ok-Boot-2.ensures.value c.read_boot.ensures.asked
+
+pub returns-in-Ok-Play-clause-asked : goal.returns-in-Ok-Play-clause-asked
+returns-in-Ok-Play-clause-asked g c =
+    play_words _ _ _ _ _ c.in-Ok-Play.file.now c.in-Ok-Play.machine.now c.in-Ok-Play.order.now (map string_bytes c.in-Ok-Play.scripts.now) _ _ _
+    (rw c.in-Ok-Play.field-0-is at c.in-Ok-Play.ensures).0 c.as_bytes-in-Ok-Play.ensures.value c.as_bytes-in-Ok-Play-2.ensures.value c.as_bytes-in-Ok-Play-3.ensures.value
+    c.read_play.ensures.asked

@@ -1,4 +1,4 @@
-use Rattle.std.proofs.Common.{rules, ℕ, ◌≡◌, ◌+◌, ◌++◌, ◌∙◌, [], ◌∷◌, List, ap, sym, subst, length, string_bytes, arith}
+use Rattle.std.proofs.Common.{rules, map, ℕ, ◌≡◌, ◌+◌, ◌++◌, ◌∙◌, [], ◌∷◌, List, ap, sym, subst, length, string_bytes, arith}
 use Rattle.std.specs.Prelude.{All}
 use Rattle.std.proofs.lemmas.List.{length_push}
 use Rattle.std.proofs.lemmas.List.Elements.{All-push}
@@ -6,6 +6,7 @@ use Rattle.cf_types.specs.declared.machine.Command.{Command}
 use Rattle.config_rules.specs.ScriptText.{FormedScript}
 use Rattle.app_input.specs.declared.status.Status.TheVariants.{Memory}
 use Rattle.app_input.specs.Played.{IsOfFile}
+use Rattle.app_input.proofs.AskedLaws.{script_asked, script_stops, scripts_asked, scripts_cut}
 use Rattle.app_input.proofs.PlayLaws.{all_scripts, no_more_scripts, of_script, one_more_script}
 use Rattle.app_input.proofs.scripts.load_scripts.Goals as goal
 
@@ -23,6 +24,8 @@ loop-name-preserved g c =
       formed = subst (λ (scripts : List (List Command)). All FormedScript scripts) (sym pushed) (All-push FormedScript c.loop-name.scripts c.in-Ok.script c.loop-name.invariant.formed c.in-Ok.ensures.formed);
       so_far = one_more_script string_bytes told _ names i c.loop-name.which c.name-item.result _ c.loop-name.scripts c.push.new.self c.in-Ok.script c.loop-name-test.true c.name-item.is
           c.loop-name.invariant.told c.as_bytes.ensures.value pushed c.loop-name.invariant.so_far c.in-Ok.ensures.reads;
+      asked = script_asked string_bytes told _ names i c.loop-name.which c.name-item.result _ c.in-Ok.script _ _ _ c.loop-name-test.true c.name-item.is
+          c.loop-name.invariant.told c.as_bytes.ensures.value c.loop-name.invariant.asked c.in-Ok.ensures.reads c.in-Ok.ensures.asked;
     }
 
 pub returns-in-Err-clause-reads : goal.returns-in-Err-clause-reads
@@ -43,6 +46,20 @@ returns-then-is_err-clause-of g c = of_script string_bytes c.args.names.now c.lo
 
 pub returns-clause-reads : goal.returns-clause-reads
 returns-clause-reads g c = all_scripts string_bytes _ c.args.names.now c.loop-name.name-index c.loop-name.which c.loop-name.scripts c.loop-name-test.false c.loop-name.invariant.so_far
+
+pub returns-in-Err-clause-asked : goal.returns-in-Err-clause-asked
+returns-in-Err-clause-asked g c =
+    script_stops string_bytes _ _ c.args.names.now c.loop-name.name-index c.loop-name.which c.name-item.result _ c.in-Err.status _ _ _ c.loop-name-test.true c.name-item.is
+    c.loop-name.invariant.told c.as_bytes.ensures.value c.loop-name.invariant.asked c.in-Err.ensures.reads c.in-Err.ensures.asked
+
+pub returns-then-is_err-clause-asked : goal.returns-then-is_err-clause-asked
+returns-then-is_err-clause-asked g c =
+    scripts_cut _ (map string_bytes c.args.names.now) _ _ _ _
+    (script_asked string_bytes _ _ c.args.names.now c.loop-name.name-index c.loop-name.which c.name-item.result _ c.in-Ok.script _ _ _ c.loop-name-test.true c.name-item.is
+    c.loop-name.invariant.told c.as_bytes.ensures.value c.loop-name.invariant.asked c.in-Ok.ensures.reads c.in-Ok.ensures.asked)
+
+pub returns-clause-asked : goal.returns-clause-asked
+returns-clause-asked g c = scripts_asked string_bytes _ c.args.names.now c.loop-name.name-index c.loop-name.which _ _ c.loop-name-test.false c.loop-name.invariant.asked
 
 pub returns-clause-all : goal.returns-clause-all
 returns-clause-all g c = omega arith

@@ -1,6 +1,7 @@
 use Rattle.std.proofs.Common.{◌≡◌, ◌+◌, length, map, string_bytes, drop}
 use Rattle.std.specs.Prelude.{All}
 use Rattle.config_rules.specs.ScriptText.{FormedScript}
+use Rattle.app_input.proofs.AskedLaws.{ScriptsLeft}
 use Rattle.app_input.proofs.PlayLaws.{Continues}
 use Rattle.app_input.proofs.scripts.load_scripts.Given as goal
 
@@ -13,4 +14,5 @@ invariant-loop-name g l = record {
   many : length l.scripts ≡ l.name-index;
   formed : All FormedScript l.scripts;
   so_far : Continues (g.F.Files.told l.initial.files) (map string_bytes l.names) l.which l.scripts (map string_bytes (drop l.name-index l.names));
+  asked : ScriptsLeft (g.F.Files.told l.initial.files) (map string_bytes l.names) l.which (map string_bytes (drop l.name-index l.names)) (g.F.Files.asked l.initial.files) (g.F.Files.asked l.files);
 }

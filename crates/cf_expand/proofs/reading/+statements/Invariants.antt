@@ -1,4 +1,5 @@
-use Rattle.std.proofs.Common.{◌≡◌, ℕ, ◌+◌, ◌-◌, ◌*◌, Some, [], length}
+use Rattle.std.proofs.Common.{◌≡◌, ℕ, ◌+◌, ◌-◌, ◌*◌, Option, Some, List, [], length}
+use Rattle.cf_io.specs.Load.{asked_behind}
 use Rattle.cf_grammar.specs.Statement.{AreWithin}
 use Rattle.config_rules.specs.Reading.{Files, statements_in, read_statements, reader}
 use Rattle.cf_expand.specs.Steps.{here_of}
@@ -15,6 +16,8 @@ invariant-read_source-loop-statement g l = record {
   told : g.F.Files.told l.files ≡ g.F.Files.told l.fn.files;
   counted : g.F.Files.faults l.files ≡ g.F.Files.faults l.fn.files;
   within : AreWithin l.source.text l.tokens;
+  asked : (named : Files) → g.F.Files.told l.fn.files ≡ Some named → (start : Option (List (List ℕ))) (around : ℕ) → l.source.room ≡ 16 - around
+      → g.F.Files.asked l.fn.files ≡ asked_behind start l.fn.progress.asked → g.F.Files.asked l.files ≡ asked_behind start l.progress.asked;
   so_far : (named : Files) → g.F.Files.told l.fn.files ≡ Some named → (around : ℕ) → l.source.room ≡ 16 - around
       → read_statements named (reader l.source.levels named) (here_of around l.source) l.conditions (statements_in l.source.text l.tokens) l.progress
       ≡ read_statements named (reader l.source.levels named) (here_of around l.source) [] (statements_in l.source.text l.source.tokens) l.fn.progress;

@@ -1,7 +1,7 @@
 use Rattle.std.proofs.Common.{◌∙◌, ap, ◌++◌, List, arith}
 use Rattle.run_rules.specs.declared.event.DepthName.{DepthName}
 use Rattle.run_rules.specs.Run.{depth_name}
-use Rattle.deed_event.proofs.BelowLaws.{no_level, told_of, told_child, told_other, told_whole, lines_on}
+use Rattle.run_rules.proofs.Levels.{no_level, told_of, told_child, told_other, told_whole, lines_on}
 use Rattle.deed_event.proofs.listed_names.+push_names.Goals as goal
 use Rattle.deed_event.proofs.listed_names.+push_names.Goals.{then-device-parent+in_ok-name+in_ok-push+in_ok-push_names, else-device-parent}
 

@@ -1,6 +1,6 @@
 use Rattle.std.proofs.Common.{◌≡◌, ◌++◌}
 use Rattle.run_rules.specs.Run.{depth_name}
-use Rattle.deed_event.proofs.BelowLaws.{told_of}
+use Rattle.run_rules.proofs.Levels.{told_of}
 use Rattle.deed_event.proofs.listed_names.+push_names.Given as goal
 
 abbrev pub decreases-push_names : goal.decreases-push_names

@@ -2,7 +2,7 @@ use Rattle.std.proofs.Common.{◌∙◌, ap, ◌++◌, List, arith}
 use Rattle.cf_types.specs.declared.tree.DevLine.{DevLine}
 use Rattle.run_rules.specs.Tree.{dev_line}
 use Rattle.run_world.specs.View.{world_of}
-use Rattle.deed_event.proofs.BelowLaws.{no_level, told_of, told_child, told_other, told_whole, lines_on}
+use Rattle.run_rules.proofs.Levels.{no_level, told_of, told_child, told_other, told_whole, lines_on}
 use Rattle.deed_event.proofs.tree.+push_below.Goals as goal
 use Rattle.deed_event.proofs.tree.+push_below.Goals.{then-device-parent+in_ok-line+in_ok-push+in_ok-push_below, else-device-parent}
 

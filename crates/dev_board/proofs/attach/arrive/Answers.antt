@@ -10,7 +10,7 @@ use Rattle.dev_board.proofs.attach.arrive.Goals as goal
 
 pub returns-clause-ok : goal.returns-clause-ok
 returns-clause-ok c =
-    let s = c.args.setup.now in
+    let s = c.args.site.now.setup in
     let k = c.args.caller in
     let core = c.args.core.now in
     let w : World = world_of s core in

@@ -11,7 +11,7 @@ use Rattle.dev_board.proofs.attach.list.Goals as goal
 
 pub attach-requires-clause-name : goal.attach-requires-clause-name
 attach-requires-clause-name c =
-    let s = c.args.setup.now in
+    let s = c.args.site.now.setup in
     let live = c.args.core.now.tree.live in
     rw (c.requires.books.drivers, named_is s live c.driver_of-driver.result c.args.arrival.unit, c.driver_of-driver.ensures) c.requires.may.unit
 
@@ -30,7 +30,7 @@ returns-in-Ok-clause-ok c =
 
 pub returns-in-Ok-clause-books : goal.returns-in-Ok-clause-books
 returns-in-Ok-clause-books c =
-    let s = c.args.setup.now in
+    let s = c.args.site.now.setup in
     let core = c.args.core.now in
     let d = new_device (world_of s core) c.args.arrival in
     rw c.in-Ok.ensures.ok (record {

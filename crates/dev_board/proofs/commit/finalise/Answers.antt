@@ -14,23 +14,23 @@ use Rattle.dev_board.proofs.commit.finalise.Goals as goal
 -- the world once what was found has come and the spot is shown
 pub returns-in-Some-clause-ok : goal.returns-in-Some-clause-ok
 returns-in-Some-clause-ok c = λ of.
-    (let w : World = world_of c.args.setup.now c.args.core.now in
+    (let w : World = world_of c.args.site.now.setup c.args.core.now in
     let shown = c.args.shown in
     let anew = c.args.anew in
     let place = c.in-Some.place in
-    rw (c.in-Some.is, hidden_now w (world_of c.args.setup.now c.arrive.new.core) c.args.caller c.args.got shown _ c.in_ok-arrive.ensures.ok c.show.ensures, ← c.goes_again-core.ensures)
+    rw (c.in-Some.is, hidden_now w (world_of c.args.site.now.setup c.arrive.new.core) c.args.caller c.args.got shown _ c.in_ok-arrive.ensures.ok c.show.ensures, ← c.goes_again-core.ensures)
     (ap (λ (v : World). record v { hidden = shown_now w.hidden shown; next_finaliser = place + 1; pass_repeats = is_some shown || (not anew && v.pass_repeats) }) c.in_ok-arrive.ensures.ok
     ∙ finalised w c.args.caller of shown c.args.got (Some place) anew))
 
 pub returns-else-is_none-clause-ok : goal.returns-else-is_none-clause-ok
 returns-else-is_none-clause-ok c = λ of.
-    (let w : World = world_of c.args.setup.now c.args.core.now in
+    (let w : World = world_of c.args.site.now.setup c.args.core.now in
     let k = c.args.caller in
     let shown = c.args.shown in
     let got = c.args.got in
     let answers : is_some shown ≡ true = some_is shown c.is_none.result c.is_none.ensures c.if-is_none.false in
     let came : World = record (arrived w k got false) { hidden = shown_now w.hidden shown } in
-    rw (c.in-None.is, hidden_now w (world_of c.args.setup.now c.arrive.new.core) k got shown _ c.in_ok-arrive.ensures.ok c.show.ensures)
+    rw (c.in-None.is, hidden_now w (world_of c.args.site.now.setup c.arrive.new.core) k got shown _ c.in_ok-arrive.ensures.ok c.show.ensures)
     (ap (λ (v : World). record v { hidden = shown_now w.hidden shown }) c.in_ok-arrive.ensures.ok
     ∙ ap (λ (b : Bool). finaliser_done came k None b) (sym answers)
     ∙ finalised w k of shown got None c.args.anew))
@@ -40,9 +40,9 @@ leave-requires-clause-low c =
     let core = c.args.core.now in
     let k = c.args.caller in
     let nothing : c.args.got ≡ None = (c.requires.frame c.in-None.is (none_is c.args.shown c.is_none.result c.is_none.ensures c.if-is_none.true)).1 in
-    let same = c.in_ok-arrive.ensures.ok ∙ ap (λ (o : Option Arrival). arrived (world_of c.args.setup.now core) k o false) nothing in
+    let same = c.in_ok-arrive.ensures.ok ∙ ap (λ (o : Option Arrival). arrived (world_of c.args.site.now.setup core) k o false) nothing in
     let was : caller_of c.index_mut.result.now ≡ caller_of (state_at core.callers.items k) =
-    caller_same c.args.setup.now core c.arrive.new.core k c.index_mut.result.now c.requires.caller same c.index_mut.ensures.value ∙ sym (state_is core.callers.items k) in
+    caller_same c.args.site.now.setup core c.arrive.new.core k c.index_mut.result.now c.requires.caller same c.index_mut.ensures.value ∙ sym (state_is core.callers.items k) in
     subst (λ (x : Caller). x.doing ≡ Scans → x.over < 4294967295) (sym was) c.requires.low
 
 pub leave-requires-clause-top : goal.leave-requires-clause-top
@@ -50,14 +50,14 @@ leave-requires-clause-top c =
     let core = c.args.core.now in
     let k = c.args.caller in
     let frame = c.requires.frame c.in-None.is (none_is c.args.shown c.is_none.result c.is_none.ensures c.if-is_none.true) in
-    let same = c.in_ok-arrive.ensures.ok ∙ ap (λ (o : Option Arrival). arrived (world_of c.args.setup.now core) k o false) frame.1 in
+    let same = c.in_ok-arrive.ensures.ok ∙ ap (λ (o : Option Arrival). arrived (world_of c.args.site.now.setup core) k o false) frame.1 in
     let was : caller_of c.index_mut.result.now ≡ caller_of (state_at core.callers.items k) =
-    caller_same c.args.setup.now core c.arrive.new.core k c.index_mut.result.now c.requires.caller same c.index_mut.ensures.value ∙ sym (state_is core.callers.items k) in
+    caller_same c.args.site.now.setup core c.arrive.new.core k c.index_mut.result.now c.requires.caller same c.index_mut.ensures.value ∙ sym (state_is core.callers.items k) in
     subst (λ (x : Caller). 0 < length x.stack) (sym was) frame.0
 
 pub returns-then-is_none-clause-ok : goal.returns-then-is_none-clause-ok
 returns-then-is_none-clause-ok c = λ of.
-    (let s = c.args.setup.now in
+    (let s = c.args.site.now.setup in
     let core = c.args.core.now in
     let w : World = world_of s core in
     let k = c.args.caller in

@@ -17,21 +17,21 @@ use Rattle.dev_board.proofs.commit.search.Goals as goal
 pub returns-clause-ok : goal.returns-clause-ok
 returns-clause-ok c = λ parent spot.
     (let core = c.args.core.now in
-    let w : World = world_of c.args.setup.now core in
+    let w : World = world_of c.args.site.now.setup core in
     let k = c.args.caller in
     let cs = core.callers.items in
     let was : caller_of c.index_mut.result.now ≡ caller_at w k = at_is caller_of cs k c.index_mut.result.now nobody c.requires.caller c.index_mut.ensures.value in
     let scans : IsTrue (is_scanning (caller_at w k).stack) = rw (← state_is cs k) c.requires.top in
     let moved : callers_of (slice_set cs k c.advance.new.self) ≡ slice_set w.callers k (stacked (caller_at w k) (moved_top c.args.moved (caller_at w k).stack)) =
     map_set caller_of cs k c.advance.new.self ∙ ap (slice_set w.callers k) (c.advance.ensures.caller ∙ ap (λ (x : Caller). stacked x (moved_top c.args.moved x.stack)) was) in
-    searched w (with_callers w (callers_of (slice_set cs k c.advance.new.self))) (world_of c.args.setup.now c.arrive.new.core) k parent spot c.args.moved c.args.got scans
+    searched w (with_callers w (callers_of (slice_set cs k c.advance.new.self))) (world_of c.args.site.now.setup c.arrive.new.core) k parent spot c.args.moved c.args.got scans
     (ap (with_callers w) moved) (ok_of _ c.arrive.result c.is_err.result c.is_err.ensures.value c.if-is_err.false c.arrive.ensures.ok))
 
 -- the callers where nothing came: the scan has moved
 pub advance-requires-then-is_err : goal.advance-requires-then-is_err
 advance-requires-then-is_err c =
     let core = c.args.core.now in
-    let w : World = world_of c.args.setup.now core in
+    let w : World = world_of c.args.site.now.setup core in
     let k = c.args.caller in
     let cs = core.callers.items in
     let was : caller_of c.index_mut.result.now ≡ caller_at w k = at_is caller_of cs k c.index_mut.result.now nobody c.requires.caller c.index_mut.ensures.value in
@@ -51,7 +51,7 @@ advance-requires-then-is_err c =
 
 pub returns-then-is_err-clause-err : goal.returns-then-is_err-clause-err
 returns-then-is_err-clause-err c =
-    let s = c.args.setup.now in
+    let s = c.args.site.now.setup in
     let core = c.args.core.now in
     let w : World = world_of s core in
     let k = c.args.caller in

@@ -8,43 +8,42 @@ use Rattle.dev_board.proofs.effect.do_command.Goals as goal
 
 pub open-requires-clause-low : goal.open-requires-clause-low
 open-requires-clause-low c =
-    let w : World = world_of c.args.setup.now c.args.core.now in
+    let w : World = world_of c.args.site.now.setup c.args.core.now in
     subst (λ (x : Caller). x.over < 4294967295) (sym (state_is c.args.core.now.callers.items c.args.caller)) (over_fits w c.args.caller c.requires.may c.requires.kept)
 
 pub unplug-requires-clause-low : goal.unplug-requires-clause-low
 unplug-requires-clause-low c =
-    let w : World = world_of c.args.setup.now c.args.core.now in
+    let w : World = world_of c.args.site.now.setup c.args.core.now in
     subst (λ (x : Caller). x.over < 4294967295) (sym (state_is c.args.core.now.callers.items c.args.caller)) (over_fits w c.args.caller c.requires.may c.requires.kept)
 
 pub open-requires-clause-holder : goal.open-requires-clause-holder
 open-requires-clause-holder c =
-    let w : World = world_of c.args.setup.now c.args.core.now in
+    let w : World = world_of c.args.site.now.setup c.args.core.now in
     (subst (MayDo w c.args.caller) c.in-Open.is (may_do w c.args.caller c.args.deed c.requires.may c.requires.kept c.requires.chosen)).0
 
 pub open-requires-clause-room : goal.open-requires-clause-room
 open-requires-clause-room c =
-    let w : World = world_of c.args.setup.now c.args.core.now in
+    let w : World = world_of c.args.site.now.setup c.args.core.now in
     (subst (MayDo w c.args.caller) c.in-Open.is (may_do w c.args.caller c.args.deed c.requires.may c.requires.kept c.requires.chosen)).1
 
 pub rescan-requires-clause-few : goal.rescan-requires-clause-few
-rescan-requires-clause-few c = λ a. few_locators c.args.setup.now a c.requires.may
+rescan-requires-clause-few c = λ a. few_locators c.args.site.now.setup a c.requires.may
 
 pub rescan-requires-clause-known : goal.rescan-requires-clause-known
 rescan-requires-clause-known c =
-    let w : World = world_of c.args.setup.now c.args.core.now in
+    let w : World = world_of c.args.site.now.setup c.args.core.now in
     known_given w c.args.caller c.in-Rescan.of c.in-Rescan.only (rw c.in-Rescan.is at c.requires.chosen)
 
 pub unplug-requires-clause-live : goal.unplug-requires-clause-live
 unplug-requires-clause-live c =
-    let w : World = world_of c.args.setup.now c.args.core.now in
+    let w : World = world_of c.args.site.now.setup c.args.core.now in
     unplug_may w c.args.caller c.in-Unplug.spot c.in-Unplug.of
     (subst (MayDo w c.args.caller) c.in-Unplug.is (may_do w c.args.caller c.args.deed c.requires.may c.requires.kept c.requires.chosen))
 
 pub do_plain-requires : goal.do_plain-requires
 do_plain-requires c =
-    let w : World = world_of c.args.setup.now c.args.core.now in
+    let w : World = world_of c.args.site.now.setup c.args.core.now in
     record {
-      bounded = c.requires.bounded;
       books = c.requires.books;
       sound = c.requires.kept.sound.devices;
       rows = c.requires.kept.ranges.rows;
@@ -55,7 +54,7 @@ do_plain-requires c =
     }
 
 pub returns-in-Open-clause-err : goal.returns-in-Open-clause-err
-returns-in-Open-clause-err c = err_more c.open.result c.open.ensures.err (λ h. h c.args.setup.now)
+returns-in-Open-clause-err c = err_more c.open.result c.open.ensures.err (λ h. h c.args.site.now.setup)
 
 pub returns-in-Unplug-clause-err : goal.returns-in-Unplug-clause-err
-returns-in-Unplug-clause-err c = err_more c.unplug.result c.unplug.ensures.err (λ h. h c.args.setup.now)
+returns-in-Unplug-clause-err c = err_more c.unplug.result c.unplug.ensures.err (λ h. h c.args.site.now.setup)

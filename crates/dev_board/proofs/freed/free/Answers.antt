@@ -9,11 +9,11 @@ pub returns-then-is_over-clause-world : goal.returns-then-is_over-clause-world
 unfolding after
 returns-then-is_over-clause-world c =
     let core = c.args.core.now in
-    let w : World = world_of c.args.setup.now core in
+    let w : World = world_of c.args.site.now.setup core in
     let k = c.args.caller in
     let of = c.args.of in
     let target : freeing_target (caller_at w k).doing of ≡ true =
     ap (λ (x : Caller). freeing_target x.doing of) (sym (at_is caller_of core.callers.items k c.index.result.now nobody c.requires.caller c.index.ensures))
     ∙ sym c.is_target-is_over.ensures ∙ c.if-is_over.true in
-    c.finish.ensures.world c.args.setup.now ∙ ap (λ (v : World). over v k) c.free_device.ensures.world
+    c.finish.ensures.world c.args.site.now.setup ∙ ap (λ (v : World). over v k) c.free_device.ensures.world
     ∙ ap (λ (b : Bool). cond b (over (freed w of) k) (freed w of)) (sym target)

@@ -8,15 +8,15 @@ use Rattle.dev_board.proofs.freed.free_device.Goals as goal
 
 pub give-requires-clause-device : goal.give-requires-clause-device
 give-requires-clause-device c =
-    let s = c.args.setup.now in
+    let s = c.args.site.now.setup in
     let live = c.args.core.now.tree.live in
     let at : device_at live c.args.of ≡ Some c.in-Some.device = sym c.get.ensures ∙ c.in-Some.is in
     let row : c.in-Some.device.row < length s.tables.rows = found_in (λ d. d.row < length s.tables.rows) (λ d. d.serial == c.args.of) live c.in-Some.device c.requires.rows at in
-    rw (c.driver_of-driver.ensures, c.requires.books.units.devices) (row_driver s c.in-Some.device.row c.requires.bounded.tables.formed row)
+    rw (c.driver_of-driver.ensures, c.requires.books.units.devices) (row_driver s c.in-Some.device.row c.args.site.now.bounded.tables.formed row)
 
 pub give-requires-clause-taken : goal.give-requires-clause-taken
 give-requires-clause-taken c =
-    let s = c.args.setup.now in
+    let s = c.args.site.now.setup in
     let live = c.args.core.now.tree.live in
     let d = c.in-Some.device in
     rw c.driver_of-driver.ensures (c.requires.books.units.taken (driver_of s d.row) d.unit ∙ unit_found s live c.args.of d (sym c.get.ensures ∙ c.in-Some.is))
@@ -26,7 +26,7 @@ unreachable-requires c = found_there c.args.core.now.tree.live c.args.of c.requi
 
 pub returns-clause-books : goal.returns-clause-books
 returns-clause-books c =
-    let s = c.args.setup.now in
+    let s = c.args.site.now.setup in
     let core = c.args.core.now in
     let live = core.tree.live in
     let d = c.in-Some.device in

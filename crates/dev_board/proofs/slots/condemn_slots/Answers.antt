@@ -7,16 +7,16 @@ use Rattle.dev_board.proofs.slots.condemn_slots.Goals.{then-stands_below, else-s
 
 pub loop-spot-init : goal.loop-spot-init
 loop-spot-init g c = record {
-  states = λ h. h.agree ∙ amid_first h.were c.args.core.now.tree.live (length c.args.setup.now.machine.spots);
+  states = λ h. h.agree ∙ amid_first h.were c.args.core.now.tree.live (length c.args.site.now.setup.machine.spots);
   denials = refl;
   last = refl;
 }
 
 pub condemn-requires : goal.condemn-requires
 condemn-requires g c =
-    let h = c.requires.lately in
+    let h = c.requires in
     let x = c.loop-spot.spot in
-    let n = length c.args.setup.now.machine.spots in
+    let n = length c.args.site.now.setup.machine.spots in
     let inside : x < n = rw c.len-spot-end.ensures at c.loop-spot-test.true in
     let here : below_on h.were c.args.target x ≡ true =
     sym (same_below h.were h.caller c.args.target x) ∙ ap (λ (ds : List Dev). below_on ds c.args.target x) (sym h.marked) ∙ c.stands_below.ensures ∙ c.if-stands_below.true in
@@ -25,7 +25,7 @@ condemn-requires g c =
 pub loop-spot-preserved : goal.loop-spot-preserved
 loop-spot-preserved g c =
     let live = c.args.core.now.tree.live in
-    let n = length c.args.setup.now.machine.spots in
+    let n = length c.args.site.now.setup.machine.spots in
     let s = c.args.target in
     let x = c.loop-spot.spot in
     let inside : x < n = rw c.len-spot-end.ensures at c.loop-spot-test.true in
@@ -53,7 +53,7 @@ loop-spot-preserved g c =
 pub returns-clause-agree : goal.returns-clause-agree
 unfolding slots_of
 returns-clause-agree g c =
-    let h = c.requires.lately in
-    let n = length c.args.setup.now.machine.spots in
+    let h = c.requires in
+    let n = length c.args.site.now.setup.machine.spots in
     let passed : n ≤ c.loop-spot.spot = rw c.len-spot-end.ensures at c.loop-spot-test.false in
     c.loop-spot.invariant.states h ∙ amid_last h.were c.args.core.now.tree.live n c.loop-spot.spot passed

@@ -15,7 +15,7 @@ use Rattle.dev_board.proofs.slots.free_with.Goals as goal
 
 pub bury_slot-requires : goal.bury_slot-requires
 bury_slot-requires g c =
-    let w : World = world_of c.args.setup.now c.args.core.now in
+    let w : World = world_of c.args.site.now.setup c.args.core.now in
     let apart = c.requires.kept.sound.devices.apart in
     let x = c.in-Some.device in
     let at : device_at w.live c.args.of ≡ Some x = sym c.get.ensures ∙ c.in-Some.is in
@@ -24,23 +24,23 @@ bury_slot-requires g c =
     ap (λ (xs : List SlotState). slice_get xs x.spot) c.requires.agree ∙ slot_condemned w c.args.of x apart at (next_condemned w.setup w.live c.args.caller c.args.of x apart last at) inside
 
 pub free-requires-clause-live : goal.free-requires-clause-live
-free-requires-clause-live g c = (free_may (world_of c.args.setup.now c.args.core.now) c.args.caller c.args.of c.requires.kept c.requires.chosen).0
+free-requires-clause-live g c = (free_may (world_of c.args.site.now.setup c.args.core.now) c.args.caller c.args.of c.requires.kept c.requires.chosen).0
 
 pub free-requires-clause-children : goal.free-requires-clause-children
-free-requires-clause-children g c = (free_may (world_of c.args.setup.now c.args.core.now) c.args.caller c.args.of c.requires.kept c.requires.chosen).1
+free-requires-clause-children g c = (free_may (world_of c.args.site.now.setup c.args.core.now) c.args.caller c.args.of c.requires.kept c.requires.chosen).1
 
 pub free-requires-clause-low : goal.free-requires-clause-low
 free-requires-clause-low g c =
     subst (λ (x : Caller). x.over < 4294967295) (sym (state_is c.args.core.now.callers.items c.args.caller))
-    (over_fits (world_of c.args.setup.now c.args.core.now) c.args.caller c.requires.may c.requires.kept)
+    (over_fits (world_of c.args.site.now.setup c.args.core.now) c.args.caller c.requires.may c.requires.kept)
 
 pub unreachable-requires : goal.unreachable-requires
 unreachable-requires g c =
-    found_there c.args.core.now.tree.live c.args.of (free_may (world_of c.args.setup.now c.args.core.now) c.args.caller c.args.of c.requires.kept c.requires.chosen).0 (sym c.get.ensures ∙ c.in-None.is)
+    found_there c.args.core.now.tree.live c.args.of (free_may (world_of c.args.site.now.setup c.args.core.now) c.args.caller c.args.of c.requires.kept c.requires.chosen).0 (sym c.get.ensures ∙ c.in-None.is)
 
 pub returns-in-Ok-clause-agree : goal.returns-in-Ok-clause-agree
 returns-in-Ok-clause-agree g c =
-    let w : World = world_of c.args.setup.now c.args.core.now in
+    let w : World = world_of c.args.site.now.setup c.args.core.now in
     let apart = c.requires.kept.sound.devices.apart in
     let x = c.in-Some.device in
     let at : device_at w.live c.args.of ≡ Some x = sym c.get.ensures ∙ c.in-Some.is in

@@ -6,7 +6,7 @@ use Rattle.dev_board.proofs.step.step_core.Goals as goal
 
 pub returns-in-None-clause-boot : goal.returns-in-None-clause-boot
 returns-in-None-clause-boot g c = λ boots.
-    (let s = c.args.setup.now in
+    (let s = c.args.site.now.setup in
     let old = shown_of s c.args.core.now in
     let new = shown_of s c.next_step.new.core in
     of_boot old new c.next_step.result c.requires.kept.kept (subst (λ (k : ℕ). StepIs old k c.next_step.result new) boots c.next_step.ensures.step))

@@ -1,6 +1,6 @@
 use Rattle.std.proofs.Common.{◌≡◌, ◌≢◌, suc, ◌-◌, ◌+◌, length, sym, ap, ◌∙◌, arith}
 use Rattle.run_rules.specs.World.{has, lineage, is_under}
-use Rattle.dev_tree.proofs.Chains.{chain_found, chain_more, chain_nothing, chain_ends}
+use Rattle.run_rules.proofs.Chains.{chain_found, chain_more, chain_nothing, chain_ends}
 use Rattle.dev_tree.proofs.lookup.is_under.Goals as goal
 
 pub loop-level-init : goal.loop-level-init
@@ -26,7 +26,7 @@ returns-then-current-eq0 c =
     let ne : 0 ≢ c.args.above = λ e. c.if-current-above.false (c.if-current-eq0.true ∙ e) in
     sym c.loop-level.invariant
     ∙ ap (λ x. has (lineage (length c.args.live.now - c.loop-level._level) c.args.live.now x) c.args.above) c.if-current-eq0.true
-    ∙ chain_ends c.args.live.now (length c.args.live.now - c.loop-level._level) c.args.above c.requires ne
+    ∙ chain_ends c.args.live.now (length c.args.live.now - c.loop-level._level) c.args.above c.requires.above ne
 
 pub returns : goal.returns
 unfolding is_under

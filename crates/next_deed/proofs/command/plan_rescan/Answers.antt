@@ -4,6 +4,6 @@ use Rattle.run_world.specs.View.{world_of}
 use Rattle.next_deed.proofs.ChoiceLaws.{at_found}
 use Rattle.next_deed.proofs.command.plan_rescan.Goals as goal
 
-pub plan_search-requires-clause-there : goal.plan_search-requires-clause-there
-plan_search-requires-clause-there c =
-    at_found (world_of c.args.setup.now c.args.core.now) (λ d. bytes_eq (name_of c.args.setup.now d) c.args.name.now) c.in_ok-device.device c.requires.kept c.in_ok-device.ensures.found
+pub plan_search-requires : goal.plan_search-requires
+plan_search-requires c =
+    at_found (world_of c.args.site.now.setup c.args.core.now) (λ d. bytes_eq (name_of c.args.site.now.setup d) c.args.name.now) c.in_ok-device.device c.requires c.in_ok-device.ensures.found

@@ -6,7 +6,7 @@ pub returns-in_err-turn-clause-due : goal.returns-in_err-turn-clause-due
 returns-in_err-turn-clause-due c =
     let core = c.args.core.now in
     sym c.loop-turn.invariant
-    ∙ none_due c.args.setup.now core.tree.live core.absent.items core.hidden.items c.args.serial c.args.only c.args.filter.now c.loop-turn.position c.who_searches-by.result
+    ∙ none_due c.args.site.now.setup core.tree.live core.absent.items core.hidden.items c.args.serial c.args.only c.args.filter.now c.loop-turn.position c.who_searches-by.result
     c.who_searches-by.ensures c.in_err-turn.ensures.next
     ∙ sym c.from_residual.ensures
 
@@ -14,15 +14,15 @@ pub returns-then-is_due-clause-due : goal.returns-then-is_due-clause-due
 returns-then-is_due-clause-due c =
     let core = c.args.core.now in
     sym c.loop-turn.invariant
-    ∙ this_due c.args.setup.now core.tree.live core.absent.items core.hidden.items c.args.serial c.args.only c.args.filter.now c.loop-turn.position c.who_searches-by.result c.in_ok-turn.turn
+    ∙ this_due c.args.site.now.setup core.tree.live core.absent.items core.hidden.items c.args.serial c.args.only c.args.filter.now c.loop-turn.position c.who_searches-by.result c.in_ok-turn.turn
     c.who_searches-by.ensures c.in_ok-turn.ensures.next (c.is_due.ensures ∙ c.if-is_due.true)
 
 pub loop-turn-smaller : goal.loop-turn-smaller
-loop-turn-smaller c = fewer_turns c.args.setup.now c.who_searches-by.result c.args.only c.loop-turn.position c.in_ok-turn.turn c.in_ok-turn.ensures.next
+loop-turn-smaller c = fewer_turns c.args.site.now.setup c.who_searches-by.result c.args.only c.loop-turn.position c.in_ok-turn.turn c.in_ok-turn.ensures.next
 
 pub loop-turn-preserved : goal.loop-turn-preserved
 loop-turn-preserved c =
     let core = c.args.core.now in
-    not_due c.args.setup.now core.tree.live core.absent.items core.hidden.items c.args.serial c.args.only c.args.filter.now c.loop-turn.position c.who_searches-by.result c.in_ok-turn.turn
+    not_due c.args.site.now.setup core.tree.live core.absent.items core.hidden.items c.args.serial c.args.only c.args.filter.now c.loop-turn.position c.who_searches-by.result c.in_ok-turn.turn
     c.who_searches-by.ensures c.in_ok-turn.ensures.next (c.is_due.ensures ∙ c.if-is_due.false)
     ∙ c.loop-turn.invariant

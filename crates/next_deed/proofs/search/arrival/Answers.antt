@@ -4,7 +4,7 @@ use Rattle.run_world.proofs.UnitLaws.{few_taken}
 use Rattle.next_deed.proofs.search.arrival.Goals as goal
 
 pub unit_of-requires-clause-few : goal.unit_of-requires-clause-few
-unit_of-requires-clause-few c = λ device. few_taken c.args.setup.now c.args.core.now.tree.live c.args.core.now.units device c.requires.books.units c.requires.live
+unit_of-requires-clause-few c = λ device. few_taken c.args.site.now.setup c.args.core.now.tree.live c.args.core.now.units device c.requires.books.units c.requires.live
 
 pub returns-in-Some : goal.returns-in-Some
 unfolding next.arrival

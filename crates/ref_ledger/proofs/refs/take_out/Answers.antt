@@ -1,7 +1,7 @@
 use Rattle.std.proofs.Common.{◌∙◌, ap, sym}
 use Rattle.std.specs.Prelude.{position}
 use Rattle.run_rules.specs.References.{is_of}
-use Rattle.ref_ledger.proofs.LedgerLaws.{none_taken, taken_at}
+use Rattle.run_rules.proofs.Removals.{none_taken, taken_at}
 use Rattle.ref_ledger.proofs.refs.take_out.Goals as goal
 
 pub returns-in-Some : goal.returns-in-Some

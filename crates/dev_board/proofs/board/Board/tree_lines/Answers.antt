@@ -6,11 +6,10 @@ use Rattle.history_laws.proofs.TreeTold.{tree_always}
 use Rattle.run_rules.specs.declared.event.Event.{Event}
 use Rattle.run_rules.specs.Tree.{tree_lines}
 use Rattle.run_world.specs.View.{world_of}
-use Rattle.run_world.proofs.InputLaws.{bounded}
 use Rattle.dev_board.proofs.board.Board.tree_lines.Goals as goal
 
 pub tree_of-requires-clause-bounded : goal.tree_of-requires-clause-bounded
-tree_of-requires-clause-bounded c = bounded c.self.inside.setup c.self.invariant.0.may
+tree_of-requires-clause-bounded c = c.self.inside.site.bounded
 
 -- lines that are those of the tree tell what the history tells
 told_lines : {E : Type 0} (lines : List DevLine) (h : List Event) (r : Result (List DevLine) E) → TellsTree h lines → IfOk r (λ ls. ls ≡ lines) → IfOk r (λ ls. TellsTree h ls)
@@ -20,7 +19,7 @@ told_lines lines h (Err e) told same = tt
 pub returns-clause-told : goal.returns-clause-told
 returns-clause-told c =
     let b = c.self.inside in
-    let kept = c.self.invariant.0 in
+    let kept = c.self.invariant in
     rw (← c.self.view_is)
-    (told_lines (tree_lines (world_of b.setup b.core)) b.core.events.items c.tree_of.result
-    (tree_always b.setup b.core.events.items (world_of b.setup b.core) kept.may kept.run) c.tree_of.ensures)
+    (told_lines (tree_lines (world_of b.site.setup b.core)) b.core.events.items c.tree_of.result
+    (tree_always b.site.setup b.core.events.items (world_of b.site.setup b.core) kept.may kept.run) c.tree_of.ensures)

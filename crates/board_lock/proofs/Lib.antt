@@ -1,0 +1,7 @@
+pub mod Held
+pub mod Fits
+pub mod Books
+pub mod Seated
+pub mod Opened
+pub mod Published
+pub mod Spared

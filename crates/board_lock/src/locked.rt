@@ -1,0 +1,170 @@
+//! What lies behind the lock.
+ghost use Rattle.std.specs.Prelude.{◌≡◌, ◌≢◌, ◌<◌, ◌≤◌, ◌+◌};
+ghost use Rattle.dev_board.specs.Shown.{Shown};
+ghost use Rattle.board_lock.specs.Boards.{spots_of, LeaseFits};
+ghost use Rattle.board_lock.specs.Holding.{Settles};
+ghost use Rattle.board_lock.specs.Kept.{LockedKept};
+ghost use Rattle.board_lock.specs.Tallies.{more_in_all};
+ghost use Rattle.board_lock.specs.Turning.{TryIs, PostIs, counted, halted, settled};
+
+#[cfg(test)]
+mod tests;
+
+use crate::lease_slots::LeaseSlots;
+use crate::names::Naming;
+use crate::seat::Seat;
+use crate::tally::{Books, ends_caller};
+use crate::turn::Turn;
+use crate::waits::may_end_wait;
+use dev_board::{Board, IoResult, LeaseStep, Posted, Stepped};
+use lease_table::LeaseTable;
+use run_rules::Event;
+use std::marker::Model;
+
+/// The board, with the slots of its spots and the books of its ledgers. Contracts see the board.
+#[derive(Drop)]
+pub struct Locked<N: Naming> {
+    board: Board,
+    slots: LeaseSlots<N>,
+    books: Books<N>,
+}
+
+impl<N: Naming> Model for Locked<N> {
+    ghost Value = { Shown };
+
+    ghost view = { λ l. l.board };
+
+    ghost invariant = { λ l. LockedKept N.opening N.table l.board l.books l.slots };
+}
+
+// Counts an event of the seat's caller.
+fn count_event<N: Naming>(books: &mut Books<N>, seat: &mut Seat<N>, event: &Event)
+    requires { event.now.caller ≢ 0 }
+    ensures books { books.new ≡ more_in_all books.old event.now }
+    ensures seat { seat.new ≡ counted seat.old event.now }
+{
+    books.count(&mut seat.shares, event);
+    if ends_caller(event) && seat.ends < 2 {
+        seat.ends += 1;
+    }
+}
+
+// Takes or gives back the lease that a step names.
+fn settle<N: Naming>(table: &LeaseTable, seat: &mut Seat<N>, step: LeaseStep)
+    requires table { table.now ≡ N.table }
+    requires slots { spots_of N.opening + 1 ≡ N.table.words }
+    requires fits { LeaseFits (spots_of N.opening) step }
+    ensures leases { Settles seat.old.leases step seat.new.leases }
+    ensures rest { seat.new ≡ settled seat.old seat.new.leases }
+{
+    match step {
+        LeaseStep::Keep => {}
+        LeaseStep::Take(slot) => seat.leases.take(table, slot),
+        LeaseStep::Give(slot) => seat.leases.give(table, slot),
+    }
+}
+
+impl<N: Naming> Locked<N> {
+    /// The board of a run, with its slots and its books.
+    pub fn make(board: Board, slots: LeaseSlots<N>, books: Books<N>) -> Locked<N>
+        requires { LockedKept N.opening N.table board books slots }
+        ensures { result ≡ board }
+    {
+        Locked {
+            board,
+            slots,
+            books,
+        }
+    }
+
+    /// One step of the seat's caller; none where the board waits.
+    #[tactic(auto, using(crate::proofs::Opened::kept_same))]
+    pub fn turn(&mut self, table: &LeaseTable, seat: &mut Seat<N>) -> Option<Turn>
+        requires { table.now ≡ N.table }
+        ensures { TryIs N.opening seat.old result seat.new }
+    {
+        let Locked {
+            board,
+            slots,
+            books,
+        } = self;
+        board.stands();
+        let (place, told) = match board.step(seat.caller(), slots) {
+            Stepped::Did(place, told) => (place, told),
+            Stepped::Waits(_) => return None,
+            Stepped::Transfer(ticket, told) => return Some(Turn::Transfer(ticket, told)),
+            Stepped::Closed => {
+                if seat.has_ended() {
+                    return Some(Turn::Closed);
+                }
+                return None;
+            }
+            Stepped::Stopped(first, told) => return Some(Turn::Stopped(first, told)),
+            Stepped::Memory => return Some(Turn::Memory),
+        };
+        count_event(books, seat, board.event(place));
+        settle(table, seat, told.lease());
+        Some(Turn::Did(place, told))
+    }
+
+    /// The end of a transfer of the seat's caller.
+    pub fn accept(&mut self, seat: &mut Seat<N>, done: IoResult) -> Turn
+        requires { done.caller ≡ seat.old.caller }
+        ensures { PostIs N.opening seat.old result seat.new }
+    {
+        let Locked {
+            board,
+            slots: _,
+            books,
+        } = self;
+        let _ = seat.caller();
+        let (place, told) = match board.post(done) {
+            Posted::Did(place, told) => (place, told),
+            Posted::Stale(kept, told) => return Turn::Stale(kept, told),
+            Posted::Stopped(first, told) => return Turn::Stopped(first, told),
+            Posted::Memory => return Turn::Memory,
+        };
+        count_event(books, seat, board.event(place));
+        Turn::Did(place, told)
+    }
+
+    /// Stops the board for the seat's caller.
+    pub fn halt(&mut self, seat: &mut Seat<N>)
+        requires { seat.old.stops ≡ 0 }
+        ensures { seat.new ≡ halted seat.old }
+    {
+        let Locked {
+            board,
+            slots: _,
+            books,
+        } = self;
+        board.stands();
+        books.halt(&mut seat.shares);
+        seat.halted = true;
+        board.stop(seat.caller);
+    }
+
+    /// Whether an answer may end the wait of another caller.
+    pub fn may_end_waits(&self, turn: &Turn) -> bool {
+        let Turn::Did(place, _) = turn else {
+            return false;
+        };
+        let place = *place;
+        if place >= self.board.events() {
+            return true;
+        }
+        may_end_wait(&self.board.event(place).act)
+    }
+
+    /// The board, the slots and the books.
+    pub fn into_parts(self) -> (Board, LeaseSlots<N>, Books<N>)
+        ensures { LockedKept N.opening N.table result.0 result.2 result.1 × (result.0 ≡ self) }
+    {
+        let Locked {
+            board,
+            slots,
+            books,
+        } = self;
+        (board, slots, books)
+    }
+}

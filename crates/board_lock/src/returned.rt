@@ -1,0 +1,43 @@
+//! Shares whose callers hold nothing any more.
+ghost use Rattle.std.specs.Prelude.{◌≡◌};
+ghost use Rattle.board_lock.specs.Boards.{scripts_of};
+ghost use Rattle.board_lock.specs.Holding.{HoldsNothing};
+ghost use Rattle.board_lock.specs.Tallies.{Tally, Agrees, together};
+
+use crate::leases::Leases;
+use crate::names::Naming;
+use crate::tally::{Books, Shares};
+use std::marker::Model;
+
+/// Shares of callers that gave all their leases back. Only such shares are put together and held against the books.
+#[derive(Drop)]
+pub struct Returned<N: Naming> {
+    pub(crate) shares: Shares<N>,
+    pub(crate) leases: Leases,
+}
+
+impl<N: Naming> Model for Returned<N> {
+    ghost Value = { Tally };
+
+    ghost view = { λ r. r.shares };
+
+    ghost invariant = { λ r. HoldsNothing r.leases.view };
+}
+
+impl<N: Naming> Returned<N> {
+    /// Puts the shares of another caller to these.
+    pub fn merge(&mut self, other: Returned<N>)
+        ensures { self.new ≡ together self.old other }
+    {
+        let Returned { shares, leases: _ } = other;
+        self.shares.merge(shares);
+    }
+
+    /// The shares of all seats have what the books say.
+    pub fn audit(&mut self, books: &mut Books<N>)
+        requires { self.old.parts ≡ scripts_of N.opening }
+        ensures { Agrees self.old books.old }
+    {
+        books.audit(&mut self.shares);
+    }
+}

@@ -1,0 +1,175 @@
+//! The board behind its lock.
+ghost use Rattle.std.specs.Prelude.{◌≡◌, ◌<◌, ◌+◌, IfOk, length, sum_by};
+ghost use Rattle.std.specs.Arc.{arc_value};
+ghost use Rattle.atomic_table.specs.Seated.{TableId};
+ghost use Rattle.run_rules.specs.Counts.{ends_of, dids_of};
+ghost use Rattle.run_rules.specs.Run.{Run};
+ghost use Rattle.dev_board.specs.Booting.{IsBooted};
+ghost use Rattle.dev_board.specs.Shown.{began};
+ghost use Rattle.board_lock.specs.Boards.{scripts_of, spots_of};
+ghost use Rattle.board_lock.specs.Holding.{LookIs};
+ghost use Rattle.board_lock.specs.Kept.{LockedKept};
+ghost use Rattle.board_lock.specs.Names.{AreNames};
+ghost use Rattle.board_lock.specs.Seats.{PartsFit, seats_below};
+ghost use Rattle.board_lock.specs.Turning.{TurnIs, PostIs, halted, settled};
+
+use crate::deal::deal_seats;
+use crate::finish::gather_all;
+use crate::lease_slots::LeaseSlots;
+use crate::locked::Locked;
+use crate::names::Naming;
+use crate::parts::RunParts;
+use crate::seat::{Done, Seat};
+use crate::tally::Books;
+use crate::turn::Turn;
+use cf_types::{List, Memory, Ticket};
+use dev_board::{Board, IoResult};
+use lease_table::{LeaseKeeper, LeaseTable, Word};
+use std::alloc::Global;
+use std::marker::Model;
+use std::sync::{Arc, Condvar, Mutex, Wait};
+
+/// A board that threads share.
+#[derive(Drop)]
+pub struct SharedBoard<N: Naming> {
+    pub(crate) lock: Mutex<Locked<N>>,
+    moved: Condvar,
+    pub(crate) table: Arc<LeaseTable, Global>,
+}
+
+impl<N: Naming> Model for SharedBoard<N> {
+    ghost Value = { TableId };
+
+    ghost view = { λ s. arc_value s.table };
+
+    ghost invariant = { λ s. arc_value s.table ≡ N.table };
+}
+
+/// What is left of a run: the board, and how many scripts have ended.
+#[derive(Drop)]
+pub struct Finished {
+    pub board: Board,
+    pub ended: u64,
+}
+
+// A board for threads. The table is beside the lock too, since a look at a lease takes no lock.
+fn share<N: Naming>(
+    board: Board,
+    table: Arc<LeaseTable, Global>,
+    keeper: LeaseKeeper,
+    books: Books<N>,
+) -> Result<SharedBoard<N>, Memory>
+    requires kept { LockedKept N.opening N.table board books keeper }
+    requires table { (arc_value table ≡ N.table) × (keeper.table ≡ N.table) }
+{
+    let slots = LeaseSlots::make(Arc::try_clone(&table)?, keeper);
+    let locked = Locked::make(board, slots, books);
+    Ok(SharedBoard {
+        lock: Mutex::new(locked),
+        moved: Condvar::new(),
+        table,
+    })
+}
+
+impl<N: Naming> SharedBoard<N> {
+    /// A board for threads, and a seat for each script. On `Memory` the board and the parts are dropped.
+    pub fn make(
+        alloc: Global,
+        board: Board,
+        parts: RunParts,
+    ) -> Result<(SharedBoard<N>, List<Seat<N>>), Memory>
+        requires names { AreNames N.opening N.closings N.dids N.stops N.table board parts }
+        requires fits { PartsFit parts board }
+        requires booted { IsBooted board }
+        requires some { 0 < scripts_of board.world }
+        ensures seats { IfOk result (λ r. r.1 ≡ seats_below (spots_of N.opening) (scripts_of N.opening)) }
+        ensures count { IfOk result (λ r. length r.1 ≡ scripts_of N.opening) }
+        ensures each { IfOk result (λ r. length r.1 ≡ scripts_of board.world) }
+    {
+        let RunParts {
+            closings,
+            dids,
+            stops,
+            table,
+            keeper,
+            callers,
+        } = parts;
+        board.stands();
+        let (books, shares) = Books::open(closings, dids, stops, board.callers());
+        let seats = deal_seats(alloc, board.spots(), shares, callers)?;
+        let shared = share(board, table, keeper, books)?;
+        Ok((shared, seats))
+    }
+
+    /// One step of the seat's caller. Where the board waits, the call waits for a notice and steps again. At an event the lease
+    /// that it names is taken or given back, in the same taking of the lock.
+    pub fn step<R: Wait>(&self, rt: &R, seat: &mut Seat<N>) -> Turn
+        ensures { TurnIs N.opening seat.old result seat.new }
+    {
+        let mut guard = self.lock.lock(rt);
+        for _ in rt.forever() {
+            if let Some(turn) = guard.turn(&self.table, seat) {
+                let may_end_waits = guard.may_end_waits(&turn);
+                drop(guard);
+                if may_end_waits {
+                    self.moved.notify_all();
+                }
+                return turn;
+            }
+            guard = self.moved.wait(rt, guard);
+        }
+        unreachable!()
+    }
+
+    /// Hands in the result of a transfer of the seat's caller. The result is spent at every answer. Nobody is woken, since the end
+    /// of a transfer ends no wait.
+    pub fn post<R: Wait>(&self, rt: &R, seat: &mut Seat<N>, done: IoResult) -> Turn
+        requires { done.caller ≡ seat.old.caller }
+        ensures { PostIs N.opening seat.old result seat.new }
+    {
+        self.lock.lock(rt).accept(seat, done)
+    }
+
+    /// What the word of a transfer's slot says, without the lock; none where the seat has no lease on that slot.
+    pub fn look(&self, seat: &mut Seat<N>, ticket: &Ticket) -> Option<Word>
+        ensures look { LookIs seat.old.leases seat.old.caller ticket.now.slot result seat.new.leases }
+        ensures rest { seat.new ≡ settled seat.old seat.new.leases }
+    {
+        seat.leases.look(&self.table, ticket.slot)
+    }
+
+    /// Stops the board once for the seat's caller, and tells all who wait.
+    pub fn stop<R: Wait>(&self, rt: &R, seat: &mut Seat<N>)
+        ensures { seat.new ≡ halted seat.old }
+    {
+        if seat.has_stopped() {
+            return;
+        }
+        self.lock.lock(rt).halt(seat);
+        self.moved.notify_all();
+    }
+
+    /// The board, once every caller is done; the leases that callers still hold are given back.
+    pub fn finish(self, done: List<Done<N>>) -> Finished
+        requires all { length done ≡ scripts_of N.opening }
+        requires some { 0 < length done }
+        ensures opening { began result.board ≡ N.opening }
+        ensures run { Run N.opening result.board.events result.board.world }
+        ensures ended { result.ended ≡ sum_by (λ d. d.closings) done }
+        ensures ends { result.ended ≡ ends_of result.board.events }
+        ensures dids { sum_by (λ d. d.dids) done ≡ dids_of result.board.events }
+        ensures stops { sum_by (λ d. d.stops) done ≡ result.board.stops }
+    {
+        let SharedBoard {
+            lock,
+            moved: _,
+            table,
+        } = self;
+        let (board, _slots, mut books) = lock.into_inner().into_parts();
+        let mut all = gather_all(&table, done.into_vec());
+        all.audit(&mut books);
+        board.stands();
+        let ended = board.closed_scripts();
+        Finished { board, ended }
+    }
+}

@@ -1,0 +1,38 @@
+//! One worker.
+ghost use Rattle.drv_workers.specs.Ends.{WorkEnds};
+
+use crate::medium::Medium;
+use board_lock::{Done, DoneEnd, Naming, Seat, SharedBoard, Turn};
+use std::sync::Wait;
+
+/// Steps a seat until its caller has ended, the board was stopped, or memory ran out, at which it stops the board once. A
+/// transfer is carried out outside the lock, after a look at the lease on its device.
+pub fn work<M: Medium, N: Naming, R: Wait>(
+    rt: &R,
+    shared: &SharedBoard<N>,
+    seat: Seat<N>,
+    medium: &M,
+) -> Done<N>
+    ensures { WorkEnds N.opening seat result }
+{
+    let mut seat = seat;
+    for _ in rt.forever() {
+        let turn = match shared.step(rt, &mut seat) {
+            Turn::Transfer(ticket, _) => {
+                let _ = shared.look(&mut seat, &ticket);
+                shared.post(rt, &mut seat, medium.transfer(rt, ticket))
+            }
+            turn => turn,
+        };
+        match turn {
+            Turn::Closed => return seat.into_done(DoneEnd::Closed),
+            Turn::Stopped(first, told) => return seat.into_done(DoneEnd::Stopped(first, told)),
+            Turn::Memory => {
+                shared.stop(rt, &mut seat);
+                return seat.into_done(DoneEnd::Memory);
+            }
+            _ => {}
+        }
+    }
+    unreachable!()
+}

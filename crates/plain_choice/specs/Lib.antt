@@ -1,0 +1,4 @@
+pub mod Buses
+pub mod Commands
+pub mod Late
+pub mod Power

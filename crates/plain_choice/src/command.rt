@@ -1,0 +1,333 @@
+//! What a command does, or why it does nothing. See drvctl(8) and pmf(9).
+ghost use Rattle.std.specs.Prelude.{◌≡◌, true, false, nat_lt, IfOk, if◌then◌else◌};
+ghost use Rattle.std.specs.Option.{option_map_or};
+ghost use Rattle.run_rules.specs.Next as next;
+ghost use Rattle.run_rules.specs.References.{count_in};
+ghost use Rattle.run_rules.specs.World as world;
+ghost use Rattle.run_rules.specs.declared.deed.Deed.TheVariants as deeds;
+ghost use Rattle.run_rules.specs.declared.deed.Refusal.TheVariants as refusal;
+ghost use Rattle.plain_choice.specs.Commands.{if_held, on_found};
+ghost use Rattle.plain_world.specs.Devices.{AreNumbered};
+ghost use Rattle.plain_world.specs.Plain.{world_of};
+ghost use Rattle.plain_world.specs.Rules.{AreFit, setup_by};
+
+use crate::rescan::rescanning;
+use cf_types::{Command, Given, Memory, Name, Ticket};
+use plain_world::{
+    Plain, Rules, count, device_named, device_on, holds, is_bad, is_pinned, is_sole, is_under,
+    policy_of, refers, spot_named,
+};
+use run_rules::{Deed, Dev, PowerKind, Refusal};
+use std::alloc::Global;
+
+/// The live device that a command names.
+fn named(alloc: Global, rules: &Rules, plain: &Plain, name: &Name) -> Result<Option<Dev>, Memory>
+    ensures { IfOk result (λ found. world.device_named (setup_by rules.now) plain.now.live.items name.now ≡ found) }
+{
+    device_named(alloc, rules, &plain.live, name.bytes())
+}
+
+/// A reference is asked for.
+fn open(rules: &Rules, plain: &Plain, caller: u8, found: Option<Dev>) -> Deed
+    ensures { let w = world_of (setup_by rules.now) plain.now in on_found found (λ d. if world.has w.sole d.serial then deeds.Refuse refusal.Exclusive else (if nat_lt (count_in w.refs caller d.serial) 15 then deeds.Open d.serial false else deeds.Refuse refusal.TooMany)) ≡ result }
+{
+    let Some(device) = found else {
+        return Deed::Refuse(Refusal::NoDevice);
+    };
+    if device.condemned.is_some() {
+        Deed::Refuse(Refusal::Gone)
+    } else if is_sole(&plain.sole, device.serial) {
+        Deed::Refuse(Refusal::Exclusive)
+    } else if count(&plain.refs, caller, device.serial) < 15 {
+        Deed::Open {
+            of: device.serial,
+            sole: false,
+        }
+    } else {
+        Deed::Refuse(Refusal::TooMany)
+    }
+}
+
+/// The only reference is asked for.
+fn open_sole(rules: &Rules, plain: &Plain, found: Option<Dev>) -> Deed
+    ensures { let w = world_of (setup_by rules.now) plain.now in on_found found (λ d. if world.is_referred w d.serial then deeds.Refuse refusal.Shared else deeds.Open d.serial true) ≡ result }
+{
+    let Some(device) = found else {
+        return Deed::Refuse(Refusal::NoDevice);
+    };
+    if device.condemned.is_some() {
+        Deed::Refuse(Refusal::Gone)
+    } else if refers(&plain.refs, device.serial) {
+        Deed::Refuse(Refusal::Shared)
+    } else {
+        Deed::Open {
+            of: device.serial,
+            sole: true,
+        }
+    }
+}
+
+/// A reference is given back.
+fn close(rules: &Rules, plain: &Plain, caller: u8, found: Option<Dev>) -> Deed
+    ensures { if_held (world_of (setup_by rules.now) plain.now) caller found (λ d. deeds.Close d.serial) ≡ result }
+{
+    let Some(device) = found else {
+        return Deed::Refuse(Refusal::NotHeld);
+    };
+    if holds(&plain.refs, caller, device.serial) {
+        Deed::Close { of: device.serial }
+    } else {
+        Deed::Refuse(Refusal::NotHeld)
+    }
+}
+
+/// The transfer of a command of this number.
+fn ticket_of(
+    rules: &Rules,
+    plain: &Plain,
+    caller: u8,
+    number: u32,
+    device: Dev,
+    value: u32,
+) -> Ticket
+    ensures { result ≡ next.ticket_of (world_of (setup_by rules.now) plain.now) caller number device value }
+{
+    Ticket {
+        caller,
+        number,
+        serial: device.serial,
+        slot: device.spot,
+        bad: is_bad(rules, device.spot),
+        value,
+    }
+}
+
+/// A transfer is asked for, by the command of this number.
+fn io(rules: &Rules, plain: &Plain, caller: u8, number: u32, found: Option<Dev>, value: u32) -> Deed
+    ensures { let w = world_of (setup_by rules.now) plain.now in if_held w caller found (λ d. if d.asleep then deeds.Refuse refusal.Asleep else deeds.Start (next.ticket_of w caller number d value)) ≡ result }
+{
+    let Some(device) = found else {
+        return Deed::Refuse(Refusal::NotHeld);
+    };
+    if !holds(&plain.refs, caller, device.serial) {
+        Deed::Refuse(Refusal::NotHeld)
+    } else if device.asleep {
+        Deed::Refuse(Refusal::Asleep)
+    } else {
+        Deed::Start(ticket_of(rules, plain, caller, number, device, value))
+    }
+}
+
+/// Whether a device keeps the target's subtree from going.
+fn is_hindrance(
+    rules: &Rules,
+    plain: &Plain,
+    target: u64,
+    caller: u8,
+    forced: bool,
+    device: Dev,
+) -> bool
+    requires { AreNumbered plain.now.live.items }
+    ensures { result ≡ next.is_hindrance (world_of (setup_by rules.now) plain.now) target caller forced device }
+{
+    is_under(&plain.live, target, device.serial)
+        && ((!forced && policy_of(rules, device.row).nodetach)
+            || is_pinned(plain, device.serial)
+            || device.condemned.is_some()
+            || holds(&plain.refs, caller, device.serial))
+}
+
+/// The first device that keeps the target's subtree from going. See config_detach(9).
+#[tactic(auto, unfolding(run_rules::specs::Next::hindered))]
+fn hindered(rules: &Rules, plain: &Plain, target: u64, caller: u8, forced: bool) -> Option<Dev>
+    requires { AreNumbered plain.now.live.items }
+    ensures { result ≡ next.hindered (world_of (setup_by rules.now) plain.now) target caller forced }
+{
+    plain.live.iter().copied().find(|device| is_hindrance(
+        rules, plain, target, caller, forced, *device,
+    ))
+}
+
+/// The deed, unless a device keeps the target's subtree from going.
+fn unless_hindered(
+    rules: &Rules,
+    plain: &Plain,
+    caller: u8,
+    target: u64,
+    forced: bool,
+    deed: Deed,
+) -> Deed
+    requires { AreNumbered plain.now.live.items }
+    ensures { next.unless_hindered (world_of (setup_by rules.now) plain.now) caller target forced deed ≡ result }
+{
+    match hindered(rules, plain, target, caller, forced) {
+        Some(device) => Deed::Refuse(Refusal::Busy(device.serial)),
+        None => deed,
+    }
+}
+
+/// A device is to go with all that is below it.
+fn detach(rules: &Rules, plain: &Plain, caller: u8, found: Option<Dev>) -> Deed
+    requires { AreNumbered plain.now.live.items }
+    ensures { let w = world_of (setup_by rules.now) plain.now in on_found found (λ d. next.unless_hindered w caller d.serial false (deeds.Detach d.serial)) ≡ result }
+{
+    let Some(device) = found else {
+        return Deed::Refuse(Refusal::NoDevice);
+    };
+    if device.condemned.is_some() {
+        return Deed::Refuse(Refusal::Gone);
+    }
+    let deed = Deed::Detach { of: device.serial };
+    unless_hindered(rules, plain, caller, device.serial, false, deed)
+}
+
+/// A device is to be searched again.
+fn rescan(
+    alloc: Global,
+    rules: &Rules,
+    plain: &Plain,
+    found: Option<Dev>,
+    attr: &Option<Name>,
+    given: &[Given],
+) -> Result<Deed, Memory>
+    requires { AreFit rules.now }
+    ensures { IfOk result (λ does. on_found found (λ d. next.rescanning (world_of (setup_by rules.now) plain.now) d attr.now given.now) ≡ does) }
+{
+    let Some(device) = found else {
+        return Ok(Deed::Refuse(Refusal::NoDevice));
+    };
+    if device.condemned.is_some() {
+        return Ok(Deed::Refuse(Refusal::Gone));
+    }
+    rescanning(alloc, rules, plain, device, attr, given)
+}
+
+/// A list or a tree is asked for, of a device or of the root.
+fn tell(alloc: Global, rules: &Rules, plain: &Plain, of: &Option<Name>) -> Result<Deed, Memory>
+    ensures { IfOk result (λ does. next.telling (world_of (setup_by rules.now) plain.now) of.now ≡ does) }
+{
+    let Some(name) = of else {
+        return Ok(Deed::Tell);
+    };
+    match named(alloc, rules, plain, name)? {
+        Some(_) => Ok(Deed::Tell),
+        None => Ok(Deed::Refuse(Refusal::NoDevice)),
+    }
+}
+
+/// A power command is asked for.
+fn begin_power(kind: PowerKind, found: Option<Dev>) -> Deed
+    ensures { on_found found (λ d. deeds.BeginPower kind d.serial) ≡ result }
+{
+    let Some(device) = found else {
+        return Deed::Refuse(Refusal::NoDevice);
+    };
+    if device.condemned.is_some() {
+        Deed::Refuse(Refusal::Gone)
+    } else {
+        Deed::BeginPower {
+            kind,
+            of: device.serial,
+        }
+    }
+}
+
+/// Hardware comes to the spot of a name.
+fn plug(rules: &Rules, plain: &Plain, name: &Name) -> Deed
+    requires { AreFit rules.now }
+    ensures { option_map_or (λ x. deeds.Plug x) (next.spot_named (world_of (setup_by rules.now) plain.now) name.now) (deeds.Refuse refusal.NoSpot) ≡ result }
+{
+    match spot_named(rules, name.bytes()) {
+        Some(spot) => Deed::Plug { spot },
+        None => Deed::Refuse(Refusal::NoSpot),
+    }
+}
+
+/// Hardware goes from a spot, with what stands on it.
+fn unplugging(rules: &Rules, plain: &Plain, caller: u8, spot: u16) -> Deed
+    requires { AreNumbered plain.now.live.items }
+    ensures { next.unplugging (world_of (setup_by rules.now) plain.now) caller spot ≡ result }
+{
+    let Some(device) = device_on(&plain.live, spot) else {
+        return Deed::Unplug { spot, of: None };
+    };
+    let deed = Deed::Unplug {
+        spot,
+        of: Some(device.serial),
+    };
+    unless_hindered(rules, plain, caller, device.serial, true, deed)
+}
+
+/// Hardware goes from the spot of a name.
+fn unplug(rules: &Rules, plain: &Plain, caller: u8, name: &Name) -> Deed
+    requires fit { AreFit rules.now }
+    requires numbered { AreNumbered plain.now.live.items }
+    ensures { let w = world_of (setup_by rules.now) plain.now in option_map_or (next.unplugging w caller) (next.spot_named w name.now) (deeds.Refuse refusal.NoSpot) ≡ result }
+{
+    match spot_named(rules, name.bytes()) {
+        Some(spot) => unplugging(rules, plain, caller, spot),
+        None => Deed::Refuse(Refusal::NoSpot),
+    }
+}
+
+/// What a command does, which has this number.
+#[tactic(auto, unfolding(run_rules::specs::Next::command_deed))]
+pub fn command_deed(
+    alloc: Global,
+    rules: &Rules,
+    plain: &Plain,
+    caller: u8,
+    number: u32,
+    said: &Command,
+) -> Result<Deed, Memory>
+    requires fit { AreFit rules.now }
+    requires numbered { AreNumbered plain.now.live.items }
+    ensures { IfOk result (λ does. next.command_deed (world_of (setup_by rules.now) plain.now) caller number said.now ≡ does) }
+{
+    match said {
+        Command::OpenDev(name) => {
+            let found = named(alloc, rules, plain, name)?;
+            Ok(open(rules, plain, caller, found))
+        }
+        Command::OpenSole(name) => {
+            let found = named(alloc, rules, plain, name)?;
+            Ok(open_sole(rules, plain, found))
+        }
+        Command::CloseDev(name) => {
+            let found = named(alloc, rules, plain, name)?;
+            Ok(close(rules, plain, caller, found))
+        }
+        Command::Io(name, value) => {
+            let found = named(alloc, rules, plain, name)?;
+            Ok(io(rules, plain, caller, number, found, *value))
+        }
+        Command::Detach(name) => {
+            let found = named(alloc, rules, plain, name)?;
+            Ok(detach(rules, plain, caller, found))
+        }
+        Command::Rescan {
+            device,
+            attr,
+            given,
+        } => {
+            let found = named(alloc, rules, plain, device)?;
+            rescan(alloc, rules, plain, found, attr, given.items())
+        }
+        Command::ListDev(of) => tell(alloc, rules, plain, of),
+        Command::TreeDev(of) => tell(alloc, rules, plain, of),
+        Command::Suspend(name) => {
+            let found = named(alloc, rules, plain, name)?;
+            Ok(begin_power(PowerKind::Suspend, found))
+        }
+        Command::Resume(name) => {
+            let found = named(alloc, rules, plain, name)?;
+            Ok(begin_power(PowerKind::Resume, found))
+        }
+        Command::ResumeTree(name) => {
+            let found = named(alloc, rules, plain, name)?;
+            Ok(begin_power(PowerKind::ResumeTree, found))
+        }
+        Command::Plug(name) => Ok(plug(rules, plain, name)),
+        Command::Unplug(name) => Ok(unplug(rules, plain, caller, name)),
+    }
+}

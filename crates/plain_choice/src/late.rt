@@ -1,0 +1,98 @@
+//! The late spots that finalisers show.
+ghost use Rattle.std.specs.Prelude.{◌≡◌, ◌≤◌, false, length, slice_get};
+ghost use Rattle.std.specs.Option.{option_map_or};
+ghost use Rattle.run_rules.specs.Next as next;
+ghost use Rattle.plain_choice.specs.Late.{is_late_below, shown_by};
+ghost use Rattle.plain_world.specs.Plain.{world_of};
+ghost use Rattle.plain_world.specs.Rules.{AreFit, setup_by};
+
+use crate::matches::arrival;
+use cf_types::Place;
+use plain_world::{
+    Plain, Rules, device_at, driver_of, has, has_spot, is_number, offered, place_of,
+};
+use run_rules::{Deed, Dev};
+
+fn offers_place(offered: &[u32], place: Place) -> bool
+    ensures { result ≡ next.offers_place offered.now place }
+{
+    match place {
+        Place::Root => false,
+        Place::At(attr) => has(offered, attr),
+    }
+}
+
+/// Whether a spot hangs below a device, on an attribute that the device offers.
+fn hangs_below(rules: &Rules, device: Dev, spot: u16) -> bool
+    requires { AreFit rules.now }
+    ensures { result ≡ option_map_or (next.hangs_below (setup_by rules.now) device) (slice_get rules.now.machine.now.spots spot) false }
+{
+    match rules.machine.spots.items().get(spot as usize) {
+        Some(spot) => {
+            is_number(spot.parent, device.spot)
+                && offers_place(offered(rules, driver_of(rules, device.row)), spot.place)
+        }
+        None => false,
+    }
+}
+
+/// Whether a finaliser of a device would show a spot.
+fn is_late_below(rules: &Rules, plain: &Plain, device: Dev, spot: u16) -> bool
+    requires { AreFit rules.now }
+    ensures { result ≡ is_late_below (world_of (setup_by rules.now) plain.now) device spot }
+{
+    let hidden = has_spot(&plain.hidden, spot);
+    let absent = has_spot(&plain.absent, spot);
+    let below = hangs_below(rules, device, spot);
+    hidden && !absent && below
+}
+
+/// The first spot that is late, hidden and present, and hangs below a device.
+#[tactic(auto, unfolding(run_rules::specs::Next::late_spot))]
+fn late_spot(rules: &Rules, plain: &Plain, device: Dev) -> Option<u16>
+    requires { AreFit rules.now }
+    ensures { next.late_spot (world_of (setup_by rules.now) plain.now) device ≡ result }
+{
+    for spot in 0..rules.machine.spots.len() as u16 {
+        if is_late_below(rules, plain, device, spot) {
+            return Some(spot);
+        }
+    }
+    None
+}
+
+/// The spot that the finaliser of a device shows.
+fn shown_by(rules: &Rules, plain: &Plain, serial: u64) -> Option<u16>
+    requires { AreFit rules.now }
+    ensures { shown_by (world_of (setup_by rules.now) plain.now) serial ≡ result }
+{
+    match device_at(&plain.live, serial) {
+        Some(device) => late_spot(rules, plain, device),
+        None => None,
+    }
+}
+
+/// What the finaliser of a device does. See config_finalize_register(9).
+#[tactic(auto, unfolding(run_rules::specs::Next::finalise))]
+pub fn finalise(rules: &Rules, plain: &Plain, serial: u64, listed: Option<u64>, anew: bool) -> Deed
+    requires fit { AreFit rules.now }
+    requires few { length plain.now.live.items ≤ 1024 }
+    ensures { next.finalise (world_of (setup_by rules.now) plain.now) serial listed anew ≡ result }
+{
+    match shown_by(rules, plain, serial) {
+        None => Deed::Finalise {
+            of: serial,
+            shown: None,
+            got: None,
+            listed,
+            anew,
+        },
+        Some(spot) => Deed::Finalise {
+            of: serial,
+            shown: Some(spot),
+            got: arrival(rules, &plain.live, serial, place_of(rules, spot), spot),
+            listed,
+            anew,
+        },
+    }
+}

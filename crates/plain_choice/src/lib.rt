@@ -1,0 +1,12 @@
+//! What a caller or the boot does next in a world of plain lists.
+#![tactic(auto)]
+
+mod choose;
+mod command;
+mod late;
+mod matches;
+mod power;
+mod rescan;
+mod turns;
+
+pub use choose::next;

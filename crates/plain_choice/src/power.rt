@@ -1,0 +1,178 @@
+//! How a power command and a detachment go on. See pmf(9) and config_detach(9).
+ghost use Rattle.std.specs.Prelude.{◌≡◌, ◌&&◌, ◌||◌, find, not, ℕ};
+ghost use Rattle.run_rules.specs.Next as next;
+ghost use Rattle.run_rules.specs.World as world;
+ghost use Rattle.run_rules.specs.declared.world.Activity.TheVariants as activity;
+ghost use Rattle.run_rules.specs.declared.world.Setup.{Setup};
+ghost use Rattle.plain_world.specs.Devices.{AreNumbered};
+ghost use Rattle.plain_world.specs.Plain.{world_of};
+ghost use Rattle.plain_choice.specs.Power.{sleeping};
+ghost use Rattle.plain_world.specs.Rules.{setup_by};
+
+use plain_world::{Plain, Rules, holds, is_live, is_pinned, is_under, policy_of, refers};
+use run_rules::{Choice, Deed, Dev, PowerEnd, PowerKind, Ref, Wait};
+
+/// Whether a caller condemned a device.
+fn is_condemned_by(device: &Dev, caller: u8) -> bool
+    ensures { result ≡ world.is_number device.now.condemned caller }
+{
+    match device.condemned {
+        Some(condemner) => condemner == caller,
+        None => false,
+    }
+}
+
+/// The device that a caller frees next: of those that it condemned the last one.
+#[tactic(auto, unfolding(run_rules::specs::Next::next_free))]
+fn next_free(live: &[Dev], caller: u8) -> Option<u64>
+    ensures { result ≡ next.next_free live.now caller }
+{
+    let device = live
+        .iter()
+        .rev()
+        .find(|device| is_condemned_by(device, caller))?;
+    Some(device.serial)
+}
+
+/// How a caller goes on that frees devices.
+#[tactic(auto, unfolding(run_rules::specs::Next::freeing))]
+pub fn freeing(plain: &Plain, caller: u8) -> Choice
+    ensures { (s : Setup) → next.freeing (world_of s plain.now) caller ≡ result }
+{
+    match next_free(&plain.live, caller) {
+        Some(serial) => {
+            if refers(&plain.refs, serial) {
+                Choice::Waits(Wait::Refs(serial))
+            } else {
+                Choice::Does(Deed::Free { of: serial })
+            }
+        }
+        None => Choice::Ended,
+    }
+}
+
+/// Whether a suspension of the target is still to put a device to sleep.
+fn is_to_sleep(live: &[Dev], device: Dev, target: u64) -> bool
+    requires { AreNumbered live.now }
+    ensures { result ≡ (not device.asleep && world.is_under live.now target device.serial) }
+{
+    !device.asleep && is_under(live, target, device.serial)
+}
+
+/// The device that a suspension of the target puts to sleep next: of those awake in its subtree the last one.
+#[tactic(auto, unfolding(run_rules::specs::Next::next_sleep))]
+fn next_sleep(live: &[Dev], target: u64) -> Option<Dev>
+    requires { AreNumbered live.now }
+    ensures { result ≡ next.next_sleep live.now target }
+{
+    live.iter()
+        .rev()
+        .copied()
+        .find(|device| is_to_sleep(live, *device, target))
+}
+
+/// Whether a resumption of the target is still to wake a device.
+fn is_to_wake(live: &[Dev], device: Dev, target: u64, whole: bool) -> bool
+    requires { AreNumbered live.now }
+    ensures { result ≡ (device.asleep && (world.is_under live.now device.serial target || (whole && world.is_under live.now target device.serial))) }
+{
+    device.asleep
+        && (is_under(live, device.serial, target)
+            || (whole && is_under(live, target, device.serial)))
+}
+
+/// The device that a resumption of the target wakes next: of the sleeping ones among it and its ancestors, and below it
+/// where that is asked for, the first one.
+#[tactic(auto, unfolding(run_rules::specs::Next::next_wake))]
+fn next_wake(live: &[Dev], target: u64, whole: bool) -> Option<Dev>
+    requires { AreNumbered live.now }
+    ensures { result ≡ next.next_wake live.now target whole }
+{
+    live.iter()
+        .copied()
+        .find(|device| is_to_wake(live, *device, target, whole))
+}
+
+/// How a suspension goes on with the device that sleeps next: it is put to sleep, or is waited for, or is in the way.
+fn sleeping(rules: &Rules, plain: &Plain, device: Dev) -> Choice
+    ensures { sleeping (world_of (setup_by rules.now) plain.now) device ≡ result }
+{
+    if is_pinned(plain, device.serial) {
+        return Choice::Waits(Wait::Scan(device.serial));
+    }
+    let policy = policy_of(rules, device.row);
+    if policy.nopower {
+        Choice::Does(Deed::EndPower(PowerEnd::NotSupported(device.serial)))
+    } else if policy.failsuspend {
+        Choice::Does(Deed::EndPower(PowerEnd::Failed(device.serial)))
+    } else {
+        Choice::Does(Deed::Sleep { of: device.serial })
+    }
+}
+
+/// How a suspension goes on.
+#[tactic(auto, unfolding(run_rules::specs::Next::suspending))]
+fn suspending(rules: &Rules, plain: &Plain, target: u64) -> Choice
+    requires { AreNumbered plain.now.live.items }
+    ensures { next.suspending (world_of (setup_by rules.now) plain.now) target ≡ result }
+{
+    match next_sleep(&plain.live, target) {
+        Some(device) => sleeping(rules, plain, device),
+        None => Choice::Does(Deed::EndPower(PowerEnd::Done)),
+    }
+}
+
+/// How a resumption goes on.
+#[tactic(auto, unfolding(run_rules::specs::Next::waking))]
+fn waking(plain: &Plain, target: u64, whole: bool) -> Choice
+    requires { AreNumbered plain.now.live.items }
+    ensures { (s : Setup) → next.waking (world_of s plain.now) target whole ≡ result }
+{
+    match next_wake(&plain.live, target, whole) {
+        Some(device) => Choice::Does(Deed::Wake { of: device.serial }),
+        None => Choice::Does(Deed::EndPower(PowerEnd::Done)),
+    }
+}
+
+/// How a power command goes on with a target that is live.
+fn going(rules: &Rules, plain: &Plain, kind: PowerKind, target: u64) -> Choice
+    requires { AreNumbered plain.now.live.items }
+    ensures { next.powering (world_of (setup_by rules.now) plain.now) kind target ≡ result }
+{
+    match kind {
+        PowerKind::Suspend => suspending(rules, plain, target),
+        PowerKind::Resume => waking(plain, target, false),
+        PowerKind::ResumeTree => waking(plain, target, true),
+    }
+}
+
+/// How a power command goes on.
+pub fn powering(rules: &Rules, plain: &Plain, kind: PowerKind, target: u64) -> Choice
+    requires { AreNumbered plain.now.live.items }
+    ensures { (k : ℕ) → next.by_activity (world_of (setup_by rules.now) plain.now) k (activity.Power kind target) ≡ result }
+{
+    if is_live(&plain.live, target) {
+        going(rules, plain, kind, target)
+    } else {
+        Choice::Does(Deed::EndPower(PowerEnd::Gone))
+    }
+}
+
+/// The first device that a caller holds.
+fn first_held(live: &[Dev], references: &[Ref], caller: u8) -> Option<Dev>
+    ensures { result ≡ find (λ d. world.holds_in references.now caller d.serial) live.now }
+{
+    live.iter()
+        .copied()
+        .find(|device| holds(references, caller, device.serial))
+}
+
+/// What a caller does after its last command: it returns what it holds, and then it ends.
+pub fn closing(plain: &Plain, caller: u8) -> Choice
+    ensures { (s : Setup) → next.closing (world_of s plain.now) caller ≡ result }
+{
+    match first_held(&plain.live, &plain.refs, caller) {
+        Some(device) => Choice::Does(Deed::Drop { of: device.serial }),
+        None => Choice::Does(Deed::EndCaller),
+    }
+}

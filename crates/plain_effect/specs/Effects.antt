@@ -1,0 +1,24 @@
+-- Which deeds take no memory, and what place a deed has in the boot's list.
+use Rattle.std.specs.Prelude.{◌<◌, ◌-◌, ◌^◌, ⊤, Bool, true, false, IfSome}
+use Rattle.run_rules.specs.declared.deed.Deed.{Deed}
+use Rattle.run_rules.specs.declared.deed.Deed.TheVariants.{Finalise, EndCaller, Drop, Refuse, Close, Start, Done, Free, BeginPower, EndPower, Plug, Tell}
+
+-- the deeds that take no memory
+abbrev pub is_quiet : Deed → Bool
+is_quiet EndCaller = true
+is_quiet (Drop of) = true
+is_quiet (Refuse why) = true
+is_quiet (Close of) = true
+is_quiet (Start ticket) = true
+is_quiet (Done ticket) = true
+is_quiet (Free of) = true
+is_quiet (BeginPower kind of) = true
+is_quiet (EndPower end) = true
+is_quiet (Plug spot) = true
+is_quiet Tell = true
+is_quiet _ = false
+
+-- a finaliser of the boot's list has a place there that may be counted on
+abbrev pub HasPlace : Deed → Type 0
+HasPlace (Finalise of shown got listed anew) = IfSome listed (λ place. place < 2 ^ 64 - 1)
+HasPlace _ = ⊤

@@ -1,0 +1,47 @@
+-- What the event of a deed is made of: the devices that it names are live, and its spots are of the machine.
+use Rattle.std.specs.Prelude.{◌≡◌, ◌<◌, ⊤, ℕ, true, false, length, IfSome, Option, Some, None}
+use Rattle.std.specs.Option.{option_map_or}
+use Rattle.run_rules.specs.declared.deed.Deed.{Deed}
+use Rattle.run_rules.specs.declared.deed.Deed.TheVariants.{Search, Finalise, Drop, Refuse, Done, Free, Sleep, Wake, EndPower}
+use Rattle.run_rules.specs.declared.deed.PowerEnd.{PowerEnd}
+use Rattle.run_rules.specs.declared.deed.PowerEnd.TheVariants as ends
+use Rattle.run_rules.specs.declared.deed.Refusal.{Refusal}
+use Rattle.run_rules.specs.declared.deed.Refusal.TheVariants as refusal
+use Rattle.run_rules.specs.declared.event.Reply.{Reply}
+use Rattle.run_rules.specs.declared.event.Reply.TheVariants as reply
+use Rattle.run_rules.specs.World.{World, is_live}
+use Rattle.run_rules.specs.Next.{command_of, is_power}
+use Rattle.run_rules.specs.Run.{reply_of}
+
+-- the reply of a command: that of a refusal, or that it had its effect
+abbrev pub answer_by : World → Option Refusal → Reply
+answer_by w None = reply.Ok
+answer_by w (Some why) = reply_of w why
+
+-- the device that a refusal names is live
+abbrev pub RefusesLive : World → Refusal → Type 0
+RefusesLive w (refusal.Busy s) = is_live w.live s ≡ true
+RefusesLive w _ = ⊤
+
+abbrev pub AnswersLive : World → Option Refusal → Type 0
+AnswersLive w None = ⊤
+AnswersLive w (Some why) = RefusesLive w why
+
+-- and that which the end of a power command names
+abbrev pub EndsLive : World → PowerEnd → Type 0
+EndsLive w (ends.NotSupported s) = is_live w.live s ≡ true
+EndsLive w (ends.Failed s) = is_live w.live s ≡ true
+EndsLive w _ = ⊤
+
+-- what ends as a power command is one
+abbrev pub MayBeTold : World → ℕ → Deed → Type 0
+MayBeTold w k (Search p spot to got) = spot < length w.setup.machine.spots
+MayBeTold w k (Finalise s shown got listed anew) = (is_live w.live s ≡ true) × IfSome shown (λ x. x < length w.setup.machine.spots)
+MayBeTold w k (Refuse why) = RefusesLive w why
+MayBeTold w k (Done ticket) = is_live w.live ticket.serial ≡ true
+MayBeTold w k (Free s) = is_live w.live s ≡ true
+MayBeTold w k (Sleep s) = is_live w.live s ≡ true
+MayBeTold w k (Wake s) = is_live w.live s ≡ true
+MayBeTold w k (Drop s) = is_live w.live s ≡ true
+MayBeTold w k (EndPower end) = EndsLive w end × (option_map_or is_power (command_of w k) false ≡ true)
+MayBeTold w k _ = ⊤

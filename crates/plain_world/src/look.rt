@@ -1,0 +1,181 @@
+//! What is looked up among live devices, references and frames.
+ghost use Rattle.std.specs.Prelude.{◌≡◌, ◌==◌, ◌&&◌, ◌||◌};
+ghost use Rattle.std.specs.List.{list_any};
+ghost use Rattle.run_rules.specs.declared.world.Setup.{Setup};
+ghost use Rattle.run_rules.specs.References as refs;
+ghost use Rattle.run_rules.specs.Search as rule;
+ghost use Rattle.run_rules.specs.World as world;
+ghost use Rattle.plain_world.specs.Devices.{AreNumbered};
+ghost use Rattle.plain_world.specs.Plain.{world_of};
+ghost use Rattle.plain_world.specs.Rules.{setup_by};
+
+use crate::caller::Caller;
+use crate::rules::{Rules, attach_of, driver_of};
+use crate::world::Plain;
+use run_rules::{Deferred, Dev, Frame, Ref};
+
+/// The live device of a serial.
+pub fn device_at(live: &[Dev], serial: u64) -> Option<Dev>
+    ensures { result ≡ world.device_at live.now serial }
+{
+    live.iter().copied().find(|device| device.serial == serial)
+}
+
+/// The live device on a spot.
+pub fn device_on(live: &[Dev], spot: u16) -> Option<Dev>
+    ensures { result ≡ world.device_on live.now spot }
+{
+    live.iter().copied().find(|device| device.spot == spot)
+}
+
+/// Whether a device is live.
+pub fn is_live(live: &[Dev], serial: u64) -> bool
+    ensures { result ≡ world.is_live live.now serial }
+{
+    live.iter().any(|device| device.serial == serial)
+}
+
+/// Whether a live device stands on a spot.
+pub fn is_occupied(live: &[Dev], spot: u16) -> bool
+    ensures { result ≡ rule.is_occupied live.now spot }
+{
+    live.iter().any(|device| device.spot == spot)
+}
+
+/// The parent of a device; 0 for the root, and where no such device is live.
+pub fn parent_of(live: &[Dev], serial: u64) -> u64
+    ensures { result ≡ world.parent_of live.now serial }
+{
+    match device_at(live, serial) {
+        Some(device) => device.parent,
+        None => 0,
+    }
+}
+
+/// Whether a caller holds a device.
+pub fn holds(references: &[Ref], caller: u8, serial: u64) -> bool
+    ensures { result ≡ world.holds_in references.now caller serial }
+{
+    references
+        .iter()
+        .any(|held| held.serial == serial && held.caller == caller)
+}
+
+/// Whether anybody holds a device.
+pub fn refers(references: &[Ref], serial: u64) -> bool
+    ensures { result ≡ world.refers_to references.now serial }
+{
+    references.iter().any(|held| held.serial == serial)
+}
+
+/// How often a caller holds a device.
+pub fn count(references: &[Ref], caller: u8, serial: u64) -> usize
+    ensures { result ≡ refs.count_in references.now caller serial }
+{
+    references
+        .iter()
+        .filter(|held| held.serial == serial && held.caller == caller)
+        .count()
+}
+
+/// Whether a device is held solely.
+pub fn is_sole(sole: &[u64], serial: u64) -> bool
+    ensures { result ≡ world.has sole.now serial }
+{
+    sole.iter().any(|held| *held == serial)
+}
+
+/// The device that a frame is for.
+fn frame_serial(frame: &Frame) -> u64
+    ensures { result ≡ world.frame_serial frame.now }
+{
+    match frame {
+        Frame::Scan {
+            serial,
+            only: _,
+            filter: _,
+            position: _,
+        } => *serial,
+        Frame::Finaliser { serial } => *serial,
+    }
+}
+
+/// Whether a caller has a frame for a device.
+fn has_frame(caller: &Caller, serial: u64) -> bool
+    ensures { result ≡ list_any (λ f. world.frame_serial f == serial) caller.now.stack }
+{
+    caller
+        .stack()
+        .iter()
+        .any(|frame| frame_serial(frame) == serial)
+}
+
+/// Whether a scan of a device was put off.
+fn is_put_off(deferred: &[Deferred], serial: u64) -> bool
+    ensures { result ≡ list_any (λ e. e.child == serial) deferred.now }
+{
+    deferred.iter().any(|put_off| put_off.child == serial)
+}
+
+/// Whether a frame of one of these callers is for a device.
+fn has_frames(callers: &[Caller], serial: u64) -> bool
+    ensures { result ≡ list_any (λ c. list_any (λ f. world.frame_serial f == serial) c.stack) callers.now }
+{
+    callers.iter().any(|caller| has_frame(caller, serial))
+}
+
+/// Whether a frame of any caller, or a scan that was put off, is for a device.
+#[tactic(auto, unfolding(run_rules::specs::World::is_pinned))]
+pub fn is_pinned(plain: &Plain, serial: u64) -> bool
+    ensures { (s : Setup) → result ≡ world.is_pinned (world_of s plain.now) serial }
+{
+    has_frames(&plain.callers, serial) || is_put_off(&plain.deferred, serial)
+}
+
+/// The driver of the live device of a serial; none for the root.
+pub fn driver_at(rules: &Rules, live: &[Dev], serial: u64) -> Option<u32>
+    ensures { result ≡ rule.driver_at (setup_by rules.now) live.now serial }
+{
+    match device_at(live, serial) {
+        Some(device) => Some(driver_of(rules, device.row)),
+        None => None,
+    }
+}
+
+/// The attachment of the live device of a serial; none for the root.
+pub fn attach_at(rules: &Rules, live: &[Dev], serial: u64) -> Option<u32>
+    ensures { result ≡ rule.attach_at (setup_by rules.now) live.now serial }
+{
+    match device_at(live, serial) {
+        Some(device) => Some(attach_of(rules, device.row)),
+        None => None,
+    }
+}
+
+/// The spot of the live device of a serial; none for the root.
+pub fn spot_of(live: &[Dev], serial: u64) -> Option<u16>
+    ensures { result ≡ rule.spot_of live.now serial }
+{
+    match device_at(live, serial) {
+        Some(device) => Some(device.spot),
+        None => None,
+    }
+}
+
+/// Whether a chain of parents leads from a device to the one above it.
+pub fn is_under(live: &[Dev], above: u64, serial: u64) -> bool
+    requires { AreNumbered live.now }
+    ensures { result ≡ world.is_under live.now above serial }
+{
+    let mut current = serial;
+    for _level in 0..live.len() {
+        if current == above {
+            return true;
+        }
+        if current == 0 {
+            return false;
+        }
+        current = parent_of(live, current);
+    }
+    false
+}

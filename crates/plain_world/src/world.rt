@@ -1,0 +1,125 @@
+//! The world in plain lists.
+ghost use Rattle.std.specs.Prelude.{◌≡◌, false, IfOk, slice_get};
+ghost use Rattle.std.specs.Option.{option_map_or};
+ghost use Rattle.run_rules.specs.World as world;
+ghost use Rattle.plain_world.specs.Plain.{world_of};
+ghost use Rattle.plain_world.specs.Rules.{setup_by, AreFit};
+
+use crate::caller::Caller;
+use crate::rules::Rules;
+use cf_types::Memory;
+use run_rules::{Deferred, Dev, Ref};
+use std::alloc::Global;
+
+/// What a run has come to.
+#[derive(Drop)]
+pub struct Plain {
+    /// The live devices in the order in which they were attached, and the serial of the next one.
+    pub live: Vec<Dev>,
+    pub next: u64,
+    /// The references, and the devices that are held solely.
+    pub refs: Vec<Ref>,
+    pub sole: Vec<u64>,
+    /// The spots without hardware, and the late spots that no finaliser has shown yet.
+    pub absent: Vec<u16>,
+    pub hidden: Vec<u16>,
+    /// Whether interrupts work.
+    pub interrupts_on: bool,
+    /// The caller in whose hands the power commands are.
+    pub power_owner: Option<u8>,
+    /// The scans that were put off.
+    pub deferred: Vec<Deferred>,
+    /// The devices with a finaliser, the place in this list, and whether one of this pass answered 1.
+    pub finalisers: Vec<u64>,
+    pub next_finaliser: u64,
+    pub pass_repeats: bool,
+    /// Caller 0, which boots, and then the caller of each script.
+    pub callers: Vec<Caller>,
+}
+
+/// Whether the machine marks a spot late.
+fn is_late(rules: &Rules, spot: u16) -> bool
+    ensures { result ≡ option_map_or (λ spot. spot.late) (slice_get rules.now.machine.now.spots spot) false }
+{
+    match rules.machine.spots.items().get(spot as usize) {
+        Some(spot) => spot.late,
+        None => false,
+    }
+}
+
+/// Whether the machine marks a spot absent.
+fn is_absent(rules: &Rules, spot: u16) -> bool
+    ensures { result ≡ option_map_or (λ spot. spot.absent) (slice_get rules.now.machine.now.spots spot) false }
+{
+    match rules.machine.spots.items().get(spot as usize) {
+        Some(spot) => spot.absent,
+        None => false,
+    }
+}
+
+/// The late spots.
+fn late_spots(alloc: Global, rules: &Rules) -> Result<Vec<u16>, Memory>
+    requires { AreFit rules.now }
+    ensures { IfOk result (λ spots. spots.items ≡ world.late_spots (setup_by rules.now)) }
+{
+    let mut spots = Vec::new(alloc);
+    for spot in 0..rules.machine.spots.len() as u16 {
+        if is_late(rules, spot) {
+            spots.push(spot)?;
+        }
+    }
+    Ok(spots)
+}
+
+/// The spots without hardware.
+fn absent_spots(alloc: Global, rules: &Rules) -> Result<Vec<u16>, Memory>
+    requires { AreFit rules.now }
+    ensures { IfOk result (λ spots. spots.items ≡ world.absent_spots (setup_by rules.now)) }
+{
+    let mut spots = Vec::new(alloc);
+    for spot in 0..rules.machine.spots.len() as u16 {
+        if is_absent(rules, spot) {
+            spots.push(spot)?;
+        }
+    }
+    Ok(spots)
+}
+
+/// The callers before any event: the one that boots has the scan of the root before it.
+#[tactic(auto, unfolding(run_rules::specs::World::opening))]
+fn beginning(alloc: Global, rules: &Rules) -> Result<Vec<Caller>, Memory>
+    ensures { IfOk result (λ callers. callers.items ≡ (world.opening (setup_by rules.now)).callers) }
+{
+    let mut callers = Vec::new(alloc);
+    callers.push(Caller::booting(alloc)?)?;
+    for _script in rules.scripts {
+        callers.push(Caller::beginning(alloc))?;
+    }
+    Ok(callers)
+}
+
+/// The world before any event.
+#[tactic(auto, unfolding(run_rules::specs::World::opening))]
+pub fn opening(alloc: Global, rules: &Rules) -> Result<Plain, Memory>
+    requires { AreFit rules.now }
+    ensures { IfOk result (λ plain. world_of (setup_by rules.now) plain ≡ world.opening (setup_by rules.now)) }
+{
+    let absent = absent_spots(alloc, rules)?;
+    let hidden = late_spots(alloc, rules)?;
+    let callers = beginning(alloc, rules)?;
+    Ok(Plain {
+        live: Vec::new(alloc),
+        next: 1,
+        refs: Vec::new(alloc),
+        sole: Vec::new(alloc),
+        absent,
+        hidden,
+        interrupts_on: false,
+        power_owner: None,
+        deferred: Vec::new(alloc),
+        finalisers: Vec::new(alloc),
+        next_finaliser: 0,
+        pass_repeats: false,
+        callers,
+    })
+}

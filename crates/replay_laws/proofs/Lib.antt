@@ -1,0 +1,9 @@
+pub mod OneLine
+pub mod Cuts
+pub mod Callers
+pub mod Names
+pub mod Acts
+pub mod Events
+pub mod Listed
+pub mod Runs
+pub mod Taken

@@ -1,0 +1,7 @@
+//! Laws of rereading: which texts are taken as a history, and as which. Nothing here runs: each function's contract is a
+//! law.
+#![tactic(auto)]
+
+mod laws;
+
+pub use laws::{history_taken, own_taken, runs_taken, taken_in_both};

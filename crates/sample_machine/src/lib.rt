@@ -1,0 +1,119 @@
+//! A small machine after its boot, with its scripts: what the tests of the lock and of the workers begin with.
+#![tactic(auto)]
+
+ghost use Rattle.std.specs.Prelude.{◌<◌, ◌≤◌, All, IfOk, IfSome, length};
+ghost use Rattle.app_input.specs.Inputs.{FormedInputs};
+ghost use Rattle.config_rules.specs.Formed.{FittingMachine, FormedTables};
+ghost use Rattle.config_rules.specs.ScriptText.{FormedScript};
+ghost use Rattle.sample_machine.specs.Ready.{IsReady};
+
+use app_input::{Inputs, Program, Status, read_inputs};
+use cf_io::{MemFile, MemFiles};
+use cf_types::{List, Machine, Memory, Script, Tables, Text};
+use dev_board::{Board, booted_board};
+use std::alloc::Global;
+
+const CONF: &[u8] =
+    b"device mainbus {}\nattach mainbus at root\ndevice isa {[port = -1], [irq = -1]}\nattach isa at mainbus\ndevice com\nattach com at isa with com_isa\nmainbus0 at root\nisa0 at mainbus0\ncom0 at isa? port 0x3f8 irq 4\ncom* at isa?\n";
+
+const MACHINE: &[u8] =
+    b"spot mb root root\nspot isa mb mainbus\nspot u0 isa isa port=0x3f8 irq=4\nspot u1 isa isa port=0x2f8 irq=3\nmatch mainbus mb 10\nmatch isa isa 10\nmatch com_isa * 10\n";
+
+// Puts a file to others.
+fn put_file(
+    alloc: Global,
+    files: &mut List<MemFile>,
+    name: &[u8],
+    bytes: &[u8],
+) -> Result<(), Memory> {
+    files.push(MemFile {
+        name: Text::copied(alloc, name)?,
+        bytes: Text::copied(alloc, bytes)?,
+    })
+}
+
+// The name of the file of a script.
+fn name_of(alloc: Global, number: usize) -> Result<String, Memory> {
+    Ok(format!(in alloc; "s{number}")?)
+}
+
+// The files of a run with these scripts.
+fn files_of(alloc: Global, scripts: &[&[u8]]) -> Result<MemFiles, Memory> {
+    let mut files = List::make(alloc);
+    put_file(alloc, &mut files, b"conf", CONF)?;
+    put_file(alloc, &mut files, b"mach", MACHINE)?;
+    put_file(alloc, &mut files, b"ord", b"")?;
+    for (number, script) in scripts.iter().enumerate() {
+        let name = name_of(alloc, number)?;
+        put_file(alloc, &mut files, name.as_bytes(), script)?;
+    }
+    Ok(MemFiles::make(files, List::make(alloc)))
+}
+
+// The words of a call with so many scripts.
+fn words_of(alloc: Global, scripts: usize) -> Result<Vec<String>, Memory> {
+    let mut words = Vec::new(alloc);
+    for word in ["play", "conf", "mach", "ord"] {
+        words.push(String::from_str(alloc, word)?)?;
+    }
+    for number in 0..scripts {
+        words.push(name_of(alloc, number)?)?;
+    }
+    Ok(words)
+}
+
+// The board of a machine after its boot; none where memory ran out.
+fn ready_board(
+    alloc: Global,
+    tables: Tables,
+    machine: Machine,
+    scripts: List<Script>,
+) -> Option<Board>
+    requires tables { FormedTables tables }
+    requires machine { FittingMachine tables machine }
+    requires some { 0 < length scripts }
+    requires few_scripts { length scripts ≤ 16 }
+    requires scripts { All FormedScript scripts }
+    ensures { IfSome result IsReady }
+{
+    match booted_board(alloc, tables, machine, scripts) {
+        Ok((board, _slots)) => Some(board),
+        Err(_) => None,
+    }
+}
+
+// The board of the inputs of a run; none where they are others.
+fn board_of(alloc: Global, inputs: Inputs) -> Option<Board>
+    requires { FormedInputs inputs }
+    ensures { IfSome result IsReady }
+{
+    match inputs {
+        Inputs::Play {
+            tables,
+            machine,
+            scripts,
+            order: _,
+        } => ready_board(alloc, tables, machine, scripts),
+        _ => None,
+    }
+}
+
+// The inputs of a run with these scripts; none where they are refused.
+fn inputs_of(alloc: Global, scripts: &[&[u8]]) -> Result<Inputs, Status>
+    ensures { IfOk result FormedInputs }
+{
+    let mut files = files_of(alloc, scripts)?;
+    let words = words_of(alloc, scripts.len())?;
+    read_inputs(alloc, Program::Devconf, words.as_slice(), &mut files)
+}
+
+/// A machine with the spots mb, isa, u0 and u1, after the boot that attached com0 and com1, with up to sixteen scripts of
+/// drvctl(8) commands; none where a script is refused, where there is none, or where memory ran out.
+pub fn booted(alloc: Global, scripts: &[&[u8]]) -> Option<Board>
+    ensures { IfSome result IsReady }
+{
+    match inputs_of(alloc, scripts) {
+        Ok(inputs) => board_of(alloc, inputs),
+        Err(_) => None,
+    }
+}
