@@ -1,0 +1,11 @@
+use Rattle.std.proofs.Common.{length}
+use Rattle.plain_world.specs.Plain.{world_of}
+use Rattle.plain_world.specs.Rules.{setup_by}
+use Rattle.history_replay.proofs.Readings.{HasRead}
+use Rattle.history_replay.proofs.reader.read_lines.Given as goal
+
+abbrev pub invariant-loop-line : goal.invariant-loop-line
+invariant-loop-line l = HasRead (setup_by l.rules) l.format (world_of (setup_by l.rules) l.fn.plain) l.first l.text l.events l.plain l.number l.left
+
+abbrev pub decreases-loop-line : goal.decreases-loop-line
+decreases-loop-line l = length l.left

@@ -1,0 +1,8 @@
+//! Replay: what a printed history says, read by an independent reader over plain lists.
+#![tactic(auto)]
+
+mod cut;
+mod history;
+mod reader;
+
+pub use history::{ReplayStop, Replayed, replay, reread};
