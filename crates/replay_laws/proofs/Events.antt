@@ -147,7 +147,7 @@ printed_plain w k (Plug x) play = answered_plain w k reply.Ok play tt
 printed_plain w k (Unplug x of) play = answered_plain w k reply.Ok play tt
 printed_plain w k Tell play = answered_plain w k reply.Ok play tt
 
-headed : (caller number : ℕ) (text : List ℕ) → IsOneLine text → IsOneLine (decimal caller ++ codes "." ++ decimal number ++ codes " " ++ text)
+pub headed : (caller number : ℕ) (text : List ℕ) → IsOneLine text → IsOneLine (decimal caller ++ codes "." ++ decimal number ++ codes " " ++ text)
 headed caller number text h =
     joined (decimal caller ++ codes "." ++ decimal number ++ codes " ") text (joined_4 (decimal caller) (codes ".") (decimal number) (codes " ") (decimal_line caller) refl (decimal_line number) refl) h
 

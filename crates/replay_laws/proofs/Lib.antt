@@ -7,3 +7,9 @@ pub mod Events
 pub mod Listed
 pub mod Runs
 pub mod Taken
+pub mod Words
+pub mod Statements
+pub mod Placed
+pub mod Meant
+pub mod Shorter
+pub mod Older

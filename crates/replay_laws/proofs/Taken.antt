@@ -39,7 +39,7 @@ use Rattle.replay_laws.proofs.Runs.{taken_run}
 -- ---- a line of an event
 
 -- it names its caller
-names_caller : (f : Format) (e : Event) → e.caller ≤ 16 → NamesCaller (line_in f e) e.caller
+pub names_caller : (f : Format) (e : Event) → e.caller ≤ 16 → NamesCaller (line_in f e) e.caller
 unfolding line_of line_of_1
 names_caller format.First e low = record {
   low = low;
@@ -59,7 +59,7 @@ digits_first : (digits rest : List ℕ) → AllDigits digits → bytes_eq (digit
 digits_first [] rest h = refl
 digits_first (d ∷ digits) rest h = rw (ne_eqb d 116 (λ e. omega (arith, e, h.0.1))) refl
 
-no_tree : (line : List ℕ) (c : ℕ) → NamesCaller line c → bytes_eq line (codes "tree") ≡ false
+pub no_tree : (line : List ℕ) (c : ℕ) → NamesCaller line c → bytes_eq line (codes "tree") ≡ false
 no_tree line c names = ap (λ (xs : List ℕ). bytes_eq xs (codes "tree")) names.begins ∙ digits_first (decimal c) names.rest (all_digits c (omega (arith, names.low)))
 
 -- ---- a step

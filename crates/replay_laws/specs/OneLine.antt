@@ -16,7 +16,7 @@ abbrev pub IsItemLine : Item → Type 0
 IsItemLine i = IsOneLine i.name × IfSome i.value IsOneLine
 
 -- the words of formed tables of which nothing else is known: each is within one line. Those of a configuration are, where
--- the name of its file is, since no token has a newline
+-- the name of its file is (`MeansLines`)
 pub record AreOneLine (t : Tables) : Type 0 where
   pub locators : All (λ a. All (λ l. IsOneLine l.name) a.locs) t.attrs
   pub pseudos : All (λ p. IsOneLine p.name) t.pseudos

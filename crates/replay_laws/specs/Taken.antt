@@ -1,13 +1,14 @@
 -- Which texts are taken as a history, and as which.
-use Rattle.std.specs.Prelude.{◌≡◌, ℕ, List, ◌++◌, All}
+use Rattle.std.specs.Prelude.{◌≡◌, ℕ, List, ◌++◌, All, codes}
 use Rattle.std.specs.declared.result.Result.TheVariants.{Ok}
+use Rattle.cf_types.specs.Lines.{ended}
 use Rattle.config_rules.specs.Listing.{listing}
 use Rattle.config_rules.specs.ScriptText.{FormedScript}
 use Rattle.run_rules.specs.declared.event.Event.{Event}
 use Rattle.run_rules.specs.declared.event.Format.{Format}
 use Rattle.run_rules.specs.declared.event.Format.TheVariants as format
 use Rattle.run_rules.specs.declared.world.Setup.{Setup}
-use Rattle.run_rules.specs.Lines.{lines, lines_1}
+use Rattle.run_rules.specs.Lines.{IsFormed, lines, lines_1}
 use Rattle.run_rules.specs.Reread.{reread}
 use Rattle.run_rules.specs.Run.{Run}
 use Rattle.run_rules.specs.Tree.{tree_text}
@@ -51,3 +52,9 @@ TakesHistory = (s : Setup) (f : Format) (h : List Event) (v : World) → MayPlay
 abbrev pub TakesBoth : Type 0
 TakesBoth =
     (s : Setup) (f g : Format) (h : List Event) (v : World) → MayPlay s → Takes s (history_in f h v) h v → Takes s (history_in g h v) h v
+
+-- and a text of formed events that is taken in format 2, whatever stands behind its line `tree`, is taken in format 1, as the same events
+abbrev pub TakesOlder : Type 0
+TakesOlder =
+    (s : Setup) (h : List Event) (rest : List ℕ) (g : List Event) (v : World) → MayRun s → All IsFormed h → Takes s (lines h ++ (ended (codes "tree") ++ rest)) g v
+    → Takes s (lines_1 h ++ (ended (codes "tree") ++ rest)) g v

@@ -4,4 +4,6 @@
 
 mod laws;
 
-pub use laws::{history_taken, own_taken, runs_taken, taken_in_both};
+pub use laws::{
+    history_taken, meant_in_lines, meant_taken, older_taken, own_taken, runs_taken, taken_in_both,
+};
