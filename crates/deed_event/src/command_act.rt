@@ -43,7 +43,7 @@ fn reply_of(alloc: Global, setup: &Setup, core: &Core, why: Refusal) -> Result<R
         Refusal::NotHeld => Ok(Reply::NotHeld),
         Refusal::Asleep => Ok(Reply::Asleep),
         Refusal::Busy(serial) => {
-            let name = live_name(alloc, setup, &core.tree, serial)?;
+            let name = live_name(alloc, setup, core, serial)?;
             Ok(Reply::Busy(name))
         }
         Refusal::NoRescan => Ok(Reply::NoRescan),
@@ -82,11 +82,11 @@ fn end_of(alloc: Global, setup: &Setup, core: &Core, end: PowerEnd) -> Result<Re
         PowerEnd::Done => Ok(Reply::Ok),
         PowerEnd::Gone => Ok(Reply::Gone),
         PowerEnd::NotSupported(serial) => {
-            let name = live_name(alloc, setup, &core.tree, serial)?;
+            let name = live_name(alloc, setup, core, serial)?;
             Ok(Reply::NotSupported(name))
         }
         PowerEnd::Failed(serial) => {
-            let name = live_name(alloc, setup, &core.tree, serial)?;
+            let name = live_name(alloc, setup, core, serial)?;
             Ok(Reply::SuspendFailed(name))
         }
     }

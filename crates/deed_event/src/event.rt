@@ -52,7 +52,6 @@ fn deed_act(
     requires may { MayBeTold (world_of setup.now core.now) caller deed }
     ensures { IfOk result (λ a. a ≡ run.printed (world_of setup.now core.now) caller deed) }
 {
-    let tree = &core.tree;
     match deed {
         Deed::Search {
             parent,
@@ -60,43 +59,43 @@ fn deed_act(
             got,
             ..
         } => {
-            let parent = parent_name(alloc, setup, tree, parent)?;
+            let parent = parent_name(alloc, setup, core, parent)?;
             let spot = spot_name(setup, spot)?;
             let got = got_of(alloc, setup, got)?;
             Ok(Act::Found { parent, spot, got })
         }
         Deed::EndScan { of } => {
-            let device = parent_name(alloc, setup, tree, of)?;
+            let device = parent_name(alloc, setup, core, of)?;
             Ok(Act::ScanEnd { device })
         }
         Deed::BeginInterrupts => Ok(Act::Interrupts),
         Deed::Finalise { of, shown, got, .. } => {
-            let device = live_name(alloc, setup, tree, of)?;
+            let device = live_name(alloc, setup, core, of)?;
             let shown = shown_of(alloc, setup, shown, got)?;
             Ok(Act::Final { device, shown })
         }
         Deed::EndCaller => Ok(Act::End),
         Deed::Drop { of } => {
-            let device = live_name(alloc, setup, tree, of)?;
+            let device = live_name(alloc, setup, core, of)?;
             Ok(Act::DropRef { device })
         }
         Deed::Done(ticket) => {
-            let device = live_name(alloc, setup, tree, ticket.serial)?;
+            let device = live_name(alloc, setup, core, ticket.serial)?;
             Ok(Act::IoDone {
                 device,
                 answer: answer_for(ticket),
             })
         }
         Deed::Free { of } => {
-            let device = live_name(alloc, setup, tree, of)?;
+            let device = live_name(alloc, setup, core, of)?;
             Ok(Act::Free { device })
         }
         Deed::Sleep { of } => {
-            let device = live_name(alloc, setup, tree, of)?;
+            let device = live_name(alloc, setup, core, of)?;
             Ok(Act::Sleep { device })
         }
         Deed::Wake { of } => {
-            let device = live_name(alloc, setup, tree, of)?;
+            let device = live_name(alloc, setup, core, of)?;
             Ok(Act::Wake { device })
         }
         Deed::EndPower(end) => power_end_act(alloc, setup, core, caller, end),

@@ -9,19 +9,18 @@ ghost use Rattle.run_world.specs.View.{world_of};
 
 use crate::names::{parent_name, unit_name};
 use cf_types::{List, Memory, Name};
-use dev_tree::DevTree;
 use run_rules::{DepthName, Dev, Setup};
 use run_world::{Core, device_named};
 use std::alloc::Global;
 
 /// The name of a live device.
-pub fn live_name(alloc: Global, setup: &Setup, tree: &DevTree, serial: u64) -> Result<Name, Memory>
+pub fn live_name(alloc: Global, setup: &Setup, core: &Core, serial: u64) -> Result<Name, Memory>
     requires bounded { Bounded setup.now }
-    requires rows { HaveRows setup.now tree.now.live }
-    requires live { IsLive tree.now.live serial }
-    ensures { IfOk result (λ n. n ≡ name_live setup.now tree.now.live serial) }
+    requires rows { HaveRows setup.now core.now.tree.live }
+    requires live { IsLive core.now.tree.live serial }
+    ensures { IfOk result (λ n. n ≡ name_live setup.now core.now.tree.live serial) }
 {
-    parent_name(alloc, setup, tree, serial)
+    parent_name(alloc, setup, core, serial)
 }
 
 /// The names of the children of a device, or of the root for 0, by serial.

@@ -1,7 +1,6 @@
 //! The external names of devices.
 ghost use Rattle.std.specs.Prelude.{◌≡◌, ◌<◌, ◌++◌, length, IfOk, IfSome, IsTrue, decimal};
 ghost use Rattle.cf_text.specs.Shapes.{is_written};
-ghost use Rattle.run_rules.specs.Lines.{IsDeviceName, IsFormedName};
 ghost use Rattle.run_rules.specs.Run as run;
 ghost use Rattle.run_rules.specs.World as world;
 ghost use Rattle.run_world.specs.Input.{Bounded};
@@ -9,15 +8,13 @@ ghost use Rattle.run_world.specs.Events.{HaveRows};
 ghost use Rattle.deed_event.specs.Sayings.{HasRow};
 
 use cf_types::{Memory, Name};
-use dev_tree::DevTree;
-use run_rules::{Arrival, Got, Setup, Shown};
-use run_world::{driver_name, driver_of};
+use run_rules::{Act, Arrival, Dev, Event, Got, Setup, Shown};
+use run_world::{Core, driver_name, driver_of, is_called};
 use std::alloc::Global;
 
 fn joined(alloc: Global, name: &[u8], unit: u32) -> Result<Name, Memory>
     requires { IsTrue (is_written name.now) }
-    ensures text { IfOk result (λ n. n ≡ name.now ++ decimal unit) }
-    ensures formed { IfOk result IsDeviceName }
+    ensures { IfOk result (λ n. n ≡ name.now ++ decimal unit) }
 {
     let mut bytes = Vec::from_slice(alloc, name)?;
     let digits = format!(in alloc; "{unit}")?;
@@ -30,27 +27,52 @@ fn joined(alloc: Global, name: &[u8], unit: u32) -> Result<Name, Memory>
 pub fn unit_name(alloc: Global, setup: &Setup, row: u32, unit: u32) -> Result<Name, Memory>
     requires bounded { Bounded setup.now }
     requires row { row < length setup.now.tables.rows }
-    ensures text { IfOk result (λ n. n ≡ world.unit_name setup.now row unit) }
-    ensures formed { IfOk result IsDeviceName }
+    ensures { IfOk result (λ n. n ≡ world.unit_name setup.now row unit) }
 {
     joined(alloc, driver_name(setup, driver_of(setup, row)), unit)
 }
 
+/// The device that the last event tells, if it is one that a search tells at each event. Whoever takes it compares it first.
+fn last_device(events: &[Event]) -> Option<&Name> {
+    match events.last() {
+        Some(event) => match &event.act {
+            Act::Found { parent, .. } => Some(parent),
+            Act::ScanEnd { device } => Some(device),
+            Act::Rescan { device, .. } => Some(device),
+            _ => None,
+        },
+        None => None,
+    }
+}
+
+/// The name of a device. Where the last event tells it too, the name is shared with that event, since a search tells the
+/// same device over and over; else it is made anew.
+fn device_name(alloc: Global, setup: &Setup, events: &[Event], device: &Dev) -> Result<Name, Memory>
+    requires bounded { Bounded setup.now }
+    requires row { device.now.row < length setup.now.tables.rows }
+    ensures { IfOk result (λ n. n ≡ world.name_of setup.now device.now) }
+{
+    match last_device(events) {
+        Some(name) => {
+            if is_called(setup, device, name.bytes()) {
+                Ok(name.clone()?)
+            } else {
+                unit_name(alloc, setup, device.row, device.unit)
+            }
+        }
+        None => unit_name(alloc, setup, device.row, device.unit),
+    }
+}
+
 /// The name of a parent, which may be the root.
 #[tactic(auto, unfolding(run_rules::specs::World::parent_name, run_rules::specs::World::root_name))]
-pub fn parent_name(
-    alloc: Global,
-    setup: &Setup,
-    tree: &DevTree,
-    serial: u64,
-) -> Result<Name, Memory>
+pub fn parent_name(alloc: Global, setup: &Setup, core: &Core, serial: u64) -> Result<Name, Memory>
     requires bounded { Bounded setup.now }
-    requires rows { HaveRows setup.now tree.now.live }
-    ensures text { IfOk result (λ n. n ≡ world.parent_name setup.now tree.now.live serial) }
-    ensures formed { IfOk result IsFormedName }
+    requires rows { HaveRows setup.now core.now.tree.live }
+    ensures { IfOk result (λ n. n ≡ world.parent_name setup.now core.now.tree.live serial) }
 {
-    match tree.get(serial) {
-        Some(d) => unit_name(alloc, setup, d.row, d.unit),
+    match core.tree.get(serial) {
+        Some(device) => device_name(alloc, setup, &core.events, &device),
         None => Name::make(alloc, b"root"),
     }
 }

@@ -26,7 +26,7 @@ fn line_of(
     ensures { IfOk result (λ line. line ≡ rule.dev_line (world_of setup.now core.now) (depth, device)) }
 {
     let name = unit_name(alloc, setup, device.row, device.unit)?;
-    let parent = parent_name(alloc, setup, &core.tree, device.parent)?;
+    let parent = parent_name(alloc, setup, core, device.parent)?;
     let holders = core.refs.holds_on(alloc, device.serial)?;
     Ok(DevLine {
         depth,

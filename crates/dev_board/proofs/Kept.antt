@@ -1,5 +1,5 @@
 -- A step of a caller keeps what a board keeps.
-use Rattle.std.proofs.Common.{◌≡◌, ◌&&◌, ℕ, Bool, true, false, not, find, None, List, [], ◌∷◌, ◌++◌, length, refl, sym, ap, subst, inl, inr, arith, length-append}
+use Rattle.std.proofs.Common.{◌≡◌, ◌≤◌, ◌+◌, ◌&&◌, ℕ, Bool, true, false, not, find, None, List, [], ◌∷◌, ◌++◌, length, refl, sym, ap, subst, inl, inr, arith, length-append}
 use Rattle.std.specs.List.{AllByRecursion}
 use Rattle.run_rules.specs.declared.event.Event.{Event}
 use Rattle.run_rules.specs.declared.world.Activity.{Activity}
@@ -24,6 +24,7 @@ use Rattle.dev_board.specs.declared.answer.LeaseStep.{LeaseStep}
 use Rattle.dev_board.specs.declared.answer.LeaseStep.TheVariants.{Keep}
 use Rattle.run_world.specs.declared.parts.Core.{Core}
 use Rattle.dev_board.specs.Commits.{Performed}
+use Rattle.dev_board.specs.Shown.{Shown}
 use Rattle.dev_board.specs.Stepping.{DoesNext}
 use Rattle.run_world.specs.View.{Books, world_of}
 use Rattle.dev_board.specs.KeptCore.{CoreKept, shown_of}
@@ -60,6 +61,19 @@ kept_step s old new k d kept chosen did books =
       formed = subst (AllByRecursion IsFormed) (sym did.events) (all_snoc IsFormed old.events.items (event_of w k d) kept.formed did.formed);
       next_high = omega (arith, grown, (after_serials w k d).1, kept.next_high, ap length did.events, length-append old.events.items (event_of w k d ∷ []));
     }
+
+-- so does a change of the parts that the board does not show
+pub kept_shown : (s : Setup) (old new : Core) → shown_of s new ≡ shown_of s old → Books s new → CoreKept s old → CoreKept s new
+kept_shown s old new same books kept = record {
+  run = subst (λ (b : Shown). Run (opening s) b.events b.world) (sym same) kept.run;
+  kept = subst (λ (b : Shown). Kept b.world) (sym same) kept.kept;
+  calls = subst (λ (b : Shown). CallsDevices b.world) (sym same) kept.calls;
+  may = kept.may;
+  scripts = kept.scripts;
+  books = books;
+  formed = subst (λ (b : Shown). AllByRecursion IsFormed b.events) (sym same) kept.formed;
+  next_high = subst (λ (b : Shown). b.world.next ≤ length b.events + 1) (sym same) kept.next_high;
+}
 
 -- ---- the witness
 

@@ -14,7 +14,7 @@ pub enum Answer {
 }
 
 /// What an answer means for the leases of its caller; a slot is the number of a spot.
-#[derive(Clone, Copy, Debug, PartialEq, Eq)]
+#[derive(Clone, Copy)]
 pub enum LeaseStep {
     Keep,
     Take(u16),

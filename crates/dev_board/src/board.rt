@@ -17,6 +17,9 @@ ghost use Rattle.run_rules.specs.World.{opening, setup_of};
 ghost use Rattle.dev_board.specs.Agreement.{slots_of};
 ghost use Rattle.run_sound.specs.Kept.{MayRun};
 ghost use Rattle.run_sound.specs.Left.{boot_left};
+ghost use Rattle.attr_graph.specs.Graphs.{FitGraph};
+ghost use Rattle.run_world.specs.Input.{Bounded};
+ghost use Rattle.run_world.specs.Scripted.{FormedScripts};
 ghost use Rattle.dev_board.specs.Posting.{PostIs};
 ghost use Rattle.dev_board.specs.Shown.{began};
 ghost use Rattle.dev_board.specs.Stepping.{StepIs, IsDid, IsOfBoot, DenialsAre};
@@ -35,6 +38,7 @@ use run_rules::{Event, Setup};
 use run_world::{Core, Site, is_occupied, opening_core};
 use std::alloc::Global;
 use std::marker::Model;
+use std::mem::drop;
 
 /// A machine that runs: a world, and the history of the events that led to it. Each value of this type keeps that the
 /// history is a run from the opening world to the world, and that this world is sound.
@@ -56,6 +60,21 @@ impl Model for Board {
     ghost invariant = { board_kept };
 }
 
+/// The site of this setup.
+fn site_of(alloc: Global, setup: Setup) -> Result<Site, Memory>
+    requires graph { FitGraph setup.tables }
+    requires bounded { Bounded setup }
+    ensures { IfOk result (λ site. site.setup ≡ setup) }
+{
+    match graph_of(alloc, &setup.tables) {
+        Ok(graph) => Ok(Site { setup, graph }),
+        Err(_) => {
+            drop(setup);
+            Err(Memory)
+        }
+    }
+}
+
 impl Board {
     /// The board before any event, of formed tables, a machine that fits them, and at most 16 formed scripts of drvctl(8) commands.
     pub fn start(
@@ -72,15 +91,32 @@ impl Board {
         ensures events { IfOk result (λ b. b.events ≡ []) }
         ensures stops { IfOk result (λ b. (b.stops ≡ 0) × (b.stopped ≡ None)) }
     {
-        let graph = graph_of(alloc, &tables)?;
         let setup = Setup {
             tables,
             machine,
             scripts,
         };
-        let core = opening_core(alloc, &setup)?;
-        let site = Site { setup, graph };
-        Ok(Board { alloc, site, core })
+        match site_of(alloc, setup) {
+            Ok(site) => Board::on_site(alloc, site),
+            Err(_) => Err(Memory),
+        }
+    }
+
+    /// The board of this site before any event.
+    fn on_site(alloc: Global, site: Site) -> Result<Board, Memory>
+        requires may { MayRun site.setup }
+        requires scripts { FormedScripts site.setup }
+        ensures world { IfOk result (λ b. b.world ≡ opening site.setup) }
+        ensures events { IfOk result (λ b. b.events ≡ []) }
+        ensures stops { IfOk result (λ b. (b.stops ≡ 0) × (b.stopped ≡ None)) }
+    {
+        match opening_core(alloc, &site.setup) {
+            Ok(core) => Ok(Board { alloc, site, core }),
+            Err(_) => {
+                drop(site);
+                Err(Memory)
+            }
+        }
     }
 
     /// One step of a caller: the one event that it does next, or nothing. See autoconf(9) for what a boot does, drvctl(8) for scripts.

@@ -10,6 +10,7 @@ use crate::boot::run_boot;
 use cf_types::{List, Machine, Memory, Script, Tables};
 use ref_ledger::PlainSlots;
 use std::alloc::Global;
+use std::mem::drop;
 
 /// Boots a new board, and makes its slots.
 fn boot_with_slots(alloc: Global, board: &mut Board) -> Result<PlainSlots, Memory>
@@ -29,7 +30,10 @@ fn with_slots(alloc: Global, mut board: Board) -> Result<(Board, PlainSlots), Me
 {
     match boot_with_slots(alloc, &mut board) {
         Ok(slots) => Ok((board, slots)),
-        Err(_) => Err(Memory),
+        Err(_) => {
+            drop(board);
+            Err(Memory)
+        }
     }
 }
 

@@ -11,6 +11,7 @@ ghost use Rattle.dev_board.specs.Commits.{HasRoom, shown_now, IsAfter};
 ghost use Rattle.run_world.specs.View.{Books, SameAside};
 ghost use Rattle.run_world.specs.Sites.{world_at};
 
+use crate::absent::remove_spot;
 use crate::attach::arrive;
 use crate::effect::do_command;
 use cf_types::Memory;
@@ -53,7 +54,7 @@ fn show(hidden: &mut Vec<u16>, spot: Option<u16>)
     ensures { hidden.new.items ≡ shown_now hidden.old.items spot }
 {
     match spot {
-        Some(spot) => hidden.retain(|y| *y != spot),
+        Some(spot) => remove_spot(hidden, spot),
         None => {}
     }
 }

@@ -11,6 +11,7 @@ mod closed;
 mod commit;
 mod effect;
 mod freed;
+mod history;
 mod io_result;
 mod lease;
 mod post;

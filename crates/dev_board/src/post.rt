@@ -17,12 +17,13 @@ ghost use Rattle.dev_board.specs.declared.answer.LeaseStep.TheVariants.{Keep};
 
 use crate::answer::LeaseStep;
 use crate::effect::finish_transfer;
+use crate::history::append_event;
 use crate::posted::Posted;
 use crate::told::Told;
 use cf_types::{Memory, Ticket};
 use deed_event::deed_event;
 use run_rules::{Activity, Deed, Setup};
-use run_world::{Core, append};
+use run_world::Core;
 use std::alloc::Global;
 
 /// The transfer that a caller is in the middle of.
@@ -60,12 +61,19 @@ fn end_transfer(
     ensures books { Books setup.now core.new }
 {
     core.events.reserve(1)?;
-    let event = deed_event(alloc, setup, core, ticket.caller, Deed::Done(ticket))?;
-    let place = core.events.len() as u64;
-    let told = Told::of_event(setup, ticket.caller, place, &event, LeaseStep::Keep);
-    finish_transfer(core, ticket.caller);
-    append(&mut core.events, event);
-    Ok(told)
+    match deed_event(alloc, setup, core, ticket.caller, Deed::Done(ticket)) {
+        Ok(event) => {
+            finish_transfer(core, ticket.caller);
+            Ok(append_event(
+                setup,
+                &mut core.events,
+                ticket.caller,
+                event,
+                LeaseStep::Keep,
+            ))
+        }
+        Err(_) => Err(Memory),
+    }
 }
 
 /// The result of the transfer that the board keeps.

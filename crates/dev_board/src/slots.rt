@@ -7,7 +7,7 @@ ghost use Rattle.run_rules.specs.declared.deed.Choice.TheVariants.{Does};
 ghost use Rattle.run_rules.specs.Next.{next};
 ghost use Rattle.run_sound.specs.Kept.{Kept, MayRun};
 ghost use Rattle.dev_board.specs.SlotDeeds as slot_deeds;
-ghost use Rattle.dev_board.specs.SlotDeeds.{HaltIs, IsDenied, LatelyCondemned, SlotsLag, WaitsForLeases};
+ghost use Rattle.dev_board.specs.SlotDeeds.{HaltIs, IsDenied, LatelyCondemned, SlotsLag};
 ghost use Rattle.dev_board.specs.Commits.{HasRoom, IsAfter};
 ghost use Rattle.run_world.specs.Arrivals as arrivals;
 ghost use Rattle.dev_board.specs.Publishing.{SlotReady, published};
@@ -18,7 +18,6 @@ ghost use Rattle.run_world.specs.Sites.{world_at};
 
 use crate::commit::commit;
 use crate::freed::free;
-use cf_types::Memory;
 use dev_tree::DevTree;
 use ref_ledger::{Bury, Slots};
 use run_rules::{Arrival, Deed, Wait};
@@ -80,7 +79,7 @@ pub fn free_with<S: Slots>(
     caller: u8,
     of: u64,
     slots: &mut S,
-) -> Result<(), Wait>
+) -> Result<(), Halt>
     requires may { MayRun site.now.setup }
     requires books { Books site.now.setup core.old }
     requires kept { Kept (world_at site.now core.old) }
@@ -89,8 +88,8 @@ pub fn free_with<S: Slots>(
     requires agree { S.states slots.old ≡ slots_of (world_at site.now core.old) }
     ensures freed { OnOk result (IsAfter site.now core.old caller (deeds.Free of) core.new) }
     ensures quiet { OnOk result ((S.denials slots.new ≡ S.denials slots.old) × (S.last_denial slots.new ≡ S.last_denial slots.old)) }
-    ensures same { OnErr result (core.new ≡ core.old) }
-    ensures waits { IfErr result (λ wait. WaitsForLeases core.old.tree.live of (S.denials slots.old) wait (S.denials slots.new) (S.last_denial slots.new)) }
+    ensures same { OnErr result (world_at site.now core.new ≡ world_at site.now core.old) }
+    ensures halt { IfErr result (λ why. HaltIs core.old.tree.live (deeds.Free of) (S.denials slots.old) (S.last_denial slots.old) why (S.denials slots.new) (S.last_denial slots.new)) }
     ensures agree { S.states slots.new ≡ slots_of (world_at site.now core.new) }
     ensures books { Books site.now.setup core.new }
     ensures aside { SameAside core.old core.new }
@@ -101,7 +100,7 @@ pub fn free_with<S: Slots>(
                 free(site, core, caller, of);
                 Ok(())
             }
-            Err(mask) => Err(Wait::Leases(of, mask)),
+            Err(mask) => Err(Halt::Waits(Wait::Leases(of, mask))),
         },
         None => unreachable!(),
     }
@@ -164,7 +163,7 @@ fn do_with<S: Slots>(
     caller: u8,
     deed: Deed,
     slots: &mut S,
-) -> Result<(), Memory>
+) -> Result<(), Halt>
     requires may { MayRun site.now.setup }
     requires books { Books site.now.setup core.old }
     requires kept { Kept (world_at site.now core.old) }
@@ -177,15 +176,19 @@ fn do_with<S: Slots>(
     ensures done { OnOk result (IsAfter site.now core.old caller deed core.new) }
     ensures same { OnErr result (world_at site.now core.new ≡ world_at site.now core.old) }
     ensures agree { S.states slots.new ≡ slots_of (world_at site.now core.new) }
-    ensures denials { S.denials slots.new ≡ S.denials slots.old }
-    ensures last { S.last_denial slots.new ≡ S.last_denial slots.old }
+    ensures quiet { OnOk result ((S.denials slots.new ≡ S.denials slots.old) × (S.last_denial slots.new ≡ S.last_denial slots.old)) }
+    ensures halt { IfErr result (λ why. HaltIs core.old.tree.live deed (S.denials slots.old) (S.last_denial slots.old) why (S.denials slots.new) (S.last_denial slots.new)) }
     ensures books { Books site.now.setup core.new }
     ensures aside { SameAside core.old core.new }
 {
-    commit(alloc, site, core, caller, deed)?;
-    publish(slots, got_of(deed));
-    condemn_too(slots, site, core, condemned_by(deed));
-    Ok(())
+    match commit(alloc, site, core, caller, deed) {
+        Ok(()) => {
+            publish(slots, got_of(deed));
+            condemn_too(slots, site, core, condemned_by(deed));
+            Ok(())
+        }
+        Err(_) => Err(Halt::Memory),
+    }
 }
 
 /// Does a deed that the caller chose, with its slots; or memory runs out, or callers hold the slot of the device that
@@ -215,13 +218,7 @@ pub fn run_deed<S: Slots>(
     ensures aside { SameAside core.old core.new }
 {
     match deed {
-        Deed::Free { of } => match free_with(site, core, caller, of, slots) {
-            Ok(()) => Ok(()),
-            Err(wait) => Err(Halt::Waits(wait)),
-        },
-        _ => match do_with(alloc, site, core, caller, deed, slots) {
-            Ok(()) => Ok(()),
-            Err(_) => Err(Halt::Memory),
-        },
+        Deed::Free { of } => free_with(site, core, caller, of, slots),
+        _ => do_with(alloc, site, core, caller, deed, slots),
     }
 }

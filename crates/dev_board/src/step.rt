@@ -11,10 +11,11 @@ ghost use Rattle.dev_board.specs.Commits as commits;
 ghost use Rattle.dev_board.specs.Commits.{HasRoom, Performed, TellsDeed};
 ghost use Rattle.dev_board.specs.SlotDeeds.{HaltIs};
 ghost use Rattle.dev_board.specs.Stepping.{StepIs, IsDid, IsOfBoot, DenialsAre};
-ghost use Rattle.run_world.specs.View.{world_of, Books};
-ghost use Rattle.dev_board.specs.KeptCore.{CoreKept, BootFalls, shown_at};
+ghost use Rattle.run_world.specs.View.{Books};
+ghost use Rattle.dev_board.specs.KeptCore.{CoreKept, BootFalls, shown_at, shown_of};
 ghost use Rattle.run_world.specs.Sites.{world_at};
 
+use crate::history::append_event;
 use crate::lease::lease_of;
 use crate::slots::{Halt, run_deed};
 use crate::stepped::Stepped;
@@ -24,8 +25,9 @@ use deed_event::deed_event;
 use next_deed::choose;
 use ref_ledger::Slots;
 use run_rules::{Choice, Deed, Event, Key, Setup};
-use run_world::{Core, Site, append, is_ended};
+use run_world::{Core, Site, is_ended};
 use std::alloc::Global;
+use std::mem::drop;
 
 /// How many frames a deed may push, beside the one of a rescan.
 fn frames_for(core: &Core, deed: Deed) -> usize
@@ -40,15 +42,12 @@ fn frames_for(core: &Core, deed: Deed) -> usize
     }
 }
 
-/// Makes room for all that a deed may append.
+/// Makes room for all that a deed may append; what the board shows stays.
 fn reserve(setup: &Setup, core: &mut Core, caller: u8, deed: Deed) -> Result<(), Memory>
     requires caller { caller < length core.old.callers.items }
     requires books { Books setup.now core.old }
-    ensures world { world_of setup.now core.new ≡ world_of setup.now core.old }
+    ensures shown { shown_of setup.now core.new ≡ shown_of setup.now core.old }
     ensures books { Books setup.now core.new }
-    ensures stops { core.new.stops ≡ core.old.stops }
-    ensures stopped { core.new.stopped ≡ core.old.stopped }
-    ensures events { core.new.events.items ≡ core.old.events.items }
     ensures room { OnOk result (HasRoom core.new caller deed) }
 {
     let frames = frames_for(core, deed);
@@ -58,30 +57,42 @@ fn reserve(setup: &Setup, core: &mut Core, caller: u8, deed: Deed) -> Result<(),
     Ok(())
 }
 
-/// The event of a deed, with room for all that the deed may append.
-fn prepared(
+/// Does what a caller chose, where there is room for it, and appends its event; or nothing changes but the denials.
+fn do_told<S: Slots>(
     alloc: Global,
-    setup: &Setup,
+    site: &Site,
     core: &mut Core,
     caller: u8,
     deed: Deed,
-) -> Result<Event, Memory>
-    requires kept { CoreKept setup.now core.old }
-    requires chosen { next (world_of setup.now core.old) caller ≡ Does deed }
-    ensures event { IfOk result (λ e. e ≡ event_of (world_of setup.now core.old) caller deed) }
-    ensures formed { IfOk result IsFormed }
-    ensures room { OnOk result (HasRoom core.new caller deed) }
-    ensures world { world_of setup.now core.new ≡ world_of setup.now core.old }
-    ensures books { Books setup.now core.new }
-    ensures events { core.new.events.items ≡ core.old.events.items }
-    ensures stops { core.new.stops ≡ core.old.stops }
-    ensures stopped { core.new.stopped ≡ core.old.stopped }
+    slots: &mut S,
+    event: Event,
+) -> Result<Told, Halt>
+    requires kept { CoreKept site.now.setup core.old }
+    requires caller { caller < length core.old.callers.items }
+    requires agree { S.states slots.old ≡ slots_of (world_at site.now core.old) }
+    requires chosen { next (world_at site.now core.old) caller ≡ Does deed }
+    requires room { HasRoom core.old caller deed }
+    requires event { event ≡ event_of (world_at site.now core.old) caller deed }
+    requires formed { IsFormed event }
+    ensures ok { OnOk result (Performed site.now.setup core.old core.new caller deed) }
+    ensures told { IfOk result (TellsDeed site.now core.old caller deed) }
+    ensures quiet { OnOk result ((S.denials slots.new ≡ S.denials slots.old) × (S.last_denial slots.new ≡ S.last_denial slots.old)) }
+    ensures err { OnErr result (shown_at site.now core.new ≡ shown_at site.now core.old) }
+    ensures halt { IfErr result (λ why. HaltIs core.old.tree.live deed (S.denials slots.old) (S.last_denial slots.old) why (S.denials slots.new) (S.last_denial slots.new)) }
+    ensures agree { S.states slots.new ≡ slots_of (world_at site.now core.new) }
+    ensures books { Books site.now.setup core.new }
 {
-    reserve(setup, core, caller, deed)?;
-    deed_event(alloc, setup, core, caller, deed)
+    let lease = lease_of(core, caller, deed);
+    match run_deed(alloc, site, core, caller, deed, slots) {
+        Ok(()) => Ok(append_event(&site.setup, &mut core.events, caller, event, lease)),
+        Err(why) => {
+            drop(event);
+            Err(why)
+        }
+    }
 }
 
-/// Does what a caller chose, and appends its event; or nothing changes but the denials.
+/// Does what a caller chose, where there is room for it, and appends its event; or nothing changes but the denials.
 fn perform<S: Slots>(
     alloc: Global,
     site: &Site,
@@ -94,6 +105,7 @@ fn perform<S: Slots>(
     requires caller { caller < length core.old.callers.items }
     requires agree { S.states slots.old ≡ slots_of (world_at site.now core.old) }
     requires chosen { next (world_at site.now core.old) caller ≡ Does deed }
+    requires room { HasRoom core.old caller deed }
     ensures ok { OnOk result (Performed site.now.setup core.old core.new caller deed) }
     ensures told { IfOk result (TellsDeed site.now core.old caller deed) }
     ensures quiet { OnOk result ((S.denials slots.new ≡ S.denials slots.old) × (S.last_denial slots.new ≡ S.last_denial slots.old)) }
@@ -102,22 +114,15 @@ fn perform<S: Slots>(
     ensures agree { S.states slots.new ≡ slots_of (world_at site.now core.new) }
     ensures books { Books site.now.setup core.new }
 {
-    match prepared(alloc, &site.setup, core, caller, deed) {
+    match deed_event(alloc, &site.setup, core, caller, deed) {
+        Ok(event) => do_told(alloc, site, core, caller, deed, slots, event),
         Err(_) => Err(Halt::Memory),
-        Ok(event) => {
-            let place = core.events.len() as u64;
-            let lease = lease_of(core, caller, deed);
-            let told = Told::of_event(&site.setup, caller, place, &event, lease);
-            run_deed(alloc, site, core, caller, deed, slots)?;
-            append(&mut core.events, event);
-            Ok(told)
-        }
     }
 }
 
-/// What a caller chose is done, or memory runs out, or the caller waits for those who hold the slot of the device that it
-/// frees.
-fn step_deed<S: Slots>(
+/// What a caller chose is done, where there is room for it, or memory runs out, or the caller waits for those who hold the
+/// slot of the device that it frees.
+fn step_in_room<S: Slots>(
     alloc: Global,
     site: &Site,
     core: &mut Core,
@@ -131,6 +136,7 @@ fn step_deed<S: Slots>(
     requires goes_on { core.old.stopped ≡ None }
     requires chosen { next (world_at site.now core.old) caller ≡ Does deed }
     requires other { (ticket : Ticket) → deed ≢ Done ticket }
+    requires room { HasRoom core.old caller deed }
     ensures step { StepIs (shown_at site.now core.old) caller result (shown_at site.now core.new) }
     ensures kept { CoreKept site.now.setup core.new }
     ensures agree { S.states slots.new ≡ slots_of (world_at site.now core.new) }
@@ -146,7 +152,7 @@ fn step_deed<S: Slots>(
 }
 
 /// What a caller chose is done, but for the end of a transfer, whose result it waits for.
-fn step_or_wait<S: Slots>(
+fn step_deed<S: Slots>(
     alloc: Global,
     site: &Site,
     core: &mut Core,
@@ -170,7 +176,10 @@ fn step_or_wait<S: Slots>(
             ticket,
             Told::of_transfer(&site.setup, caller, ticket),
         ),
-        _ => step_deed(alloc, site, core, caller, deed, slots),
+        _ => match reserve(&site.setup, core, caller, deed) {
+            Ok(()) => step_in_room(alloc, site, core, caller, deed, slots),
+            Err(_) => Stepped::Memory,
+        },
     }
 }
 
@@ -199,7 +208,7 @@ fn next_step<S: Slots>(
         Err(_) => Stepped::Memory,
         Ok(Choice::Ended) => Stepped::Closed,
         Ok(Choice::Waits(why)) => Stepped::Waits(why),
-        Ok(Choice::Does(deed)) => step_or_wait(alloc, site, core, caller, deed, slots),
+        Ok(Choice::Does(deed)) => step_deed(alloc, site, core, caller, deed, slots),
     }
 }
 

@@ -12,7 +12,7 @@ mod spots;
 
 pub use activity::{begin, begin_scan, finish, is_ended};
 pub use caller::CallerState;
-pub use named::{attr_named, device_named, spot_named};
+pub use named::{attr_named, device_named, is_called, spot_named};
 pub use parts::{Core, append, opening_core};
 pub use rescan_filter::{locator_place, wanted_by};
 pub use script::{command_of, given_by};

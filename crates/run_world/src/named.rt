@@ -25,7 +25,7 @@ fn spells(digits: &[u8], value: u32) -> bool
 
 /// Whether a device has the name.
 #[tactic(auto, unfolding(run_rules::specs::World::unit_name))]
-fn is_called(setup: &Setup, device: &Dev, name: &[u8]) -> bool
+pub fn is_called(setup: &Setup, device: &Dev, name: &[u8]) -> bool
     ensures { result ≡ bytes_eq (world.name_of setup.now device.now) name.now }
 {
     match name.strip_prefix(driver_name(setup, driver_of(setup, device.row))) {

@@ -5,4 +5,4 @@ use Rattle.deed_event.proofs.listed_names.live_name.Goals as goal
 
 pub returns : goal.returns
 returns c =
-    subst (λ (x : List ℕ). IfOk c.parent_name.result (λ n. n ≡ x)) (live_named c.args.setup.now c.args.tree.now.live c.args.serial c.requires.live) c.parent_name.ensures.text
+    subst (λ (x : List ℕ). IfOk c.parent_name.result (λ n. n ≡ x)) (live_named c.args.setup.now c.args.core.now.tree.live c.args.serial c.requires.live) c.parent_name.ensures

@@ -1,8 +1,6 @@
-use Rattle.std.proofs.Common.{◌≡◌, ◌++◌, ap, arith, rules, length, decimal, length-append, subst, sym, ◌∙◌}
+use Rattle.std.proofs.Common.{◌≡◌, ◌++◌, ap, arith, rules, length, decimal, length-append}
 use Rattle.std.proofs.lemmas.Fmt.{length-decimal-le, decimal_nonempty}
-use Rattle.run_rules.specs.Lines.{IsDeviceName}
-use Rattle.run_rules.proofs.FormedNames.{written_length, written_device}
-use Rattle.std.proofs.lemmas.Result.{IfOk-weaker}
+use Rattle.run_rules.proofs.FormedNames.{written_length}
 use Rattle.deed_event.proofs.names.joined.Goals as goal
 
 pub make-requires-clause-not_empty : goal.make-requires-clause-not_empty
@@ -15,8 +13,3 @@ make-requires-clause-not_long c =
     let e : c.deref.result.now ≡ c.args.name.now ++ decimal c.args.unit = search rules in
     let w = written_length c.args.name.now c.requires in
     omega (arith, w.1, ap length e, length-append c.args.name.now (decimal c.args.unit), length-decimal-le 10 c.args.unit (omega arith) (omega arith) (omega arith))
-
-pub returns-clause-formed : goal.returns-clause-formed
-returns-clause-formed c =
-    let e : c.deref.result.now ≡ c.args.name.now ++ decimal c.args.unit = search rules in
-    IfOk-weaker _ _ IsDeviceName (λ n is. subst IsDeviceName (sym (is ∙ e)) (written_device c.args.name.now c.args.unit c.requires (omega arith))) c.make.ensures

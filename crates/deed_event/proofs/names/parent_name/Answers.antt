@@ -2,6 +2,6 @@ use Rattle.std.proofs.Common.{◌<◌, ◌==◌, length, sym}
 use Rattle.run_rules.proofs.Devices.{found_in}
 use Rattle.deed_event.proofs.names.parent_name.Goals as goal
 
-pub unit_name-requires-clause-row : goal.unit_name-requires-clause-row
-unit_name-requires-clause-row c =
-    found_in (λ d. d.row < length c.args.setup.now.tables.rows) (λ d. d.serial == c.args.serial) c.args.tree.now.live c.in-Some.d c.requires.rows (sym c.in-Some.ensures)
+pub device_name-requires-clause-row : goal.device_name-requires-clause-row
+device_name-requires-clause-row c =
+    found_in (λ d. d.row < length c.args.setup.now.tables.rows) (λ d. d.serial == c.args.serial) c.args.core.now.tree.live c.in-Some.device c.requires.rows (sym c.in-Some.ensures)

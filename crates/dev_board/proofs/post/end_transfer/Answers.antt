@@ -1,3 +1,5 @@
+use Rattle.std.proofs.Common.{refl, subst}
+use Rattle.run_rules.specs.Lines.{IsFormed}
 use Rattle.run_world.proofs.TellLaws.{doer_there, few_over}
 use Rattle.dev_board.proofs.post.end_transfer.Goals as goal
 
@@ -6,3 +8,15 @@ finish_transfer-requires-clause-caller c = doer_there c.args.setup.now c.args.co
 
 pub finish_transfer-requires-clause-low : goal.finish_transfer-requires-clause-low
 finish_transfer-requires-clause-low c = few_over c.args.setup.now c.args.core.now c.args.ticket.caller c.requires.kept.may c.requires.kept.kept
+
+pub returns-in-Ok-clause-ok : goal.returns-in-Ok-clause-ok
+returns-in-Ok-clause-ok c = record {
+  world = c.finish_transfer.ensures.world c.args.setup.now c.args.ticket;
+  events = rw (c.append_event.ensures.events, c.finish_transfer.ensures.aside.events, c.reserve.ensures.items, c.in-Ok.ensures.event) refl;
+  formed = subst IsFormed c.in-Ok.ensures.event c.in-Ok.ensures.formed;
+  stops = c.finish_transfer.ensures.aside.stops;
+  stopped = c.finish_transfer.ensures.aside.stopped;
+}
+
+pub returns-in-Ok-clause-told : goal.returns-in-Ok-clause-told
+returns-in-Ok-clause-told c = rw (c.append_event.ensures.told, c.finish_transfer.ensures.aside.events, c.reserve.ensures.items, c.in-Ok.ensures.event) refl

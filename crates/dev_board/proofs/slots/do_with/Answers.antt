@@ -21,5 +21,5 @@ condemn_too-requires g c =
     let w : World = world_of c.args.site.now.setup c.args.core.now in
     let d = c.args.deed in
     rw (c.condemned_by.ensures, c.publish.ensures.states, c.got_of.ensures, c.requires.agree)
-    (subst (λ (ds : List Dev). SlotsLag w.setup ds (condemned_by d) (published (got_of d) (slots_of w))) (sym (ap (λ (v : World). v.live) c.in_ok-commit.ensures.ok))
+    (subst (λ (ds : List Dev). SlotsLag w.setup ds (condemned_by d) (published (got_of d) (slots_of w))) (sym (ap (λ (v : World). v.live) c.in-Ok.ensures.ok))
     (slots_lag w c.args.caller d c.requires.chosen (deed_arrives w c.args.caller d c.requires.may c.requires.kept c.requires.chosen) c.requires.other))

@@ -1,4 +1,4 @@
-use Rattle.std.proofs.Common.{◌≡◌, ◌<◌, ◌==◌, ◌∙◌, sym, ap, length, Some, List, subst, slice_get, slice_set}
+use Rattle.std.proofs.Common.{◌≡◌, refl, ◌<◌, ◌==◌, ◌∙◌, sym, ap, length, Some, List, subst, slice_get, slice_set}
 use Rattle.run_rules.specs.declared.deed.Deed.TheVariants.{Free as FreeDeed}
 use Rattle.run_rules.specs.World.{World, Caller, device_at}
 use Rattle.run_rules.proofs.Devices.{found_in}
@@ -46,3 +46,16 @@ returns-in-Ok-clause-agree g c =
     let at : device_at w.live c.args.of ≡ Some x = sym c.get.ensures ∙ c.in-Some.is in
     let inside : x.spot < length w.setup.machine.spots = found_in (λ d. d.spot < length w.setup.machine.spots) (λ d. d.serial == c.args.of) w.live x c.requires.kept.ranges.spots at in
     c.in-Ok.ensures.freed ∙ ap (λ (xs : List SlotState). slice_set xs x.spot Free) c.requires.agree ∙ slot_freed w c.args.of x apart at inside ∙ slots_free w c.args.caller c.args.of ∙ ap slots_of (sym c.free.ensures.world)
+
+pub returns-in-Err-clause-halt : goal.returns-in-Err-clause-halt
+returns-in-Err-clause-halt g c = (
+  c.args.of,
+  refl,
+  record {
+    mask = c.in-Err.mask;
+    device = c.in-Some.device;
+    found = sym c.get.ensures ∙ c.in-Some.is;
+    why_is = refl;
+    denied_so = c.in-Err.ensures.held;
+  },
+)

@@ -25,3 +25,63 @@ returns-in-Ok-Waits-clause-denials g c =
     let w : World = world_of c.args.site.now.setup c.args.core.now in
     quiet_wait w c.args.caller c.in-Ok-Waits.why c.args.core.now.tree.live (g.S.Slots.denials c.args.slots.now) (g.S.Slots.last_denial c.args.slots.now) c.requires.kept.kept
     (rw c.in-Ok-Waits.field-0-is at c.in-Ok-Waits.ensures)
+
+pub returns-then-is_ended-clause-kept : goal.returns-then-is_ended-clause-kept
+returns-then-is_ended-clause-kept g c = c.requires.kept
+
+pub returns-then-is_ended-clause-agree : goal.returns-then-is_ended-clause-agree
+returns-then-is_ended-clause-agree g c = c.requires.agree
+
+pub returns-then-is_ended-clause-denials : goal.returns-then-is_ended-clause-denials
+returns-then-is_ended-clause-denials g c = (refl, refl)
+
+pub returns-then-is_ended-clause-falls : goal.returns-then-is_ended-clause-falls
+returns-then-is_ended-clause-falls g c = λ did. absurd did
+
+pub returns-in-Err-clause-kept : goal.returns-in-Err-clause-kept
+returns-in-Err-clause-kept g c = c.requires.kept
+
+pub returns-in-Err-clause-agree : goal.returns-in-Err-clause-agree
+returns-in-Err-clause-agree g c = c.requires.agree
+
+pub returns-in-Err-clause-denials : goal.returns-in-Err-clause-denials
+returns-in-Err-clause-denials g c = (refl, refl)
+
+pub returns-in-Err-clause-falls : goal.returns-in-Err-clause-falls
+returns-in-Err-clause-falls g c = λ did. absurd did
+
+pub returns-in-Ok-Ended-clause-kept : goal.returns-in-Ok-Ended-clause-kept
+returns-in-Ok-Ended-clause-kept g c = c.requires.kept
+
+pub returns-in-Ok-Ended-clause-agree : goal.returns-in-Ok-Ended-clause-agree
+returns-in-Ok-Ended-clause-agree g c = c.requires.agree
+
+pub returns-in-Ok-Ended-clause-denials : goal.returns-in-Ok-Ended-clause-denials
+returns-in-Ok-Ended-clause-denials g c = (refl, refl)
+
+pub returns-in-Ok-Ended-clause-falls : goal.returns-in-Ok-Ended-clause-falls
+returns-in-Ok-Ended-clause-falls g c = λ did. absurd did
+
+pub returns-in-Ok-Waits-clause-kept : goal.returns-in-Ok-Waits-clause-kept
+returns-in-Ok-Waits-clause-kept g c = c.requires.kept
+
+pub returns-in-Ok-Waits-clause-agree : goal.returns-in-Ok-Waits-clause-agree
+returns-in-Ok-Waits-clause-agree g c = c.requires.agree
+
+pub returns-in-Ok-Waits-clause-falls : goal.returns-in-Ok-Waits-clause-falls
+returns-in-Ok-Waits-clause-falls g c = λ did. absurd did
+
+pub returns-in-Ok-Does-clause-step : goal.returns-in-Ok-Does-clause-step
+returns-in-Ok-Does-clause-step g c = c.step_deed.ensures.step
+
+pub returns-in-Ok-Does-clause-kept : goal.returns-in-Ok-Does-clause-kept
+returns-in-Ok-Does-clause-kept g c = c.step_deed.ensures.kept
+
+pub returns-in-Ok-Does-clause-agree : goal.returns-in-Ok-Does-clause-agree
+returns-in-Ok-Does-clause-agree g c = c.step_deed.ensures.agree
+
+pub returns-in-Ok-Does-clause-denials : goal.returns-in-Ok-Does-clause-denials
+returns-in-Ok-Does-clause-denials g c = c.step_deed.ensures.denials
+
+pub returns-in-Ok-Does-clause-falls : goal.returns-in-Ok-Does-clause-falls
+returns-in-Ok-Does-clause-falls g c = c.step_deed.ensures.falls

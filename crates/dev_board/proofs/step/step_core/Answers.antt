@@ -1,4 +1,4 @@
-use Rattle.std.proofs.Common.{ℕ, subst}
+use Rattle.std.proofs.Common.{ℕ, refl, subst}
 use Rattle.dev_board.specs.Stepping.{StepIs}
 use Rattle.dev_board.specs.KeptCore.{shown_of}
 use Rattle.dev_board.proofs.NextLaws.{of_boot}
@@ -10,3 +10,30 @@ returns-in-None-clause-boot g c = λ boots.
     let old = shown_of s c.args.core.now in
     let new = shown_of s c.next_step.new.core in
     of_boot old new c.next_step.result c.requires.kept.kept (subst (λ (k : ℕ). StepIs old k c.next_step.result new) boots c.next_step.ensures.step))
+
+pub returns-in-None-clause-step : goal.returns-in-None-clause-step
+returns-in-None-clause-step g c = c.next_step.ensures.step
+
+pub returns-in-None-clause-kept : goal.returns-in-None-clause-kept
+returns-in-None-clause-kept g c = c.next_step.ensures.kept
+
+pub returns-in-None-clause-agree : goal.returns-in-None-clause-agree
+returns-in-None-clause-agree g c = c.next_step.ensures.agree
+
+pub returns-in-None-clause-denials : goal.returns-in-None-clause-denials
+returns-in-None-clause-denials g c = c.next_step.ensures.denials
+
+pub returns-in-None-clause-falls : goal.returns-in-None-clause-falls
+returns-in-None-clause-falls g c = c.next_step.ensures.falls
+
+pub returns-in-Some-clause-kept : goal.returns-in-Some-clause-kept
+returns-in-Some-clause-kept g c = c.requires.kept
+
+pub returns-in-Some-clause-agree : goal.returns-in-Some-clause-agree
+returns-in-Some-clause-agree g c = c.requires.agree
+
+pub returns-in-Some-clause-denials : goal.returns-in-Some-clause-denials
+returns-in-Some-clause-denials g c = (refl, refl)
+
+pub returns-in-Some-clause-falls : goal.returns-in-Some-clause-falls
+returns-in-Some-clause-falls g c = λ did. absurd did

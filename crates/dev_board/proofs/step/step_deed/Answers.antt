@@ -1,42 +1,91 @@
-use Rattle.std.proofs.Common.{◌≡◌, ◌<◌, ℕ, ap, arith, length, subst, sym}
+use Rattle.std.proofs.Common.{◌≡◌, ◌<◌, ◌∙◌, ap, refl, subst, sym}
 use Rattle.run_rules.specs.declared.deed.Choice.TheVariants.{Does}
-use Rattle.run_rules.specs.World.{World}
+use Rattle.run_rules.specs.declared.deed.Deed.TheVariants.{Done}
 use Rattle.run_rules.specs.Next.{next}
-use Rattle.run_rules.specs.After.{after}
-use Rattle.run_sound.specs.Left.{boot_left}
+use Rattle.run_rules.specs.World.{World}
 use Rattle.run_sound.proofs.Callers.{doing_so}
-use Rattle.run_sound.proofs.Falls.{boot_falls}
+use Rattle.run_sound.proofs.Reasons.{has_command_reason}
+use Rattle.run_sound.specs.Left.{boot_left}
+use Rattle.run_world.proofs.TellLaws.{doer_there}
 use Rattle.run_world.specs.View.{world_of}
-use Rattle.dev_board.specs.Witness.{lease_step}
-use Rattle.dev_board.proofs.Kept.{does_next, kept_step}
-use Rattle.dev_board.proofs.NextLaws.{none_kept}
+use Rattle.dev_board.specs.Agreement.{slots_of}
+use Rattle.dev_board.specs.KeptCore.{shown_of}
+use Rattle.dev_board.specs.Shown.{Shown}
+use Rattle.dev_board.specs.Stepping.{StepIs, DenialsAre}
+use Rattle.dev_board.proofs.Kept.{kept_shown}
 use Rattle.dev_board.proofs.step.step_deed.Goals as goal
 
-pub returns-in-Ok-clause-kept : goal.returns-in-Ok-clause-kept
-returns-in-Ok-clause-kept g c =
-    kept_step c.args.site.now.setup c.args.core.now c.perform.new.core c.args.caller c.args.deed c.requires.kept c.requires.chosen c.in-Ok.ensures.ok c.in-Ok.ensures.books
+pub returns-in-Done-clause-step : goal.returns-in-Done-clause-step
+returns-in-Done-clause-step g c =
+    let w : World = world_of c.args.site.now.setup c.args.core.now in
+    let t = c.in-Done.ticket in
+    let chosen = rw c.in-Done.is at c.requires.chosen in
+    (c.requires.goes_on, c.requires.kept.kept.ranges.tickets c.args.caller t (has_command_reason w c.args.caller (Done t) chosen), chosen, c.of_transfer.ensures, refl)
 
-pub returns-in-Ok-clause-falls : goal.returns-in-Ok-clause-falls
-returns-in-Ok-clause-falls g c = λ did boots.
-    (let w : World = world_of c.args.site.now.setup c.args.core.now in
-    let d = c.args.deed in
-    let chosen : next w 0 ≡ Does d = subst (λ (k : ℕ). next w k ≡ Does d) boots c.requires.chosen in
-    rw c.in-Ok.ensures.ok.world (subst (λ (k : ℕ). boot_left (after w k d) < boot_left w) (sym boots) (boot_falls w d c.requires.kept.may c.requires.kept.kept chosen)))
+pub step_in_room-requires-clause-kept : goal.step_in_room-requires-clause-kept
+step_in_room-requires-clause-kept g c =
+    kept_shown c.args.site.now.setup c.args.core.now c.reserve.new.core c.reserve.ensures.shown c.reserve.ensures.books c.requires.kept
 
-pub returns-in-Err-Memory-clause-step : goal.returns-in-Err-Memory-clause-step
-returns-in-Err-Memory-clause-step g c =
-    (c.requires.goes_on, (doing_so (world_of c.args.site.now.setup c.args.core.now) c.args.caller c.args.deed c.requires.chosen).unended, c.in-Err-Memory.ensures.err)
+pub step_in_room-requires-clause-chosen : goal.step_in_room-requires-clause-chosen
+step_in_room-requires-clause-chosen g c =
+    subst (λ (b : Shown). next b.world c.args.caller ≡ Does c.args.deed) (sym c.reserve.ensures.shown) c.requires.chosen
+
+pub step_in_room-requires-clause-caller : goal.step_in_room-requires-clause-caller
+step_in_room-requires-clause-caller g c =
+    doer_there c.args.site.now.setup c.reserve.new.core c.args.caller c.args.deed (step_in_room-requires-clause-chosen g c)
+
+pub step_in_room-requires-clause-agree : goal.step_in_room-requires-clause-agree
+step_in_room-requires-clause-agree g c =
+    subst (λ (b : Shown). g.S.Slots.states c.args.slots.now ≡ slots_of b.world) (sym c.reserve.ensures.shown) c.requires.agree
+
+pub step_in_room-requires-clause-goes_on : goal.step_in_room-requires-clause-goes_on
+step_in_room-requires-clause-goes_on g c = ap (λ (b : Shown). b.stopped) c.reserve.ensures.shown ∙ c.requires.goes_on
 
 pub returns-in-Ok-clause-step : goal.returns-in-Ok-clause-step
 returns-in-Ok-clause-step g c =
-    let s = c.args.site.now.setup in
-    let k = c.args.caller in
-    let w : World = world_of s c.args.core.now in
-    let d = c.args.deed in
-    let did = c.in-Ok.ensures.ok in
-    let place : c.len-place.result ≡ length c.args.core.now.events.items = omega (arith, c.len-place.ensures, c.args.core.now.events.ok) in (
-      c.requires.goes_on,
-      none_kept w k d c.requires.kept.kept c.requires.chosen c.requires.other,
-      does_next s c.args.core.now c.perform.new.core k d c.len-place.result _ c.in-Ok.told c.requires.chosen did place (ap (λ (v : World). lease_step w v k) did.world)
-          c.in-Ok.ensures.told,
-    )
+    subst (λ (b : Shown). StepIs b c.args.caller c.step_in_room.result (shown_of c.args.site.now.setup c.step_in_room.new.core)) c.reserve.ensures.shown c.step_in_room.ensures.step
+
+pub returns-in-Ok-clause-denials : goal.returns-in-Ok-clause-denials
+returns-in-Ok-clause-denials g c =
+    subst
+    (λ (b : Shown). DenialsAre b.world.live (g.S.Slots.denials c.args.slots.now) (g.S.Slots.last_denial c.args.slots.now) c.step_in_room.result (g.S.Slots.denials c.step_in_room.new.slots) (g.S.Slots.last_denial c.step_in_room.new.slots))
+    c.reserve.ensures.shown c.step_in_room.ensures.denials
+
+pub returns-in-Ok-clause-falls : goal.returns-in-Ok-clause-falls
+returns-in-Ok-clause-falls g c = λ did boots.
+    subst (λ (b : Shown). boot_left (world_of c.args.site.now.setup c.step_in_room.new.core) < boot_left b.world) c.reserve.ensures.shown (c.step_in_room.ensures.falls did boots)
+
+pub returns-in-Err-clause-step : goal.returns-in-Err-clause-step
+returns-in-Err-clause-step g c =
+    (c.requires.goes_on, (doing_so (world_of c.args.site.now.setup c.args.core.now) c.args.caller c.args.deed c.requires.chosen).unended, c.reserve.ensures.shown)
+
+pub returns-in-Err-clause-kept : goal.returns-in-Err-clause-kept
+returns-in-Err-clause-kept g c = kept_shown c.args.site.now.setup c.args.core.now c.reserve.new.core c.reserve.ensures.shown c.reserve.ensures.books c.requires.kept
+
+pub returns-in-Err-clause-agree : goal.returns-in-Err-clause-agree
+returns-in-Err-clause-agree g c =
+    subst (λ (b : Shown). g.S.Slots.states c.args.slots.now ≡ slots_of b.world) (sym c.reserve.ensures.shown) c.requires.agree
+
+pub returns-in-Ok-clause-kept : goal.returns-in-Ok-clause-kept
+returns-in-Ok-clause-kept g c = c.step_in_room.ensures.kept
+
+pub returns-in-Ok-clause-agree : goal.returns-in-Ok-clause-agree
+returns-in-Ok-clause-agree g c = c.step_in_room.ensures.agree
+
+pub returns-in-Err-clause-denials : goal.returns-in-Err-clause-denials
+returns-in-Err-clause-denials g c = (refl, refl)
+
+pub returns-in-Err-clause-falls : goal.returns-in-Err-clause-falls
+returns-in-Err-clause-falls g c = λ did. absurd did
+
+pub returns-in-Done-clause-kept : goal.returns-in-Done-clause-kept
+returns-in-Done-clause-kept g c = c.requires.kept
+
+pub returns-in-Done-clause-agree : goal.returns-in-Done-clause-agree
+returns-in-Done-clause-agree g c = c.requires.agree
+
+pub returns-in-Done-clause-denials : goal.returns-in-Done-clause-denials
+returns-in-Done-clause-denials g c = (refl, refl)
+
+pub returns-in-Done-clause-falls : goal.returns-in-Done-clause-falls
+returns-in-Done-clause-falls g c = λ did. absurd did

@@ -1,27 +1,27 @@
+use Rattle.std.proofs.Common.{◌≡◌, subst, sym}
+use Rattle.std.specs.Prelude.{IfOk}
 use Rattle.run_rules.specs.declared.world.Setup.{Setup}
+use Rattle.run_rules.specs.World.{opening}
 use Rattle.run_sound.specs.Kept.{MayRun}
 use Rattle.run_world.proofs.InputLaws.{bounded}
-use Rattle.dev_board.proofs.Opening.{begins}
+use Rattle.run_world.specs.Scripted.{FormedScripts}
 use Rattle.dev_board.proofs.ScriptedLaws.{scripts_may}
 use Rattle.dev_board.proofs.board.Board.start.Goals as goal
 
-pub graph_of-requires : goal.graph_of-requires
-graph_of-requires c = c.requires.tables.graph
+pub site_of-requires-clause-graph : goal.site_of-requires-clause-graph
+site_of-requires-clause-graph c = c.requires.tables.graph
 
-pub opening_core-requires : goal.opening_core-requires
-opening_core-requires c = record { few = c.requires.machine.few_spots; few_devices = c.requires.tables.graph.few_devices }
+pub site_of-requires-clause-bounded : goal.site_of-requires-clause-bounded
+site_of-requires-clause-bounded c =
+    bounded (record { tables = c.args.tables; machine = c.args.machine; scripts = c.args.scripts })
+    (scripts_may c.args.tables c.args.machine c.args.scripts c.requires.tables c.requires.machine c.requires.few_scripts c.requires.scripts)
 
-pub invariant_of-site : goal.invariant_of-site
-invariant_of-site c =
-    let s : Setup = record { tables = c.args.tables; machine = c.args.machine; scripts = c.args.scripts } in
-    let may : MayRun s = scripts_may c.args.tables c.args.machine c.args.scripts c.requires.tables c.requires.machine c.requires.few_scripts c.requires.scripts in
-    record { graphed = c.in_ok-graph.ensures; bounded = bounded s may }
+pub on_site-requires-clause-may : goal.on_site-requires-clause-may
+on_site-requires-clause-may c =
+    subst MayRun (sym c.in-Ok.ensures) (scripts_may c.args.tables c.args.machine c.args.scripts c.requires.tables c.requires.machine c.requires.few_scripts c.requires.scripts)
 
-pub invariant_of-result : goal.invariant_of-result
-invariant_of-result c =
-    let s : Setup = record { tables = c.args.tables; machine = c.args.machine; scripts = c.args.scripts } in
-    begins s c.in_ok-core.core (scripts_may c.args.tables c.args.machine c.args.scripts c.requires.tables c.requires.machine c.requires.few_scripts c.requires.scripts)
-    (record { formed = c.requires.scripts }) c.in_ok-core.ensures
+pub on_site-requires-clause-scripts : goal.on_site-requires-clause-scripts
+on_site-requires-clause-scripts c = subst FormedScripts (sym c.in-Ok.ensures) (record { formed = c.requires.scripts })
 
-pub returns-clause-world : goal.returns-clause-world
-returns-clause-world c = c.in_ok-core.ensures.world
+pub returns-in-Ok-clause-world : goal.returns-in-Ok-clause-world
+returns-in-Ok-clause-world c = subst (λ (s : Setup). IfOk c.on_site.result (λ b. b.world ≡ opening s)) c.in-Ok.ensures c.on_site.ensures.world
