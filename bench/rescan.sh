@@ -7,28 +7,6 @@ set -e
 top=$(cd "$(dirname "$0")/.." && pwd)
 . "$top/bench/measure.sh"
 
-make_machine() {
-    printf '%s\n' 'device bus {[slot = -1]}' 'attach bus at root' 'device disk' 'attach disk at bus' \
-        'bus0 at root' 'disk* at bus?' >"$folder/conf"
-    awk 'BEGIN {
-        print "spot b root root"
-        for (i = 0; i < 1023; i++) print "spot s" i " b bus slot=" i
-        print "match bus * 10"
-    }' >"$folder/mach"
-}
-
-# A script of so many rescans, and an order file with all its turns: of each rescan one for its reply, one for each spot
-# below the bus, and one for its end.
-make_script() {
-    awk -v rescans="$1" -v folder="$folder" 'BEGIN {
-        for (turn = 0; turn < 1025; turn++) turns = turns "1 "
-        for (i = 0; i < rescans; i++) {
-            print "rescan bus0" > (folder "/script")
-            print turns > (folder "/order")
-        }
-    }'
-}
-
 make_machine
 make_script 1
 status=0
