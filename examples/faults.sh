@@ -131,6 +131,27 @@ scripts_by_number() {
     expect 7 's: too long' play conf mach s o
 }
 
+# A history of the empty script `o`, with these lines in place of its boot's.
+history() {
+    { printf 'history 2\n'; printf "$1"; } >"$folder/h"
+}
+
+histories() {
+    expect 6 'nofile: absent' replay conf mach nofile o
+    head -c 1048577 /dev/zero | tr '\0' '\n' >"$folder/h"
+    expect 7 'h: too long' replay conf mach h o
+    echo 'tables' >"$folder/h"
+    expect 5 'history h:0: refused' replay conf mach h o
+    history '0.0 found root on mb: mainbus0 row 1\ntree\n'
+    expect 5 'history h:2: refused' replay conf mach h o
+    expect 5 'history h:2: refused' upgrade conf mach h o
+    history '0.0 found root on mb: mainbus0 row 0\n'
+    expect 5 'history h:3: refused' replay conf mach h o
+    history '0.0 found root on mb: mainbus0 row 0\ntree\n'
+    expect 0 '' replay conf mach h o
+    expect 0 '' upgrade conf mach h o
+}
+
 # A name of the program that is not UTF-8 spoils no words; a word that is not is in no form.
 odd_bytes() {
     odd=$(printf '\377')
@@ -172,5 +193,6 @@ rows 'script o:' >"$folder/rows"
 while IFS=$tab read -r said wrongly rightly; do try_order "$said" "$wrongly" "$rightly"; done <"$folder/rows"
 echo '# no turns, and no commands' >"$folder/o"
 scripts_by_number
+histories
 echo "$tried calls tried, $wrong of them wrong"
 [ "$wrong" = 0 ]

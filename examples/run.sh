@@ -31,3 +31,5 @@ same detach.play pc play GENERIC ../machines/pc ../detach.order ../hold.script .
 same plug.play pc play GENERIC ../machines/pc ../plug.order ../plug.script
 same power.play pc play GENERIC ../machines/pc ../power.order ../power.script
 same check.play pc play GENERIC ../machines/pc ../check.order ../mount.script ../check.script
+same detach.tree pc replay GENERIC ../machines/pc ../outputs/detach.play ../hold.script ../detach.script
+same detach.upgraded pc upgrade GENERIC ../machines/pc ../detach.history ../hold.script ../detach.script

@@ -14,11 +14,13 @@ use Rattle.file_select.specs.Answers.{asked_for}
 use Rattle.app_input.specs.Asked.{AsksInputs, Names}
 use Rattle.app_input.specs.Inputs.{Reads}
 use Rattle.app_input.specs.Status.{status_of, status_of_stop}
-use Rattle.app_input.specs.Words.{Form, boot, ioconf, is_compiled, is_from_outside, load, machine_in, play, sources}
+use Rattle.app_input.specs.Words.{Form, boot, ioconf, is_compiled, is_from_outside, load, machine_in, scripted, sources}
 use Rattle.app_input.specs.declared.inputs.Inputs.{Inputs}
 use Rattle.app_input.specs.declared.inputs.Inputs.TheVariants as input
 use Rattle.app_input.specs.declared.status.Status.{Status}
-use Rattle.app_input.specs.declared.status.Status.TheVariants.{Ok, ConfigRefused, Usage, MachineRefused, ScriptRefused, Absent, TooLong, ReadFault, WriteFault, Memory}
+use Rattle.app_input.specs.declared.words.Task.{Task}
+use Rattle.app_input.specs.declared.words.Task.TheVariants.{Play, Replay, Upgrade}
+use Rattle.app_input.specs.declared.status.Status.TheVariants.{Ok, ConfigRefused, Usage, MachineRefused, ScriptRefused, HistoryRefused, Absent, TooLong, ReadFault, WriteFault, Memory}
 use Rattle.app_input.proofs.AskedLaws.{all_asked, inputs_all, inputs_memory, memory_asked, stopped_asked}
 use Rattle.app_config.specs.FilesAsked.{AsksFiles, AsksSources, AsksThen}
 use Rattle.app_config.specs.declared.found.Found.{Found}
@@ -35,14 +37,15 @@ sources_unread name told Memory reads = refl
 sources_unread name told (ConfigRefused file line code) (f, is, compiled, fault) = let never = at_sources (λ form. is_compiled form ≡ true) name f is compiled in absurd cc
 sources_unread name told Usage reads = absurd cc
 sources_unread name told (MachineRefused line code) (f, file, tables, is, machine, meant, described) = let never = at_sources (λ form. machine_in form ≡ Some file) name f is machine in absurd cc
-sources_unread name told (ScriptRefused which line code) (file, machine, order, scripts, tables, m, is, meant, described, refused, why) = absurd cc
+sources_unread name told (ScriptRefused which line code) (task, tables, m, (file, machine, course, names, is, meant, described, refused)) = absurd cc
 sources_unread name told (Absent absent) (inl (f, file, tables, is, machine, meant, why)) = let never = at_sources (λ form. machine_in form ≡ Some file) name f is machine in absurd cc
-sources_unread name told (Absent absent) (inr (file, machine, order, scripts, tables, m, is, meant, described, refused, why)) = absurd cc
+sources_unread name told (Absent absent) (inr (task, tables, m, (file, machine, course, names, is, meant, described, refused))) = absurd cc
 sources_unread name told (TooLong long) (inl (f, file, tables, is, machine, meant, why)) = let never = at_sources (λ form. machine_in form ≡ Some file) name f is machine in absurd cc
-sources_unread name told (TooLong long) (inr (file, machine, order, scripts, tables, m, is, meant, described, refused, why)) = absurd cc
+sources_unread name told (TooLong long) (inr (task, tables, m, (file, machine, course, names, is, meant, described, refused))) = absurd cc
 sources_unread name told ReadFault (f, is, outside) = let never = at_sources (λ form. is_from_outside form ≡ true) name f is outside in absurd cc
 sources_unread name told Ok never = elim never [ ]
 sources_unread name told WriteFault never = elim never [ ]
+sources_unread name told (HistoryRefused line) never = elim never [ ]
 
 none_of_sources : (told : Option Files) (name : List ℕ) (old new : Names) → new ≡ old → AsksSources told name Memory old new
 none_of_sources None name old new same = tt
@@ -54,7 +57,7 @@ refused_asked None told status old new reads asked = asked
 refused_asked (Some (ioconf file)) told status old new reads asked = asked
 refused_asked (Some (boot file machine)) told status old new reads asked = asked
 refused_asked (Some (load n)) told status old new reads asked = asked
-refused_asked (Some (play file machine order scripts)) told status old new reads asked = asked
+refused_asked (Some (scripted task file machine course names)) told status old new reads asked = asked
 refused_asked (Some (sources name)) told status old new reads asked =
     subst (λ (s : Status). AsksSources told name s old new) (sym (sources_unread name told status reads)) (none_of_sources told name old new asked)
 
@@ -63,6 +66,12 @@ refused_asked (Some (sources name)) told status old new reads asked =
 -- no more files are asked for
 quiet_then : (form : Option Form) (told : Option Files) (status : Status) (old mid new : Names) → AsksInputs form told Ok old mid → new ≡ mid → AsksInputs form told status old new
 quiet_then form told status old mid new asked same = inputs_all form told status old new (subst (λ (now : Names). AsksInputs form told Ok old now) (sym same) asked)
+
+run_asked : (form : Option Form) (told : Option Files) (task : Task) (file name course : List ℕ) (names : List (List ℕ)) (status : Status) (old mid new : Names)
+    → form ≡ Some (scripted task file name course names) → AsksInputs form told Ok old mid → new ≡ mid → AsksFiles form told status old new
+run_asked form told task file name course names status old mid new is asked later =
+    subst (λ (f : Option Form). AsksFiles f told status old new) (sym is)
+    (quiet_then (Some (scripted task file name course names)) told status old mid new (subst (λ (f : Option Form). AsksInputs f told Ok old mid) is asked) later)
 
 pub found_asked : (form : Option Form) (told reads : Option Files) (inputs : Inputs) (status : Status) (old mid new : Names) → reads ≡ told → Reads form told (std.Ok inputs)
     → AsksInputs form told Ok old mid → AsksThen reads inputs status mid new → AsksFiles form told status old new
@@ -75,9 +84,12 @@ found_asked form told reads (input.Boot tables machine) status old mid new same 
 found_asked form told reads (input.Load n tables machine) status old mid new same (is, made) asked later =
     subst (λ (f : Option Form). AsksFiles f told status old new) (sym is)
     (quiet_then (Some (load n)) told status old mid new (subst (λ (f : Option Form). AsksInputs f told Ok old mid) is asked) later)
-found_asked form told reads (input.Play tables machine scripts order) status old mid new same (file, name, turns, names, is, meant, described, played) asked later =
-    subst (λ (f : Option Form). AsksFiles f told status old new) (sym is)
-    (quiet_then (Some (play file name turns names)) told status old mid new (subst (λ (f : Option Form). AsksInputs f told Ok old mid) is asked) later)
+found_asked form told reads (input.Play tables machine scripts order) status old mid new same (file, name, course, names, is, meant, described, given) asked later =
+    run_asked form told Play file name course names status old mid new is asked later
+found_asked form told reads (input.Replay tables machine scripts history) status old mid new same (file, name, course, names, is, meant, described, given) asked later =
+    run_asked form told Replay file name course names status old mid new is asked later
+found_asked form told reads (input.Upgrade tables machine scripts history) status old mid new same (file, name, course, names, is, meant, described, given) asked later =
+    run_asked form told Upgrade file name course names status old mid new is asked later
 found_asked form told reads (input.Files name) status old mid new same is asked later =
     let before : mid ≡ old = subst (λ (f : Option Form). AsksInputs f told Ok old mid) is asked in
     subst (λ (f : Option Form). AsksFiles f told status old new) (sym is)
@@ -95,7 +107,7 @@ files_all None told status old new asked = asked
 files_all (Some (ioconf file)) told status old new asked = inputs_all (Some (ioconf file)) told status old new asked
 files_all (Some (boot file machine)) told status old new asked = inputs_all (Some (boot file machine)) told status old new asked
 files_all (Some (load n)) told status old new asked = asked
-files_all (Some (play file machine order scripts)) told status old new asked = inputs_all (Some (play file machine order scripts)) told status old new asked
+files_all (Some (scripted task file machine course names)) told status old new asked = inputs_all (Some (scripted task file machine course names)) told status old new asked
 files_all (Some (sources name)) told status old new asked = sources_all told name status old new asked
 
 sources_memory : (told : Option Files) (name : List ℕ) (status : Status) (old new : Names) → AsksSources told name status old new → AsksSources told name Memory old new
@@ -107,7 +119,7 @@ files_memory None told status old new asked = asked
 files_memory (Some (ioconf file)) told status old new asked = inputs_memory (Some (ioconf file)) told status old new asked
 files_memory (Some (boot file machine)) told status old new asked = inputs_memory (Some (boot file machine)) told status old new asked
 files_memory (Some (load n)) told status old new asked = asked
-files_memory (Some (play file machine order scripts)) told status old new asked = inputs_memory (Some (play file machine order scripts)) told status old new asked
+files_memory (Some (scripted task file machine course names)) told status old new asked = inputs_memory (Some (scripted task file machine course names)) told status old new asked
 files_memory (Some (sources name)) told status old new asked = sources_memory told name status old new asked
 
 -- telling of a status asks for no file
@@ -119,20 +131,8 @@ files_told form told status result old new asked (inr e) = subst (λ (s : Status
 -- ---- finding
 
 -- no file is asked for where nothing is selected
-pub ioconf_then : (told : Option Files) (inputs : Inputs) (tables : Tables) (status : Status) (asked : Names) → inputs ≡ input.Ioconf tables → AsksThen told inputs status asked asked
-ioconf_then told inputs tables status asked is = subst (λ (i : Inputs). AsksThen told i status asked asked) (sym is) refl
-
-pub boot_then : (told : Option Files) (inputs : Inputs) (tables : Tables) (machine : Machine) (status : Status) (asked : Names) → inputs ≡ input.Boot tables machine
-    → AsksThen told inputs status asked asked
-boot_then told inputs tables machine status asked is = subst (λ (i : Inputs). AsksThen told i status asked asked) (sym is) refl
-
-pub load_then : (told : Option Files) (inputs : Inputs) (n : ℕ) (tables : Tables) (machine : Machine) (status : Status) (asked : Names) → inputs ≡ input.Load n tables machine
-    → AsksThen told inputs status asked asked
-load_then told inputs n tables machine status asked is = subst (λ (i : Inputs). AsksThen told i status asked asked) (sym is) refl
-
-pub play_then : (told : Option Files) (inputs : Inputs) (tables : Tables) (machine : Machine) (scripts : List (List Command)) (order : List ℕ) (status : Status) (asked : Names)
-    → inputs ≡ input.Play tables machine scripts order → AsksThen told inputs status asked asked
-play_then told inputs tables machine scripts order status asked is = subst (λ (i : Inputs). AsksThen told i status asked asked) (sym is) refl
+pub then_by : (told : Option Files) (inputs given : Inputs) (status : Status) (asked : Names) → inputs ≡ given → AsksThen told given status asked asked → AsksThen told inputs status asked asked
+then_by told inputs given status asked is then = subst (λ (i : Inputs). AsksThen told i status asked asked) (sym is) then
 
 -- the sources were selected
 pub selected_then : (told : Option Files) (inputs : Inputs) (name given : List ℕ) (old new : Names) → inputs ≡ input.Files name → given ≡ name

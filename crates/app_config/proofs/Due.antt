@@ -1,23 +1,26 @@
 -- The status that is due, by what was read, found and written.
-use Rattle.std.proofs.Common.{inl, inr, ◌≡◌, ℕ, ◌≤◌, Option, Some, None, List, refl, subst, sym, arith}
+use Rattle.std.proofs.Common.{inl, inr, ◌≡◌, ℕ, ◌≤◌, Option, Some, None, List, ap, refl, subst, sym, arith}
 use Rattle.std.specs.Prelude.{◌⊎◌, IfSome, Result}
 use Rattle.std.specs.Prelude as std
 use Rattle.cf_io.specs.Faults.{Rose}
 use Rattle.cf_io.specs.Told.{Told}
 use Rattle.config_rules.specs.Reading.{Files}
+use Rattle.run_rules.specs.declared.world.Setup.{Setup}
+use Rattle.run_rules.specs.Reread.{reread}
+use Rattle.run_rules.specs.World.{opening, setup_of}
 use Rattle.app_input.specs.Inputs.{Counts, IsDue}
 use Rattle.app_input.specs.Words.{Form}
 use Rattle.app_input.specs.declared.inputs.Inputs.{Inputs}
 use Rattle.app_input.specs.declared.inputs.Inputs.TheVariants as input
 use Rattle.app_input.specs.declared.status.Status.{Status}
-use Rattle.app_input.specs.declared.status.Status.TheVariants.{Ok, ConfigRefused, Usage, MachineRefused, ScriptRefused, Absent, TooLong, ReadFault, WriteFault, Memory}
+use Rattle.app_input.specs.declared.status.Status.TheVariants.{Ok, ConfigRefused, Usage, MachineRefused, ScriptRefused, HistoryRefused, Absent, TooLong, ReadFault, WriteFault, Memory}
 use Rattle.app_output.specs.Output.{Writes}
 use Rattle.app_output.specs.declared.stop.OutputStop.{OutputStop}
 use Rattle.app_output.specs.declared.stop.OutputStop.TheVariants as stops
 use Rattle.app_config.specs.Asked.{IsAskedText}
-use Rattle.app_config.specs.Found.{FindsFor, Unselected, found_text}
+use Rattle.app_config.specs.Found.{FindsFor, Unfound, Unselected, Untaken, found_text}
 use Rattle.app_input.specs.Status.{status_of}
-use Rattle.app_config.specs.Run.{IsDueOr, IsInputsStatus, status_after}
+use Rattle.app_config.specs.Run.{IsDueOr, IsInputsStatus, history_status, status_after}
 use Rattle.app_config.specs.declared.found.Found.{Found}
 
 -- ---- finding
@@ -30,6 +33,8 @@ asked_status files (input.Files name) text is = (is.0, is.1)
 asked_status files (input.Boot tables machine) text is = refl
 asked_status files (input.Load n tables machine) text is = refl
 asked_status files (input.Play tables machine scripts order) text is = refl
+asked_status files (input.Replay tables machine scripts history) text (h, w, takes, reliable, is) = sym (ap history_status takes)
+asked_status files (input.Upgrade tables machine scripts history) text (h, w, takes, reliable, is) = sym (ap history_status takes)
 
 -- why the sources were not selected, where no reading failed
 unselected_status : (files : Files) (name : List ℕ) (before after : ℕ) (status : Status) → Unselected (Some files) name status → Counts {A = Found} before after (std.Err status)
@@ -40,17 +45,42 @@ unselected_status files name before after Ok why counts quiet = absurd why
 unselected_status files name before after Usage why counts quiet = absurd why
 unselected_status files name before after (MachineRefused line code) why counts quiet = absurd why
 unselected_status files name before after (ScriptRefused which line code) why counts quiet = absurd why
+unselected_status files name before after (HistoryRefused line) why counts quiet = absurd why
 unselected_status files name before after (Absent absent) why counts quiet = absurd why
 unselected_status files name before after (TooLong long) why counts quiet = absurd why
 unselected_status files name before after WriteFault why counts quiet = absurd why
 unselected_status files name before after Memory why counts quiet = absurd why
 
+-- the first bad line of a history is its status
+untaken_status : (setup : Setup) (history : List ℕ) (status : Status) → Untaken setup history status → status ≡ history_status (reread (opening setup) history)
+untaken_status setup history (HistoryRefused line) bad = sym (ap history_status bad)
+untaken_status setup history Ok why = absurd why
+untaken_status setup history (ConfigRefused file line code) why = absurd why
+untaken_status setup history Usage why = absurd why
+untaken_status setup history (MachineRefused line code) why = absurd why
+untaken_status setup history (ScriptRefused which line code) why = absurd why
+untaken_status setup history (Absent absent) why = absurd why
+untaken_status setup history (TooLong long) why = absurd why
+untaken_status setup history ReadFault why = absurd why
+untaken_status setup history WriteFault why = absurd why
+untaken_status setup history Memory why = absurd why
+
+-- why nothing was found is the status that the inputs call for, where no reading failed
+unfound_status : (files : Files) (asked : Inputs) (before after : ℕ) (status : Status) → Unfound (Some files) asked status → Counts {A = Found} before after (std.Err status)
+    → ¬ Rose before after → IsInputsStatus files asked status
+unfound_status files (input.Files name) before after status why counts quiet = unselected_status files name before after status why counts quiet
+unfound_status files (input.Replay tables machine scripts history) before after status why counts quiet = untaken_status (setup_of tables machine scripts) history status why
+unfound_status files (input.Upgrade tables machine scripts history) before after status why counts quiet = untaken_status (setup_of tables machine scripts) history status why
+unfound_status files (input.Ioconf tables) before after status why counts quiet = absurd why
+unfound_status files (input.Boot tables machine) before after status why counts quiet = absurd why
+unfound_status files (input.Load n tables machine) before after status why counts quiet = absurd why
+unfound_status files (input.Play tables machine scripts order) before after status why counts quiet = absurd why
+
 due_found : (form : Option Form) (files : Files) (asked : Inputs) (before after : ℕ) (result : Result Found Status) → IsDue form files (std.Ok asked)
     → FindsFor (Some files) asked result → Counts before after result → ¬ Rose before after → IsDueOr form files (status_of result)
 due_found form files asked before after (std.Ok found) due finds counts quiet = inr (std.Ok asked, due, asked_status files asked (found_text found) finds)
 due_found form files asked before after (std.Err status) due (inl want) counts quiet = inl want
-due_found form files asked before after (std.Err status) due (inr (name, is, why)) counts quiet =
-    inr (std.Ok asked, due, subst (λ (i : Inputs). IsInputsStatus files i status) (sym is) (unselected_status files name before after status why counts quiet))
+due_found form files asked before after (std.Err status) due (inr why) counts quiet = inr (std.Ok asked, due, unfound_status files asked before after status why counts quiet)
 
 -- the count of faults of reading does not fall
 counts_rise : (before after : ℕ) (result : Result Found Status) → Counts before after result → before ≤ after
@@ -60,6 +90,7 @@ counts_rise before after (std.Err (ConfigRefused file line code)) counts = omega
 counts_rise before after (std.Err Usage) counts = omega arith
 counts_rise before after (std.Err (MachineRefused line code)) counts = omega arith
 counts_rise before after (std.Err (ScriptRefused which line code)) counts = omega arith
+counts_rise before after (std.Err (HistoryRefused line)) counts = omega arith
 counts_rise before after (std.Err (Absent name)) counts = omega arith
 counts_rise before after (std.Err (TooLong name)) counts = omega arith
 counts_rise before after (std.Err ReadFault) counts = counts.0

@@ -6,13 +6,15 @@ use Rattle.cf_io.specs.Told.{Delivers, Takes, TakesFront, Told}
 use Rattle.config_rules.specs.Reading.{Files}
 use Rattle.app_input.specs.Inputs.{Counts}
 use Rattle.app_input.specs.Words.{Form}
+use Rattle.app_input.specs.declared.inputs.Inputs.{Inputs}
+use Rattle.app_input.specs.declared.inputs.Inputs.TheVariants as input
 use Rattle.app_input.specs.declared.status.Status.{Status}
-use Rattle.app_input.specs.declared.status.Status.TheVariants.{Ok, ConfigRefused, Usage, MachineRefused, ScriptRefused, Absent, TooLong, ReadFault, WriteFault, Memory}
+use Rattle.app_input.specs.declared.status.Status.TheVariants.{Ok, ConfigRefused, Usage, MachineRefused, ScriptRefused, HistoryRefused, Absent, TooLong, ReadFault, WriteFault, Memory}
 use Rattle.app_output.specs.Output.{Writes}
 use Rattle.app_output.specs.declared.stop.OutputStop.{OutputStop}
 use Rattle.app_output.specs.declared.stop.OutputStop.TheVariants as stops
 use Rattle.app_config.specs.Asked.{Asks}
-use Rattle.app_config.specs.Found.{IsRefused}
+use Rattle.app_config.specs.Found.{IsRefused, Unfound}
 use Rattle.app_config.specs.Run.{Explains, Faults, status_after}
 use Rattle.app_config.specs.declared.found.Found.{Found}
 
@@ -32,16 +34,36 @@ faults_written text reads reads' old new (std.Err stops.Memory) same put = let e
 
 -- ---- where the words or the files are refused
 
+-- why nothing was found is never that all was written, nor that writing failed
+found_or_not : (told : Option Files) (asked : Inputs) → Unfound told asked Ok → ⊥
+found_or_not told (input.Ioconf tables) why = why
+found_or_not told (input.Files name) why = why
+found_or_not told (input.Boot tables machine) why = why
+found_or_not told (input.Load n tables machine) why = why
+found_or_not told (input.Play tables machine scripts order) why = why
+found_or_not told (input.Replay tables machine scripts history) why = why
+found_or_not told (input.Upgrade tables machine scripts history) why = why
+
+written_or_not : (told : Option Files) (asked : Inputs) → Unfound told asked WriteFault → ⊥
+written_or_not told (input.Ioconf tables) why = why
+written_or_not told (input.Files name) why = why
+written_or_not told (input.Boot tables machine) why = why
+written_or_not told (input.Load n tables machine) why = why
+written_or_not told (input.Play tables machine scripts order) why = why
+written_or_not told (input.Replay tables machine scripts history) why = why
+written_or_not told (input.Upgrade tables machine scripts history) why = why
+
 pub explains_refused : (form : Option Form) (told : Option Files) (old : Told) (status : Status) → IsRefused form told status → Explains form told old old status
 explains_refused form told old Ok (inl read) = absurd read
-explains_refused form told old Ok (inr selected) = absurd selected.2
+explains_refused form told old Ok (inr (asked, read, why)) = absurd (found_or_not told asked why)
 explains_refused form told old WriteFault (inl read) = absurd read
-explains_refused form told old WriteFault (inr selected) = absurd selected.2
+explains_refused form told old WriteFault (inr (asked, read, why)) = absurd (written_or_not told asked why)
 explains_refused form told old Memory refused = inl refl
 explains_refused form told old (ConfigRefused file line code) refused = (refused, refl)
 explains_refused form told old Usage refused = (refused, refl)
 explains_refused form told old (MachineRefused line code) refused = (refused, refl)
 explains_refused form told old (ScriptRefused which line code) refused = (refused, refl)
+explains_refused form told old (HistoryRefused line) refused = (refused, refl)
 explains_refused form told old (Absent name) refused = (refused, refl)
 explains_refused form told old (TooLong name) refused = (refused, refl)
 explains_refused form told old ReadFault refused = (refused, refl)
@@ -50,12 +72,13 @@ pub faults_refused : (form : Option Form) (told : Option Files) (reads reads' wr
     → IsRefused form told status → Counts {A = Found} reads reads' (std.Err status) → Faults reads reads' writes writes status
 faults_refused form told reads reads' writes Ok refused counts = (counts, refl)
 faults_refused form told reads reads' writes WriteFault (inl read) counts = absurd read
-faults_refused form told reads reads' writes WriteFault (inr selected) counts = absurd selected.2
+faults_refused form told reads reads' writes WriteFault (inr (asked, read, why)) counts = absurd (written_or_not told asked why)
 faults_refused form told reads reads' writes Memory refused counts = (omega arith, omega arith)
 faults_refused form told reads reads' writes (ConfigRefused file line code) refused counts = (counts, refl)
 faults_refused form told reads reads' writes Usage refused counts = (counts, refl)
 faults_refused form told reads reads' writes (MachineRefused line code) refused counts = (counts, refl)
 faults_refused form told reads reads' writes (ScriptRefused which line code) refused counts = (counts, refl)
+faults_refused form told reads reads' writes (HistoryRefused line) refused counts = (counts, refl)
 faults_refused form told reads reads' writes (Absent name) refused counts = (counts, refl)
 faults_refused form told reads reads' writes (TooLong name) refused counts = (counts, refl)
 faults_refused form told reads reads' writes ReadFault refused counts = (counts.0, counts.1, refl)
@@ -79,6 +102,7 @@ explains_want form told old new (ConfigRefused file line code) h = inl h.1
 explains_want form told old new Usage h = inl h.1
 explains_want form told old new (MachineRefused line code) h = inl h.1
 explains_want form told old new (ScriptRefused which line code) h = inl h.1
+explains_want form told old new (HistoryRefused line) h = inl h.1
 explains_want form told old new (Absent name) h = inl h.1
 explains_want form told old new (TooLong name) h = inl h.1
 explains_want form told old new ReadFault h = inl h.1
@@ -96,6 +120,7 @@ faults_want reads reads' writes writes' (ConfigRefused file line code) h = (omeg
 faults_want reads reads' writes writes' Usage h = (omega arith, omega arith)
 faults_want reads reads' writes writes' (MachineRefused line code) h = (omega arith, omega arith)
 faults_want reads reads' writes writes' (ScriptRefused which line code) h = (omega arith, omega arith)
+faults_want reads reads' writes writes' (HistoryRefused line) h = (omega arith, omega arith)
 faults_want reads reads' writes writes' (Absent name) h = (omega arith, omega arith)
 faults_want reads reads' writes writes' (TooLong name) h = (omega arith, omega arith)
 faults_want reads reads' writes writes' ReadFault h = (h.0, omega arith)

@@ -1,5 +1,5 @@
 -- What was found for the inputs has the text that they ask for.
-use Rattle.std.proofs.Common.{inl, inr, ◌≡◌, ℕ, List, [], Option, Some, None, refl, sym, ap, ◌∙◌, subst}
+use Rattle.std.proofs.Common.{inl, inr, ◌≡◌, ℕ, ◌++◌, List, [], Option, Some, None, refl, sym, ap, ◌∙◌, subst}
 use Rattle.std.specs.Prelude.{◌⊎◌, IfOk, IfSome, IsErrAnd, Result, Vec}
 use Rattle.std.specs.Global.{Global}
 use Rattle.cf_types.specs.Lines.{ended, text_of}
@@ -18,6 +18,8 @@ use Rattle.cf_compile.specs.declared.stop.CompileStop.TheVariants as compile
 use Rattle.file_rules.specs.Sources.{Selects}
 use Rattle.file_select.specs.Answers.{SelectsFrom}
 use Rattle.run_rules.specs.declared.world.Setup.{Setup}
+use Rattle.history_replay.specs.declared.history.Replayed.{Replayed}
+use Rattle.run_rules.specs.Lines.{lines}
 use Rattle.run_rules.specs.World.{setup_of}
 use Rattle.app_input.specs.Inputs.{Counts, FormedInputs, Reads}
 use Rattle.app_input.specs.Status.{status_of_stop}
@@ -25,13 +27,14 @@ use Rattle.app_input.specs.Words.{Form}
 use Rattle.app_input.specs.declared.inputs.Inputs.{Inputs}
 use Rattle.app_input.specs.declared.inputs.Inputs.TheVariants as input
 use Rattle.app_input.specs.declared.status.Status.{Status}
-use Rattle.app_input.specs.declared.status.Status.TheVariants.{Memory}
+use Rattle.app_input.specs.declared.status.Status.TheVariants.{Ok, ConfigRefused, Usage, MachineRefused, ScriptRefused, HistoryRefused, Absent, TooLong, ReadFault, WriteFault, Memory}
 use Rattle.app_output.specs.Output.{IsFlushed, Stops, Writes}
-use Rattle.app_output.specs.RunText.{run_text}
+use Rattle.app_output.proofs.RunLaws.{tree_is}
+use Rattle.app_output.specs.RunText.{run_text, tree_of}
 use Rattle.app_output.specs.declared.stop.OutputStop.{OutputStop}
 use Rattle.app_output.specs.declared.stop.OutputStop.TheVariants as stops
 use Rattle.app_config.specs.Asked.{IsAskedText, IsPlayed}
-use Rattle.app_config.specs.Found.{FindsFor, Finds, Unfound, Unselected}
+use Rattle.app_config.specs.Found.{FindsFor, Finds, Retells, Unfound, Unselected, Untaken}
 use Rattle.app_config.specs.declared.found.Found.{Found}
 use Rattle.app_config.specs.Ran.{IsBootOf, IsPlayOf}
 use Rattle.app_config.specs.Summary.{IsSummary, summary}
@@ -102,16 +105,15 @@ unselected told name before after (compile.Refused refusal) why = inr why.0
 unselected told name before after compile.ReadFault why = inr tt
 unselected told name before after compile.Memory why = inl refl
 
-unfound : (told : Option Files) (asked : Inputs) (name : List ℕ) (status : Status) → asked ≡ input.Files name → (status ≡ Memory) ⊎ Unselected told name status → Unfound told asked status
-unfound told asked name status is (inl want) = inl want
-unfound told asked name status is (inr why) = inr (name, is, why)
+unfound : (told : Option Files) (asked given : Inputs) (status : Status) → asked ≡ given → (status ≡ Memory) ⊎ Unfound told given status → (status ≡ Memory) ⊎ Unfound told asked status
+unfound told asked given status is why = subst (λ (i : Inputs). (status ≡ Memory) ⊎ Unfound told i status) (sym is) why
 
 pub not_selected : (told : Option Files) (asked : Inputs) (name given : List ℕ) (before after : ℕ) (stop : CompileStop) (result : Result Found Status) → asked ≡ input.Files name → given ≡ name
     → IsErrAnd result (λ status. status ≡ status_of_stop stop) → SelectsFrom told given before after (std.Err stop) → FindsFor told asked result
 not_selected told asked name given before after stop (std.Ok found) is same came why = absurd came
 not_selected told asked name given before after stop (std.Err status) is same came why =
-    subst (Unfound told asked) (sym came)
-    (unfound told asked name (status_of_stop stop) is
+    subst (λ (s : Status). (s ≡ Memory) ⊎ Unfound told asked s) (sym came)
+    (unfound told asked (input.Files name) (status_of_stop stop) is
     (unselected told name before after stop (subst (λ (n : List ℕ). SelectsFrom told n before after (std.Err stop)) same why)))
 
 stop_counted : (told : Option Files) (name : List ℕ) (before after : ℕ) (stop : CompileStop) → SelectsFrom told name before after (std.Err stop)
@@ -126,6 +128,57 @@ not_selected_counted told name before after stop (std.Ok found) came why = absur
 not_selected_counted told name before after stop (std.Err status) came why =
     subst (λ (s : Status). Counts {A = Found} before after (std.Err s)) (sym came) (stop_counted told name before after stop why)
 
+-- ---- a history
+
+-- what it tells, as its tree
+pub tree_retold : (told : Option Files) (asked : Inputs) (tables : Tables) (machine : Machine) (scripts : List (List Command)) (history : List ℕ) (replayed : Replayed)
+    → asked ≡ input.Replay tables machine scripts history → Retells (setup_of tables machine scripts) history (std.Ok replayed) → IsAskedText told asked (tree_of replayed.tree)
+unfolding IsAskedText
+tree_retold told asked tables machine scripts history replayed is (w, takes, reliable, tree) =
+    subst (λ (i : Inputs). IsAskedText told i (tree_of replayed.tree)) (sym is) (replayed.events, w, takes, reliable, tree_is w replayed.tree tree)
+
+-- what it tells, whole
+pub history_retold : (told : Option Files) (asked : Inputs) (tables : Tables) (machine : Machine) (scripts : List (List Command)) (history : List ℕ) (replayed : Replayed)
+    → asked ≡ input.Upgrade tables machine scripts history → Retells (setup_of tables machine scripts) history (std.Ok replayed)
+    → IsAskedText told asked (lines replayed.events ++ tree_of replayed.tree)
+unfolding IsAskedText
+history_retold told asked tables machine scripts history replayed is (w, takes, reliable, tree) =
+    subst (λ (i : Inputs). IsAskedText told i (lines replayed.events ++ tree_of replayed.tree)) (sym is)
+    (replayed.events, w, takes, reliable, ap (λ (text : List ℕ). lines replayed.events ++ text) (tree_is w replayed.tree tree))
+
+-- it was not taken
+pub not_retold : (told : Option Files) (asked given : Inputs) (setup : Setup) (history : List ℕ) (status : Status) (result : Result Found Status) → asked ≡ given
+    → ((s : Status) → Untaken setup history s → Unfound told given s) → IsErrAnd result (λ s. s ≡ status) → Retells setup history (std.Err status) → FindsFor told asked result
+not_retold told asked given setup history status (std.Ok found) is untaken came why = absurd came
+not_retold told asked given setup history status (std.Err s) is untaken came why =
+    subst (λ (s : Status). (s ≡ Memory) ⊎ Unfound told asked s) (sym came) (unfound told asked given status is (or_untaken why))
+  where
+    or_untaken : (status ≡ Memory) ⊎ Untaken setup history status → (status ≡ Memory) ⊎ Unfound told given status
+    or_untaken (inl want) = inl want
+    or_untaken (inr why) = inr (untaken status why)
+
+untaken_counted : (setup : Setup) (history : List ℕ) (n : ℕ) (status : Status) → Untaken setup history status → Counts {A = Found} n n (std.Err status)
+untaken_counted setup history n (HistoryRefused line) why = refl
+untaken_counted setup history n Ok why = absurd why
+untaken_counted setup history n (ConfigRefused file line code) why = absurd why
+untaken_counted setup history n Usage why = absurd why
+untaken_counted setup history n (MachineRefused line code) why = absurd why
+untaken_counted setup history n (ScriptRefused which line code) why = absurd why
+untaken_counted setup history n (Absent absent) why = absurd why
+untaken_counted setup history n (TooLong long) why = absurd why
+untaken_counted setup history n ReadFault why = absurd why
+untaken_counted setup history n WriteFault why = absurd why
+untaken_counted setup history n Memory why = absurd why
+
+pub not_retold_counted : (setup : Setup) (history : List ℕ) (n : ℕ) (status : Status) (result : Result Found Status) → IsErrAnd result (λ s. s ≡ status)
+    → Retells setup history (std.Err status) → Counts n n result
+not_retold_counted setup history n status (std.Ok found) came why = absurd came
+not_retold_counted setup history n status (std.Err s) came why = subst (λ (s : Status). Counts {A = Found} n n (std.Err s)) (sym came) (by_cause why)
+  where
+    by_cause : (status ≡ Memory) ⊎ Untaken setup history status → Counts {A = Found} n n (std.Err status)
+    by_cause (inl want) = subst (λ (s : Status). Counts {A = Found} n n (std.Err s)) (sym want) refl
+    by_cause (inr why) = untaken_counted setup history n status why
+
 -- ---- by the words
 
 -- the inputs of the words were read, and this was found for them
@@ -133,8 +186,7 @@ found_asked : (form : Option Form) (told : Option Files) (asked : Inputs) (resul
     → FindsFor told asked result → Finds form told result
 found_asked form told asked (std.Ok found) read formed finds = record { inputs = asked; read = read; formed = formed; asked = finds }
 found_asked form told asked (std.Err status) read formed (inl want) = inl (subst (λ (s : Status). Reads form told (std.Err s)) (sym want) tt)
-found_asked form told asked (std.Err status) read formed (inr (name, is, why)) =
-    inr (name, subst (λ (i : Inputs). Reads form told (std.Ok i)) is read, why)
+found_asked form told asked (std.Err status) read formed (inr why) = inr (asked, read, why)
 
 pub found_read : (form : Option Form) (told reading : Option Files) (asked : Inputs) (result : Result Found Status) → reading ≡ told → Reads form told (std.Ok asked) → FormedInputs asked
     → FindsFor reading asked result → Finds form told result

@@ -10,7 +10,8 @@ use Rattle.ref_ledger.specs.declared.state.SlotState.{SlotState}
 use Rattle.run_rules.specs.declared.world.Setup.{Setup}
 use Rattle.run_rules.specs.World.{setup_of}
 use Rattle.run_rules.proofs.Devices.{all_imp}
-use Rattle.app_input.specs.Played.{FormedPlay}
+use Rattle.app_input.specs.Scripted.{FormedRun}
+use Rattle.app_input.specs.declared.scripts.Course.TheVariants as courses
 use Rattle.dev_board.specs.Booting.{IsStarted}
 use Rattle.dev_board.specs.Playing.{Plays}
 use Rattle.dev_board.specs.Shown.{Shown}
@@ -29,9 +30,9 @@ play_of s b n slots order is plays reliable =
 
 -- the turns of a play are those of callers of the board
 pub callers_of : (tables : Tables) (machine : Machine) (scripts : List (List Command)) (b : Shown) (slots : List SlotState) (order : List ℕ)
-    → IsStarted (setup_of tables machine scripts) b slots → FormedPlay (record { scripts = scripts; order = order })
+    → IsStarted (setup_of tables machine scripts) b slots → FormedRun (record { scripts = scripts; course = courses.Play order })
     → AllByRecursion (λ k. k ≤ length b.world.setup.scripts) order
 callers_of tables machine scripts b slots order is play =
     subst (λ (s : Setup). AllByRecursion (λ k. k ≤ length s.scripts) order) (sym is.setup)
     (all_imp (λ k. (1 ≤ k) × (k ≤ length scripts)) (λ k. k ≤ length scripts) (λ k within. within.1) order
-    (recursion_from_All (λ k. (1 ≤ k) × (k ≤ length scripts)) order play.turns))
+    (recursion_from_All (λ k. (1 ≤ k) × (k ≤ length scripts)) order play.course))

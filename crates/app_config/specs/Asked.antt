@@ -9,9 +9,12 @@ use Rattle.config_rules.specs.Listing.{listing}
 use Rattle.config_rules.specs.Reading.{Files}
 use Rattle.file_rules.specs.Sources.{Selects}
 use Rattle.history_laws.specs.Reliable.{IsReliable}
+use Rattle.replay_laws.specs.Taken.{Takes}
 use Rattle.run_rules.specs.declared.event.Event.{Event}
 use Rattle.run_rules.specs.declared.world.Setup.{Setup}
+use Rattle.run_rules.specs.Lines.{lines}
 use Rattle.run_rules.specs.Run as run
+use Rattle.run_rules.specs.Tree.{tree_text}
 use Rattle.run_rules.specs.World.{World, opening, setup_of}
 use Rattle.app_input.specs.Inputs.{FormedInputs, Reads}
 use Rattle.app_input.specs.Words.{Form}
@@ -40,6 +43,18 @@ abbrev pub IsPlayedText : Tables → Machine → List (List Command) → List �
 IsPlayedText tables machine scripts order text =
     (h : List Event) × (w : World) × IsPlayed (setup_of tables machine scripts) order h w × IsReliable h w × (text ≡ run_text tables h w)
 
+-- the text of what a history is taken as, by its events and the world that they lead to; the same holds of these events
+abbrev pub IsTakenText : (List Event → World → List ℕ) → Setup → List ℕ → List ℕ → Type 0
+IsTakenText text_by setup history text = (h : List Event) × (w : World) × Takes setup history h w × IsReliable h w × (text ≡ text_by h w)
+
+-- the tree alone
+abbrev pub replay_text : List Event → World → List ℕ
+replay_text h w = tree_text w
+
+-- the history in format 2, and the tree
+abbrev pub upgrade_text : List Event → World → List ℕ
+upgrade_text h w = lines h ++ tree_text w
+
 -- the text that these inputs ask for, where the files are told if it is that of the sources
 unfoldable pub IsAskedText : Option Files → Inputs → List ℕ → Type 0
 IsAskedText told (input.Ioconf tables) text = text ≡ listing tables
@@ -47,6 +62,8 @@ IsAskedText told (input.Files name) text = IfSome told (λ files. IsSelection fi
 IsAskedText told (input.Boot tables machine) text = IsBootText tables machine text
 IsAskedText told (input.Load n tables machine) text = IsSummary n tables machine text
 IsAskedText told (input.Play tables machine scripts order) text = IsPlayedText tables machine scripts order text
+IsAskedText told (input.Replay tables machine scripts history) text = IsTakenText replay_text (setup_of tables machine scripts) history text
+IsAskedText told (input.Upgrade tables machine scripts history) text = IsTakenText upgrade_text (setup_of tables machine scripts) history text
 
 -- the words and the files give inputs, which are formed and ask for the text
 pub record Asks (form : Option Form) (told : Option Files) (text : List ℕ) : Type 0 where

@@ -1,28 +1,39 @@
 -- What was found for the inputs, its text, and why nothing was found.
-use Rattle.std.specs.Prelude.{◌≡◌, ℕ, ◌⊎◌, Option, Some, IfSome, Result, List, ⊤}
+use Rattle.std.specs.Prelude.{◌≡◌, ℕ, ◌++◌, ◌⊎◌, Option, IfSome, Result, List, ⊤}
 use Rattle.std.specs.Prelude as std
 use Rattle.cf_types.specs.Lines.{text_of}
 use Rattle.config_rules.specs.Formed.{FitGraph}
 use Rattle.config_rules.specs.Listing.{listing}
 use Rattle.config_rules.specs.Reading.{Files}
 use Rattle.file_rules.specs.Sources.{IsFirstFault}
+use Rattle.history_laws.specs.Reliable.{IsReliable}
+use Rattle.history_replay.specs.declared.history.Replayed.{Replayed}
+use Rattle.replay_laws.specs.Taken.{Takes}
+use Rattle.run_rules.specs.declared.world.Setup.{Setup}
+use Rattle.run_rules.specs.Lines.{lines}
+use Rattle.run_rules.specs.Reread.{reread}
+use Rattle.run_rules.specs.Tree.{tree_lines}
+use Rattle.run_rules.specs.World.{World, opening, setup_of}
 use Rattle.app_input.specs.Inputs.{Reads}
-use Rattle.app_input.specs.Words.{Form, sources}
+use Rattle.app_input.specs.Words.{Form}
 use Rattle.app_input.specs.declared.inputs.Inputs.{Inputs}
 use Rattle.app_input.specs.declared.inputs.Inputs.TheVariants as input
 use Rattle.app_input.specs.declared.status.Status.{Status}
-use Rattle.app_input.specs.declared.status.Status.TheVariants.{ConfigRefused, ReadFault, Memory}
-use Rattle.app_output.specs.RunText.{run_text}
+use Rattle.app_input.specs.declared.status.Status.TheVariants.{ConfigRefused, HistoryRefused, ReadFault, Memory}
+use Rattle.app_output.specs.RunText.{run_text, tree_of}
 use Rattle.app_config.specs.Asked.{Asks, IsAskedText}
 use Rattle.app_config.specs.declared.found.Found.{Found}
-use Rattle.app_config.specs.declared.found.Found.TheVariants.{Listed, Selected, Ran, Line}
+use Rattle.app_config.specs.declared.found.Found.TheVariants.{Listed, Selected, Ran, Line, Tree, Retold}
 
--- the listing; or the paths, one a line; or the listing, the history and the tree; or the line
+-- the listing; or the paths, one a line; or the listing, the history and the tree; or the line; or the tree, or a history with
+-- its tree
 abbrev pub found_text : Found → List ℕ
 found_text (Listed tables) = listing tables
 found_text (Selected paths) = text_of paths
 found_text (Ran board) = run_text board.world.setup.tables board.events board.world
 found_text (Line line) = line.items
+found_text (Tree devices) = tree_of devices
+found_text (Retold told) = lines told.events ++ tree_of told.tree
 
 -- what has to be listed fits into a graph
 abbrev pub HasGraph : Found → Type 0
@@ -30,6 +41,8 @@ HasGraph (Listed tables) = FitGraph tables
 HasGraph (Selected paths) = ⊤
 HasGraph (Ran board) = FitGraph board.world.setup.tables
 HasGraph (Line line) = ⊤
+HasGraph (Tree devices) = ⊤
+HasGraph (Retold told) = ⊤
 
 -- why the sources of a configuration were not selected: its first fault, or a fault of reading
 abbrev pub Unselected : Option Files → List ℕ → Status → Type 0
@@ -37,18 +50,32 @@ Unselected told name (ConfigRefused file line code) = IfSome told (λ files. IsF
 Unselected told name ReadFault = ⊤
 Unselected told name status = ⊥
 
--- why nothing was found for the inputs: memory ran out, or their sources were not selected
+-- why a history is not taken: its first bad line
+abbrev pub Untaken : Setup → List ℕ → Status → Type 0
+Untaken setup history (HistoryRefused line) = reread (opening setup) history ≡ std.Err line
+Untaken setup history status = ⊥
+
+-- what a history is taken as, and that it may be relied on; or why it is not taken, or memory ran out
+abbrev pub Retells : Setup → List ℕ → Result Replayed Status → Type 0
+Retells setup history (std.Ok told) =
+    (w : World) × Takes setup history told.events w × IsReliable told.events w × (told.tree ≡ tree_lines w)
+Retells setup history (std.Err status) = (status ≡ Memory) ⊎ Untaken setup history status
+
+-- why nothing was found for the inputs: their sources were not selected, or their history was not taken
 abbrev pub Unfound : Option Files → Inputs → Status → Type 0
-Unfound told asked status = (status ≡ Memory) ⊎ ((name : List ℕ) × (asked ≡ input.Files name) × Unselected told name status)
+Unfound told (input.Files name) status = Unselected told name status
+Unfound told (input.Replay tables machine scripts history) status = Untaken (setup_of tables machine scripts) history status
+Unfound told (input.Upgrade tables machine scripts history) status = Untaken (setup_of tables machine scripts) history status
+Unfound told asked status = ⊥
 
 -- what was found for the inputs has the text that they ask for
 abbrev pub FindsFor : Option Files → Inputs → Result Found Status → Type 0
 FindsFor told asked (std.Ok found) = IsAskedText told asked (found_text found)
-FindsFor told asked (std.Err status) = Unfound told asked status
+FindsFor told asked (std.Err status) = (status ≡ Memory) ⊎ Unfound told asked status
 
--- why the words and the files are refused: while the inputs are read, or while the sources are selected
+-- why the words and the files are refused: while the inputs are read, or behind that
 abbrev pub IsRefused : Option Form → Option Files → Status → Type 0
-IsRefused form told status = Reads form told (std.Err status) ⊎ ((name : List ℕ) × (form ≡ Some (sources name)) × Unselected told name status)
+IsRefused form told status = Reads form told (std.Err status) ⊎ ((asked : Inputs) × Reads form told (std.Ok asked) × Unfound told asked status)
 
 -- what was found for the words and the files has the text that they ask for
 abbrev pub Finds : Option Form → Option Files → Result Found Status → Type 0

@@ -9,12 +9,16 @@ ghost use Rattle.app_config.specs.Found.{FindsFor, HasGraph, found_text};
 use crate::boot::booted;
 use crate::load::loaded;
 use crate::play::played;
+use crate::replay::retold;
 use app_input::{Inputs, Status};
-use app_output::{OutputStop, put_listing, put_paths, put_piece, put_run};
+use app_output::{
+    OutputStop, put_history, put_listing, put_paths, put_piece, put_run, put_tree,
+};
 use cf_io::{Files, Sink};
-use cf_types::{List, Tables, Text};
+use cf_types::{DevLine, List, Tables, Text};
 use dev_board::Board;
 use file_select::select;
+use history_replay::Replayed;
 use std::alloc::Global;
 
 /// What was found for the inputs.
@@ -28,9 +32,13 @@ pub enum Found {
     Ran(Board),
     /// A line with its newline.
     Line(Vec<u8>),
+    /// The device tree that a history leads to.
+    Tree(List<DevLine>),
+    /// What a history tells, with this tree.
+    Retold(Replayed),
 }
 
-/// Compiles, selects, boots and plays as the inputs ask for. Files are read for the sources alone.
+/// Compiles, selects, boots, plays and replays as the inputs ask for. Files are read for the sources alone.
 pub fn found_by<F: Files>(alloc: Global, files: &mut F, inputs: Inputs) -> Result<Found, Status>
     requires { FormedInputs inputs }
     ensures told { F.told files.new ≡ F.told files.old }
@@ -66,10 +74,29 @@ pub fn found_by<F: Files>(alloc: Global, files: &mut F, inputs: Inputs) -> Resul
             let board = played(alloc, tables, machine, scripts, order.items())?;
             Ok(Found::Ran(board))
         }
+        Inputs::Replay {
+            tables,
+            machine,
+            scripts,
+            history,
+        } => {
+            let told = retold(alloc, tables, machine, scripts, history)?;
+            Ok(Found::Tree(told.tree))
+        }
+        Inputs::Upgrade {
+            tables,
+            machine,
+            scripts,
+            history,
+        } => {
+            let told = retold(alloc, tables, machine, scripts, history)?;
+            Ok(Found::Retold(told))
+        }
     }
 }
 
-/// Puts what was found: the listing, or the paths, or the listing, the history and the device tree, or the line.
+/// Puts what was found: the listing, or the paths, or the listing, the history and the device tree, or the line, or the
+/// tree, or a history with its tree.
 pub fn put_found<S: Sink>(alloc: Global, found: &Found, out: &mut S) -> Result<(), OutputStop>
     requires { HasGraph found.now }
     ensures { Puts (found_text found.now) (S.told out.old) (S.told out.new) result }
@@ -79,5 +106,7 @@ pub fn put_found<S: Sink>(alloc: Global, found: &Found, out: &mut S) -> Result<(
         Found::Selected(paths) => put_paths(alloc, paths.items(), out),
         Found::Ran(board) => put_run(alloc, board, out),
         Found::Line(line) => put_piece(line, out),
+        Found::Tree(devices) => put_tree(alloc, devices.items(), out),
+        Found::Retold(told) => put_history(alloc, told.events.items(), told.tree.items(), out),
     }
 }

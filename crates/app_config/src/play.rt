@@ -1,7 +1,8 @@
 //! Boots a machine and plays scripts on it.
 ghost use Rattle.std.specs.Prelude.{IfOk};
 ghost use Rattle.config_rules.specs.Formed.{FittingMachine, FormedTables};
-ghost use Rattle.app_input.specs.Played.{FormedPlay};
+ghost use Rattle.app_input.specs.Scripted.{FormedRun};
+ghost use Rattle.app_input.specs.declared.scripts.Course.TheVariants as courses;
 ghost use Rattle.run_rules.specs.World.{setup_of};
 ghost use Rattle.app_config.specs.Ran.{IsPlayOf};
 
@@ -19,7 +20,7 @@ pub fn played(
 ) -> Result<Board, Memory>
     requires formed { FormedTables tables }
     requires fits { FittingMachine tables machine }
-    requires play { FormedPlay (record { scripts = scripts; order = order.now }) }
+    requires play { FormedRun (record { scripts = scripts; course = courses.Play order.now }) }
     ensures { IfOk result (IsPlayOf (setup_of tables machine scripts) order.now) }
 {
     let (mut board, mut slots) = booted_board(alloc, tables, machine, scripts)?;

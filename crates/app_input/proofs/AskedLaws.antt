@@ -16,17 +16,19 @@ use Rattle.cf_compile.specs.declared.stop.CompileStop.{CompileStop}
 use Rattle.cf_compile.specs.declared.stop.CompileStop.TheVariants as stops
 use Rattle.config_rules.specs.Reading.{Files, reading}
 use Rattle.config_rules.specs.Meaning.{Means}
-use Rattle.app_input.specs.Asked.{AsksForm, AsksIf, AsksInputs, DueFile, IsAskedFor, Names, StopsFirst, files_behind, giving, machine_file, played_files, script_files, up_to_refused}
+use Rattle.app_input.specs.Asked.{AsksForm, AsksIf, AsksInputs, DueFile, IsAskedFor, Names, StopsFirst, files_behind, giving, machine_file, script_files, scripted_files, up_to_refused}
 use Rattle.app_input.specs.declared.inputs.Inputs.{Inputs}
 use Rattle.app_input.specs.declared.inputs.Inputs.TheVariants.{Boot}
 use Rattle.app_input.specs.Inputs.{IsMeant, ReadsMachine, ReadsTables, booted, booted_from}
-use Rattle.app_input.specs.Played.{IsCalledFor, script_of, scripts_from, scripts_of, turns_of, unless_refused}
+use Rattle.app_input.specs.declared.scripts.Course.{Course}
+use Rattle.app_input.specs.declared.words.Task.{Task}
+use Rattle.app_input.specs.Scripted.{IsCalledFor, course_of, script_of, scripts_from, scripts_of, unless_refused}
 use Rattle.app_input.specs.Status.{status_of, status_of_stop}
-use Rattle.app_input.specs.Words.{Form, boot, config_of, ioconf, is_from_outside, play}
+use Rattle.app_input.specs.Words.{Form, boot, config_of, ioconf, is_from_outside, scripted}
 use Rattle.app_input.specs.declared.status.Status.{Status}
-use Rattle.app_input.specs.declared.status.Status.TheVariants.{Ok, ConfigRefused, Usage, MachineRefused, ScriptRefused, Absent, TooLong, ReadFault, WriteFault, Memory}
+use Rattle.app_input.specs.declared.status.Status.TheVariants.{Ok, ConfigRefused, Usage, MachineRefused, ScriptRefused, HistoryRefused, Absent, TooLong, ReadFault, WriteFault, Memory}
 use Rattle.app_input.proofs.DueLaws.{long_file, short_file}
-use Rattle.app_input.proofs.PlayLaws.{called_at, names_left}
+use Rattle.app_input.proofs.ScriptedLaws.{called_at, names_left}
 
 -- ---- some of the due files, and then others
 
@@ -73,6 +75,7 @@ all_asked due (ConfigRefused file line code) old new asked = asked
 all_asked due Usage old new asked = asked
 all_asked due (MachineRefused line code) old new asked = asked
 all_asked due (ScriptRefused which line code) old new asked = asked
+all_asked due (HistoryRefused line) old new asked = asked
 all_asked due (Absent name) old new asked = asked
 all_asked due (TooLong name) old new asked = asked
 all_asked due WriteFault old new asked = asked
@@ -90,6 +93,7 @@ memory_asked due (ConfigRefused file line code) old new asked = front_all due ol
 memory_asked due Usage old new asked = front_all due old new asked
 memory_asked due (MachineRefused line code) old new asked = front_all due old new asked
 memory_asked due (ScriptRefused which line code) old new asked = front_all due old new asked
+memory_asked due (HistoryRefused line) old new asked = front_all due old new asked
 memory_asked due (Absent name) old new asked = front_all due old new asked
 memory_asked due (TooLong name) old new asked = front_all due old new asked
 memory_asked due WriteFault old new asked = front_all due old new asked
@@ -120,6 +124,7 @@ none_left (ConfigRefused file line code) rest none = none
 none_left Usage rest none = none
 none_left (MachineRefused line code) rest none = none
 none_left (ScriptRefused which line code) rest none = none
+none_left (HistoryRefused line) rest none = none
 none_left (Absent name) rest none = none
 none_left (TooLong name) rest none = none
 none_left WriteFault rest none = none
@@ -140,6 +145,7 @@ last_asked due part rest status old mid new so_far asked left = by_status status
     by_status Usage asked left = whole asked left
     by_status (MachineRefused line code) asked left = whole asked left
     by_status (ScriptRefused which line code) asked left = whole asked left
+    by_status (HistoryRefused line) asked left = whole asked left
     by_status (Absent name) asked left = whole asked left
     by_status (TooLong name) asked left = whole asked left
     by_status WriteFault asked left = whole asked left
@@ -171,7 +177,7 @@ ends_at {A = A} files due part rest called status old mid new so_far is asked = 
     left (inr (inl memory)) = let same : Memory ≡ status = cc in subst (λ (s : Status). IsLeft s (unless_err (called files) rest)) same tt
     left (inr (inr refused)) = none_left status (unless_err (called files) rest) (ap (λ r. unless_err r rest) refused)
 
--- ---- scripts and the order file
+-- ---- scripts and the file with their course
 
 first_of_two : {A B : Type 0} (name : List ℕ) (first : Result A Status) (files more : List DueFile) (refusals : List Status) (values : List B)
     → up_to_refused (files ++ more) ≡ up_to_refused files ++ unless_err (unless_refused refusals values) (up_to_refused more)
@@ -190,60 +196,60 @@ scripts_then files n (name ∷ names) values more =
     (scripts_then files (n + 1) names values more)
 
 -- what is due of the scripts, and what is due behind them
-play_due : (files : Files) (names : List (List ℕ)) (order : List ℕ) (old : Names)
-    → SoFar (up_to_refused (played_files files names order))
-    (up_to_refused (script_files files 1 names) ++ unless_err (scripts_of files names) (order ∷ unless_err (turns_of files (length names) order) [])) old old
-play_due files names order old =
-    let due = up_to_refused (played_files files names order) in
+run_due : (task : Task) (files : Files) (names : List (List ℕ)) (course : List ℕ) (old : Names)
+    → SoFar (up_to_refused (scripted_files task files names course))
+    (up_to_refused (script_files files 1 names) ++ unless_err (scripts_of files names) (course ∷ unless_err (course_of task files (length names) course) [])) old old
+run_due task files names course old =
+    let due = up_to_refused (scripted_files task files names course) in
     subst (λ (rest : List (List ℕ)). SoFar due rest old old)
-    (scripts_then files 1 names (filter_map result_ok (scripts_from files 1 names)) (giving order (turns_of files (length names) order) ∷ [])) (none_asked due old)
+    (scripts_then files 1 names (filter_map result_ok (scripts_from files 1 names)) (giving course (course_of task files (length names) course) ∷ [])) (none_asked due old)
 
 -- the scripts were refused, or could not be read
-pub scripts_stop : (told : Option Files) (names : List (List ℕ)) (order : List ℕ) (status : Status) (old new : Names) → IsCalledFor told (λ files. scripts_of files names) (std.Err status)
+pub scripts_stop : (task : Task) (told : Option Files) (names : List (List ℕ)) (course : List ℕ) (status : Status) (old new : Names) → IsCalledFor told (λ files. scripts_of files names) (std.Err status)
     → IfSome told (λ files. IsAskedFor (up_to_refused (script_files files 1 names)) status old new)
-    → IfSome told (λ files. IsAskedFor (up_to_refused (played_files files names order)) status old new)
-scripts_stop None names order status old new called asked = tt
-scripts_stop (Some files) names order status old new called asked =
-    ends_at files (up_to_refused (played_files files names order)) (up_to_refused (script_files files 1 names)) (order ∷ unless_err (turns_of files (length names) order) [])
-    (λ files. scripts_of files names) status old old new (play_due files names order old) called asked
+    → IfSome told (λ files. IsAskedFor (up_to_refused (scripted_files task files names course)) status old new)
+scripts_stop task None names course status old new called asked = tt
+scripts_stop task (Some files) names course status old new called asked =
+    ends_at files (up_to_refused (scripted_files task files names course)) (up_to_refused (script_files files 1 names)) (course ∷ unless_err (course_of task files (length names) course) [])
+    (λ files. scripts_of files names) status old old new (run_due task files names course old) called asked
 
 called_ok : {A : Type 0} (files : Files) (called : Files → Result A Status) (x : A) → IsCalledFor (Some files) called (std.Ok x) → called files ≡ std.Ok x
 called_ok files called x (inl e) = absurd (cc)
 called_ok files called x (inr (inl e)) = absurd (cc)
 called_ok files called x (inr (inr is)) = is
 
-order_told : (told : Option Files) (names : List (List ℕ)) (order : List ℕ) (scripts : List (List Command)) (turns : Result (List ℕ) Status) (old mid new : Names)
+course_told : (task : Task) (told : Option Files) (names : List (List ℕ)) (course : List ℕ) (scripts : List (List Command)) (given : Result Course Status) (old mid new : Names)
     → IsCalledFor told (λ files. scripts_of files names) (std.Ok scripts) → IfSome told (λ files. mid ≡ asked_behind old (up_to_refused (script_files files 1 names)))
-    → IsCalledFor told (λ files. turns_of files (length names) order) turns → IsAskedFor (order ∷ []) (status_of turns) mid new
-    → IfSome told (λ files. IsAskedFor (up_to_refused (played_files files names order)) (status_of turns) old new)
-order_told None names order scripts turns old mid new read before called asked = tt
-order_told (Some files) names order scripts turns old mid new read before called asked = by_turns turns called asked
+    → IsCalledFor told (λ files. course_of task files (length names) course) given → IsAskedFor (course ∷ []) (status_of given) mid new
+    → IfSome told (λ files. IsAskedFor (up_to_refused (scripted_files task files names course)) (status_of given) old new)
+course_told task None names course scripts given old mid new read before called asked = tt
+course_told task (Some files) names course scripts given old mid new read before called asked = by_course given called asked
   where
     due : List (List ℕ)
-    due = up_to_refused (played_files files names order)
+    due = up_to_refused (scripted_files task files names course)
 
-    given : Result (List ℕ) Status
-    given = turns_of files (length names) order
+    due_course : Result Course Status
+    due_course = course_of task files (length names) course
 
-    so_far : SoFar due (order ∷ unless_err given []) old mid
+    so_far : SoFar due (course ∷ unless_err due_course []) old mid
     so_far =
-        goes_on due (up_to_refused (script_files files 1 names)) (order ∷ unless_err given []) (scripts_of files names) scripts old old mid (play_due files names order old)
+        goes_on due (up_to_refused (script_files files 1 names)) (course ∷ unless_err due_course []) (scripts_of files names) scripts old old mid (run_due task files names course old)
         (called_ok files (λ files. scripts_of files names) scripts read) before
 
-    by_turns : (turns : Result (List ℕ) Status) → IsCalledFor (Some files) (λ files. turns_of files (length names) order) turns → IsAskedFor (order ∷ []) (status_of turns) mid new
-        → IsAskedFor due (status_of turns) old new
-    by_turns (std.Ok turns) called asked =
-        whole_asked due old new (goes_on due (order ∷ []) [] given turns old mid new so_far (called_ok files (λ files. turns_of files (length names) order) turns called) asked)
-    by_turns (std.Err status) called asked = ends_at files due (order ∷ []) [] (λ files. turns_of files (length names) order) status old mid new so_far called asked
+    by_course : (given : Result Course Status) → IsCalledFor (Some files) (λ files. course_of task files (length names) course) given → IsAskedFor (course ∷ []) (status_of given) mid new
+        → IsAskedFor due (status_of given) old new
+    by_course (std.Ok given) called asked =
+        whole_asked due old new (goes_on due (course ∷ []) [] due_course given old mid new so_far (called_ok files (λ files. course_of task files (length names) course) given called) asked)
+    by_course (std.Err status) called asked = ends_at files due (course ∷ []) [] (λ files. course_of task files (length names) course) status old mid new so_far called asked
 
--- the scripts were read, and then the order file was asked for
-pub order_asked : (told later : Option Files) (names : List (List ℕ)) (callers : ℕ) (order : List ℕ) (scripts : List (List Command)) (turns : Result (List ℕ) Status) (old mid new : Names)
+-- the scripts were read, and then the file with their course was asked for
+pub course_asked : (task : Task) (told later : Option Files) (names : List (List ℕ)) (callers : ℕ) (course : List ℕ) (scripts : List (List Command)) (given : Result Course Status) (old mid new : Names)
     → later ≡ told → callers ≡ length names → IsCalledFor told (λ files. scripts_of files names) (std.Ok scripts)
-    → IfSome told (λ files. mid ≡ asked_behind old (up_to_refused (script_files files 1 names))) → IsCalledFor later (λ files. turns_of files callers order) turns
-    → IsAskedFor (order ∷ []) (status_of turns) mid new → IfSome told (λ files. IsAskedFor (up_to_refused (played_files files names order)) (status_of turns) old new)
-order_asked told later names callers order scripts turns old mid new same many read before called asked =
-    order_told told names order scripts turns old mid new read before
-    (subst (λ (n : ℕ). IsCalledFor told (λ files. turns_of files n order) turns) many (subst (λ (files : Option Files). IsCalledFor files (λ files. turns_of files callers order) turns) same called)) asked
+    → IfSome told (λ files. mid ≡ asked_behind old (up_to_refused (script_files files 1 names))) → IsCalledFor later (λ files. course_of task files callers course) given
+    → IsAskedFor (course ∷ []) (status_of given) mid new → IfSome told (λ files. IsAskedFor (up_to_refused (scripted_files task files names course)) (status_of given) old new)
+course_asked task told later names callers course scripts given old mid new same many read before called asked =
+    course_told task told names course scripts given old mid new read before
+    (subst (λ (n : ℕ). IsCalledFor told (λ files. course_of task files n course) given) many (subst (λ (files : Option Files). IsCalledFor files (λ files. course_of task files callers course) given) same called)) asked
 
 -- so many scripts were read, and these are left
 abbrev pub ScriptsLeft : Option Files → List (List ℕ) → ℕ → List (List ℕ) → Names → Names → Type 0
@@ -337,6 +343,7 @@ machine_refused files name tables Ok reads = elim reads [ ]
 machine_refused files name tables (ConfigRefused file line code) reads = elim reads [ ]
 machine_refused files name tables Usage reads = elim reads [ ]
 machine_refused files name tables (ScriptRefused which line code) reads = elim reads [ ]
+machine_refused files name tables (HistoryRefused line) reads = elim reads [ ]
 machine_refused files name tables WriteFault reads = elim reads [ ]
 
 -- ---- the forms
@@ -349,6 +356,7 @@ stops_first told file Ok reads = elim reads [ ]
 stops_first told file Usage reads = elim reads [ ]
 stops_first told file (MachineRefused line code) reads = elim reads [ ]
 stops_first told file (ScriptRefused which line code) reads = elim reads [ ]
+stops_first told file (HistoryRefused line) reads = elim reads [ ]
 stops_first told file (Absent name) reads = elim reads [ ]
 stops_first told file (TooLong name) reads = elim reads [ ]
 stops_first told file WriteFault reads = elim reads [ ]
@@ -406,42 +414,42 @@ boot_asked told reads file name tables machine old mid new same meant before rea
               (machine_read files name tables machine read) asked),
         )
 
--- the machine file of a play was refused, or could not be read
-pub play_unfit : (told reads : Option Files) (file name order : List ℕ) (scripts : List (List ℕ)) (tables : Tables) (status : Status) (old mid new : Names) → reads ≡ told
+-- the machine file of a run was refused, or could not be read
+pub run_unfit : (task : Task) (told reads : Option Files) (file name course : List ℕ) (scripts : List (List ℕ)) (tables : Tables) (status : Status) (old mid new : Names) → reads ≡ told
     → IsMeant told file tables → IfSome told (λ files. mid ≡ asked_behind old (reading files file).asked) → ReadsMachine reads name tables (std.Err status)
-    → IsAskedFor (name ∷ []) status mid new → IfSome told (λ files. AsksForm (play file name order scripts) files status old new)
-play_unfit told reads file name order scripts tables status old mid new same meant before read asked =
+    → IsAskedFor (name ∷ []) status mid new → IfSome told (λ files. AsksForm (scripted task file name course scripts) files status old new)
+run_unfit task told reads file name course scripts tables status old mid new same meant before read asked =
     by_told told meant before (subst (λ (files : Option Files). ReadsMachine files name tables (std.Err status)) same read)
   where
     by_told : (told : Option Files) → IsMeant told file tables → IfSome told (λ files. mid ≡ asked_behind old (reading files file).asked) → ReadsMachine told name tables (std.Err status)
-        → IfSome told (λ files. AsksForm (play file name order scripts) files status old new)
+        → IfSome told (λ files. AsksForm (scripted task file name course scripts) files status old new)
     by_told None meant before read = tt
     by_told (Some files) meant before read =
-        machine_ends (play file name order scripts) files name tables (played_files files scripts order) status old mid new meant refl before read asked
+        machine_ends (scripted task file name course scripts) files name tables (scripted_files task files scripts course) status old mid new meant refl before read asked
 
--- the scripts and the order file of a play were asked for
-pub play_asked : (told reads later : Option Files) (file name order : List ℕ) (scripts : List (List ℕ)) (tables : Tables) (machine : Machine) (status : Status) (old mid loaded new : Names)
+-- the scripts of a run and the file with their course were asked for
+pub run_asked : (task : Task) (told reads later : Option Files) (file name course : List ℕ) (scripts : List (List ℕ)) (tables : Tables) (machine : Machine) (status : Status) (old mid loaded new : Names)
     → reads ≡ told → later ≡ told → IsMeant told file tables → IfSome told (λ files. mid ≡ asked_behind old (reading files file).asked) → ReadsMachine reads name tables (std.Ok machine)
-    → loaded ≡ asked_behind mid (name ∷ []) → IfSome later (λ files. IsAskedFor (up_to_refused (played_files files scripts order)) status loaded new)
-    → IfSome told (λ files. AsksForm (play file name order scripts) files status old new)
-play_asked told reads later file name order scripts tables machine status old mid loaded new same same' meant before read asked played =
+    → loaded ≡ asked_behind mid (name ∷ []) → IfSome later (λ files. IsAskedFor (up_to_refused (scripted_files task files scripts course)) status loaded new)
+    → IfSome told (λ files. AsksForm (scripted task file name course scripts) files status old new)
+run_asked task told reads later file name course scripts tables machine status old mid loaded new same same' meant before read asked rest_due =
     by_told told meant before (subst (λ (files : Option Files). ReadsMachine files name tables (std.Ok machine)) same read)
-    (subst (λ (told : Option Files). IfSome told (λ files. IsAskedFor (up_to_refused (played_files files scripts order)) status loaded new)) same' played)
+    (subst (λ (told : Option Files). IfSome told (λ files. IsAskedFor (up_to_refused (scripted_files task files scripts course)) status loaded new)) same' rest_due)
   where
     by_told : (told : Option Files) → IsMeant told file tables → IfSome told (λ files. mid ≡ asked_behind old (reading files file).asked) → ReadsMachine told name tables (std.Ok machine)
-        → IfSome told (λ files. IsAskedFor (up_to_refused (played_files files scripts order)) status loaded new)
-        → IfSome told (λ files. AsksForm (play file name order scripts) files status old new)
-    by_told None meant before read played = tt
-    by_told (Some files) meant before read played =
+        → IfSome told (λ files. IsAskedFor (up_to_refused (scripted_files task files scripts course)) status loaded new)
+        → IfSome told (λ files. AsksForm (scripted task file name course scripts) files status old new)
+    by_told None meant before read rest_due = tt
+    by_told (Some files) meant before read rest_due =
         let config = (reading files file).asked in
-        let rest = up_to_refused (played_files files scripts order) in
-        let behind = up_to_refused (machine_file files tables name ∷ played_files files scripts order) in
+        let rest = up_to_refused (scripted_files task files scripts course) in
+        let behind = up_to_refused (machine_file files tables name ∷ scripted_files task files scripts course) in
         inr (
           tables,
           meant,
           rest_asked (config ++ behind) rest status old loaded new
               (goes_on (config ++ behind) (name ∷ []) rest (boot_of tables name files) (Boot tables machine) old mid loaded (config_read config behind old mid before)
-              (machine_read files name tables machine read) asked) played,
+              (machine_read files name tables machine read) asked) rest_due,
         )
 
 -- ---- the words
@@ -489,11 +497,11 @@ boot_words form told file name given named status old new is same same' asked =
     subst (λ (f : Option Form). AsksInputs f told status old new) (sym is)
     (subst (λ (n : List ℕ). AsksInputs (Some (boot given n)) told status old new) same' (subst (λ (f : List ℕ). AsksInputs (Some (boot f name)) told status old new) same asked))
 
-pub play_words : (form : Option Form) (told : Option Files) (file name order given named turns : List ℕ) (scripts : List (List ℕ)) (status : Status) (old new : Names)
-    → form ≡ Some (play given named turns scripts) → file ≡ given → name ≡ named → order ≡ turns
-    → IfSome told (λ files. AsksForm (play file name order scripts) files status old new) → AsksInputs form told status old new
-play_words form told file name order given named turns scripts status old new is same same' same'' asked =
+pub scripted_words : (form : Option Form) (told : Option Files) (task : Task) (file name course given named other : List ℕ) (scripts : List (List ℕ)) (status : Status) (old new : Names)
+    → form ≡ Some (scripted task given named other scripts) → file ≡ given → name ≡ named → course ≡ other
+    → IfSome told (λ files. AsksForm (scripted task file name course scripts) files status old new) → AsksInputs form told status old new
+scripted_words form told task file name course given named other scripts status old new is same same' same'' asked =
     subst (λ (f : Option Form). AsksInputs f told status old new) (sym is)
-    (subst (λ (o : List ℕ). AsksInputs (Some (play given named o scripts)) told status old new) same''
-    (subst (λ (n : List ℕ). AsksInputs (Some (play given n order scripts)) told status old new) same'
-    (subst (λ (f : List ℕ). AsksInputs (Some (play f name order scripts)) told status old new) same asked)))
+    (subst (λ (o : List ℕ). AsksInputs (Some (scripted task given named o scripts)) told status old new) same''
+    (subst (λ (n : List ℕ). AsksInputs (Some (scripted task given n course scripts)) told status old new) same'
+    (subst (λ (f : List ℕ). AsksInputs (Some (scripted task f name course scripts)) told status old new) same asked)))

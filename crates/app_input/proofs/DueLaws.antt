@@ -3,6 +3,7 @@ use Rattle.std.proofs.Common.{◌≡◌, ℕ, ◌≤◌, ◌<◌, ◌⊎◌, inl
 use Rattle.std.proofs.lemmas.Bool.{le-leb, lt-leb}
 use Rattle.std.specs.Prelude as std
 use Rattle.std.specs.Prelude.{Result, IfSome, codes, nat_le}
+use Rattle.cf_types.specs.declared.machine.Command.{Command}
 use Rattle.cf_types.specs.declared.machine.Machine.{Machine}
 use Rattle.cf_types.specs.declared.tables.Refusal.{Refusal}
 use Rattle.cf_types.specs.declared.tables.Tables.{Tables}
@@ -14,12 +15,16 @@ use Rattle.config_rules.specs.MachineText.{machine_of}
 use Rattle.config_rules.specs.Meaning.{Means}
 use Rattle.config_rules.specs.Reading.{Files}
 use Rattle.app_input.specs.declared.inputs.Inputs.{Inputs}
-use Rattle.app_input.specs.declared.inputs.Inputs.TheVariants.{Ioconf, Boot, Load, Play}
+use Rattle.app_input.specs.declared.inputs.Inputs.TheVariants.{Ioconf, Boot, Load, Play, Replay, Upgrade}
 use Rattle.app_input.specs.declared.inputs.Inputs.TheVariants as inputs
 use Rattle.app_input.specs.declared.status.Status.{Status}
-use Rattle.app_input.specs.declared.status.Status.TheVariants.{Ok, ConfigRefused, Usage, MachineRefused, ScriptRefused, Absent, TooLong, ReadFault, WriteFault, Memory}
-use Rattle.app_input.specs.Inputs.{Counts, IsDue, IsDueAt, IsDueIf, IsRefusedPlay, Reads, booted, booted_from, files_of, given_by, played_with, refused_by, told_of}
-use Rattle.app_input.specs.Words.{Form, boot, config_of, ioconf, is_compiled, load, machine_in, play, sources}
+use Rattle.app_input.specs.declared.status.Status.TheVariants.{Ok, ConfigRefused, Usage, MachineRefused, ScriptRefused, HistoryRefused, Absent, TooLong, ReadFault, WriteFault, Memory}
+use Rattle.app_input.specs.declared.scripts.Course.{Course}
+use Rattle.app_input.specs.declared.scripts.Course.TheVariants as courses
+use Rattle.app_input.specs.declared.words.Task.{Task}
+use Rattle.app_input.specs.Inputs.{Counts, IsDue, IsDueAt, IsDueIf, IsRefusedRun, IsRun, Reads, booted, booted_from, files_of, given_by, inputs_at, inputs_by, refused_by, scripted_with, told_of}
+use Rattle.app_input.specs.Scripted.{file_gives, task_of}
+use Rattle.app_input.specs.Words.{Form, boot, config_of, ioconf, is_compiled, load, machine_in, scripted, sources}
 
 -- where the files are told, those that a form speaks of are
 at_files : (P : Files → Type 0) (form : Form) (files : Files) → IfSome (told_of form (Some files)) P → P (files_of form files)
@@ -27,7 +32,7 @@ at_files P (ioconf file) files holds = holds
 at_files P (sources file) files holds = holds
 at_files P (boot file name) files holds = holds
 at_files P (load n) files holds = holds
-at_files P (play file name order scripts) files holds = holds
+at_files P (scripted task file name course names) files holds = holds
 
 -- what is due where the inputs are compiled
 due_compiled : (form : Form) (files : Files) (answer : Result Inputs Status) → is_compiled form ≡ true
@@ -53,7 +58,7 @@ machine_compiled (ioconf file) name is = refl
 machine_compiled (sources file) name is = absurd cc
 machine_compiled (boot file machine) name is = refl
 machine_compiled (load n) name is = refl
-machine_compiled (play file machine order scripts) name is = refl
+machine_compiled (scripted task file machine course names) name is = refl
 
 -- what a form with a machine file gives
 machine_given : (form : Form) (files : Files) (name : List ℕ) (tables : Tables) → machine_in form ≡ Some name
@@ -66,9 +71,9 @@ machine_given (boot file other) files name tables is =
 machine_given (load n) files name tables is =
     let same : codes "mach" ≡ name = cc in let next : Machine → Result Inputs Status = λ machine. std.Ok (Load n tables machine) in
     (next, ap (λ (x : List ℕ). booted_from next tables x (files x)) same)
-machine_given (play file other order scripts) files name tables is =
+machine_given (scripted task file other course names) files name tables is =
     let same : other ≡ name = cc in
-    (played_with files order scripts tables, ap (λ (x : List ℕ). booted_from (played_with files order scripts tables) tables x (files x)) same)
+    (scripted_with task files course names tables, ap (λ (x : List ℕ). booted_from (scripted_with task files course names tables) tables x (files x)) same)
 
 -- what the machine file gives is due
 due_by_machine : (form : Form) (files : Files) (name : List ℕ) (tables : Tables) (answer : Result Inputs Status) → machine_in form ≡ Some name
@@ -84,30 +89,40 @@ if_true a b test e = rw e refl
 pub if_false : {A : Type 0} (a b : A) (test : Bool) → test ≡ false → (if test then a else b) ≡ b
 if_false a b test e = rw e refl
 
--- a file that is short enough
+-- what a file gives that is short enough
+pub whole_file : {A : Type 0} (by_text : List ℕ → Result A Status) (name text : List ℕ) (file : Option (List ℕ)) → file ≡ Some text → length text ≤ MAX_FILE
+    → file_gives by_text name file ≡ by_text text
+whole_file by_text name text file is short = rw is (if_true _ _ (nat_le (length text) MAX_FILE) (le-leb (length text) MAX_FILE short))
+
 pub short_file : (next : Machine → Result Inputs Status) (tables : Tables) (name text : List ℕ) (file : Option (List ℕ)) → file ≡ Some text → length text ≤ MAX_FILE
     → booted_from next tables name file ≡ booted next (machine_of tables text)
-short_file next tables name text file is short = rw is (if_true _ _ (nat_le (length text) MAX_FILE) (le-leb (length text) MAX_FILE short))
+short_file next tables name text file is short = whole_file (λ t. booted next (machine_of tables t)) name text file is short
 
 -- a file that is too long
 pub long_file : (next : Machine → Result Inputs Status) (tables : Tables) (name text : List ℕ) (file : Option (List ℕ)) → file ≡ Some text → MAX_FILE < length text
     → booted_from next tables name file ≡ std.Err (TooLong name)
 long_file next tables name text file is long = rw is (if_false _ _ (nat_le (length text) MAX_FILE) (lt-leb (length text) MAX_FILE long))
 
--- what the scripts and the order file give is due, where the machine file describes a machine
-due_by_play : (form : Option Form) (files : Files) (file name order : List ℕ) (scripts : List (List ℕ)) (tables : Tables) (machine : Machine) (text : List ℕ) (answer : Result Inputs Status)
-    → form ≡ Some (play file name order scripts) → Means files file tables → files name ≡ Some text → length text ≤ MAX_FILE → machine_of tables text ≡ std.Ok machine
-    → played_with files order scripts tables machine ≡ answer → IsDue form files answer
-due_by_play form files file name order scripts tables machine text answer is meant there short described gives =
-    let next = played_with files order scripts tables in
-    rw is (due_by_tables (play file name order scripts) files tables answer refl meant
+-- what the scripts and the file with their course give is due, where the machine file describes a machine
+due_by_run : (form : Option Form) (files : Files) (task : Task) (file name course : List ℕ) (names : List (List ℕ)) (tables : Tables) (machine : Machine) (text : List ℕ) (answer : Result Inputs Status)
+    → form ≡ Some (scripted task file name course names) → Means files file tables → files name ≡ Some text → length text ≤ MAX_FILE → machine_of tables text ≡ std.Ok machine
+    → scripted_with task files course names tables machine ≡ answer → IsDue form files answer
+due_by_run form files task file name course names tables machine text answer is meant there short described gives =
+    let next = scripted_with task files course names tables in
+    rw is (due_by_tables (scripted task file name course names) files tables answer refl meant
     (sym (short_file next tables name text (files name) there short ∙ ap (booted next) described ∙ gives)))
 
--- the refusal of a script or of the order file is due
-due_refused : (form : Option Form) (files : Files) (status : Status) → IsRefusedPlay form (Some files) status → IsDue form files (std.Err status)
-due_refused form files status (file, name, order, scripts, tables, machine, is, meant, (text, there, short, described), gives, of) =
-    due_by_play form files file name order scripts tables machine text (std.Err status) is meant there short described
-    (ap (λ r. r >>= λ p. std.Ok (Play tables machine p.scripts p.order)) gives)
+due_run : (form : Option Form) (files : Files) (tables : Tables) (machine : Machine) (scripts : List (List Command)) (course : Course) → IsRun form (Some files) tables machine scripts course
+    → IsDue form files (std.Ok (inputs_at tables machine scripts course))
+due_run form files tables machine scripts course (file, name, at, names, is, meant, (text, there, short, described), gives) =
+    due_by_run form files (task_of course) file name at names tables machine text (std.Ok (inputs_at tables machine scripts course)) is meant there short described
+    (ap (λ r. r >>= λ p. std.Ok (inputs_by tables machine p)) gives)
+
+-- the refusal of a script or of the file with their course is due
+due_refused : (form : Option Form) (files : Files) (status : Status) → IsRefusedRun form (Some files) status → IsDue form files (std.Err status)
+due_refused form files status (task, tables, machine, (file, name, course, names, is, meant, (text, there, short, described), (gives, of))) =
+    due_by_run form files task file name course names tables machine text (std.Err status) is meant there short described
+    (ap (λ r. r >>= λ p. std.Ok (inputs_by tables machine p)) gives)
 
 due : (form : Option Form) (files : Files) (before after : ℕ) (answer : Result Inputs Status) → Reads form (Some files) answer → Counts before after answer
     → ¬ Rose before after → (answer ≡ std.Err Memory) ⊎ IsDue form files answer
@@ -119,9 +134,9 @@ due form files before after (std.Ok (Boot tables machine)) (file, name, is, mean
 due form files before after (std.Ok (Load n tables machine)) (is, (meant, (text, there, short, described))) counts quiet =
     inr (rw is (due_by_tables (load n) files tables (std.Ok (Load n tables machine)) refl meant
     (sym (short_file (λ m. std.Ok (Load n tables m)) tables (codes "mach") text _ there short ∙ ap (booted (λ m. std.Ok (Load n tables m))) described))))
-due form files before after (std.Ok (Play tables machine scripts order)) (file, name, turns, names, is, meant, (text, there, short, described), gives) counts quiet =
-    inr (due_by_play form files file name turns names tables machine text (std.Ok (Play tables machine scripts order)) is meant there short described
-    (ap (λ r. r >>= λ p. std.Ok (Play tables machine p.scripts p.order)) gives))
+due form files before after (std.Ok (Play tables machine scripts order)) run counts quiet = inr (due_run form files tables machine scripts (courses.Play order) run)
+due form files before after (std.Ok (Replay tables machine scripts history)) run counts quiet = inr (due_run form files tables machine scripts (courses.Replay history) run)
+due form files before after (std.Ok (Upgrade tables machine scripts history)) run counts quiet = inr (due_run form files tables machine scripts (courses.Upgrade history) run)
 due form files before after (std.Err (ScriptRefused which line code)) refused counts quiet = inr (due_refused form files (ScriptRefused which line code) refused)
 due form files before after (std.Err (Absent absent)) (inr refused) counts quiet = inr (due_refused form files (Absent absent) refused)
 due form files before after (std.Err (TooLong long)) (inr refused) counts quiet = inr (due_refused form files (TooLong long) refused)
@@ -144,6 +159,7 @@ due form files before after (std.Err (TooLong long)) (inl (f, name, tables, is, 
 due form files before after (std.Err ReadFault) reads counts quiet = absurd (quiet counts.1)
 due form files before after (std.Err Ok) never counts quiet = elim never [ ]
 due form files before after (std.Err WriteFault) never counts quiet = elim never [ ]
+due form files before after (std.Err (HistoryRefused line)) never counts quiet = elim never [ ]
 due form files before after (std.Err Memory) reads counts quiet = inl refl
 
 -- the same where the files are told

@@ -4,6 +4,6 @@ pub mod CountLemmas
 pub mod DueLaws
 pub mod MadeLaws
 pub mod OperandLemmas
-pub mod PlayLaws
-pub mod PlayOperands
+pub mod ScriptedLaws
+pub mod ScriptedOperands
 pub mod StopLaws

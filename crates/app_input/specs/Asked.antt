@@ -9,10 +9,11 @@ use Rattle.cf_io.specs.Load.{asked_behind}
 use Rattle.config_rules.specs.Meaning.{Means}
 use Rattle.config_rules.specs.Reading.{Files, reading}
 use Rattle.app_input.specs.Inputs.{booted_from}
-use Rattle.app_input.specs.Played.{script_of, turns_of}
-use Rattle.app_input.specs.Words.{Form, ioconf, sources, boot, load, play, config_of, is_from_outside}
+use Rattle.app_input.specs.Scripted.{course_of, script_of}
+use Rattle.app_input.specs.Words.{Form, ioconf, sources, boot, load, scripted, config_of, is_from_outside}
 use Rattle.app_input.specs.declared.inputs.Inputs.TheVariants.{Boot}
 use Rattle.app_input.specs.declared.status.Status.{Status}
+use Rattle.app_input.specs.declared.words.Task.{Task}
 use Rattle.app_input.specs.declared.status.Status.TheVariants.{ConfigRefused, ReadFault, Memory}
 
 -- ---- the files that are due
@@ -34,17 +35,17 @@ machine_file files tables name = giving name (booted_from (λ machine. std.Ok (B
 abbrev pub script_files : Files → ℕ → List (List ℕ) → List DueFile
 script_files files n names = map (λ s. giving s.1 (script_of files s.0 s.1)) (enumerate_from n names)
 
--- the scripts, and behind them the order file
-abbrev pub played_files : Files → List (List ℕ) → List ℕ → List DueFile
-played_files files names order = script_files files 1 names ++ giving order (turns_of files (length names) order) ∷ []
+-- the scripts, and behind them the file with their course
+abbrev pub scripted_files : Task → Files → List (List ℕ) → List ℕ → List DueFile
+scripted_files task files names course = script_files files 1 names ++ giving course (course_of task files (length names) course) ∷ []
 
--- the files behind a configuration that means these tables: the machine file, the scripts, the order file
+-- the files behind a configuration that means these tables: the machine file, the scripts, the file with their course
 abbrev pub files_behind : Form → Files → Tables → List DueFile
 files_behind (ioconf file) files tables = []
 files_behind (sources file) files tables = []
 files_behind (boot file name) files tables = machine_file files tables name ∷ []
 files_behind (load n) files tables = []
-files_behind (play file name order scripts) files tables = machine_file files tables name ∷ played_files files scripts order
+files_behind (scripted task file name course scripts) files tables = machine_file files tables name ∷ scripted_files task files scripts course
 
 -- the names up to the first file that is refused
 abbrev pub up_to_refused : List DueFile → List (List ℕ)

@@ -23,6 +23,6 @@ boot_app = with_rule (with_rule (bare_app (codes "boot")) (required_rule (codes 
 abbrev pub scripts_rule : Rule
 scripts_rule = record (required_rule (codes "scripts")) { range = Some (record { start_inclusive = 1; end_inclusive = 16 }) }
 
--- `FILE MACHINE ORDER SCRIPT..`
-abbrev pub play_app : App
-play_app = with_rule (with_rule (with_rule (with_rule (bare_app (codes "play")) (required_rule (codes "file"))) (required_rule (codes "machine"))) (required_rule (codes "order"))) scripts_rule
+-- `FILE MACHINE COURSE SCRIPT..`
+abbrev pub scripted_app : App
+scripted_app = with_rule (with_rule (with_rule (with_rule (bare_app (codes "scripted")) (required_rule (codes "file"))) (required_rule (codes "machine"))) (required_rule (codes "course"))) scripts_rule

@@ -1,6 +1,7 @@
 -- What the words and the files call for, and what reading them answers.
 use Rattle.std.specs.Prelude.{◌≡◌, ℕ, ◌<◌, ◌≤◌, ◌⊎◌, Bool, true, false, Option, Some, None, IfSome, Result, List, [], ◌∷◌, length, codes, ⊤}
 use Rattle.std.specs.Prelude as std
+use Rattle.cf_types.specs.declared.machine.Command.{Command}
 use Rattle.cf_types.specs.declared.machine.Machine.{Machine}
 use Rattle.cf_types.specs.declared.tables.Refusal.{Refusal}
 use Rattle.cf_types.specs.declared.tables.Tables.{Tables}
@@ -16,12 +17,16 @@ use Rattle.config_rules.specs.Meaning.{Means}
 use Rattle.config_rules.specs.Reading.{Files}
 use Rattle.load_maker.specs.Generated.{conf_text, machine_text}
 use Rattle.app_input.specs.declared.inputs.Inputs.{Inputs}
-use Rattle.app_input.specs.declared.inputs.Inputs.TheVariants.{Ioconf, Boot, Load, Play}
+use Rattle.app_input.specs.declared.inputs.Inputs.TheVariants.{Ioconf, Boot, Load, Play, Replay, Upgrade}
 use Rattle.app_input.specs.declared.inputs.Inputs.TheVariants as inputs
 use Rattle.app_input.specs.declared.status.Status.{Status}
-use Rattle.app_input.specs.declared.status.Status.TheVariants.{Ok, ConfigRefused, Usage, MachineRefused, ScriptRefused, Absent, TooLong, ReadFault, WriteFault, Memory}
-use Rattle.app_input.specs.Played.{FormedPlay, IsOfPlay, file_gives, played}
-use Rattle.app_input.specs.Words.{Form, ioconf, sources, boot, load, play, config_of, is_compiled, is_from_outside, machine_in}
+use Rattle.app_input.specs.declared.status.Status.TheVariants.{Ok, ConfigRefused, Usage, MachineRefused, ScriptRefused, HistoryRefused, Absent, TooLong, ReadFault, WriteFault, Memory}
+use Rattle.app_input.specs.declared.scripts.Course.{Course}
+use Rattle.app_input.specs.declared.scripts.Course.TheVariants as courses
+use Rattle.app_input.specs.declared.scripts.Scripted.{Scripted}
+use Rattle.app_input.specs.declared.words.Task.{Task}
+use Rattle.app_input.specs.Scripted.{FormedRun, IsOfScripted, file_gives, scripted_of, task_of}
+use Rattle.app_input.specs.Words.{Form, ioconf, sources, boot, load, scripted, config_of, is_compiled, is_from_outside, machine_in}
 
 -- the generated files of a machine with so many spots
 unfoldable pub made_files : ℕ → List MemFile
@@ -32,7 +37,7 @@ abbrev pub told_of : Form → Option Files → Option Files
 told_of (ioconf file) told = told
 told_of (sources file) told = told
 told_of (boot file machine) told = told
-told_of (play file machine order scripts) told = told
+told_of (scripted task file machine course scripts) told = told
 told_of (load n) told = Some (file_named (made_files n))
 
 -- the files that a form speaks of
@@ -40,7 +45,7 @@ abbrev pub files_of : Form → Files → Files
 files_of (ioconf file) files = files
 files_of (sources file) files = files
 files_of (boot file machine) files = files
-files_of (play file machine order scripts) files = files
+files_of (scripted task file machine course scripts) files = files
 files_of (load n) files = file_named (made_files n)
 
 -- where the files are told, the configuration means the tables
@@ -112,13 +117,27 @@ Boots form told P =
     (f : Form) × (name : List ℕ) × (tables : Tables) × (form ≡ Some f) × (machine_in f ≡ Some name) × IsMeant (told_of f told) (config_of f) tables
     × P (told_of f told) name tables
 
--- the words ask to play, the configuration means the tables, the machine file describes a machine with them, and the scripts or
--- the order file are refused so
-abbrev pub IsRefusedPlay : Option Form → Option Files → Status → Type 0
-IsRefusedPlay form told status =
-    (file name order : List ℕ) × (scripts : List (List ℕ)) × (tables : Tables) × (machine : Machine) × (form ≡ Some (play file name order scripts))
-    × IsMeant told file tables × IsDescribed told name tables (std.Ok machine) × IfSome told (λ files. played files scripts order ≡ std.Err status)
-    × IsOfPlay scripts order status
+-- the words ask for this task, the configuration means the tables, the machine file describes the machine with them, and P
+-- holds of the names of the scripts and of the file with their course
+abbrev pub Runs : Task → Option Form → Option Files → Tables → Machine → (List (List ℕ) → List ℕ → Type 0) → Type 0
+Runs task form told tables machine P =
+    (file name course : List ℕ) × (names : List (List ℕ)) × (form ≡ Some (scripted task file name course names)) × IsMeant told file tables
+    × IsDescribed told name tables (std.Ok machine) × P names course
+
+-- where the files are told, the scripts and the file with their course give this
+abbrev pub IsScripted : Task → Option Files → Result Scripted Status → List (List ℕ) → List ℕ → Type 0
+IsScripted task told given names course = IfSome told (λ files. scripted_of task files names course ≡ given)
+
+-- they give this
+abbrev pub IsRun : Option Form → Option Files → Tables → Machine → List (List Command) → Course → Type 0
+IsRun form told tables machine scripts course =
+    Runs (task_of course) form told tables machine (IsScripted (task_of course) told (std.Ok (record { scripts = scripts; course = course })))
+
+-- the scripts or the file with their course are refused so
+abbrev pub IsRefusedRun : Option Form → Option Files → Status → Type 0
+IsRefusedRun form told status =
+    (task : Task) × (tables : Tables) × (machine : Machine)
+    × Runs task form told tables machine (λ names course. IsScripted task told (std.Err status) names course × IsOfScripted names course status)
 
 -- the generated configuration means the tables, and the generated machine file describes the machine with them
 abbrev pub Made : ℕ → Tables → Machine → Type 0
@@ -132,22 +151,23 @@ Reads form told (std.Ok (inputs.Files name)) = form ≡ Some (sources name)
 Reads form told (std.Ok (Boot tables machine)) =
     (file name : List ℕ) × (form ≡ Some (boot file name)) × IsMeant told file tables × IsDescribed told name tables (std.Ok machine)
 Reads form told (std.Ok (Load n tables machine)) = (form ≡ Some (load n)) × Made n tables machine
-Reads form told (std.Ok (Play tables machine scripts order)) =
-    (file name turns : List ℕ) × (names : List (List ℕ)) × (form ≡ Some (play file name turns names)) × IsMeant told file tables
-    × IsDescribed told name tables (std.Ok machine) × IfSome told (λ files. played files names turns ≡ std.Ok (record { scripts = scripts; order = order }))
+Reads form told (std.Ok (Play tables machine scripts order)) = IsRun form told tables machine scripts (courses.Play order)
+Reads form told (std.Ok (Replay tables machine scripts history)) = IsRun form told tables machine scripts (courses.Replay history)
+Reads form told (std.Ok (Upgrade tables machine scripts history)) = IsRun form told tables machine scripts (courses.Upgrade history)
 Reads form told (std.Err (ConfigRefused file line code)) =
     (f : Form) × (form ≡ Some f) × (is_compiled f ≡ true) × IsFirstFault (told_of f told) (config_of f) (record { file = file; line = line; code = code })
 Reads form told (std.Err Usage) = form ≡ None
 Reads form told (std.Err (MachineRefused line code)) = Boots form told (λ files name tables. IsDescribed files name tables (std.Err (line, code)))
-Reads form told (std.Err (ScriptRefused which line code)) = IsRefusedPlay form told (ScriptRefused which line code)
+Reads form told (std.Err (ScriptRefused which line code)) = IsRefusedRun form told (ScriptRefused which line code)
 Reads form told (std.Err (Absent absent)) =
-    Boots form told (λ files name tables. (absent ≡ name) × IsLacking files name) ⊎ IsRefusedPlay form told (Absent absent)
+    Boots form told (λ files name tables. (absent ≡ name) × IsLacking files name) ⊎ IsRefusedRun form told (Absent absent)
 Reads form told (std.Err (TooLong long)) =
-    Boots form told (λ files name tables. (long ≡ name) × IsLong files name) ⊎ IsRefusedPlay form told (TooLong long)
+    Boots form told (λ files name tables. (long ≡ name) × IsLong files name) ⊎ IsRefusedRun form told (TooLong long)
 Reads form told (std.Err ReadFault) = (f : Form) × (form ≡ Some f) × (is_from_outside f ≡ true)
 Reads form told (std.Err Memory) = ⊤
 Reads form told (std.Err Ok) = ⊥
 Reads form told (std.Err WriteFault) = ⊥
+Reads form told (std.Err (HistoryRefused line)) = ⊥
 
 -- the count of faults rose at `ReadFault`, or stands at its last value, and is as before at every other answer
 abbrev pub Counts : {A : Type 0} → ℕ → ℕ → Result A Status → Type 0
@@ -155,14 +175,19 @@ Counts before after (std.Ok inputs) = after ≡ before
 Counts before after (std.Err ReadFault) = (before ≤ after) × Rose before after
 Counts before after (std.Err _) = after ≡ before
 
--- the tables are formed, the machine fits them, and so do the scripts and their turns
+-- the tables are formed, the machine fits them, and the scripts and their course are formed
+abbrev pub AreFormed : Tables → Machine → List (List Command) → Course → Type 0
+AreFormed tables machine scripts course = FormedTables tables × FittingMachine tables machine × FormedRun (record { scripts = scripts; course = course })
+
+-- the inputs are formed
 abbrev pub FormedInputs : Inputs → Type 0
 FormedInputs (Ioconf tables) = FormedTables tables
 FormedInputs (inputs.Files name) = ⊤
 FormedInputs (Boot tables machine) = FormedTables tables × FittingMachine tables machine
 FormedInputs (Load n tables machine) = FormedTables tables × FittingMachine tables machine
-FormedInputs (Play tables machine scripts order) =
-    FormedTables tables × FittingMachine tables machine × FormedPlay (record { scripts = scripts; order = order })
+FormedInputs (Play tables machine scripts order) = AreFormed tables machine scripts (courses.Play order)
+FormedInputs (Replay tables machine scripts history) = AreFormed tables machine scripts (courses.Replay history)
+FormedInputs (Upgrade tables machine scripts history) = AreFormed tables machine scripts (courses.Upgrade history)
 
 -- what a machine file gives: what follows by its machine, or its refusal
 abbrev pub booted : (Machine → Result Inputs Status) → Result Machine (ℕ × ℕ) → Result Inputs Status
@@ -173,9 +198,18 @@ booted next (std.Err fault) = std.Err (MachineRefused fault.0 fault.1)
 abbrev pub booted_from : (Machine → Result Inputs Status) → Tables → List ℕ → Option (List ℕ) → Result Inputs Status
 booted_from next tables name file = file_gives (λ text. booted next (machine_of tables text)) name file
 
--- what the scripts and the order file give behind a machine
-abbrev pub played_with : Files → List ℕ → List (List ℕ) → Tables → Machine → Result Inputs Status
-played_with files order scripts tables machine = played files scripts order >>= λ p. std.Ok (Play tables machine p.scripts p.order)
+-- the inputs of a course
+abbrev pub inputs_at : Tables → Machine → List (List Command) → Course → Inputs
+inputs_at tables machine scripts (courses.Play order) = Play tables machine scripts order
+inputs_at tables machine scripts (courses.Replay history) = Replay tables machine scripts history
+inputs_at tables machine scripts (courses.Upgrade history) = Upgrade tables machine scripts history
+
+abbrev pub inputs_by : Tables → Machine → Scripted → Inputs
+inputs_by tables machine p = inputs_at tables machine p.scripts p.course
+
+-- what the scripts and the file with their course give behind a machine
+abbrev pub scripted_with : Task → Files → List ℕ → List (List ℕ) → Tables → Machine → Result Inputs Status
+scripted_with task files course names tables machine = scripted_of task files names course >>= λ p. std.Ok (inputs_by tables machine p)
 
 -- what a form gives where its configuration means the tables
 abbrev pub given_by : Form → Files → Tables → Result Inputs Status
@@ -183,7 +217,7 @@ given_by (ioconf file) files tables = std.Ok (Ioconf tables)
 given_by (sources file) files tables = std.Ok (inputs.Files file)
 given_by (boot file name) files tables = booted_from (λ machine. std.Ok (Boot tables machine)) tables name (files name)
 given_by (load n) files tables = booted_from (λ machine. std.Ok (Load n tables machine)) tables (codes "mach") (files (codes "mach"))
-given_by (play file name order scripts) files tables = booted_from (played_with files order scripts tables) tables name (files name)
+given_by (scripted task file name course names) files tables = booted_from (scripted_with task files course names tables) tables name (files name)
 
 -- the refusal of a configuration
 abbrev pub refused_by : Refusal → Result Inputs Status

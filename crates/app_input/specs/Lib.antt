@@ -1,7 +1,7 @@
 pub mod Asked
 pub mod Commands
 pub mod Inputs
-pub mod Played
+pub mod Scripted
 pub mod Status
 pub mod Words
 pub use Rattle.config_rules.specs.Formed

@@ -3,7 +3,7 @@ use Rattle.std.specs.Prelude as std
 use Rattle.cf_compile.specs.declared.stop.CompileStop.{CompileStop}
 use Rattle.cf_compile.specs.declared.stop.CompileStop.TheVariants as stops
 use Rattle.app_input.specs.declared.status.Status.{Status}
-use Rattle.app_input.specs.declared.status.Status.TheVariants.{Ok, ConfigRefused, Usage, MachineRefused, ScriptRefused, Absent, TooLong, ReadFault, WriteFault, Memory}
+use Rattle.app_input.specs.declared.status.Status.TheVariants.{Ok, ConfigRefused, Usage, MachineRefused, ScriptRefused, HistoryRefused, Absent, TooLong, ReadFault, WriteFault, Memory}
 
 -- the number of a status
 abbrev pub status_number : Status → ℕ
@@ -12,6 +12,7 @@ status_number (ConfigRefused file line code) = 1
 status_number Usage = 2
 status_number (MachineRefused line code) = 3
 status_number (ScriptRefused which line code) = 4
+status_number (HistoryRefused line) = 5
 status_number (Absent name) = 6
 status_number (TooLong name) = 7
 status_number ReadFault = 8

@@ -7,6 +7,8 @@ use Rattle.cf_text.specs.Shapes.{number}
 use Rattle.config_rules.specs.Form.{given}
 use Rattle.app_input.specs.declared.inputs.Program.{Program}
 use Rattle.app_input.specs.declared.inputs.Program.TheVariants.{Devconf}
+use Rattle.app_input.specs.declared.words.Task.{Task}
+use Rattle.app_input.specs.declared.words.Task.TheVariants.{Play, Replay, Upgrade}
 use Rattle.app_input.specs.declared.words.Words.{Words}
 use Rattle.app_input.specs.declared.words.Words.TheVariants as words
 use Rattle.app_input.specs.declared.words.WordStop.{WordStop}
@@ -15,14 +17,14 @@ use Rattle.clap.specs.declared.error.kind.ErrorKind.TheVariants as kind
 use Rattle.app_input.specs.declared.words.WordStop.TheVariants.{Usage, Memory}
 
 -- what words ask for: the listing of a configuration, the sources that it selects, the boot of a machine by a
--- configuration, the boot of a generated machine with so many spots, or a boot with scripts behind it, whose turns an order
--- file has
+-- configuration, the boot of a generated machine with so many spots, or a boot with scripts behind it, whose course a file
+-- has
 pub data Form : Type 0 where
   ioconf : List ℕ → Form
   sources : List ℕ → Form
   boot : List ℕ → List ℕ → Form
   load : ℕ → Form
-  play : List ℕ → List ℕ → List ℕ → List (List ℕ) → Form
+  scripted : Task → List ℕ → List ℕ → List ℕ → List (List ℕ) → Form
 
 -- a word that is not empty and does not begin with `-`
 abbrev pub is_operand : List ℕ → Bool
@@ -55,16 +57,16 @@ load_form [] = None
 load_form (word ∷ []) = option_map load (count_of word)
 load_form (word ∷ other ∷ more) = None
 
--- from 1 to 16 scripts may be played
+-- there may be from 1 to 16 scripts
 abbrev pub is_script_count : ℕ → Bool
 is_script_count n = nat_le 1 n && nat_le n 16
 
--- `FILE MACHINE ORDER SCRIPT..`
-abbrev pub play_form : List (List ℕ) → Option Form
-play_form [] = None
-play_form (file ∷ []) = None
-play_form (file ∷ machine ∷ []) = None
-play_form (file ∷ machine ∷ order ∷ scripts) = given (is_script_count (length scripts)) (play file machine order scripts)
+-- `FILE MACHINE COURSE SCRIPT..`
+abbrev pub scripted_form : Task → List (List ℕ) → Option Form
+scripted_form task [] = None
+scripted_form task (file ∷ []) = None
+scripted_form task (file ∷ machine ∷ []) = None
+scripted_form task (file ∷ machine ∷ course ∷ scripts) = given (is_script_count (length scripts)) (scripted task file machine course scripts)
 
 -- the operands behind the first word, which is compared byte for byte
 abbrev pub form_named : List ℕ → List (List ℕ) → Option Form
@@ -73,7 +75,9 @@ form_named word operands =
     else (if bytes_eq word (codes "files") then option_map sources (file_in operands)
     else (if bytes_eq word (codes "boot") then boot_form operands
     else (if bytes_eq word (codes "load") then load_form operands
-    else (if bytes_eq word (codes "play") then play_form operands else None))))
+    else (if bytes_eq word (codes "play") then scripted_form Play operands
+    else (if bytes_eq word (codes "replay") then scripted_form Replay operands
+    else (if bytes_eq word (codes "upgrade") then scripted_form Upgrade operands else None))))))
 
 -- the form of the words of `devconf`: each word behind the first is an operand
 abbrev pub devconf_form : List (List ℕ) → Option Form
@@ -89,7 +93,7 @@ abbrev pub config_of : Form → List ℕ
 config_of (ioconf file) = file
 config_of (sources file) = file
 config_of (boot file machine) = file
-config_of (play file machine order scripts) = file
+config_of (scripted task file machine course scripts) = file
 config_of (load n) = codes "conf"
 
 -- the machine file of a form, by its name
@@ -97,7 +101,7 @@ abbrev pub machine_in : Form → Option (List ℕ)
 machine_in (ioconf file) = None
 machine_in (sources file) = None
 machine_in (boot file machine) = Some machine
-machine_in (play file machine order scripts) = Some machine
+machine_in (scripted task file machine course scripts) = Some machine
 machine_in (load n) = Some (codes "mach")
 
 -- whether the inputs of a form are compiled; the sources are selected later
@@ -105,7 +109,7 @@ abbrev pub is_compiled : Form → Bool
 is_compiled (ioconf file) = true
 is_compiled (sources file) = false
 is_compiled (boot file machine) = true
-is_compiled (play file machine order scripts) = true
+is_compiled (scripted task file machine course scripts) = true
 is_compiled (load n) = true
 
 -- whether the inputs of a form are read from files from outside
@@ -113,7 +117,7 @@ abbrev pub is_from_outside : Form → Bool
 is_from_outside (ioconf file) = true
 is_from_outside (sources file) = false
 is_from_outside (boot file machine) = true
-is_from_outside (play file machine order scripts) = true
+is_from_outside (scripted task file machine course scripts) = true
 is_from_outside (load n) = false
 
 -- words are refused where they say nothing
@@ -127,8 +131,8 @@ HasForm form (std.Ok (words.Ioconf file)) = form ≡ Some (ioconf file.now)
 HasForm form (std.Ok (words.Files file)) = form ≡ Some (sources file.now)
 HasForm form (std.Ok (words.Boot file machine)) = form ≡ Some (boot file.now machine.now)
 HasForm form (std.Ok (words.Load count)) = (form ≡ Some (load count)) × (1 ≤ count) × (count ≤ 1000)
-HasForm form (std.Ok (words.Play file machine order scripts)) =
-    (form ≡ Some (play file.now machine.now order.now (map string_bytes scripts.now))) × (1 ≤ length scripts.now) × (length scripts.now ≤ 16)
+HasForm form (std.Ok (words.Scripted task file machine course scripts)) =
+    (form ≡ Some (scripted task file.now machine.now course.now (map string_bytes scripts.now))) × (1 ≤ length scripts.now) × (length scripts.now ≤ 16)
 HasForm form (std.Err stop) = IsStopped form stop
 
 -- a parse that failed for another cause than memory refuses the words

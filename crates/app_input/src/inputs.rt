@@ -3,15 +3,15 @@ ghost use Rattle.cf_io.specs.Faults.{Rose};
 ghost use Rattle.config_rules.specs.Formed.{FormedTables};
 ghost use Rattle.config_rules.specs.Reading.{Files as NamedFiles, reading};
 ghost use Rattle.app_input.specs.Asked.{AsksForm, AsksInputs, IsAskedFor};
-ghost use Rattle.app_input.specs.Inputs.{Counts, FormedInputs, IsDue, Reads, ReadsTables};
+ghost use Rattle.app_input.specs.Inputs.{Counts, FormedInputs, IsDue, Reads, ReadsTables, inputs_by};
 ghost use Rattle.app_input.specs.Status.{status_of};
-ghost use Rattle.app_input.specs.Words.{boot, form_of, ioconf, load, play, sources};
+ghost use Rattle.app_input.specs.Words.{boot, form_of, ioconf, load, scripted, sources};
 
 use crate::machine_file::load_machine;
 use crate::made::made_files;
-use crate::scripts::{Played, load_played};
+use crate::scripts::{Course, Scripted, load_scripted};
 use crate::status::Status;
-use crate::words::{WordStop, Words, read_words};
+use crate::words::{Task, WordStop, Words, read_words};
 use cf_compile::compile;
 use cf_io::Files;
 use cf_types::{List, Machine, Script, Tables, Text};
@@ -53,6 +53,20 @@ pub enum Inputs {
         machine: Machine,
         scripts: List<Script>,
         order: List<u8>,
+    },
+    /// The same with a history in place of these numbers, which is to be checked. It is not judged yet.
+    Replay {
+        tables: Tables,
+        machine: Machine,
+        scripts: List<Script>,
+        history: Text,
+    },
+    /// The same, to be written in format 2 besides.
+    Upgrade {
+        tables: Tables,
+        machine: Machine,
+        scripts: List<Script>,
+        history: Text,
     },
 }
 
@@ -122,21 +136,50 @@ fn read_boot<F: Files>(
     }
 }
 
-/// Reads the inputs of `play FILE MACHINE ORDER SCRIPT..`: the configuration, the machine, the scripts, the order file.
-fn read_play<F: Files>(
+/// The inputs of a machine and its scripts with their course.
+fn inputs_by(tables: Tables, machine: Machine, run: Scripted) -> Inputs
+    ensures { result ≡ inputs_by tables machine run }
+{
+    let Scripted { scripts, course } = run;
+    match course {
+        Course::Play(order) => Inputs::Play {
+            tables,
+            machine,
+            scripts,
+            order,
+        },
+        Course::Replay(history) => Inputs::Replay {
+            tables,
+            machine,
+            scripts,
+            history,
+        },
+        Course::Upgrade(history) => Inputs::Upgrade {
+            tables,
+            machine,
+            scripts,
+            history,
+        },
+    }
+}
+
+/// Reads the inputs of `play FILE MACHINE ORDER SCRIPT..`, or of `replay` or `upgrade` with a history: the configuration,
+/// the machine, the scripts, the order file or history.
+fn read_scripted<F: Files>(
     alloc: Global,
     files: &mut F,
+    task: Task,
     config: &[u8],
     name: &[u8],
-    order: &[u8],
+    course: &[u8],
     scripts: &[String],
 ) -> Result<Inputs, Status>
     requires some { 1 ≤ length scripts.now }
     requires few { length scripts.now ≤ 16 }
     ensures told { F.told files.new ≡ F.told files.old }
-    ensures reads { Reads (Some (play config.now name.now order.now (map string_bytes scripts.now))) (F.told files.old) result }
+    ensures reads { Reads (Some (scripted task config.now name.now course.now (map string_bytes scripts.now))) (F.told files.old) result }
     ensures asked { IfSome (F.told files.old)
-        (λ named. AsksForm (play config.now name.now order.now (map string_bytes scripts.now)) named (status_of result) (F.asked files.old) (F.asked files.new)) }
+        (λ named. AsksForm (scripted task config.now name.now course.now (map string_bytes scripts.now)) named (status_of result) (F.asked files.old) (F.asked files.new)) }
     ensures counted { Counts (F.faults files.old) (F.faults files.new) result }
     ensures formed { IfOk result FormedInputs }
 {
@@ -148,13 +191,8 @@ fn read_play<F: Files>(
         Ok(machine) => machine,
         Err(status) => return Err(status),
     };
-    match load_played(alloc, files, scripts, order) {
-        Ok(Played { scripts, order }) => Ok(Inputs::Play {
-            tables,
-            machine,
-            scripts,
-            order,
-        }),
+    match load_scripted(alloc, files, task, scripts, course) {
+        Ok(found) => Ok(inputs_by(tables, machine, found)),
         Err(status) => Err(status),
     }
 }
@@ -187,7 +225,8 @@ fn read_load(alloc: Global, count: u32) -> Result<Inputs, Status>
 
 /// Reads the words behind a program's name and the files that they name, the configuration before the machine: what they
 /// give, or the first refusal in this order: the words, the configuration, the machine file, the scripts in order, the
-/// order file. Each file is judged before the next is loaded. See config(1), config(5) and drvctl(8).
+/// order file or history. Each file is judged before the next is loaded, but for a history, which is judged when it is
+/// replayed. See config(1), config(5) and drvctl(8).
 pub fn read_inputs<F: Files>(
     alloc: Global,
     program: Program,
@@ -212,19 +251,21 @@ pub fn read_inputs<F: Files>(
         }
         Ok(Words::Load { count }) => read_load(alloc, count),
         Ok(
-            Words::Play {
+            Words::Scripted {
+                task,
                 file,
                 machine,
-                order,
+                course,
                 scripts,
             },
         ) => {
-            read_play(
+            read_scripted(
                 alloc,
                 files,
+                task,
                 file.as_bytes(),
                 machine.as_bytes(),
-                order.as_bytes(),
+                course.as_bytes(),
                 scripts,
             )
         }

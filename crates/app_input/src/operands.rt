@@ -1,16 +1,16 @@
 ghost use Rattle.std.specs.Prelude.{◌≡◌, IfErr, IfOk, Some, false, true, map, string_bytes};
 ghost use Rattle.std.specs.List.{list_all};
 ghost use Rattle.clap.specs.Words.{app_of, kind_of, rule_of};
-ghost use Rattle.app_input.specs.Commands.{bare_app, boot_app, file_app, play_app, required_rule, scripts_rule};
-ghost use Rattle.app_input.specs.Words.{HasForm, IsStopped, boot_form, file_in, is_operand, play_form, stop_of};
+ghost use Rattle.app_input.specs.Commands.{bare_app, boot_app, file_app, required_rule, scripted_app, scripts_rule};
+ghost use Rattle.app_input.specs.Words.{HasForm, IsStopped, boot_form, file_in, is_operand, scripted_form, stop_of};
 ghost use Rattle.app_input.specs.declared.words.WordStop.TheVariants as stops;
 
-use crate::words::{WordStop, Words};
+use crate::words::{Task, WordStop, Words};
 use clap::error::ErrorKind;
 use clap::{Arg, Command, Error};
 use std::alloc::{AllocError, Global};
 
-/// The most scripts that are played.
+/// The most scripts of a run.
 const MAX_SCRIPTS: usize = 16;
 
 impl From<AllocError> for WordStop {
@@ -71,13 +71,13 @@ fn scripts<'a>(alloc: Global) -> Arg<'a>
     required(alloc, "scripts").num_args(1..=MAX_SCRIPTS)
 }
 
-fn play_command<'a>(alloc: Global) -> Result<Command<'a>, AllocError>
-    ensures { IfOk result (λ command. app_of command ≡ play_app) }
+fn scripted_command<'a>(alloc: Global) -> Result<Command<'a>, AllocError>
+    ensures { IfOk result (λ command. app_of command ≡ scripted_app) }
 {
-    bare(alloc, "play")
+    bare(alloc, "scripted")
         .arg(required(alloc, "file"))?
         .arg(required(alloc, "machine"))?
-        .arg(required(alloc, "order"))?
+        .arg(required(alloc, "course"))?
         .arg(scripts(alloc))
 }
 
@@ -111,15 +111,19 @@ pub fn boot_words<'a>(alloc: Global, operands: &'a [String]) -> Result<Words<'a>
     Ok(Words::Boot { file, machine })
 }
 
-/// Reads the operands `FILE MACHINE ORDER SCRIPT..`.
-pub fn play_words<'a>(alloc: Global, operands: &'a [String]) -> Result<Words<'a>, WordStop>
+/// Reads the operands `FILE MACHINE COURSE SCRIPT..`, where COURSE is an order file or a history.
+pub fn scripted_words<'a>(
+    alloc: Global,
+    task: Task,
+    operands: &'a [String],
+) -> Result<Words<'a>, WordStop>
     requires { list_all is_operand (map string_bytes operands.now) ≡ true }
-    ensures { HasForm (play_form (map string_bytes operands.now)) result }
+    ensures { HasForm (scripted_form task (map string_bytes operands.now)) result }
 {
     let [_, _, _, scripts @ ..] = operands else {
         return Err(WordStop::Usage);
     };
-    let command = play_command(alloc)?;
+    let command = scripted_command(alloc)?;
     let matches = command.try_get_matches_from(operands)?;
     let Some(file) = matches.get_str("file") else {
         return Err(WordStop::Usage);
@@ -127,13 +131,14 @@ pub fn play_words<'a>(alloc: Global, operands: &'a [String]) -> Result<Words<'a>
     let Some(machine) = matches.get_str("machine") else {
         return Err(WordStop::Usage);
     };
-    let Some(order) = matches.get_str("order") else {
+    let Some(course) = matches.get_str("course") else {
         return Err(WordStop::Usage);
     };
-    Ok(Words::Play {
+    Ok(Words::Scripted {
+        task,
         file,
         machine,
-        order,
+        course,
         scripts,
     })
 }

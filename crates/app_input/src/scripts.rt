@@ -1,24 +1,36 @@
-//! Loads the scripts of a play and the order of their turns.
+//! Loads the scripts of a run and the file with their course.
 ghost use Rattle.std.specs.Prelude.{◌≡◌, ◌≤◌, [], ◌∷◌, All, IfErr, IfOk, IfSome, length, map, string_bytes};
 ghost use Rattle.cf_io.specs.declared.files.TheConstants.{MAX_FILE};
 ghost use Rattle.config_rules.specs.ScriptText.{FormedScript, commands_of, order_of};
-ghost use Rattle.app_input.specs.Asked.{IsAskedFor, played_files, script_files, up_to_refused};
+ghost use Rattle.app_input.specs.Asked.{IsAskedFor, script_files, scripted_files, up_to_refused};
 ghost use Rattle.app_input.specs.Inputs.{Counts};
-ghost use Rattle.app_input.specs.Played.{FormedPlay, IsCalledFor, IsOfFile, IsOfPlay, IsOfScript, Says, played, script_of, scripts_of, turns_of};
+ghost use Rattle.app_input.specs.Scripted.{FormedCourse, FormedRun, IsCalledFor, IsCourseOf, IsOfFile, IsOfScript, IsOfScripted, Says, course_of, script_of, scripted_of, scripts_of, task_of};
 ghost use Rattle.app_input.specs.Status.{status_of};
 
 use crate::file::load_file;
 use crate::status::Status;
+use crate::words::Task;
 use cf_io::Files;
-use cf_types::{List, Script};
+use cf_types::{List, Script, Text};
 use script_text::{ScriptStop, read_order, read_script};
 use std::alloc::Global;
 
-/// Scripts, and whose turn is next: the numbers of the scripts, from 1.
+/// The course of the scripts of a run, and what is done by it.
 #[derive(Drop)]
-pub struct Played {
+pub enum Course {
+    /// They take turns: their numbers, from 1.
+    Play(List<u8>),
+    /// This history of them is checked.
+    Replay(Text),
+    /// This history of them is checked and written in format 2.
+    Upgrade(Text),
+}
+
+/// The scripts of a run, and their course.
+#[derive(Drop)]
+pub struct Scripted {
     pub scripts: List<Script>,
-    pub order: List<u8>,
+    pub course: Course,
 }
 
 /// The script that a text says.
@@ -53,6 +65,24 @@ fn judge_order(alloc: Global, text: &[u8], callers: u8) -> Result<List<u8>, Stat
     }
 }
 
+/// The course that a text has for so many callers. A history is judged when it is replayed.
+fn judge_course(alloc: Global, task: Task, text: Text, callers: u8) -> Result<Course, Status>
+    requires short { length text ≤ MAX_FILE }
+    requires some { 1 ≤ callers }
+    requires few { callers ≤ 16 }
+    ensures says { IsCourseOf task callers text result }
+    ensures formed { IfOk result (FormedCourse callers) }
+{
+    match task {
+        Task::Play => match judge_order(alloc, text.items(), callers) {
+            Ok(turns) => Ok(Course::Play(turns)),
+            Err(status) => Err(status),
+        },
+        Task::Replay => Ok(Course::Replay(text)),
+        Task::Upgrade => Ok(Course::Upgrade(text)),
+    }
+}
+
 /// Loads a script and reads it.
 fn load_script<F: Files>(
     alloc: Global,
@@ -73,24 +103,26 @@ fn load_script<F: Files>(
     }
 }
 
-/// Loads an order file and reads it for so many callers.
-fn load_order<F: Files>(
+/// Loads the file with the course of so many callers.
+fn load_course<F: Files>(
     alloc: Global,
     files: &mut F,
+    task: Task,
     name: &[u8],
     callers: u8,
-) -> Result<List<u8>, Status>
+) -> Result<Course, Status>
     requires some { 1 ≤ callers }
     requires few { callers ≤ 16 }
     ensures told { F.told files.new ≡ F.told files.old }
-    ensures reads { IsCalledFor (F.told files.old) (λ files. turns_of files callers name.now) result }
+    ensures reads { IsCalledFor (F.told files.old) (λ files. course_of task files callers name.now) result }
     ensures of { IfErr result (IsOfFile 0 name.now) }
     ensures asked { IsAskedFor (name.now ∷ []) (status_of result) (F.asked files.old) (F.asked files.new) }
     ensures counted { Counts (F.faults files.old) (F.faults files.new) result }
-    ensures turns { IfOk result (λ order. All (λ turn. (1 ≤ turn) × (turn ≤ callers)) order) }
+    ensures task { IfOk result (λ course. task_of course ≡ task) }
+    ensures formed { IfOk result (FormedCourse callers) }
 {
     match load_file(alloc, files, name) {
-        Ok(text) => judge_order(alloc, text.items(), callers),
+        Ok(text) => judge_course(alloc, task, text, callers),
         Err(status) => Err(status),
     }
 }
@@ -127,29 +159,31 @@ fn load_scripts<F: Files>(
     Ok(scripts)
 }
 
-/// Loads the scripts of these names, and then the order file for them.
-pub fn load_played<F: Files>(
+/// Loads the scripts of these names, and then the file with their course.
+pub fn load_scripted<F: Files>(
     alloc: Global,
     files: &mut F,
+    task: Task,
     names: &[String],
-    order: &[u8],
-) -> Result<Played, Status>
+    course: &[u8],
+) -> Result<Scripted, Status>
     requires some { 1 ≤ length names.now }
     requires few { length names.now ≤ 16 }
     ensures told { F.told files.new ≡ F.told files.old }
-    ensures reads { IsCalledFor (F.told files.old) (λ files. played files (map string_bytes names.now) order.now) result }
-    ensures of { IfErr result (IsOfPlay (map string_bytes names.now) order.now) }
+    ensures reads { IsCalledFor (F.told files.old) (λ files. scripted_of task files (map string_bytes names.now) course.now) result }
+    ensures of { IfErr result (IsOfScripted (map string_bytes names.now) course.now) }
     ensures asked { IfSome (F.told files.old)
-        (λ named. IsAskedFor (up_to_refused (played_files named (map string_bytes names.now) order.now)) (status_of result) (F.asked files.old) (F.asked files.new)) }
+        (λ named. IsAskedFor (up_to_refused (scripted_files task named (map string_bytes names.now) course.now)) (status_of result) (F.asked files.old) (F.asked files.new)) }
     ensures counted { Counts (F.faults files.old) (F.faults files.new) result }
-    ensures formed { IfOk result FormedPlay }
+    ensures task { IfOk result (λ run. task_of run.course ≡ task) }
+    ensures formed { IfOk result FormedRun }
 {
     let scripts = match load_scripts(alloc, files, names) {
         Ok(scripts) => scripts,
         Err(status) => return Err(status),
     };
-    match load_order(alloc, files, order, names.len() as u8) {
-        Ok(order) => Ok(Played { scripts, order }),
+    match load_course(alloc, files, task, course, names.len() as u8) {
+        Ok(course) => Ok(Scripted { scripts, course }),
         Err(status) => Err(status),
     }
 }

@@ -20,6 +20,9 @@ pub enum Status {
     /// A script, by its number from 1, or the order file, by 0, has a bad line: its number, counted from 1, and its code.
     /// See drvctl(8).
     ScriptRefused { which: u8, line: u32, code: u8 },
+    /// A history is not taken: its first bad line, counted from 1, or 0 where it has no head. Reading the inputs never
+    /// answers so.
+    HistoryRefused { line: u32 },
     /// There is no file of this name.
     Absent { name: Text },
     /// The file of this name has more than 1,048,576 bytes.
@@ -43,6 +46,7 @@ impl Status {
             Status::Usage => 2,
             Status::MachineRefused { .. } => 3,
             Status::ScriptRefused { .. } => 4,
+            Status::HistoryRefused { .. } => 5,
             Status::Absent { .. } => 6,
             Status::TooLong { .. } => 7,
             Status::ReadFault => 8,

@@ -4,8 +4,19 @@ ghost use Rattle.app_input.specs.Words.{HasForm, devconf_form, file_in, form_of,
 
 use crate::count::count_of;
 use crate::inputs::Program;
-use crate::operands::{boot_words, file_word, play_words};
+use crate::operands::{boot_words, file_word, scripted_words};
 use std::alloc::Global;
+
+/// What is done with the scripts of a machine, by the file that has their course.
+#[derive(Clone, Copy)]
+pub enum Task {
+    /// They take turns, in the order of an order file.
+    Play,
+    /// A history of them is checked.
+    Replay,
+    /// A history of them is checked and written in format 2.
+    Upgrade,
+}
 
 /// What words ask for.
 #[derive(Drop)]
@@ -27,11 +38,13 @@ pub enum Words<'a> {
     Load {
         count: u32,
     },
-    /// `play FILE MACHINE ORDER SCRIPT..`, with 1 to 16 scripts.
-    Play {
+    /// `play FILE MACHINE ORDER SCRIPT..`, or `replay` or `upgrade` with a history in place of the order file, with 1 to
+    /// 16 scripts.
+    Scripted {
+        task: Task,
         file: &'a str,
         machine: &'a str,
-        order: &'a str,
+        course: &'a str,
         scripts: &'a [String],
     },
 }
@@ -117,7 +130,13 @@ fn devconf_words<'a>(alloc: Global, words: &'a [String]) -> Result<Words<'a>, Wo
         return load_words(operands);
     }
     if word.as_bytes() == b"play".as_slice() {
-        return play_words(alloc, operands);
+        return scripted_words(alloc, Task::Play, operands);
+    }
+    if word.as_bytes() == b"replay".as_slice() {
+        return scripted_words(alloc, Task::Replay, operands);
+    }
+    if word.as_bytes() == b"upgrade".as_slice() {
+        return scripted_words(alloc, Task::Upgrade, operands);
     }
     Err(WordStop::Usage)
 }

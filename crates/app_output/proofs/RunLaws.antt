@@ -11,37 +11,33 @@ use Rattle.run_rules.specs.Lines as history
 use Rattle.run_rules.specs.Tree as tree
 use Rattle.run_rules.specs.World.{World}
 use Rattle.app_output.specs.Output.{Puts, Stops}
-use Rattle.app_output.specs.RunText.{run_text}
+use Rattle.app_output.specs.RunText.{run_text, tree_of}
 use Rattle.app_output.specs.declared.stop.OutputStop.{OutputStop}
 use Rattle.app_output.proofs.Puts.{puts_stops, puts_then}
 
--- the history begins with its first line
+-- a history is its head and the lines of its events
 history_parts : (h : List Event) → codes "history 2\n" ++ text_of (map history.line_of h) ≡ history.lines h
 unfolding history.lines
 history_parts h = refl
 
-pub history_stops : (h : List Event) (old new : Told) (stop : OutputStop) → Stops (codes "history 2\n") old new stop → Stops (history.lines h) old new stop
-history_stops h old new stop stops =
-    subst (λ (text : List ℕ). Stops text old new stop) (history_parts h) (puts_stops (codes "history 2\n") (text_of (map history.line_of h)) old new stop stops)
+pub history_stops : (h : List Event) (rest : List ℕ) (old new : Told) (stop : OutputStop) → Stops (codes "history 2\n" ++ text_of (map history.line_of h)) old new stop
+    → Stops (history.lines h ++ rest) old new stop
+history_stops h rest old new stop stops =
+    puts_stops (history.lines h) rest old new stop (subst (λ (text : List ℕ). Stops text old new stop) (history_parts h) stops)
 
-pub history_then : {A : Type 0} (h : List Event) (old mid new : Told) (result : Result A OutputStop)
-    → Grows (codes "history 2\n") old mid × (mid.faults ≡ old.faults) → Puts (text_of (map history.line_of h)) mid new result → Puts (history.lines h) old new result
-history_then h old mid new result head lines =
-    subst (λ (text : List ℕ). Puts text old new result) (history_parts h) (puts_then (codes "history 2\n") (text_of (map history.line_of h)) old mid new result head lines)
+pub history_then : {A : Type 0} (h : List Event) (rest : List ℕ) (old mid new : Told) (result : Result A OutputStop)
+    → Grows (codes "history 2\n" ++ text_of (map history.line_of h)) old mid × (mid.faults ≡ old.faults) → Puts rest mid new result → Puts (history.lines h ++ rest) old new result
+history_then h rest old mid new result put behind =
+    puts_then (history.lines h) rest old mid new result (subst (λ (text : List ℕ). Grows text old mid) (history_parts h) put.0, put.1) behind
 
--- so does the tree
-tree_parts : (w : World) (devices : List DevLine) → devices ≡ tree.tree_lines w → codes "tree\n" ++ text_of (map tree.dev_text devices) ≡ tree.tree_text w
+-- a tree is its head and the lines of its devices
+pub tree_is : (w : World) (devices : List DevLine) → devices ≡ tree.tree_lines w → tree_of devices ≡ tree.tree_text w
 unfolding tree.tree_text
-tree_parts w devices is = ap (λ (ls : List DevLine). codes "tree\n" ++ text_of (map tree.dev_text ls)) is
+tree_is w devices is = ap (λ (ls : List DevLine). tree_of ls) is
 
-pub tree_stops : (w : World) (devices : List DevLine) (old new : Told) (stop : OutputStop) → devices ≡ tree.tree_lines w → Stops (codes "tree\n") old new stop → Stops (tree.tree_text w) old new stop
-tree_stops w devices old new stop is stops =
-    subst (λ (text : List ℕ). Stops text old new stop) (tree_parts w devices is) (puts_stops (codes "tree\n") (text_of (map tree.dev_text devices)) old new stop stops)
-
-pub tree_then : {A : Type 0} (w : World) (devices : List DevLine) (old mid new : Told) (result : Result A OutputStop) → devices ≡ tree.tree_lines w
-    → Grows (codes "tree\n") old mid × (mid.faults ≡ old.faults) → Puts (text_of (map tree.dev_text devices)) mid new result → Puts (tree.tree_text w) old new result
-tree_then w devices old mid new result is head lines =
-    subst (λ (text : List ℕ). Puts text old new result) (tree_parts w devices is) (puts_then (codes "tree\n") (text_of (map tree.dev_text devices)) old mid new result head lines)
+pub tree_put : {A : Type 0} (w : World) (devices : List DevLine) (old new : Told) (result : Result A OutputStop) → devices ≡ tree.tree_lines w
+    → Puts (tree_of devices) old new result → Puts (tree.tree_text w) old new result
+tree_put w devices old new result is put = subst (λ (text : List ℕ). Puts text old new result) (tree_is w devices is) put
 
 -- the listing, and then the history and the tree
 run_parts : (tables : Tables) (h : List Event) (w : World) → listing tables ++ (history.lines h ++ tree.tree_text w) ≡ run_text tables h w

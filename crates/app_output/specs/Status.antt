@@ -3,21 +3,25 @@ use Rattle.std.specs.Prelude.{ℕ, ◌+◌, List, [], ◌∷◌, ◌++◌, codes
 use Rattle.app_input.specs.declared.inputs.Program.{Program}
 use Rattle.app_input.specs.declared.inputs.Program.TheVariants.{Devconf}
 use Rattle.app_input.specs.declared.status.Status.{Status}
-use Rattle.app_input.specs.declared.status.Status.TheVariants.{Ok, ConfigRefused, Usage, MachineRefused, ScriptRefused, Absent, TooLong, ReadFault, WriteFault, Memory}
+use Rattle.app_input.specs.declared.status.Status.TheVariants.{Ok, ConfigRefused, Usage, MachineRefused, ScriptRefused, HistoryRefused, Absent, TooLong, ReadFault, WriteFault, Memory}
 
 -- the forms that the words of a program may have
 abbrev pub usage_text : Program → List ℕ
-usage_text Devconf = codes "usage: devconf ioconf FILE | boot FILE MACHINE | play FILE MACHINE ORDER SCRIPT.. | replay FILE MACHINE HISTORY SCRIPT.. | files FILE | load N"
+usage_text Devconf = codes "usage: devconf ioconf FILE | boot FILE MACHINE | play FILE MACHINE ORDER SCRIPT.. | replay FILE MACHINE HISTORY SCRIPT.. | upgrade FILE MACHINE HISTORY SCRIPT.. | files FILE | load N"
+
+-- a file of a kind, at a line
+abbrev pub place_text : List ℕ → List ℕ → ℕ → List ℕ
+place_text kind file line = kind ++ codes " " ++ file ++ codes ":" ++ decimal line
 
 -- what a refusal of a file at a line says
 abbrev pub refused_text : List ℕ → List ℕ → ℕ → ℕ → List ℕ
-refused_text kind file line code = kind ++ codes " " ++ file ++ codes ":" ++ decimal line ++ codes ": code " ++ decimal code
+refused_text kind file line code = place_text kind file line ++ codes ": code " ++ decimal code
 
 -- the third word of `devconf` names the machine file
 abbrev pub machine_word : Program → List (List ℕ) → List ℕ
 machine_word Devconf words = slice_index_or words 2 []
 
--- the fourth word of `devconf` names the order file, and those behind it the scripts, numbered from 1
+-- the fourth word of `devconf` names the order file or the history, and those behind it the scripts, numbered from 1
 abbrev pub script_word : Program → List (List ℕ) → ℕ → List ℕ
 script_word Devconf words which = slice_index_or words (3 + which) []
 
@@ -28,6 +32,7 @@ err_text program words (ConfigRefused file line code) = refused_text (codes "con
 err_text program words Usage = usage_text program ++ 10 ∷ []
 err_text program words (MachineRefused line code) = refused_text (codes "machine") (machine_word program words) line code ++ 10 ∷ []
 err_text program words (ScriptRefused which line code) = refused_text (codes "script") (script_word program words which) line code ++ 10 ∷ []
+err_text program words (HistoryRefused line) = (place_text (codes "history") (script_word program words 0) line ++ codes ": refused") ++ 10 ∷ []
 err_text program words (Absent name) = (name ++ codes ": absent") ++ 10 ∷ []
 err_text program words (TooLong name) = (name ++ codes ": too long") ++ 10 ∷ []
 err_text program words ReadFault = codes "read fault" ++ 10 ∷ []

@@ -1,7 +1,8 @@
-//! Puts what a run found to a sink, line by line: the listing of its tables, its history and its device tree, the sources
-//! that are selected, and the line of its status.
+//! Puts what a run found to a sink, line by line: the listing of its tables, its history and its device tree, a history that
+//! was read, the sources that are selected, and the line of its status.
 #![tactic(auto)]
 
+mod history;
 mod lines;
 mod listing;
 mod paths;
@@ -9,10 +10,13 @@ mod piece;
 mod run;
 mod status;
 mod stop;
+mod tree;
 
+pub use history::put_history;
 pub use listing::put_listing;
 pub use paths::put_paths;
 pub use piece::{flush, put_piece};
 pub use run::put_run;
 pub use status::report;
 pub use stop::OutputStop;
+pub use tree::put_tree;

@@ -48,3 +48,16 @@ pub fn put_lines<L: Lines, S: Sink>(alloc: Global, lines: &L, out: &mut S) -> Re
     }
     Err(OutputStop::Memory)
 }
+
+/// Puts a head with its newline, and the lines below it.
+pub fn put_headed<L: Lines, S: Sink>(
+    alloc: Global,
+    head: &[u8],
+    lines: &L,
+    out: &mut S,
+) -> Result<(), OutputStop>
+    ensures { Puts (head.now ++ text_of (L.lines lines.now)) (S.told out.old) (S.told out.new) result }
+{
+    put_piece(head, out)?;
+    put_lines(alloc, lines, out)
+}

@@ -1,21 +1,20 @@
 //! Puts the history of a board and its device tree.
-ghost use Rattle.std.specs.Prelude.{◌≡◌, ◌++◌, map};
+ghost use Rattle.std.specs.Prelude.{◌++◌, map};
 ghost use Rattle.run_rules.specs.Lines as history;
 ghost use Rattle.run_rules.specs.Tree as tree;
 ghost use Rattle.attr_graph.specs.Graphs.{FitGraph};
 ghost use Rattle.app_output.specs.Output.{Puts};
 ghost use Rattle.app_output.specs.RunText.{run_text};
 
-use crate::lines::{Lines, put_lines};
+use crate::lines::{Lines, put_headed};
 use crate::listing::put_listing;
-use crate::piece::put_piece;
 use crate::stop::OutputStop;
+use crate::tree::put_tree;
 use cf_io::Sink;
-use cf_types::{DevLine, Memory};
+use cf_types::Memory;
 use dev_board::Board;
 use dev_event::put_event;
 use std::alloc::Global;
-use tree_text::put_dev;
 
 /// The lines of the events of a board.
 #[derive(Drop)]
@@ -35,52 +34,22 @@ impl<'a> Lines for Events<'a> {
     }
 }
 
-/// The lines of devices.
-#[derive(Drop)]
-struct Devices<'a> {
-    lines: &'a [DevLine],
-}
-
-impl<'a> Lines for Devices<'a> {
-    ghost lines = { λ it. map tree.dev_text it.lines.now };
-
-    fn put_line(&self, place: u64, line: &mut Vec<u8>) -> Result<bool, Memory> {
-        let Some(device) = self.lines.get(place as usize) else {
-            return Ok(false);
-        };
-        put_dev(device, line)?;
-        Ok(true)
-    }
-}
-
-/// Puts the history of a board.
-fn put_history<S: Sink>(alloc: Global, board: &Board, out: &mut S) -> Result<(), OutputStop>
-    ensures { Puts (history.lines board.now.events) (S.told out.old) (S.told out.new) result }
-{
-    put_piece(b"history 2\n", out)?;
-    put_lines(alloc, &Events { board }, out)
-}
-
 /// Puts the device tree of a board.
-fn put_tree<S: Sink>(alloc: Global, board: &Board, out: &mut S) -> Result<(), OutputStop>
+fn put_board_tree<S: Sink>(alloc: Global, board: &Board, out: &mut S) -> Result<(), OutputStop>
     ensures { Puts (tree.tree_text board.now.world) (S.told out.old) (S.told out.new) result }
 {
     let Ok(devices) = board.tree_lines() else {
         return Err(OutputStop::Memory);
     };
-    put_piece(b"tree\n", out)?;
-    let lines = Devices {
-        lines: devices.items(),
-    };
-    put_lines(alloc, &lines, out)
+    put_tree(alloc, devices.items(), out)
 }
 
 /// Puts the history and the tree.
 fn put_rest<S: Sink>(alloc: Global, board: &Board, out: &mut S) -> Result<(), OutputStop>
     ensures { Puts (history.lines board.now.events ++ tree.tree_text board.now.world) (S.told out.old) (S.told out.new) result }
 {
-    put_history(alloc, board, out)?;
-    put_tree(alloc, board, out)
+    put_headed(alloc, b"history 2\n", &Events { board }, out)?;
+    put_board_tree(alloc, board, out)
 }
 
 /// Puts the listing of a board's tables, its history and its device tree.

@@ -2,7 +2,7 @@
 ghost use Rattle.std.specs.Prelude.{◌≡◌, [], ◌++◌, ◌⊎◌, OnOk, IfOk, map, slice_index_or, string_bytes};
 ghost use Rattle.cf_types.specs.Lines.{ended};
 ghost use Rattle.cf_io.specs.Told.{Takes};
-ghost use Rattle.app_output.specs.Status.{err_text, machine_word, refused_text, script_word, usage_text};
+ghost use Rattle.app_output.specs.Status.{err_text, machine_word, place_text, refused_text, script_word, usage_text};
 
 use app_input::{Program, Status};
 use cf_io::{Put, Sink};
@@ -10,7 +10,7 @@ use cf_types::{Memory, put_decimal};
 use std::alloc::Global;
 
 const DEVCONF_USAGE: &[u8] =
-    b"usage: devconf ioconf FILE | boot FILE MACHINE | play FILE MACHINE ORDER SCRIPT.. | replay FILE MACHINE HISTORY SCRIPT.. | files FILE | load N\n";
+    b"usage: devconf ioconf FILE | boot FILE MACHINE | play FILE MACHINE ORDER SCRIPT.. | replay FILE MACHINE HISTORY SCRIPT.. | upgrade FILE MACHINE HISTORY SCRIPT.. | files FILE | load N\n";
 
 /// The forms that the words of a program may have, with a newline.
 fn usage(program: Program) -> &'static [u8]
@@ -19,6 +19,18 @@ fn usage(program: Program) -> &'static [u8]
     match program {
         Program::Devconf => DEVCONF_USAGE,
     }
+}
+
+/// Appends a file of a kind, at a line.
+fn put_place(out: &mut Vec<u8>, kind: &[u8], file: &[u8], line: u32) -> Result<(), Memory>
+    ensures { OnOk result (out.new.items ≡ out.old.items ++ place_text kind.now file.now line) }
+{
+    out.extend_from_slice(kind)?;
+    out.extend_from_slice(b" ")?;
+    out.extend_from_slice(file)?;
+    out.extend_from_slice(b":")?;
+    put_decimal(out, i64::from(line))?;
+    Ok(())
 }
 
 fn put_refused(
@@ -30,11 +42,7 @@ fn put_refused(
 ) -> Result<(), Memory>
     ensures { OnOk result (out.new.items ≡ out.old.items ++ refused_text kind.now file.now line code) }
 {
-    out.extend_from_slice(kind)?;
-    out.extend_from_slice(b" ")?;
-    out.extend_from_slice(file)?;
-    out.extend_from_slice(b":")?;
-    put_decimal(out, i64::from(line))?;
+    put_place(out, kind, file, line)?;
     out.extend_from_slice(b": code ")?;
     put_decimal(out, i64::from(code))?;
     Ok(())
@@ -67,7 +75,7 @@ fn machine_word(program: Program, words: &[String]) -> &[u8]
     }
 }
 
-/// The word that names the script with this number, or the order file by 0.
+/// The word that names the script with this number, or by 0 the order file or the history.
 fn script_word(program: Program, words: &[String], which: u8) -> &[u8]
     ensures { result.now ≡ script_word program (map string_bytes words.now) which }
 {
@@ -120,6 +128,10 @@ fn err_line(
                 *code,
             )?;
             line.push(b'\n')?;
+        }
+        Status::HistoryRefused { line: at } => {
+            put_place(&mut line, b"history", script_word(program, words, 0), *at)?;
+            line.extend_from_slice(b": refused\n")?;
         }
         Status::Absent { name } => {
             put_named(&mut line, name.items(), b": absent")?;

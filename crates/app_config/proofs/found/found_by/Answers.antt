@@ -1,7 +1,9 @@
-use Rattle.app_config.proofs.FoundLaws.{boot_graph, boot_ran, listed, load_ran, not_selected, not_selected_counted, play_graph, play_ran, selected}
+use Rattle.std.proofs.Common.{refl}
+use Rattle.app_input.specs.declared.inputs.Inputs.TheVariants as input
+use Rattle.app_config.proofs.FoundLaws.{boot_graph, boot_ran, history_retold, listed, load_ran, not_selected, not_selected_counted, play_graph, play_ran, selected, tree_retold}
 use Rattle.app_input.specs.Status.{status_of}
 use Rattle.app_input.specs.declared.status.Status.TheVariants as status
-use Rattle.app_config.proofs.AskedLaws.{boot_then, ioconf_then, load_then, play_then, selected_then, unselected_then}
+use Rattle.app_config.proofs.AskedLaws.{selected_then, then_by, unselected_then}
 use Rattle.app_config.proofs.found.found_by.Goals as goal
 
 pub returns-in-Ioconf-clause-found : goal.returns-in-Ioconf-clause-found
@@ -34,6 +36,14 @@ returns-in_ok-board-in-Play-clause-found g c =
     play_ran _ c.args.inputs c.in-Play.tables c.in-Play.machine c.in-Play.scripts c.in-Play.order c.items-in-Play.result.now c.in_ok-board-in-Play.board
     c.in-Play.is c.items-in-Play.ensures c.in_ok-board-in-Play.ensures
 
+pub returns-in_ok-told-in-Replay-clause-found : goal.returns-in_ok-told-in-Replay-clause-found
+returns-in_ok-told-in-Replay-clause-found g c =
+    tree_retold _ c.args.inputs c.in-Replay.tables c.in-Replay.machine c.in-Replay.scripts c.in-Replay.history c.in_ok-told-in-Replay.told c.in-Replay.is c.in_ok-told-in-Replay.ensures
+
+pub returns-in_ok-told-in-Upgrade-clause-found : goal.returns-in_ok-told-in-Upgrade-clause-found
+returns-in_ok-told-in-Upgrade-clause-found g c =
+    history_retold _ c.args.inputs c.in-Upgrade.tables c.in-Upgrade.machine c.in-Upgrade.scripts c.in-Upgrade.history c.in_ok-told-in-Upgrade.told c.in-Upgrade.is c.in_ok-told-in-Upgrade.ensures
+
 pub returns-in_ok-board-in-Boot-clause-graphed : goal.returns-in_ok-board-in-Boot-clause-graphed
 returns-in_ok-board-in-Boot-clause-graphed g c =
     boot_graph c.args.inputs c.in-Boot.tables c.in-Boot.machine c.in_ok-board-in-Boot.board c.requires c.in-Boot.is c.in_ok-board-in-Boot.ensures
@@ -44,7 +54,7 @@ returns-in_ok-board-in-Play-clause-graphed g c =
     c.requires c.in-Play.is c.in_ok-board-in-Play.ensures
 
 pub returns-in-Ioconf-clause-asked : goal.returns-in-Ioconf-clause-asked
-returns-in-Ioconf-clause-asked g c = ioconf_then (g.F.Files.told c.args.files.now) c.args.inputs c.in-Ioconf.tables status.Ok (g.F.Files.asked c.args.files.now) c.in-Ioconf.is
+returns-in-Ioconf-clause-asked g c = then_by (g.F.Files.told c.args.files.now) c.args.inputs (input.Ioconf c.in-Ioconf.tables) status.Ok (g.F.Files.asked c.args.files.now) c.in-Ioconf.is refl
 
 pub returns-in_ok-paths-in-Files-clause-asked : goal.returns-in_ok-paths-in-Files-clause-asked
 returns-in_ok-paths-in-Files-clause-asked g c =
@@ -57,24 +67,24 @@ returns-in_err-paths-in-Files-clause-asked g c =
 
 pub returns-in_ok-board-in-Boot-clause-asked : goal.returns-in_ok-board-in-Boot-clause-asked
 returns-in_ok-board-in-Boot-clause-asked g c =
-    boot_then (g.F.Files.told c.args.files.now) c.args.inputs c.in-Boot.tables c.in-Boot.machine status.Ok (g.F.Files.asked c.args.files.now) c.in-Boot.is
+    then_by (g.F.Files.told c.args.files.now) c.args.inputs (input.Boot c.in-Boot.tables c.in-Boot.machine) status.Ok (g.F.Files.asked c.args.files.now) c.in-Boot.is refl
 
 pub returns-in_ok-line-in-Load-clause-asked : goal.returns-in_ok-line-in-Load-clause-asked
 returns-in_ok-line-in-Load-clause-asked g c =
-    load_then (g.F.Files.told c.args.files.now) c.args.inputs c.in-Load.count c.in-Load.tables c.in-Load.machine status.Ok (g.F.Files.asked c.args.files.now) c.in-Load.is
+    then_by (g.F.Files.told c.args.files.now) c.args.inputs (input.Load c.in-Load.count c.in-Load.tables c.in-Load.machine) status.Ok (g.F.Files.asked c.args.files.now) c.in-Load.is refl
 
 pub returns-in_ok-board-in-Play-clause-asked : goal.returns-in_ok-board-in-Play-clause-asked
 returns-in_ok-board-in-Play-clause-asked g c =
-    play_then (g.F.Files.told c.args.files.now) c.args.inputs c.in-Play.tables c.in-Play.machine c.in-Play.scripts c.in-Play.order status.Ok (g.F.Files.asked c.args.files.now) c.in-Play.is
+    then_by (g.F.Files.told c.args.files.now) c.args.inputs (input.Play c.in-Play.tables c.in-Play.machine c.in-Play.scripts c.in-Play.order) status.Ok (g.F.Files.asked c.args.files.now) c.in-Play.is refl
 
 pub returns-in_err-board-in-Boot-clause-asked : goal.returns-in_err-board-in-Boot-clause-asked
 returns-in_err-board-in-Boot-clause-asked g c =
-    boot_then (g.F.Files.told c.args.files.now) c.args.inputs c.in-Boot.tables c.in-Boot.machine (status_of c.from_residual-in_err-board-in-Boot.result) (g.F.Files.asked c.args.files.now) c.in-Boot.is
+    then_by (g.F.Files.told c.args.files.now) c.args.inputs (input.Boot c.in-Boot.tables c.in-Boot.machine) (status_of c.from_residual-in_err-board-in-Boot.result) (g.F.Files.asked c.args.files.now) c.in-Boot.is refl
 
 pub returns-in_err-line-in-Load-clause-asked : goal.returns-in_err-line-in-Load-clause-asked
 returns-in_err-line-in-Load-clause-asked g c =
-    load_then (g.F.Files.told c.args.files.now) c.args.inputs c.in-Load.count c.in-Load.tables c.in-Load.machine (status_of c.from_residual-in_err-line-in-Load.result) (g.F.Files.asked c.args.files.now) c.in-Load.is
+    then_by (g.F.Files.told c.args.files.now) c.args.inputs (input.Load c.in-Load.count c.in-Load.tables c.in-Load.machine) (status_of c.from_residual-in_err-line-in-Load.result) (g.F.Files.asked c.args.files.now) c.in-Load.is refl
 
 pub returns-in_err-board-in-Play-clause-asked : goal.returns-in_err-board-in-Play-clause-asked
 returns-in_err-board-in-Play-clause-asked g c =
-    play_then (g.F.Files.told c.args.files.now) c.args.inputs c.in-Play.tables c.in-Play.machine c.in-Play.scripts c.in-Play.order (status_of c.from_residual-in_err-board-in-Play.result) (g.F.Files.asked c.args.files.now) c.in-Play.is
+    then_by (g.F.Files.told c.args.files.now) c.args.inputs (input.Play c.in-Play.tables c.in-Play.machine c.in-Play.scripts c.in-Play.order) (status_of c.from_residual-in_err-board-in-Play.result) (g.F.Files.asked c.args.files.now) c.in-Play.is refl

@@ -5,7 +5,7 @@ use Rattle.app_input.specs.Inputs.{Reads}
 use Rattle.app_input.specs.Words.{Form, form_of, sources}
 use Rattle.app_input.specs.declared.inputs.Inputs.{Inputs}
 use Rattle.app_input.specs.declared.status.Status.{Status}
-use Rattle.app_input.proofs.AskedLaws.{boot_words, play_words}
+use Rattle.app_input.proofs.AskedLaws.{boot_words, scripted_words}
 use Rattle.app_input.proofs.DueLaws.{due_told}
 use Rattle.app_input.proofs.MadeLaws.{counts_quiet}
 use Rattle.app_input.proofs.inputs.read_inputs.Goals as goal
@@ -31,10 +31,10 @@ returns-in-Ok-Load-clause-due g c =
     let reads : Reads (form_of c.args.program (map string_bytes c.args.words.now)) told c.read_load.result = subst (λ (form : Option Form). Reads form told c.read_load.result) (sym (rw c.in-Ok-Load.field-0-is at c.in-Ok-Load.ensures).0) (c.read_load.ensures.reads told) in
     due_told _ _ _ _ c.read_load.result reads (counts_quiet _ c.read_load.result c.read_load.ensures.quiet)
 
-pub returns-in-Ok-Play-clause-due : goal.returns-in-Ok-Play-clause-due
-returns-in-Ok-Play-clause-due g c =
-    let reads : Reads (form_of c.args.program (map string_bytes c.args.words.now)) (g.F.Files.told c.args.files.now) c.read_play.result = search rules in
-    due_told _ _ _ _ c.read_play.result reads c.read_play.ensures.counted
+pub returns-in-Ok-Scripted-clause-due : goal.returns-in-Ok-Scripted-clause-due
+returns-in-Ok-Scripted-clause-due g c =
+    let reads : Reads (form_of c.args.program (map string_bytes c.args.words.now)) (g.F.Files.told c.args.files.now) c.read_scripted.result = search rules in
+    due_told _ _ _ _ c.read_scripted.result reads c.read_scripted.ensures.counted
 
 files_read : (form : Option Form) (told : Option Files) (file given : List ℕ) (result : Result Inputs Status) → form ≡ Some (sources file) → given ≡ file
     → ((named : Option Files) → Reads (Some (sources given)) named result) → Reads form told result
@@ -57,8 +57,8 @@ pub returns-in-Ok-Boot-clause-asked : goal.returns-in-Ok-Boot-clause-asked
 returns-in-Ok-Boot-clause-asked g c =
     boot_words _ _ _ _ c.in-Ok-Boot.file.now c.in-Ok-Boot.machine.now _ _ _ (rw c.in-Ok-Boot.field-0-is at c.in-Ok-Boot.ensures) c.as_bytes-in-Ok-Boot.ensures.value c.as_bytes-in-Ok-Boot-2.ensures.value c.read_boot.ensures.asked
 
-pub returns-in-Ok-Play-clause-asked : goal.returns-in-Ok-Play-clause-asked
-returns-in-Ok-Play-clause-asked g c =
-    play_words _ _ _ _ _ c.in-Ok-Play.file.now c.in-Ok-Play.machine.now c.in-Ok-Play.order.now (map string_bytes c.in-Ok-Play.scripts.now) _ _ _
-    (rw c.in-Ok-Play.field-0-is at c.in-Ok-Play.ensures).0 c.as_bytes-in-Ok-Play.ensures.value c.as_bytes-in-Ok-Play-2.ensures.value c.as_bytes-in-Ok-Play-3.ensures.value
-    c.read_play.ensures.asked
+pub returns-in-Ok-Scripted-clause-asked : goal.returns-in-Ok-Scripted-clause-asked
+returns-in-Ok-Scripted-clause-asked g c =
+    scripted_words _ _ c.in-Ok-Scripted.task _ _ _ c.in-Ok-Scripted.file.now c.in-Ok-Scripted.machine.now c.in-Ok-Scripted.course.now (map string_bytes c.in-Ok-Scripted.scripts.now) _ _ _
+    (rw c.in-Ok-Scripted.field-0-is at c.in-Ok-Scripted.ensures).0 c.as_bytes-in-Ok-Scripted.ensures.value c.as_bytes-in-Ok-Scripted-2.ensures.value c.as_bytes-in-Ok-Scripted-3.ensures.value
+    c.read_scripted.ensures.asked

@@ -5,9 +5,9 @@ use Rattle.std.proofs.lemmas.List.Elements.{All-push}
 use Rattle.cf_types.specs.declared.machine.Command.{Command}
 use Rattle.config_rules.specs.ScriptText.{FormedScript}
 use Rattle.app_input.specs.declared.status.Status.TheVariants.{Memory}
-use Rattle.app_input.specs.Played.{IsOfFile}
+use Rattle.app_input.specs.Scripted.{IsOfFile}
 use Rattle.app_input.proofs.AskedLaws.{script_asked, script_stops, scripts_asked, scripts_cut}
-use Rattle.app_input.proofs.PlayLaws.{all_scripts, no_more_scripts, of_script, one_more_script}
+use Rattle.app_input.proofs.ScriptedLaws.{all_scripts, no_more_scripts, of_script, one_more_script}
 use Rattle.app_input.proofs.scripts.load_scripts.Goals as goal
 
 pub loop-name-preserved : goal.loop-name-preserved

@@ -2,7 +2,7 @@ use Rattle.std.proofs.Common.{◌≡◌, ◌+◌, length, map, string_bytes, dro
 use Rattle.std.specs.Prelude.{All}
 use Rattle.config_rules.specs.ScriptText.{FormedScript}
 use Rattle.app_input.proofs.AskedLaws.{ScriptsLeft}
-use Rattle.app_input.proofs.PlayLaws.{Continues}
+use Rattle.app_input.proofs.ScriptedLaws.{Continues}
 use Rattle.app_input.proofs.scripts.load_scripts.Given as goal
 
 -- the scripts before this one were read

@@ -1,4 +1,4 @@
--- What clap makes of the operands of a play, whose last argument has many values.
+-- What clap makes of the operands of a form with scripts, whose last argument has many values.
 use Rattle.std.proofs.Common.{ap, refl, sym, codes, true, false, ℕ, List, Option, Some, None, [], ◌∷◌, ◌++◌, ◌≡◌, ◌≤◌, ◌-◌, ◌∙◌, ◌==◌, arith, ◌⊎◌, subst, length, take, drop, append_assoc, append-nil, Bool, map}
 use Rattle.std.specs.Prelude.{Err, is_some, fold}
 use Rattle.std.specs.List.{list_all}
@@ -19,25 +19,26 @@ use Rattle.clap.specs.declared.parser.matches.ArgMatches.{ArgMatches}
 use Rattle.clap.specs.declared.parser.matches.ValueSource.TheVariants.{CommandLine}
 use Rattle.clap.proofs.OnLiterals.{clap_on_literals}
 use Rattle.config_rules.specs.Form.{given}
-use Rattle.app_input.specs.Commands.{play_app}
-use Rattle.app_input.specs.Words.{HasForm, is_operand, is_script_count, play_form, play, stop_of}
+use Rattle.app_input.specs.Commands.{scripted_app}
+use Rattle.app_input.specs.declared.words.Task.{Task}
+use Rattle.app_input.specs.Words.{HasForm, is_operand, is_script_count, scripted, scripted_form, stop_of}
 use Rattle.app_input.proofs.OperandLemmas.{empty, no_short, plain, refused, rest, row_value, unrefused}
 
-pub play_is_simple : is_simple play_app ≡ true
+pub scripted_is_simple : is_simple scripted_app ≡ true
 unfolding clap_on_literals
-play_is_simple = refl
+scripted_is_simple = refl
 
-pub play_is_free : is_simple_and_free play_app ≡ true
+pub scripted_is_free : is_simple_and_free scripted_app ≡ true
 unfolding clap_on_literals
-play_is_free = refl
+scripted_is_free = refl
 
 -- ---- the walk
 
-abbrev play_shape : Shape
-play_shape = (built play_app).top
+abbrev operand_shape : Shape
+operand_shape = (built scripted_app).top
 
-abbrev play_rules : List Rule
-play_rules = play_shape.rules
+abbrev operand_rules : List Rule
+operand_rules = operand_shape.rules
 
 abbrev row : Text → Text → Row
 row id value = record {
@@ -49,7 +50,7 @@ row id value = record {
 }
 
 abbrev three_rows : Text → Text → Text → List Row
-three_rows a b c = row (codes "file") a ∷ row (codes "machine") b ∷ row (codes "order") c ∷ []
+three_rows a b c = row (codes "file") a ∷ row (codes "machine") b ∷ row (codes "course") c ∷ []
 
 -- the walk behind the first three words and these scripts
 abbrev behind : Text → Text → Text → List Text → Walk
@@ -62,31 +63,31 @@ behind a b c scripts = record {
 }
 
 four_walked : (x y z w : ℕ) (xs ys zs ws : Text) → (x == 45) ≡ false → (y == 45) ≡ false → (z == 45) ≡ false → (w == 45) ≡ false
-    → walk play_rules [] nothing_held ((x ∷ xs) ∷ (y ∷ ys) ∷ (z ∷ zs) ∷ (w ∷ ws) ∷ []) ≡ behind (x ∷ xs) (y ∷ ys) (z ∷ zs) ((w ∷ ws) ∷ [])
+    → walk operand_rules [] nothing_held ((x ∷ xs) ∷ (y ∷ ys) ∷ (z ∷ zs) ∷ (w ∷ ws) ∷ []) ≡ behind (x ∷ xs) (y ∷ ys) (z ∷ zs) ((w ∷ ws) ∷ [])
 unfolding clap_on_literals
 four_walked x y z w xs ys zs ws e d f g = rw (e, no_short x xs e, d, no_short y ys d, f, no_short z zs f, g, no_short w ws g) refl
 
 one_walked : (a b c : Text) (scripts : List Text) (x : ℕ) (xs : Text) → (x == 45) ≡ false
-    → walked play_rules [] (behind a b c scripts) (x ∷ xs) ≡ behind a b c (scripts ++ (x ∷ xs) ∷ [])
+    → walked operand_rules [] (behind a b c scripts) (x ∷ xs) ≡ behind a b c (scripts ++ (x ∷ xs) ∷ [])
 unfolding clap_on_literals
 one_walked a b c scripts x xs e = rw (e, no_short x xs e) refl
 
 more_walked : (a b c : Text) (scripts more : List Text) → list_all is_operand more ≡ true
-    → fold (walked play_rules []) (behind a b c scripts) more ≡ behind a b c (scripts ++ more)
+    → fold (walked operand_rules []) (behind a b c scripts) more ≡ behind a b c (scripts ++ more)
 more_walked a b c scripts [] all = ap (behind a b c) (sym (append-nil scripts))
 more_walked a b c scripts ([] ∷ more) all = absurd (empty more all)
 more_walked a b c scripts ((x ∷ xs) ∷ more) all =
-    ap (λ (w : Walk). fold (walked play_rules []) w more) (one_walked a b c scripts x xs (plain x xs more all))
+    ap (λ (w : Walk). fold (walked operand_rules []) w more) (one_walked a b c scripts x xs (plain x xs more all))
     ∙ more_walked a b c (scripts ++ (x ∷ xs) ∷ []) more (rest (x ∷ xs) more all)
     ∙ ap (behind a b c) (append_assoc scripts ((x ∷ xs) ∷ []) more)
 
 four_fault : (x y z w : ℕ) (xs ys zs ws : Text) → (x == 45) ≡ false → (y == 45) ≡ false → (z == 45) ≡ false → (w == 45) ≡ false
-    → walk_fault play_shape [] (walk_from nothing_held) ((x ∷ xs) ∷ (y ∷ ys) ∷ (z ∷ zs) ∷ (w ∷ ws) ∷ []) ≡ []
+    → walk_fault operand_shape [] (walk_from nothing_held) ((x ∷ xs) ∷ (y ∷ ys) ∷ (z ∷ zs) ∷ (w ∷ ws) ∷ []) ≡ []
 unfolding clap_on_literals
 four_fault x y z w xs ys zs ws e d f g = rw (e, no_short x xs e, d, no_short y ys d, f, no_short z zs f, g, no_short w ws g) refl
 
 one_fault : (a b c : Text) (scripts : List Text) (x : ℕ) (xs : Text) → (x == 45) ≡ false
-    → walk_fault play_shape [] (behind a b c scripts) ((x ∷ xs) ∷ []) ≡ []
+    → walk_fault operand_shape [] (behind a b c scripts) ((x ∷ xs) ∷ []) ≡ []
 unfolding clap_on_literals
 one_fault a b c scripts x xs e = rw (e, no_short x xs e) refl
 
@@ -96,32 +97,32 @@ or_else_assoc (k ∷ ks) b c = refl
 
 -- the faults of these words, or those of the words behind them
 fault_behind : (w : Walk) (some more : List Text)
-    → walk_fault play_shape [] w (some ++ more) ≡ or_else (walk_fault play_shape [] w some) (walk_fault play_shape [] (fold (walked play_rules []) w some) more)
+    → walk_fault operand_shape [] w (some ++ more) ≡ or_else (walk_fault operand_shape [] w some) (walk_fault operand_shape [] (fold (walked operand_rules []) w some) more)
 unfolding walk_fault
 fault_behind w [] more = refl
 fault_behind w (word ∷ some) more =
-    ap (or_else (turn_fault play_shape [] w word)) (fault_behind (walked play_rules [] w word) some more)
-    ∙ sym (or_else_assoc (turn_fault play_shape [] w word) (walk_fault play_shape [] (walked play_rules [] w word) some) (walk_fault play_shape [] (fold (walked play_rules []) w (word ∷ some)) more))
+    ap (or_else (turn_fault operand_shape [] w word)) (fault_behind (walked operand_rules [] w word) some more)
+    ∙ sym (or_else_assoc (turn_fault operand_shape [] w word) (walk_fault operand_shape [] (walked operand_rules [] w word) some) (walk_fault operand_shape [] (fold (walked operand_rules []) w (word ∷ some)) more))
 
-no_words_left : (w : Walk) → walk_fault play_shape [] w [] ≡ []
+no_words_left : (w : Walk) → walk_fault operand_shape [] w [] ≡ []
 unfolding walk_fault
 no_words_left w = refl
 
-more_fault : (a b c : Text) (scripts more : List Text) → list_all is_operand more ≡ true → walk_fault play_shape [] (behind a b c scripts) more ≡ []
+more_fault : (a b c : Text) (scripts more : List Text) → list_all is_operand more ≡ true → walk_fault operand_shape [] (behind a b c scripts) more ≡ []
 more_fault a b c scripts [] all = no_words_left (behind a b c scripts)
 more_fault a b c scripts ([] ∷ more) all = absurd (empty more all)
 more_fault a b c scripts ((x ∷ xs) ∷ more) all =
     fault_behind (behind a b c scripts) ((x ∷ xs) ∷ []) more
-    ∙ ap (λ (k : Kinds). or_else k (walk_fault play_shape [] (walked play_rules [] (behind a b c scripts) (x ∷ xs)) more)) (one_fault a b c scripts x xs (plain x xs more all))
-    ∙ ap (λ (w : Walk). walk_fault play_shape [] w more) (one_walked a b c scripts x xs (plain x xs more all))
+    ∙ ap (λ (k : Kinds). or_else k (walk_fault operand_shape [] (walked operand_rules [] (behind a b c scripts) (x ∷ xs)) more)) (one_fault a b c scripts x xs (plain x xs more all))
+    ∙ ap (λ (w : Walk). walk_fault operand_shape [] w more) (one_walked a b c scripts x xs (plain x xs more all))
     ∙ more_fault a b c (scripts ++ (x ∷ xs) ∷ []) more (rest (x ∷ xs) more all)
 
 -- ---- the parse
 
 -- three words that are operands, and a fourth
 pub record FourWords (a b c d : Text) (more : List Text) : Type 0 where
-  pub walked : walk play_rules [] nothing_held (a ∷ b ∷ c ∷ d ∷ more) ≡ behind a b c (d ∷ more)
-  pub fault : walk_fault play_shape [] (walk_from nothing_held) (a ∷ b ∷ c ∷ d ∷ more) ≡ []
+  pub walked : walk operand_rules [] nothing_held (a ∷ b ∷ c ∷ d ∷ more) ≡ behind a b c (d ∷ more)
+  pub fault : walk_fault operand_shape [] (walk_from nothing_held) (a ∷ b ∷ c ∷ d ∷ more) ≡ []
 
 four_words : (a b c d : Text) (more : List Text) → list_all is_operand (a ∷ b ∷ c ∷ d ∷ more) ≡ true → FourWords a b c d more
 four_words [] b c d more all = absurd (empty (b ∷ c ∷ d ∷ more) all)
@@ -141,20 +142,20 @@ four_words (x ∷ xs) (y ∷ ys) (z ∷ zs) (w ∷ ws) more all =
     let first : List Text = (x ∷ xs) ∷ (y ∷ ys) ∷ (z ∷ zs) ∷ (w ∷ ws) ∷ [] in
     let begun = four_walked x y z w xs ys zs ws e d f g in
     record {
-      walked = ap (λ (at : Walk). fold (walked play_rules []) at more) begun ∙ more_walked (x ∷ xs) (y ∷ ys) (z ∷ zs) ((w ∷ ws) ∷ []) more (rest (w ∷ ws) more four);
+      walked = ap (λ (at : Walk). fold (walked operand_rules []) at more) begun ∙ more_walked (x ∷ xs) (y ∷ ys) (z ∷ zs) ((w ∷ ws) ∷ []) more (rest (w ∷ ws) more four);
       fault = fault_behind (walk_from nothing_held) first more
-          ∙ ap (λ (k : Kinds). or_else k (walk_fault play_shape [] (walk play_rules [] nothing_held first) more)) (four_fault x y z w xs ys zs ws e d f g)
-          ∙ ap (λ (at : Walk). walk_fault play_shape [] at more) begun
+          ∙ ap (λ (k : Kinds). or_else k (walk_fault operand_shape [] (walk operand_rules [] nothing_held first) more)) (four_fault x y z w xs ys zs ws e d f g)
+          ∙ ap (λ (at : Walk). walk_fault operand_shape [] at more) begun
           ∙ more_fault (x ∷ xs) (y ∷ ys) (z ∷ zs) ((w ∷ ws) ∷ []) more (rest (w ∷ ws) more four);
     }
 
 -- the faults of a parse, by its walk and the faults of its words
 abbrev parse_fault : Walk → Kinds → Kinds
 parse_fault w faults =
-    or_else faults (or_else (entered_fault (built play_app) w.stopped) (or_else (settle_fault play_rules play_shape.args_override_self w.held)
-    (or_else (defaults_fault (settled play_rules w.held).rows play_rules) (check_fault play_shape (finished play_rules w.held) (is_some (entered (built play_app) w.stopped))))))
+    or_else faults (or_else (entered_fault (built scripted_app) w.stopped) (or_else (settle_fault operand_rules operand_shape.args_override_self w.held)
+    (or_else (defaults_fault (settled operand_rules w.held).rows operand_rules) (check_fault operand_shape (finished operand_rules w.held) (is_some (entered (built scripted_app) w.stopped))))))
 
-fault_by : (words : List Text) → fault_of play_app words ≡ parse_fault (walk play_rules [] nothing_held words) (walk_fault play_shape [] (walk_from nothing_held) words)
+fault_by : (words : List Text) → fault_of scripted_app words ≡ parse_fault (walk operand_rules [] nothing_held words) (walk_fault operand_shape [] (walk_from nothing_held) words)
 fault_by words = refl
 
 last_fault : (a b c d : Text) (more : List Text)
@@ -167,11 +168,11 @@ no_values [] = refl
 no_values (v ∷ vs) = no_values vs
 
 scripts_fault : (a b c d : Text) (more : List Text) → list_all is_operand (a ∷ b ∷ c ∷ d ∷ more) ≡ true
-    → fault_of play_app (a ∷ b ∷ c ∷ d ∷ more) ≡ or_else (or_else (range_kinds 1 16 (length (d ∷ more))) []) []
+    → fault_of scripted_app (a ∷ b ∷ c ∷ d ∷ more) ≡ or_else (or_else (range_kinds 1 16 (length (d ∷ more))) []) []
 scripts_fault a b c d more all =
     let four = four_words a b c d more all in
     fault_by (a ∷ b ∷ c ∷ d ∷ more)
-    ∙ ap (λ (w : Walk). parse_fault w (walk_fault play_shape [] (walk_from nothing_held) (a ∷ b ∷ c ∷ d ∷ more))) four.walked
+    ∙ ap (λ (w : Walk). parse_fault w (walk_fault operand_shape [] (walk_from nothing_held) (a ∷ b ∷ c ∷ d ∷ more))) four.walked
     ∙ ap (parse_fault (behind a b c (d ∷ more))) four.fault
     ∙ last_fault a b c d more
     ∙ ap (λ (k : Kinds). or_else (or_else (range_kinds 1 16 (length (d ∷ more))) k) []) (no_values (d ∷ more))
@@ -184,31 +185,31 @@ many_scripts n h k = grind (arith, nat_tests)
 
 -- ---- what a parse gives
 
-by_count : (a b c d : Text) (more : List Text) (few : Bool) → is_script_count (length (d ∷ more)) ≡ few → (k : ErrorKind)
-    → (k ≡ kind.OutOfMemory) ⊎ IsAmong k (or_else (or_else (range_kinds 1 16 (length (d ∷ more))) []) []) → HasForm (given few (play a b c (d ∷ more))) (Err (stop_of k))
-by_count a b c d more false is k why = refused _ k
-by_count a b c d more true is k why =
-    unrefused (Some (play a b c (d ∷ more))) k
+by_count : (task : Task) (a b c d : Text) (more : List Text) (few : Bool) → is_script_count (length (d ∷ more)) ≡ few → (k : ErrorKind)
+    → (k ≡ kind.OutOfMemory) ⊎ IsAmong k (or_else (or_else (range_kinds 1 16 (length (d ∷ more))) []) []) → HasForm (given few (scripted task a b c (d ∷ more))) (Err (stop_of k))
+by_count task a b c d more false is k why = refused _ k
+by_count task a b c d more true is k why =
+    unrefused (Some (scripted task a b c (d ∷ more))) k
     (subst (λ (kinds : Kinds). (k ≡ kind.OutOfMemory) ⊎ IsAmong k (or_else (or_else kinds []) [])) (few_scripts (length (d ∷ more)) is) why)
 
-pub play_refusal : (words : List Text) → list_all is_operand words ≡ true → (k : ErrorKind) → (k ≡ kind.OutOfMemory) ⊎ IsAmong k (fault_of play_app words)
-    → HasForm (play_form words) (Err (stop_of k))
-play_refusal [] all k why = refused _ k
-play_refusal (a ∷ []) all k why = refused _ k
-play_refusal (a ∷ b ∷ []) all k why = refused _ k
-play_refusal (a ∷ b ∷ c ∷ []) all k why = refused _ k
-play_refusal (a ∷ b ∷ c ∷ d ∷ more) all k why =
-    let P : Bool → Type 0 = λ few. HasForm (given few (play a b c (d ∷ more))) (Err (stop_of k)) in
-    by_count a b c d more (is_script_count (length (d ∷ more))) refl k
+pub scripted_refusal : (task : Task) (words : List Text) → list_all is_operand words ≡ true → (k : ErrorKind) → (k ≡ kind.OutOfMemory) ⊎ IsAmong k (fault_of scripted_app words)
+    → HasForm (scripted_form task words) (Err (stop_of k))
+scripted_refusal task [] all k why = refused _ k
+scripted_refusal task (a ∷ []) all k why = refused _ k
+scripted_refusal task (a ∷ b ∷ []) all k why = refused _ k
+scripted_refusal task (a ∷ b ∷ c ∷ []) all k why = refused _ k
+scripted_refusal task (a ∷ b ∷ c ∷ d ∷ more) all k why =
+    let P : Bool → Type 0 = λ few. HasForm (given few (scripted task a b c (d ∷ more))) (Err (stop_of k)) in
+    by_count task a b c d more (is_script_count (length (d ∷ more))) refl k
     (subst (λ (kinds : Kinds). (k ≡ kind.OutOfMemory) ⊎ IsAmong k kinds) (scripts_fault a b c d more all) why)
 
 three_fault : (x y z : ℕ) (xs ys zs : Text) → (x == 45) ≡ false → (y == 45) ≡ false → (z == 45) ≡ false
-    → fault_of play_app ((x ∷ xs) ∷ (y ∷ ys) ∷ (z ∷ zs) ∷ []) ≡ kind.MissingRequiredArgument ∷ []
+    → fault_of scripted_app ((x ∷ xs) ∷ (y ∷ ys) ∷ (z ∷ zs) ∷ []) ≡ kind.MissingRequiredArgument ∷ []
 unfolding clap_on_literals
 three_fault x y z xs ys zs e d f = rw (e, no_short x xs e, d, no_short y ys d, f, no_short z zs f) refl
 
 -- three operands alone lack a script
-no_scripts : (a b c : Text) → list_all is_operand (a ∷ b ∷ c ∷ []) ≡ true → fault_of play_app (a ∷ b ∷ c ∷ []) ≡ [] → ⊥
+no_scripts : (a b c : Text) → list_all is_operand (a ∷ b ∷ c ∷ []) ≡ true → fault_of scripted_app (a ∷ b ∷ c ∷ []) ≡ [] → ⊥
 no_scripts [] b c all e = empty (b ∷ c ∷ []) all
 no_scripts (x ∷ xs) [] c all e = empty (c ∷ []) (rest (x ∷ xs) ([] ∷ c ∷ []) all)
 no_scripts (x ∷ xs) (y ∷ ys) [] all e = empty [] (rest (y ∷ ys) ([] ∷ []) (rest (x ∷ xs) ((y ∷ ys) ∷ [] ∷ []) all))
@@ -227,79 +228,79 @@ not_many n false some is e =
 -- a parse of the operands gives the first three, and takes so many scripts
 pub record TakesScripts (a b c : Text) (scripts : List Text) : Type 0 where
   pub count : is_script_count (length scripts) ≡ true
-  pub file : first_of (codes "file") (matches_of play_app (a ∷ b ∷ c ∷ scripts)) ≡ Some a
-  pub machine : first_of (codes "machine") (matches_of play_app (a ∷ b ∷ c ∷ scripts)) ≡ Some b
-  pub order : first_of (codes "order") (matches_of play_app (a ∷ b ∷ c ∷ scripts)) ≡ Some c
+  pub file : first_of (codes "file") (matches_of scripted_app (a ∷ b ∷ c ∷ scripts)) ≡ Some a
+  pub machine : first_of (codes "machine") (matches_of scripted_app (a ∷ b ∷ c ∷ scripts)) ≡ Some b
+  pub course : first_of (codes "course") (matches_of scripted_app (a ∷ b ∷ c ∷ scripts)) ≡ Some c
 
-matches_by : (words : List Text) → matches_of play_app words ≡ finished play_rules (walk play_rules [] nothing_held words).held
+matches_by : (words : List Text) → matches_of scripted_app words ≡ finished operand_rules (walk operand_rules [] nothing_held words).held
 matches_by words = refl
 
-first_behind : (a b c d : Text) (more : List Text) → first_of (codes "file") (finished play_rules (behind a b c (d ∷ more)).held) ≡ Some a
+first_behind : (a b c d : Text) (more : List Text) → first_of (codes "file") (finished operand_rules (behind a b c (d ∷ more)).held) ≡ Some a
 unfolding clap_on_literals
 first_behind a b c d more = refl
 
-second_behind : (a b c d : Text) (more : List Text) → first_of (codes "machine") (finished play_rules (behind a b c (d ∷ more)).held) ≡ Some b
+second_behind : (a b c d : Text) (more : List Text) → first_of (codes "machine") (finished operand_rules (behind a b c (d ∷ more)).held) ≡ Some b
 unfolding clap_on_literals
 second_behind a b c d more = refl
 
-third_behind : (a b c d : Text) (more : List Text) → first_of (codes "order") (finished play_rules (behind a b c (d ∷ more)).held) ≡ Some c
+third_behind : (a b c d : Text) (more : List Text) → first_of (codes "course") (finished operand_rules (behind a b c (d ∷ more)).held) ≡ Some c
 unfolding clap_on_literals
 third_behind a b c d more = refl
 
 value_behind : (id a b c d : Text) (more : List Text) (value : Text) → list_all is_operand (a ∷ b ∷ c ∷ d ∷ more) ≡ true
-    → first_of id (finished play_rules (behind a b c (d ∷ more)).held) ≡ Some value → first_of id (matches_of play_app (a ∷ b ∷ c ∷ d ∷ more)) ≡ Some value
+    → first_of id (finished operand_rules (behind a b c (d ∷ more)).held) ≡ Some value → first_of id (matches_of scripted_app (a ∷ b ∷ c ∷ d ∷ more)) ≡ Some value
 value_behind id a b c d more value all is =
-    ap (first_of id) (matches_by (a ∷ b ∷ c ∷ d ∷ more)) ∙ ap (λ (w : Walk). first_of id (finished play_rules w.held)) (four_words a b c d more all).walked ∙ is
+    ap (first_of id) (matches_by (a ∷ b ∷ c ∷ d ∷ more)) ∙ ap (λ (w : Walk). first_of id (finished operand_rules w.held)) (four_words a b c d more all).walked ∙ is
 
 some_words : (d : Text) (more : List Text) → 1 ≤ length (d ∷ more)
 some_words d more = omega arith
 
-pub play_value : (a b c : Text) (scripts : List Text) → list_all is_operand (a ∷ b ∷ c ∷ scripts) ≡ true → fault_of play_app (a ∷ b ∷ c ∷ scripts) ≡ [] → TakesScripts a b c scripts
-play_value a b c [] all e = absurd (no_scripts a b c all e)
-play_value a b c (d ∷ more) all e = record {
+pub scripted_value : (a b c : Text) (scripts : List Text) → list_all is_operand (a ∷ b ∷ c ∷ scripts) ≡ true → fault_of scripted_app (a ∷ b ∷ c ∷ scripts) ≡ [] → TakesScripts a b c scripts
+scripted_value a b c [] all e = absurd (no_scripts a b c all e)
+scripted_value a b c (d ∷ more) all e = record {
   count = not_many (length (d ∷ more)) (is_script_count (length (d ∷ more))) (some_words d more) refl (sym (scripts_fault a b c d more all) ∙ e);
   file = value_behind (codes "file") a b c d more a all (first_behind a b c d more);
   machine = value_behind (codes "machine") a b c d more b all (second_behind a b c d more);
-  order = value_behind (codes "order") a b c d more c all (third_behind a b c d more);
+  course = value_behind (codes "course") a b c d more c all (third_behind a b c d more);
 }
 
 -- ---- as the code has it
 
-pub play_error : (app : App) (words : List Text) (e : Error) → app ≡ play_app → list_all is_operand words ≡ true
-    → (is_simple_and_free app ≡ true → HasKind (fault_of app words) e) → HasForm (play_form words) (Err (stop_of (kind_of e)))
-play_error app words e is all kinds = play_refusal words all (kind_of e) ((rw is at kinds) play_is_free)
+pub scripted_error : (task : Task) (app : App) (words : List Text) (e : Error) → app ≡ scripted_app → list_all is_operand words ≡ true
+    → (is_simple_and_free app ≡ true → HasKind (fault_of app words) e) → HasForm (scripted_form task words) (Err (stop_of (kind_of e)))
+scripted_error task app words e is all kinds = scripted_refusal task words all (kind_of e) ((rw is at kinds) scripted_is_free)
 
 -- what the getters read of a parse that succeeds
-pub record ReadsPlay (a b c : Text) (scripts : List Text) (m : ArgMatches) : Type 0 where
+pub record ReadsScripted (a b c : Text) (scripts : List Text) (m : ArgMatches) : Type 0 where
   pub count : is_script_count (length scripts) ≡ true
   pub file : value_of (found_of m) (codes "file") ≡ Some a
   pub machine : value_of (found_of m) (codes "machine") ≡ Some b
-  pub order : value_of (found_of m) (codes "order") ≡ Some c
+  pub course : value_of (found_of m) (codes "course") ≡ Some c
 
-pub play_found : (app : App) (a b c : Text) (scripts : List Text) (m : ArgMatches) → app ≡ play_app → list_all is_operand (a ∷ b ∷ c ∷ scripts) ≡ true
-    → (is_simple_and_free app ≡ true → fault_of app (a ∷ b ∷ c ∷ scripts) ≡ []) → HasMatchesOf app (a ∷ b ∷ c ∷ scripts) m → ReadsPlay a b c scripts m
-play_found app a b c scripts m is all kinds has =
+pub scripted_found : (app : App) (a b c : Text) (scripts : List Text) (m : ArgMatches) → app ≡ scripted_app → list_all is_operand (a ∷ b ∷ c ∷ scripts) ≡ true
+    → (is_simple_and_free app ≡ true → fault_of app (a ∷ b ∷ c ∷ scripts) ≡ []) → HasMatchesOf app (a ∷ b ∷ c ∷ scripts) m → ReadsScripted a b c scripts m
+scripted_found app a b c scripts m is all kinds has =
     let words : List Text = a ∷ b ∷ c ∷ scripts in
-    let takes = play_value a b c scripts all ((rw is at kinds) play_is_free) in
-    let rows : HasMatchesOf play_app words m = rw is at has in
+    let takes = scripted_value a b c scripts all ((rw is at kinds) scripted_is_free) in
+    let rows : HasMatchesOf scripted_app words m = rw is at has in
     record {
       count = takes.count;
-      file = row_value play_app words m (codes "file") play_is_simple rows ∙ takes.file;
-      machine = row_value play_app words m (codes "machine") play_is_simple rows ∙ takes.machine;
-      order = row_value play_app words m (codes "order") play_is_simple rows ∙ takes.order;
+      file = row_value scripted_app words m (codes "file") scripted_is_simple rows ∙ takes.file;
+      machine = row_value scripted_app words m (codes "machine") scripted_is_simple rows ∙ takes.machine;
+      course = row_value scripted_app words m (codes "course") scripted_is_simple rows ∙ takes.course;
     }
 
 -- what a parse of the operands that succeeds says of them
-pub record SaysPlay {X : Type 0} (f : X → Text) (operands : List X) (m : ArgMatches) : Type 0 where
+pub record SaysScripted {X : Type 0} (task : Task) (f : X → Text) (operands : List X) (m : ArgMatches) : Type 0 where
   pub file : Text
   pub machine : Text
-  pub order : Text
-  pub is : play_form (map f operands) ≡ Some (play file machine order (map f (take (length operands - 3) (drop 3 operands))))
+  pub course : Text
+  pub is : scripted_form task (map f operands) ≡ Some (scripted task file machine course (map f (take (length operands - 3) (drop 3 operands))))
   pub some : 1 ≤ length (take (length operands - 3) (drop 3 operands))
   pub few : length (take (length operands - 3) (drop 3 operands)) ≤ 16
   pub reads_file : value_of (found_of m) (codes "file") ≡ Some file
   pub reads_machine : value_of (found_of m) (codes "machine") ≡ Some machine
-  pub reads_order : value_of (found_of m) (codes "order") ≡ Some order
+  pub reads_course : value_of (found_of m) (codes "course") ≡ Some course
 
 counted : (n : ℕ) → is_script_count n ≡ true → (1 ≤ n) × (n ≤ 16)
 counted n h = (grind (arith, nat_tests), grind (arith, nat_tests))
@@ -307,25 +308,25 @@ counted n h = (grind (arith, nat_tests), grind (arith, nat_tests))
 behind_three : {X : Type 0} (x y z : X) (more : List X) → take (length (x ∷ y ∷ z ∷ more) - 3) more ≡ more
 behind_three x y z more = take_all (length (x ∷ y ∷ z ∷ more) - 3) more (omega arith)
 
-pub says_play : {X : Type 0} (f : X → Text) (operands : List X) (app : App) (m : ArgMatches) → 3 ≤ length operands → app ≡ play_app → list_all is_operand (map f operands) ≡ true
-    → (is_simple_and_free app ≡ true → fault_of app (map f operands) ≡ []) → HasMatchesOf app (map f operands) m → SaysPlay f operands m
-says_play f [] app m long is all kinds has = absurd (omega (arith, long))
-says_play f (x ∷ []) app m long is all kinds has = absurd (omega (arith, long))
-says_play f (x ∷ y ∷ []) app m long is all kinds has = absurd (omega (arith, long))
-says_play {X} f (x ∷ y ∷ z ∷ more) app m long is all kinds has =
-    let reads = play_found app (f x) (f y) (f z) (map f more) m is all kinds has in
-    let P : List X → Type 0 = λ xs. given (is_script_count (length (map f more))) (play (f x) (f y) (f z) (map f more)) ≡ Some (play (f x) (f y) (f z) (map f xs)) in
+pub says_scripted : {X : Type 0} (task : Task) (f : X → Text) (operands : List X) (app : App) (m : ArgMatches) → 3 ≤ length operands → app ≡ scripted_app → list_all is_operand (map f operands) ≡ true
+    → (is_simple_and_free app ≡ true → fault_of app (map f operands) ≡ []) → HasMatchesOf app (map f operands) m → SaysScripted task f operands m
+says_scripted task f [] app m long is all kinds has = absurd (omega (arith, long))
+says_scripted task f (x ∷ []) app m long is all kinds has = absurd (omega (arith, long))
+says_scripted task f (x ∷ y ∷ []) app m long is all kinds has = absurd (omega (arith, long))
+says_scripted {X} task f (x ∷ y ∷ z ∷ more) app m long is all kinds has =
+    let reads = scripted_found app (f x) (f y) (f z) (map f more) m is all kinds has in
+    let P : List X → Type 0 = λ xs. given (is_script_count (length (map f more))) (scripted task (f x) (f y) (f z) (map f more)) ≡ Some (scripted task (f x) (f y) (f z) (map f xs)) in
     let count = counted (length more) (subst (λ (n : ℕ). is_script_count n ≡ true) (length-map more f) reads.count) in
     record {
       file = f x;
       machine = f y;
-      order = f z;
-      is = subst P (sym (behind_three x y z more)) (ap (λ (b : Bool). given b (play (f x) (f y) (f z) (map f more))) reads.count);
+      course = f z;
+      is = subst P (sym (behind_three x y z more)) (ap (λ (b : Bool). given b (scripted task (f x) (f y) (f z) (map f more))) reads.count);
       some = subst (λ (xs : List X). 1 ≤ length xs) (sym (behind_three x y z more)) count.0;
       few = subst (λ (xs : List X). length xs ≤ 16) (sym (behind_three x y z more)) count.1;
       reads_file = reads.file;
       reads_machine = reads.machine;
-      reads_order = reads.order;
+      reads_course = reads.course;
     }
 
 -- what was read is what is to be read

@@ -1,4 +1,4 @@
--- What the scripts and the order file of a play give.
+-- What the scripts of a run and the file with their course give.
 use Rattle.std.specs.Prelude.{◌≡◌, ℕ, ◌+◌, ◌≤◌, ◌⊎◌, nat_le, Option, Some, None, IfSome, All, Result, List, [], ◌∷◌, map, filter_map, length, slice_get, if◌then◌else◌, ⊤}
 use Rattle.std.specs.Prelude as std
 use Rattle.std.specs.List.{enumerate_from}
@@ -8,9 +8,13 @@ use Rattle.cf_io.specs.declared.files.TheConstants.{MAX_FILE}
 use Rattle.config_rules.specs.Cut.{◌>>=◌}
 use Rattle.config_rules.specs.Reading.{Files}
 use Rattle.config_rules.specs.ScriptText.{FormedScript, commands_of, order_of}
-use Rattle.app_input.specs.declared.scripts.Played.{Played}
+use Rattle.app_input.specs.declared.scripts.Course.{Course}
+use Rattle.app_input.specs.declared.scripts.Course.TheVariants as courses
+use Rattle.app_input.specs.declared.scripts.Scripted.{Scripted}
 use Rattle.app_input.specs.declared.status.Status.{Status}
 use Rattle.app_input.specs.declared.status.Status.TheVariants.{ScriptRefused, Absent, TooLong, ReadFault, Memory}
+use Rattle.app_input.specs.declared.words.Task.{Task}
+use Rattle.app_input.specs.declared.words.Task.TheVariants.{Play, Replay, Upgrade}
 
 -- what a file gives by its text; one that is not there, or has more bytes than a file may have, is refused
 abbrev pub file_gives : {A : Type 0} → (List ℕ → Result A Status) → List ℕ → Option (List ℕ) → Result A Status
@@ -26,9 +30,22 @@ unless_bad_line which (std.Err fault) = std.Err (ScriptRefused which fault.0 fau
 abbrev pub script_of : Files → ℕ → List ℕ → Result (List Command) Status
 script_of files which name = file_gives (λ text. unless_bad_line which (commands_of text)) name (files name)
 
--- the turns of so many callers; the order file has the number 0
-abbrev pub turns_of : Files → ℕ → List ℕ → Result (List ℕ) Status
-turns_of files callers name = file_gives (λ text. unless_bad_line 0 (order_of callers text)) name (files name)
+-- the course that a text has for so many callers: their turns, where it is an order file, which has the number 0; a history
+-- is taken as it is
+abbrev pub course_in : Task → ℕ → List ℕ → Result Course Status
+course_in Play callers text = unless_bad_line 0 (order_of callers text) >>= λ turns. std.Ok (courses.Play turns)
+course_in Replay callers text = std.Ok (courses.Replay text)
+course_in Upgrade callers text = std.Ok (courses.Upgrade text)
+
+-- the task of a course
+abbrev pub task_of : Course → Task
+task_of (courses.Play turns) = Play
+task_of (courses.Replay history) = Replay
+task_of (courses.Upgrade history) = Upgrade
+
+-- the course that the file of this name has
+abbrev pub course_of : Task → Files → ℕ → List ℕ → Result Course Status
+course_of task files callers name = file_gives (course_in task callers) name (files name)
 
 -- the scripts with these names, numbered from n
 abbrev pub scripts_from : Files → ℕ → List (List ℕ) → List (Result (List Command) Status)
@@ -47,10 +64,10 @@ all_of results = unless_refused (filter_map result_err results) (filter_map resu
 abbrev pub scripts_of : Files → List (List ℕ) → Result (List (List Command)) Status
 scripts_of files names = all_of (scripts_from files 1 names)
 
--- the scripts, and then the turns that the order file has for them, or the first refusal
-abbrev pub played : Files → List (List ℕ) → List ℕ → Result Played Status
-played files names order =
-    scripts_of files names >>= λ scripts. turns_of files (length names) order >>= λ turns. std.Ok (record { scripts = scripts; order = turns })
+-- the scripts, and then their course, or the first refusal
+abbrev pub scripted_of : Task → Files → List (List ℕ) → List ℕ → Result Scripted Status
+scripted_of task files names name =
+    scripts_of files names >>= λ scripts. course_of task files (length names) name >>= λ course. std.Ok (record { scripts = scripts; course = course })
 
 -- what a text says, or the refusal of the file with this number, or memory ran out
 abbrev pub Says : {A : Type 0} → ℕ → Result A (ℕ × ℕ) → Result A Status → Type 0
@@ -58,6 +75,10 @@ Says which said (std.Ok x) = said ≡ std.Ok x
 Says which said (std.Err (ScriptRefused number line code)) = (number ≡ which) × (said ≡ std.Err (line, code))
 Says which said (std.Err Memory) = ⊤
 Says which said (std.Err _) = ⊥
+
+-- the course that a text has, or memory ran out
+abbrev pub IsCourseOf : Task → ℕ → List ℕ → Result Course Status → Type 0
+IsCourseOf task callers text answer = (answer ≡ std.Err Memory) ⊎ (course_in task callers text ≡ answer)
 
 -- where the files are told, the answer is the one that they call for, unless reading failed or memory ran out
 abbrev pub IsCalledFor : {A : Type 0} → Option Files → (Files → Result A Status) → Result A Status → Type 0
@@ -77,13 +98,19 @@ IsOfFile which name _ = ⊥
 abbrev pub IsOfScript : List (List ℕ) → Status → Type 0
 IsOfScript names status = (place : ℕ) × (name : List ℕ) × (slice_get names place ≡ Some name) × IsOfFile (place + 1) name status
 
--- a refusal is that of a script or of the order file
-abbrev pub IsOfPlay : List (List ℕ) → List ℕ → Status → Type 0
-IsOfPlay names order status = IsOfScript names status ⊎ IsOfFile 0 order status
+-- a refusal is that of a script or of the file with their course
+abbrev pub IsOfScripted : List (List ℕ) → List ℕ → Status → Type 0
+IsOfScripted names name status = IsOfScript names status ⊎ IsOfFile 0 name status
 
--- from 1 to 16 scripts, each formed, and each turn is that of one of them
-pub record FormedPlay (p : Played) : Type 0 where
+-- each turn is that of one of so many callers; a history has no more bytes than a file may have
+abbrev pub FormedCourse : ℕ → Course → Type 0
+FormedCourse callers (courses.Play turns) = All (λ turn. (1 ≤ turn) × (turn ≤ callers)) turns
+FormedCourse callers (courses.Replay history) = length history ≤ MAX_FILE
+FormedCourse callers (courses.Upgrade history) = length history ≤ MAX_FILE
+
+-- from 1 to 16 scripts, each formed, and a course for so many callers
+pub record FormedRun (p : Scripted) : Type 0 where
   pub some : 1 ≤ length p.scripts
   pub few : length p.scripts ≤ 16
   pub scripts : All FormedScript p.scripts
-  pub turns : All (λ turn. (1 ≤ turn) × (turn ≤ length p.scripts)) p.order
+  pub course : FormedCourse (length p.scripts) p.course

@@ -1,0 +1,225 @@
+-- What the scripts of a run give, one by one, and what their refusals and that of the file with their course come to.
+use Rattle.std.proofs.Common.{◌≡◌, ℕ, ◌+◌, ◌<◌, ◌≤◌, inl, inr, List, [], ◌∷◌, ◌++◌, length, map, drop, get_or, append_assoc, append-nil, Option, Some, None, ap, sym, ◌∙◌, refl, subst}
+use Rattle.std.specs.Prelude as std
+use Rattle.std.specs.Prelude.{IfErr, IfOk, IfSome, Result, filter_map, slice_get}
+use Rattle.std.specs.List.{cons_option}
+use Rattle.std.specs.Result.{result_err, result_ok}
+use Rattle.std.proofs.lemmas.List.{drop_all, drop_more}
+use Rattle.std.proofs.lemmas.Option.{slice_get-map, slice_get_read}
+use Rattle.cf_types.specs.declared.machine.Command.{Command}
+use Rattle.cf_types.specs.declared.machine.Machine.{Machine}
+use Rattle.cf_types.specs.declared.tables.Tables.{Tables}
+use Rattle.cf_io.specs.declared.files.TheConstants.{MAX_FILE}
+use Rattle.config_rules.specs.Cut.{◌>>=◌}
+use Rattle.config_rules.specs.Formed.{FittingMachine, FormedTables}
+use Rattle.config_rules.specs.Reading.{Files}
+use Rattle.config_rules.specs.ScriptText.{order_of}
+use Rattle.app_input.specs.declared.status.Status.{Status}
+use Rattle.app_input.specs.declared.status.Status.TheVariants.{Ok, ConfigRefused, Usage, MachineRefused, ScriptRefused, HistoryRefused, Absent, TooLong, ReadFault, WriteFault, Memory}
+use Rattle.app_input.specs.declared.words.Task.{Task}
+use Rattle.app_input.specs.declared.words.Task.TheVariants.{Play, Replay, Upgrade}
+use Rattle.app_input.specs.declared.scripts.Course.{Course}
+use Rattle.app_input.specs.declared.scripts.Course.TheVariants as courses
+use Rattle.app_input.specs.declared.scripts.Scripted.{Scripted}
+use Rattle.app_input.specs.declared.inputs.Inputs.{Inputs}
+use Rattle.app_input.specs.Inputs.{AreFormed, FormedInputs, IsDescribed, IsMeant, IsRun, Reads, ReadsFile, inputs_at, inputs_by}
+use Rattle.app_input.specs.Scripted.{FormedRun, IsCalledFor, IsCourseOf, IsOfFile, IsOfScript, IsOfScripted, course_in, course_of, script_of, scripted_of, scripts_from, scripts_of, task_of, unless_bad_line, unless_refused}
+use Rattle.app_input.specs.Words.{Form, scripted}
+use Rattle.app_input.proofs.DueLaws.{whole_file}
+
+-- ---- the scripts
+
+-- what these scripts and those of more names come to, numbered from n
+abbrev continued : Files → ℕ → List (List Command) → List (List ℕ) → Result (List (List Command)) Status
+continued files n scripts names =
+    unless_refused (filter_map result_err (scripts_from files n names)) (scripts ++ filter_map result_ok (scripts_from files n names))
+
+-- the same by what the first of the names gives
+abbrev continued_by : Files → ℕ → List (List Command) → List (List ℕ) → Result (List Command) Status → Result (List (List Command)) Status
+continued_by files n scripts more first =
+    unless_refused (cons_option (result_err first) (filter_map result_err (scripts_from files (n + 1) more)))
+    (scripts ++ cons_option (result_ok first) (filter_map result_ok (scripts_from files (n + 1) more)))
+
+script_more : (files : Files) (n : ℕ) (scripts : List (List Command)) (name : List ℕ) (more : List (List ℕ)) (script : List Command) → script_of files n name ≡ std.Ok script
+    → continued files (n + 1) (scripts ++ script ∷ []) more ≡ continued files n scripts (name ∷ more)
+script_more files n scripts name more script is =
+    ap (unless_refused (filter_map result_err (scripts_from files (n + 1) more))) (append_assoc scripts (script ∷ []) (filter_map result_ok (scripts_from files (n + 1) more)))
+    ∙ ap (continued_by files n scripts more) (sym is)
+
+script_stops : (files : Files) (n : ℕ) (scripts : List (List Command)) (name : List ℕ) (more : List (List ℕ)) (status : Status) → script_of files n name ≡ std.Err status
+    → continued files n scripts (name ∷ more) ≡ std.Err status
+script_stops files n scripts name more status is = ap (continued_by files n scripts more) is
+
+-- the scripts so far and those of the other names are all
+abbrev pub Continues : Option Files → List (List ℕ) → ℕ → List (List Command) → List (List ℕ) → Type 0
+Continues told names n scripts more = IfSome told (λ files. continued files n scripts more ≡ scripts_of files names)
+
+scripts_go_on : (told : Option Files) (names : List (List ℕ)) (n : ℕ) (scripts : List (List Command)) (name : List ℕ) (more : List (List ℕ)) (script : List Command)
+    → Continues told names n scripts (name ∷ more) → IsCalledFor told (λ files. script_of files n name) (std.Ok script)
+    → Continues told names (n + 1) (scripts ++ script ∷ []) more
+scripts_go_on told names n scripts name more script so_far (inl e) = absurd (cc)
+scripts_go_on told names n scripts name more script so_far (inr (inl e)) = absurd (cc)
+scripts_go_on None names n scripts name more script so_far (inr (inr is)) = tt
+scripts_go_on (Some files) names n scripts name more script so_far (inr (inr is)) = script_more files n scripts name more script is ∙ so_far
+
+scripts_stop : (told : Option Files) (names : List (List ℕ)) (n : ℕ) (scripts : List (List Command)) (name : List ℕ) (more : List (List ℕ)) (status : Status)
+    → Continues told names n scripts (name ∷ more) → IsCalledFor told (λ files. script_of files n name) (std.Err status)
+    → IsCalledFor told (λ files. scripts_of files names) (std.Err status)
+scripts_stop told names n scripts name more status so_far (inl e) = inl (cc)
+scripts_stop told names n scripts name more status so_far (inr (inl e)) = inr (inl (cc))
+scripts_stop None names n scripts name more status so_far (inr (inr is)) = inr (inr tt)
+scripts_stop (Some files) names n scripts name more status so_far (inr (inr is)) = inr (inr (sym so_far ∙ script_stops files n scripts name more status is))
+
+scripts_end : (told : Option Files) (names : List (List ℕ)) (n : ℕ) (scripts : List (List Command)) → Continues told names n scripts []
+    → IsCalledFor told (λ files. scripts_of files names) (std.Ok scripts)
+scripts_end None names n scripts so_far = inr (inr tt)
+scripts_end (Some files) names n scripts so_far = inr (inr (sym so_far ∙ ap (λ (xs : List (List Command)). std.Ok xs) (append-nil scripts)))
+
+-- the names from a place on
+pub names_left : {X : Type 0} (f : X → List ℕ) (xs : List X) (i : ℕ) (x : X) → i < length xs → x ≡ get_or xs i x → map f (drop i xs) ≡ f x ∷ map f (drop (i + 1) xs)
+names_left f xs i x h is = ap (map f) (drop_more xs i x h) ∙ ap (λ y. f y ∷ map f (drop (i + 1) xs)) (sym is)
+
+pub of_script : {X : Type 0} (f : X → List ℕ) (xs : List X) (i : ℕ) (x : X) (status : Status) → i < length xs → x ≡ get_or xs i x → IsOfFile (i + 1) (f x) status
+    → IsOfScript (map f xs) status
+of_script f xs i x status h is of = (i, f x, slice_get-map f xs i ∙ ap (std.option_map f) (slice_get_read xs (length xs) i x refl h is), of)
+
+-- the same at a place of the names, where the files that are read are those that are told
+pub called_at : (told reading : Option Files) (n : ℕ) (name given : List ℕ) (answer : Result (List Command) Status) → reading ≡ told → name ≡ given
+    → IsCalledFor reading (λ files. script_of files n name) answer → IsCalledFor told (λ files. script_of files n given) answer
+called_at told reading n name given answer same is called =
+    let P : Option Files → Type 0 = λ r. IsCalledFor r (λ files. script_of files n given) answer in
+    let Q : List ℕ → Type 0 = λ g. IsCalledFor reading (λ files. script_of files n g) answer in
+    subst P same (subst Q is called)
+
+pub one_more_script : {X : Type 0} (f : X → List ℕ) (told reading : Option Files) (names : List X) (i n : ℕ) (x : X) (name : List ℕ) (scripts grown : List (List Command)) (script : List Command)
+    → i < length names → x ≡ get_or names i x → reading ≡ told → name ≡ f x → grown ≡ scripts ++ script ∷ [] → Continues told (map f names) n scripts (map f (drop i names))
+    → IsCalledFor reading (λ files. script_of files n name) (std.Ok script) → Continues told (map f names) (n + 1) grown (map f (drop (i + 1) names))
+one_more_script f told reading names i n x name scripts grown script h is same named grew so_far called =
+    let more = map f (drop (i + 1) names) in
+    let P : List (List Command) → Type 0 = λ g. Continues told (map f names) (n + 1) g more in
+    let Q : List (List ℕ) → Type 0 = Continues told (map f names) n scripts in
+    subst P (sym grew)
+    (scripts_go_on told (map f names) n scripts (f x) more script (subst Q (names_left f names i x h is) so_far)
+    (called_at told reading n name (f x) (std.Ok script) same named called))
+
+pub no_more_scripts : {X : Type 0} (f : X → List ℕ) (told reading : Option Files) (names : List X) (i n : ℕ) (x : X) (name : List ℕ) (scripts : List (List Command)) (status : Status)
+    → i < length names → x ≡ get_or names i x → reading ≡ told → name ≡ f x → Continues told (map f names) n scripts (map f (drop i names))
+    → IsCalledFor reading (λ files. script_of files n name) (std.Err status) → IsCalledFor told (λ files. scripts_of files (map f names)) (std.Err status)
+no_more_scripts f told reading names i n x name scripts status h is same named so_far called =
+    let Q : List (List ℕ) → Type 0 = Continues told (map f names) n scripts in
+    scripts_stop told (map f names) n scripts (f x) (map f (drop (i + 1) names)) status (subst Q (names_left f names i x h is) so_far)
+    (called_at told reading n name (f x) (std.Err status) same named called)
+
+-- all names were read
+pub all_scripts : {X : Type 0} (f : X → List ℕ) (told : Option Files) (names : List X) (i n : ℕ) (scripts : List (List Command)) → length names ≤ i
+    → Continues told (map f names) n scripts (map f (drop i names)) → IsCalledFor told (λ files. scripts_of files (map f names)) (std.Ok scripts)
+all_scripts f told names i n scripts h so_far =
+    let Q : List (List ℕ) → Type 0 = Continues told (map f names) n scripts in
+    scripts_end told (map f names) n scripts (subst Q (ap (map f) (drop_all i names h)) so_far)
+
+-- ---- the file with their course
+
+-- a course is refused only where it is an order file
+course_refused : (task : Task) (callers : ℕ) (text name : List ℕ) (status : Status) → course_in task callers text ≡ std.Err status → IsOfFile 0 name status
+course_refused Play callers text name status is = by_order (order_of callers text) is
+  where
+    by_order : (order : Result (List ℕ) (ℕ × ℕ)) → (unless_bad_line 0 order >>= λ turns. std.Ok (courses.Play turns)) ≡ std.Err status → IsOfFile 0 name status
+    by_order (std.Ok turns) e = absurd cc
+    by_order (std.Err fault) e = let same : ScriptRefused 0 fault.0 fault.1 ≡ status = cc in subst (IsOfFile 0 name) same refl
+course_refused Replay callers text name status is = absurd cc
+course_refused Upgrade callers text name status is = absurd cc
+
+-- a file that was read has the course that its text has
+pub course_read : (told : Option Files) (task : Task) (callers : ℕ) (name text given : List ℕ) (answer : Result Course Status) → ReadsFile told name (std.Ok text) → given ≡ text
+    → IsCourseOf task callers given answer → IsCalledFor told (λ files. course_of task files callers name) answer
+course_read told task callers name text given answer read same (inl want) = inr (inl want)
+course_read None task callers name text given answer read same (inr is) = inr (inr tt)
+course_read (Some files) task callers name text given answer read same (inr is) =
+    inr (inr (whole_file (course_in task callers) name text (files name) read.1 read.0 ∙ ap (course_in task callers) (sym same) ∙ is))
+
+-- and a course is that of the task
+pub course_task : (task : Task) (callers : ℕ) (text : List ℕ) (answer : Result Course Status) → IsCourseOf task callers text answer → IfOk answer (λ course. task_of course ≡ task)
+course_task task callers text (std.Err status) is = tt
+course_task task callers text (std.Ok course) (inl want) = absurd cc
+course_task Play callers text (std.Ok course) (inr is) = by_order (order_of callers text) is
+  where
+    by_order : (order : Result (List ℕ) (ℕ × ℕ)) → (unless_bad_line 0 order >>= λ turns. std.Ok (courses.Play turns)) ≡ std.Ok course → task_of course ≡ Play
+    by_order (std.Ok turns) e = let same : courses.Play turns ≡ course = cc in ap task_of (sym same)
+    by_order (std.Err fault) e = absurd cc
+course_task Replay callers text (std.Ok course) (inr is) = let same : courses.Replay text ≡ course = cc in ap task_of (sym same)
+course_task Upgrade callers text (std.Ok course) (inr is) = let same : courses.Upgrade text ≡ course = cc in ap task_of (sym same)
+
+-- a refusal is that of this file
+pub course_of_file : (task : Task) (callers : ℕ) (text name : List ℕ) (answer : Result Course Status) → IsCourseOf task callers text answer → IfErr answer (IsOfFile 0 name)
+course_of_file task callers text name (std.Ok course) is = tt
+course_of_file task callers text name (std.Err status) (inl want) = let same : Memory ≡ status = cc in subst (IsOfFile 0 name) same tt
+course_of_file task callers text name (std.Err status) (inr is) = course_refused task callers text name status is
+
+-- ---- the inputs
+
+called_refused : {A : Type 0} (told : Option Files) (called : Files → Result A Status) (status : Status) → ¬ (status ≡ ReadFault) → ¬ (status ≡ Memory)
+    → IsCalledFor told called (std.Err status) → IfSome told (λ files. called files ≡ std.Err status)
+called_refused told called status read room (inl e) = absurd (read (cc))
+called_refused told called status read room (inr (inl e)) = absurd (room (cc))
+called_refused told called status read room (inr (inr is)) = is
+
+not_of : (names : List (List ℕ)) (course : List ℕ) (status : Status) → ((which : ℕ) (name : List ℕ) → IsOfFile which name status → ⊥) → IsOfScripted names course status → ⊥
+not_of names course status never (inl (place, name, there, of)) = never (place + 1) name of
+not_of names course status never (inr of) = never 0 course of
+
+-- no other refusal is one of a script or of the file with their course
+pub run_refused : (form : Option Form) (told : Option Files) (task : Task) (file name course : List ℕ) (names : List (List ℕ)) (tables : Tables) (machine : Machine) (status : Status)
+    → form ≡ Some (scripted task file name course names) → IsMeant told file tables → IsDescribed told name tables (std.Ok machine)
+    → IsCalledFor told (λ files. scripted_of task files names course) (std.Err status) → IsOfScripted names course status → Reads form told (std.Err status)
+run_refused form told task file name course names tables machine (ScriptRefused which line code) is meant described called of =
+    (task, tables, machine, (file, name, course, names, is, meant, described, (called_refused told (λ files. scripted_of task files names course) (ScriptRefused which line code) (λ e. absurd (cc)) (λ e. absurd (cc)) called, of)))
+run_refused form told task file name course names tables machine (Absent absent) is meant described called of =
+    inr (task, tables, machine, (file, name, course, names, is, meant, described, (called_refused told (λ files. scripted_of task files names course) (Absent absent) (λ e. absurd (cc)) (λ e. absurd (cc)) called, of)))
+run_refused form told task file name course names tables machine (TooLong long) is meant described called of =
+    inr (task, tables, machine, (file, name, course, names, is, meant, described, (called_refused told (λ files. scripted_of task files names course) (TooLong long) (λ e. absurd (cc)) (λ e. absurd (cc)) called, of)))
+run_refused form told task file name course names tables machine ReadFault is meant described called of = (scripted task file name course names, is, refl)
+run_refused form told task file name course names tables machine Memory is meant described called of = tt
+run_refused form told task file name course names tables machine Ok is meant described called of = absurd (not_of names course Ok (λ which n h. h) of)
+run_refused form told task file name course names tables machine (ConfigRefused at line code) is meant described called of = absurd (not_of names course (ConfigRefused at line code) (λ which n h. h) of)
+run_refused form told task file name course names tables machine Usage is meant described called of = absurd (not_of names course Usage (λ which n h. h) of)
+run_refused form told task file name course names tables machine (MachineRefused line code) is meant described called of = absurd (not_of names course (MachineRefused line code) (λ which n h. h) of)
+run_refused form told task file name course names tables machine (HistoryRefused line) is meant described called of = absurd (not_of names course (HistoryRefused line) (λ which n h. h) of)
+run_refused form told task file name course names tables machine WriteFault is meant described called of = absurd (not_of names course WriteFault (λ which n h. h) of)
+
+-- scripts and a course that were read
+called_given : {A : Type 0} (told : Option Files) (called : Files → Result A Status) (x : A) → IsCalledFor told called (std.Ok x) → IfSome told (λ files. called files ≡ std.Ok x)
+called_given told called x (inl e) = absurd (cc)
+called_given told called x (inr (inl e)) = absurd (cc)
+called_given told called x (inr (inr is)) = is
+
+reads_run : (form : Option Form) (told : Option Files) (tables : Tables) (machine : Machine) (scripts : List (List Command)) (course : Course)
+    → IsRun form told tables machine scripts course → Reads form told (std.Ok (inputs_at tables machine scripts course))
+reads_run form told tables machine scripts (courses.Play turns) run = run
+reads_run form told tables machine scripts (courses.Replay history) run = run
+reads_run form told tables machine scripts (courses.Upgrade history) run = run
+
+pub run_read : (form : Option Form) (told : Option Files) (task : Task) (file name course : List ℕ) (names : List (List ℕ)) (tables : Tables) (machine : Machine) (run : Scripted) (inputs : Inputs)
+    → form ≡ Some (scripted task file name course names) → IsMeant told file tables → IsDescribed told name tables (std.Ok machine)
+    → IsCalledFor told (λ files. scripted_of task files names course) (std.Ok run) → task_of run.course ≡ task → inputs ≡ inputs_by tables machine run → Reads form told (std.Ok inputs)
+run_read form told task file name course names tables machine run inputs is meant described called same made =
+    rw made (reads_run form told tables machine run.scripts run.course (
+      file,
+      name,
+      course,
+      names,
+      is ∙ ap (λ (t : Task). Some (scripted t file name course names)) (sym same),
+      meant,
+      described,
+      called_given told (λ files. scripted_of (task_of run.course) files names course) run
+          (subst (λ (t : Task). IsCalledFor told (λ files. scripted_of t files names course) (std.Ok run)) (sym same) called),
+    ))
+
+formed_at : (tables : Tables) (machine : Machine) (scripts : List (List Command)) (course : Course) → AreFormed tables machine scripts course → FormedInputs (inputs_at tables machine scripts course)
+formed_at tables machine scripts (courses.Play turns) formed = formed
+formed_at tables machine scripts (courses.Replay history) formed = formed
+formed_at tables machine scripts (courses.Upgrade history) formed = formed
+
+-- such inputs are formed
+pub formed_run : (tables : Tables) (machine : Machine) (run : Scripted) (inputs : Inputs) → FormedTables tables → FittingMachine tables machine → FormedRun run → inputs ≡ inputs_by tables machine run
+    → FormedInputs inputs
+formed_run tables machine run inputs formed fits run_formed made = rw made (formed_at tables machine run.scripts run.course (formed, fits, run_formed))

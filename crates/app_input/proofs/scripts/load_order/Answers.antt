@@ -1,6 +1,0 @@
-use Rattle.app_input.specs.Status.{status_of}
-use Rattle.app_input.proofs.AskedLaws.{all_asked}
-use Rattle.app_input.proofs.scripts.load_order.Goals as goal
-
-pub returns-in-Ok-clause-asked : goal.returns-in-Ok-clause-asked
-returns-in-Ok-clause-asked g c = all_asked _ (status_of c.judge_order.result) _ _ c.in-Ok.ensures.asked

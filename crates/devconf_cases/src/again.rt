@@ -1,0 +1,94 @@
+//! Plays that are read again: `replay` has to give their tree, and `upgrade` their history with it.
+
+use crate::case::{Answer, Case};
+use crate::stop::Stop;
+use cf_io::MemFile;
+use cf_types::{List, Text};
+use std::alloc::Global;
+
+/// The name of the history.
+const HISTORY: &str = "the-history";
+
+/// Whether the case is a play that ends well.
+fn is_play(case: &Case) -> bool {
+    let plays = match case.words.first() {
+        Some(word) => word.as_str() == "play",
+        None => false,
+    };
+    plays && case.answer.status == 0
+}
+
+/// What a text says from this line on.
+fn text_from(alloc: Global, text: &[u8], head: &[u8]) -> Result<Vec<u8>, Stop> {
+    let mut rest = Vec::new(alloc);
+    let mut begun = false;
+    for line in text.split(|byte| *byte == b'\n') {
+        begun = begun || line == head;
+        if begun {
+            rest.extend_from_slice(line)?;
+            rest.push(b'\n')?;
+        }
+    }
+    // Behind the last newline there is no line.
+    let _ = rest.pop();
+    Ok(rest)
+}
+
+/// The words of a play with another first one, and the history in place of the order file.
+fn words_again(alloc: Global, words: &[String], form: &str) -> Result<Vec<String>, Stop> {
+    let mut again = Vec::new(alloc);
+    for (place, word) in words.iter().enumerate() {
+        let word = match place {
+            0 => form,
+            3 => HISTORY,
+            _ => word.as_str(),
+        };
+        again.push(String::from_str(alloc, word)?)?;
+    }
+    Ok(again)
+}
+
+/// The files of a play, and what it wrote as the history.
+fn files_again(alloc: Global, case: &Case) -> Result<List<MemFile>, Stop> {
+    let mut files = List::make(alloc);
+    files.push(MemFile {
+        name: Text::copied(alloc, HISTORY.as_bytes())?,
+        bytes: Text::copied(alloc, &case.answer.output)?,
+    })?;
+    for file in case.files.items() {
+        files.push(MemFile {
+            name: Text::copied(alloc, file.name.items())?,
+            bytes: Text::copied(alloc, file.bytes.items())?,
+        })?;
+    }
+    Ok(files)
+}
+
+/// The play read again by another form, which has to write what the play wrote from this line on.
+fn case_again(alloc: Global, case: &Case, form: &str, head: &[u8]) -> Result<Case, Stop> {
+    Ok(Case {
+        name: format!(in alloc; "{} ({form})", case.name)?,
+        words: words_again(alloc, &case.words, form)?,
+        files: files_again(alloc, case)?,
+        failing_loads: List::make(alloc),
+        failing_puts: List::make(alloc),
+        failing_errors: List::make(alloc),
+        answer: Answer {
+            output: text_from(alloc, &case.answer.output, head)?,
+            errors: Vec::new(alloc),
+            status: 0,
+        },
+    })
+}
+
+/// Two more cases for each play that ends well.
+pub fn cases_again(alloc: Global, cases: &[Case]) -> Result<Vec<Case>, Stop> {
+    let mut again = Vec::new(alloc);
+    for case in cases {
+        if is_play(case) {
+            again.push(case_again(alloc, case, "replay", b"tree")?)?;
+            again.push(case_again(alloc, case, "upgrade", b"history 2")?)?;
+        }
+    }
+    Ok(again)
+}
