@@ -1,5 +1,5 @@
 -- What a seat keeps, and what is kept behind the lock.
-use Rattle.std.specs.Prelude.{◌≡◌, ◌≤◌, ◌+◌, ◌==◌, ℕ, Bool, min}
+use Rattle.std.specs.Prelude.{◌≡◌, ◌≤◌, ◌+◌, ◌-◌, ◌==◌, ℕ, Bool, min}
 use Rattle.atomic_table.specs.Seated.{TableId}
 use Rattle.lease_table.specs.Shown as lease
 use Rattle.run_rules.specs.Counts.{ends_of, dids_of}
@@ -23,12 +23,12 @@ pub record SeatKept (n : ℕ) (z : TableId) (k ends : ℕ) (halted : Bool) (t : 
   pub table : l.table ≡ z
   pub caller : l.caller ≡ k
 
--- a caller that is done has a share of one seat and at most one right to stop; its end is what its count of ends, or its witness, says; its
--- leases are on the table
+-- a caller that is done has a share of one seat and at most one right to stop; its end is what its count of ends, its right or its
+-- witness says; its leases are on the table
 pub record DoneKept (w : World) (z : TableId) (k : ℕ) (end : DoneEnd) (t : Tally) (l : lease.SeatShown) : Type 0 where
   pub part : t.parts ≡ 1
   pub right : t.rights ≤ 1
-  pub fits : EndFits w k t.closings end
+  pub fits : EndFits w k t.closings (1 - t.rights) end
   pub table : l.table ≡ z
 
 -- the board began with this world; the books have the ends and the events of its scripts, and the rights to stop that were not

@@ -1,5 +1,5 @@
 -- What contracts see of a seat, and of the parts of a run.
-use Rattle.std.specs.Prelude.{◌≡◌, ⊤, ℕ, zero, suc, List, [], ◌∷◌, ◌++◌, ◌+◌}
+use Rattle.std.specs.Prelude.{◌≡◌, ℕ, zero, suc, List, [], ◌∷◌, ◌++◌, ◌+◌}
 use Rattle.atomic_table.specs.Seated.{TableId}
 use Rattle.ref_ledger.specs.declared.state.SlotState.{SlotState}
 use Rattle.ref_ledger.specs.declared.state.SlotState.TheVariants as state
@@ -35,11 +35,11 @@ pub record Shows (w : World) (k : ℕ) (told : Witness) : Type 0 where
   pub began : told.began ≡ w
   pub caller : told.caller ≡ k
 
--- the caller has ended once, or a witness shows that the board was stopped
-abbrev pub EndFits : World → ℕ → ℕ → DoneEnd → Type 0
-EndFits w k closings end.Closed = closings ≡ 1
-EndFits w k closings end.Memory = ⊤
-EndFits w k closings (end.Stopped j told) = Shows w k told × (told.answer ≡ answer.Stopped j)
+-- the caller has ended once, or has stopped the board for want of memory, or a witness shows that the board was stopped
+abbrev pub EndFits : World → ℕ → ℕ → ℕ → DoneEnd → Type 0
+EndFits w k closings stops end.Closed = closings ≡ 1
+EndFits w k closings stops end.Memory = stops ≡ 1
+EndFits w k closings stops (end.Stopped j told) = Shows w k told × (told.answer ≡ answer.Stopped j)
 
 -- what a caller leaves at this end
 abbrev pub left_by : SeatShown → DoneEnd → DoneShown

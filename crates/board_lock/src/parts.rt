@@ -16,13 +16,14 @@ use std::marker::Model;
 use std::sync::Arc;
 use std::sync::ledger::Blank;
 
-/// Three ledgers that are still blank, and the table of the leases with its keeper and its seats.
+/// Three ledgers that are still blank, and the table of the leases, for each side of the lock, with its keeper and its seats.
 #[derive(Drop)]
 pub struct RunParts {
     pub(crate) closings: Blank,
     pub(crate) dids: Blank,
     pub(crate) stops: Blank,
-    pub(crate) table: Arc<LeaseTable, Global>,
+    pub(crate) outside: Arc<LeaseTable, Global>,
+    pub(crate) behind: Arc<LeaseTable, Global>,
     pub(crate) keeper: LeaseKeeper,
     pub(crate) callers: List<LeaseSeat>,
 }
@@ -32,7 +33,7 @@ impl Model for RunParts {
 
     ghost view = { λ p. record { closings = p.closings.name; dids = p.dids.name; stops = p.stops.name; seats = p.closings.parts; table = p.keeper.table; states = states_in p.keeper.view; callers = p.callers } };
 
-    ghost invariant = { λ p. (p.dids.parts ≡ p.closings.parts) × (p.stops.parts ≡ p.closings.parts) × (arc_value p.table ≡ p.keeper.table) };
+    ghost invariant = { λ p. (p.dids.parts ≡ p.closings.parts) × (p.stops.parts ≡ p.closings.parts) × (arc_value p.outside ≡ p.keeper.table) × (arc_value p.behind ≡ p.keeper.table) };
 }
 
 // Publishes the slot of a spot where something stands.
@@ -73,12 +74,14 @@ impl RunParts {
         let seats = board.callers();
         let (table, mut keeper, callers) = LeaseTable::make(alloc, board.spots(), seats)?;
         publish(&table, &mut keeper, board);
-        let table = Arc::new(alloc, table)?;
+        let outside = Arc::new(alloc, table)?;
+        let behind = Arc::try_clone(&outside)?;
         Ok(RunParts {
             closings: Blank::new(seats as u64),
             dids: Blank::new(seats as u64),
             stops: Blank::new(seats as u64),
-            table,
+            outside,
+            behind,
             keeper,
             callers,
         })

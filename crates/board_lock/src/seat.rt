@@ -37,7 +37,7 @@ impl<N: Naming> Model for Seat<N> {
 pub enum DoneEnd {
     /// The caller has ended.
     Closed,
-    /// Memory ran out.
+    /// Memory ran out, and the caller stopped the board.
     Memory,
     /// The board was stopped, first by this caller.
     Stopped(u8, Told),
@@ -84,9 +84,10 @@ impl<N: Naming> Seat<N> {
         self.halted
     }
 
-    /// The caller is done, and leaves what it has. `Closed` is for a caller that ended, `Stopped` for one with a witness of it.
+    /// The caller is done, and leaves what it has. `Closed` is for a caller that ended, `Memory` for one that stopped the board,
+    /// `Stopped` for one with a witness that another did.
     pub fn into_done(self, end: DoneEnd) -> Done<N>
-        requires { EndFits N.opening self.caller self.closings end }
+        requires { EndFits N.opening self.caller self.closings self.stops end }
         ensures { result ≡ left_by self end }
     {
         let Seat {
@@ -109,7 +110,7 @@ impl<N: Naming> Done<N> {
     /// How the caller's work ended.
     pub fn end(&self) -> &DoneEnd
         ensures end { result.now ≡ self.now.end }
-        ensures fits { EndFits N.opening self.now.caller self.now.closings result.now }
+        ensures fits { EndFits N.opening self.now.caller self.now.closings self.now.stops result.now }
     {
         &self.end
     }

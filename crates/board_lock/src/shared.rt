@@ -4,6 +4,7 @@ ghost use Rattle.std.specs.Arc.{arc_value};
 ghost use Rattle.atomic_table.specs.Seated.{TableId};
 ghost use Rattle.run_rules.specs.Counts.{ends_of, dids_of};
 ghost use Rattle.run_rules.specs.Run.{Run};
+ghost use Rattle.run_sound.specs.Kept.{MayRun};
 ghost use Rattle.dev_board.specs.Booting.{IsBooted};
 ghost use Rattle.dev_board.specs.Shown.{began};
 ghost use Rattle.board_lock.specs.Boards.{scripts_of, spots_of};
@@ -55,20 +56,20 @@ pub struct Finished {
 // A board for threads. The table is beside the lock too, since a look at a lease takes no lock.
 fn share<N: Naming>(
     board: Board,
-    table: Arc<LeaseTable, Global>,
+    outside: Arc<LeaseTable, Global>,
+    behind: Arc<LeaseTable, Global>,
     keeper: LeaseKeeper,
     books: Books<N>,
-) -> Result<SharedBoard<N>, Memory>
+) -> SharedBoard<N>
     requires kept { LockedKept N.opening N.table board books keeper }
-    requires table { (arc_value table ≡ N.table) × (keeper.table ≡ N.table) }
+    requires table { (arc_value outside ≡ N.table) × (arc_value behind ≡ N.table) × (keeper.table ≡ N.table) }
 {
-    let slots = LeaseSlots::make(Arc::try_clone(&table)?, keeper);
-    let locked = Locked::make(board, slots, books);
-    Ok(SharedBoard {
+    let locked = Locked::make(board, LeaseSlots::make(behind, keeper), books);
+    SharedBoard {
         lock: Mutex::new(locked),
         moved: Condvar::new(),
-        table,
-    })
+        table: outside,
+    }
 }
 
 impl<N: Naming> SharedBoard<N> {
@@ -90,15 +91,15 @@ impl<N: Naming> SharedBoard<N> {
             closings,
             dids,
             stops,
-            table,
+            outside,
+            behind,
             keeper,
             callers,
         } = parts;
         board.stands();
         let (books, shares) = Books::open(closings, dids, stops, board.callers());
         let seats = deal_seats(alloc, board.spots(), shares, callers)?;
-        let shared = share(board, table, keeper, books)?;
-        Ok((shared, seats))
+        Ok((share(board, outside, behind, keeper, books), seats))
     }
 
     /// One step of the seat's caller. Where the board waits, the call waits for a notice and steps again. At an event the lease
@@ -155,6 +156,7 @@ impl<N: Naming> SharedBoard<N> {
         requires some { 0 < length done }
         ensures opening { began result.board ≡ N.opening }
         ensures run { Run N.opening result.board.events result.board.world }
+        ensures may { MayRun result.board.world.setup }
         ensures ended { result.ended ≡ sum_by (λ d. d.closings) done }
         ensures ends { result.ended ≡ ends_of result.board.events }
         ensures dids { sum_by (λ d. d.dids) done ≡ dids_of result.board.events }

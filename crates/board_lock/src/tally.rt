@@ -77,6 +77,19 @@ impl<N: Naming> Shares<N> {
     }
 }
 
+// Opens the ledger of the rights to stop: each of the seats has one.
+fn charged<N: Naming>(stops: Blank, seats: u8) -> (Book<Stops<N>>, Share<Stops<N>>)
+    requires name { stops.name ≡ N.stops }
+    requires parts { stops.parts ≡ scripts_of N.opening }
+    requires seats { (seats ≡ scripts_of N.opening) × (0 < seats) }
+    ensures book { result.0.total ≡ seats }
+    ensures share { (result.1.amount ≡ seats) × (result.1.parts ≡ seats) }
+{
+    let (mut book, mut share) = stops.open::<Stops<N>>();
+    book.add(&mut share, seats as u64);
+    (book, share)
+}
+
 impl<N: Naming> Books<N> {
     /// Opens the ledgers: nothing was done yet, and each of the seats has one right to stop.
     pub fn open(closings: Blank, dids: Blank, stops: Blank, seats: u8) -> (Books<N>, Shares<N>)
@@ -90,8 +103,7 @@ impl<N: Naming> Books<N> {
     {
         let (closings, all_closings) = closings.open::<Closings<N>>();
         let (dids, all_dids) = dids.open::<Dids<N>>();
-        let (mut stops, mut all_stops) = stops.open::<Stops<N>>();
-        stops.add(&mut all_stops, seats as u64);
+        let (stops, all_stops) = charged(stops, seats);
         let books = Books {
             closings,
             dids,

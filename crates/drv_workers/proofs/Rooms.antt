@@ -1,10 +1,13 @@
--- How many seats there are, and room for what their callers leave.
+-- As many are done as there are seats.
 use Rattle.std.proofs.Common.{◌≡◌, ◌≤◌, ◌<◌, ℕ, arith}
 
--- as many seats as callers, for which there is room
-pub room : (space callers scripts seats all : ℕ) → callers ≤ space → callers ≡ scripts → seats ≡ scripts → all ≡ seats → all ≤ space
-room space callers scripts seats all fits count each same = omega arith
+-- there is room for them
+pub room : (space count seats : ℕ) → count ≤ space → count ≡ seats → seats ≤ space
+room space count seats fits same = omega arith
 
--- as many are done as there are scripts, of which there is one
-pub some_done : (scripts seats all done list : ℕ) → 0 < scripts → seats ≡ scripts → all ≡ seats → done ≡ all → list ≡ done → 0 < list
-some_done scripts seats all done list some each same ran as_list = omega arith
+-- there is one, since there is a script
+pub some_done : (scripts seats done : ℕ) → 0 < scripts → seats ≡ scripts → done ≡ seats → 0 < done
+some_done scripts seats done some each same = omega arith
+
+pub some_scripts : (scripts seats count : ℕ) → 0 < scripts → seats ≡ scripts → count ≡ seats → 0 < count
+some_scripts scripts seats count some each same = omega arith

@@ -11,8 +11,8 @@ StopsAt end.Closed s d = d.stops ≡ s.stops
 StopsAt end.Memory s d = d.stops ≡ 1
 StopsAt (end.Stopped j told) s d = d.stops ≡ s.stops
 
--- the end is what the count of ends, or the witness, says
+-- the end is what the count of ends, the stop or the witness says
 pub record WorkEnds (w : World) (s : SeatShown) (d : DoneShown) : Type 0 where
   pub caller : d.caller ≡ s.caller
-  pub fits : EndFits w s.caller d.closings d.end
+  pub fits : EndFits w s.caller d.closings d.stops d.end
   pub stops : StopsAt d.end s d

@@ -2,11 +2,13 @@
 ghost use Rattle.std.specs.Prelude.{◌≡◌, ◌<◌, ◌≤◌, ◌+◌, IfOk, length, vec_len, vec_capacity};
 ghost use Rattle.run_rules.specs.Counts.{ends_of};
 ghost use Rattle.run_rules.specs.Run.{Run};
+ghost use Rattle.run_sound.specs.Kept.{MayRun};
 ghost use Rattle.dev_board.specs.Booting.{IsBooted};
 ghost use Rattle.dev_board.specs.Shown.{began};
 ghost use Rattle.board_lock.specs.Boards.{scripts_of};
 ghost use Rattle.board_lock.specs.Names.{AreNames};
 ghost use Rattle.board_lock.specs.Seats.{PartsFit};
+ghost use Rattle.drv_workers.specs.Whole.{IsWhole};
 
 use crate::medium::Medium;
 use crate::worker::work;
@@ -96,6 +98,37 @@ fn run_scope<N: Naming + Send + Sync, M: Medium + Sync, R: Threads + Wait + Sync
     )
 }
 
+// Runs all seats. Room for what their callers leave is taken before a thread starts.
+fn run_all<N: Naming + Send + Sync, M: Medium + Sync, R: Threads + Wait + Sync>(
+    rt: &R,
+    alloc: Global,
+    shared: &SharedBoard<N>,
+    medium: &M,
+    seats: List<Seat<N>>,
+) -> Result<List<Done<N>>, Memory>
+    ensures { IfOk result (λ done. length done ≡ length seats) }
+{
+    let seats = values_of(seats);
+    let done = Vec::with_capacity(alloc, seats.len())?;
+    let done = run_scope(rt, shared, medium, seats, done);
+    Ok(list_of(done))
+}
+
+// What is left, where every script has ended; else memory ran out.
+fn whole_only(left: Finished, scripts: u64) -> Result<Finished, Memory>
+    requires scripts { (scripts ≡ scripts_of left.board.world) × (0 < scripts) }
+    requires may { MayRun left.board.world.setup }
+    requires run { Run (began left.board) left.board.events left.board.world }
+    requires ends { left.ended ≡ ends_of left.board.events }
+    ensures same { IfOk result (λ r. r ≡ left) }
+    ensures whole { IfOk result (λ r. IsWhole r.ended r.board) }
+{
+    if left.ended != scripts {
+        return Err(Memory);
+    }
+    Ok(left)
+}
+
 // A run whose names were chosen.
 fn run_named<N: Naming + Send + Sync, M: Medium + Sync, R: Threads + Wait + Sync>(
     rt: &R,
@@ -111,15 +144,18 @@ fn run_named<N: Naming + Send + Sync, M: Medium + Sync, R: Threads + Wait + Sync
     ensures opening { IfOk result (λ r. began r.board ≡ began board) }
     ensures run { IfOk result (λ r. Run (began board) r.board.events r.board.world) }
     ensures ended { IfOk result (λ r. r.ended ≡ ends_of r.board.events) }
+    ensures whole { IfOk result (λ r. IsWhole r.ended r.board) }
 {
-    let done = Vec::with_capacity(alloc, board.callers() as usize)?;
     let (shared, seats) = SharedBoard::<N>::make(alloc, board, parts)?;
-    let done = run_scope(rt, &shared, medium, values_of(seats), done);
-    Ok(shared.finish(list_of(done)))
+    let scripts = seats.len() as u64;
+    let done = run_all(rt, alloc, &shared, medium, seats)?;
+    whole_only(shared.finish(done), scripts)
 }
 
-/// Runs the scripts of a board that has done its boot, each in a thread of its own, until all of them are done. A script whose
-/// thread can't be started is run by the caller's thread. The history that is left is one run from where the board began.
+/// Runs the scripts of a board that has done its boot, each in a thread of its own, until every one has ended: then all have.
+/// A script whose thread can't be started is run by the caller's thread. A worker ends before its script does only where
+/// memory ran out, for it or for the one that stopped the board; then the answer is want of memory. The history that is left
+/// is one run from where the board began.
 pub fn run_scripts<M: Medium + Sync, R: Threads + Wait + Sync>(
     rt: &R,
     alloc: Global,
@@ -131,6 +167,7 @@ pub fn run_scripts<M: Medium + Sync, R: Threads + Wait + Sync>(
     ensures opening { IfOk result (λ r. began r.board ≡ began board) }
     ensures run { IfOk result (λ r. Run (began board) r.board.events r.board.world) }
     ensures ended { IfOk result (λ r. r.ended ≡ ends_of r.board.events) }
+    ensures whole { IfOk result (λ r. IsWhole r.ended r.board) }
 {
     let parts = RunParts::make(alloc, &board)?;
     run_named::<Brand, M, R>(rt, alloc, board, parts, medium)

@@ -1,16 +1,15 @@
-use Rattle.std.proofs.Common.{length, vec_len, vec_capacity}
+use Rattle.std.proofs.Common.{length, ◌∙◌}
 use Rattle.board_lock.specs.Boards.{scripts_of}
-use Rattle.drv_workers.proofs.Rooms.{room, some_done}
+use Rattle.drv_workers.proofs.Rooms.{some_done, some_scripts}
+use Rattle.drv_workers.proofs.Wholes.{same_count}
 use Rattle.drv_workers.proofs.run.run_named.Goals as goal
-
-pub run_scope-done-requires-after_bounds : goal.run_scope-done-requires-after_bounds
-run_scope-done-requires-after_bounds g c = λ κs bounds. (
-  c.in_ok-done.ensures.len,
-  room (vec_capacity c.in_ok-done.done) c.callers.result (scripts_of c.args.board.world) (length c.in_ok-shared.seats) (vec_len c.values_of.result)
-      c.in_ok-done.ensures.capacity c.callers.ensures c.in_ok-shared.ensures.each c.values_of.ensures,
-)
 
 pub finish-requires-clause-some : goal.finish-requires-clause-some
 finish-requires-clause-some g c =
-    some_done (scripts_of c.args.board.world) (length c.in_ok-shared.seats) (vec_len c.values_of.result) (vec_len c.run_scope-done.result) (length c.list_of.result)
-    c.requires.some c.in_ok-shared.ensures.each c.values_of.ensures c.run_scope-done.ensures c.list_of.ensures
+    some_done (scripts_of c.args.board.world) (length c.in_ok-shared.seats) (length c.in_ok-done.done) c.requires.some c.in_ok-shared.ensures.each c.in_ok-done.ensures
+
+pub whole_only-requires-clause-scripts : goal.whole_only-requires-clause-scripts
+whole_only-requires-clause-scripts g c = (
+  c.len-scripts.ensures ∙ c.in_ok-shared.ensures.each ∙ same_count c.args.board c.finish.result.board g.N.Naming.opening c.requires.names.opening c.finish.ensures.opening,
+  some_scripts (scripts_of c.args.board.world) (length c.in_ok-shared.seats) c.len-scripts.result c.requires.some c.in_ok-shared.ensures.each c.len-scripts.ensures,
+)

@@ -58,7 +58,7 @@ share-requires-clause-kept g c =
 pub share-requires-clause-table : goal.share-requires-clause-table
 share-requires-clause-table g c =
     let table = ap (λ p. p.table) c.parts.view_is ∙ c.requires.names.table in
-    (c.parts.invariant.2 ∙ table, table)
+    (c.parts.invariant.2 ∙ table, c.parts.invariant.3 ∙ table, table)
 
 pub returns-clause-count : goal.returns-clause-count
 returns-clause-count g c =

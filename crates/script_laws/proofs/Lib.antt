@@ -1,0 +1,6 @@
+pub mod Frames
+pub mod Deeds
+pub mod Answered
+pub mod Ends
+pub mod Boots
+pub mod Runs
