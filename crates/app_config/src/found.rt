@@ -11,9 +11,7 @@ use crate::load::loaded;
 use crate::play::played;
 use crate::replay::retold;
 use app_input::{Inputs, Status};
-use app_output::{
-    OutputStop, put_history, put_listing, put_paths, put_piece, put_run, put_tree,
-};
+use app_output::{OutputStop, put_history, put_listing, put_paths, put_piece, put_run, put_tree};
 use cf_io::{Files, Sink};
 use cf_types::{DevLine, List, Tables, Text};
 use dev_board::Board;
