@@ -1,4 +1,5 @@
 pub mod PairLemmas
+pub mod SizedLemmas
 pub mod AttachLemmas
 pub mod InstanceLemmas
 pub mod KeywordLemmas

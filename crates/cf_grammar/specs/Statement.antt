@@ -1,8 +1,9 @@
 -- What a caller of `statement` owes, and what the errors mean.
-use Rattle.std.specs.Prelude.{◌≡◌, ℕ, ◌≤◌, List, length, All, Some, ⊤}
+use Rattle.std.specs.Prelude.{◌≡◌, ℕ, ◌≤◌, List, length, All, Some, ⊤, false, is_some, if◌then◌else◌}
+use Rattle.cf_types.specs.declared.code.configuration.TheConstants.{NO_FORM, OUT_OF_RANGE}
 use Rattle.cf_types.specs.declared.stmt.Piece.{Piece}
 use Rattle.cf_types.specs.declared.stmt.Token.{Token}
-use Rattle.config_rules.specs.Form.{form_fault}
+use Rattle.config_rules.specs.Form.{form_fault, form_of}
 use Rattle.cf_grammar.specs.declared.grammar.GrammarStop.{GrammarStop}
 use Rattle.cf_grammar.specs.declared.grammar.GrammarStop.TheVariants.{Fault, Memory}
 
@@ -17,3 +18,7 @@ AreWithin text tokens = All (IsWithin text) tokens
 abbrev pub IsFaultOf : List Piece → GrammarStop → Type 0
 IsFaultOf ps (Fault code) = form_fault ps ≡ Some code
 IsFaultOf ps Memory = ⊤
+
+-- the code of words that are no statement with each number in its range, and of none that is left out
+abbrev pub unread_code : List Piece → ℕ
+unread_code ps = if is_some (form_of false ps) then OUT_OF_RANGE else NO_FORM

@@ -2,7 +2,7 @@ ghost use Rattle.std.specs.Prelude.{◌≡◌, IfErr, IfOk, false, is_some, map}
 ghost use Rattle.config_rules.specs.Cut.{piece, pieces};
 ghost use Rattle.config_rules.specs.Form.{Form, form_of};
 ghost use Rattle.cf_words.specs.Words.{piece_of};
-ghost use Rattle.cf_grammar.specs.Statement.{AreWithin, IsFaultOf, IsWithin};
+ghost use Rattle.cf_grammar.specs.Statement.{AreWithin, IsFaultOf, IsWithin, unread_code};
 
 use crate::fault::is_left_out;
 use crate::form::form_of;
@@ -63,7 +63,7 @@ fn words_of<'a>(
     requires { AreWithin text.now tokens.now }
     ensures { IfOk result (λ words. map piece_of words.items ≡ pieces text.now tokens.now) }
 {
-    let mut words = Vec::new(alloc);
+    let mut words = Vec::with_capacity(alloc, tokens.len())?;
     for &token in tokens {
         words.push(word_of(text, token))?;
     }
@@ -80,6 +80,17 @@ fn has_form(alloc: Global, words: &[Word]) -> Result<bool, Memory>
     }
 }
 
+/// The code of words that are no statement with each number in its range.
+fn unread_code(alloc: Global, words: &[Word]) -> Result<u8, Memory>
+    ensures { IfOk result (λ code. code ≡ unread_code (map piece_of words.now)) }
+{
+    if has_form(alloc, words)? {
+        Ok(code::OUT_OF_RANGE)
+    } else {
+        Ok(code::NO_FORM)
+    }
+}
+
 /// The statement that words are.
 fn read(alloc: Global, words: &[Word]) -> Result<Stmt, GrammarStop>
     ensures form { IfOk result (λ s. Form (map piece_of words.now) s) }
@@ -90,15 +101,10 @@ fn read(alloc: Global, words: &[Word]) -> Result<Stmt, GrammarStop>
             code: code::LEFT_OUT,
         });
     }
-    if !has_form(alloc, words)? {
-        return Err(GrammarStop::Fault {
-            code: code::NO_FORM,
-        });
-    }
     match form_of(alloc, true, words)? {
         Some(stmt) => Ok(stmt),
         None => Err(GrammarStop::Fault {
-            code: code::OUT_OF_RANGE,
+            code: unread_code(alloc, words)?,
         }),
     }
 }
