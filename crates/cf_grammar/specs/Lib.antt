@@ -1,5 +1,6 @@
 pub mod Define
 pub mod Items
+pub mod Keywords
 pub mod LeftOut
 pub mod Negation
 pub mod Pairs

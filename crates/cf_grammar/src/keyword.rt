@@ -1,8 +1,10 @@
-ghost use Rattle.std.specs.Prelude.{◌≡◌, ◌≤◌, find, length};
+ghost use Rattle.std.specs.Prelude.{◌≡◌, ◌≤◌, filter, find, length};
 ghost use Rattle.config_rules.specs.Form.{condition_spelling, is_word, spelling_of};
+ghost use Rattle.cf_grammar.specs.Keywords.{begins_with};
+ghost use Rattle.cf_types.specs.declared.keyword.TheConstants.{KEYWORDS};
 ghost use Rattle.cf_words.specs.Words.{piece_of};
 
-use cf_types::{CondWord, KEYWORDS, Keyword};
+use cf_types::{CondWord, Keyword};
 use cf_words::Word;
 
 /// How a condition word is written, in at most 80 bytes.
@@ -63,12 +65,66 @@ fn spells(word: Word, keyword: Keyword) -> bool
     word.is_word(spelling(keyword))
 }
 
+/// The keywords that begin with this byte.
+fn keywords_by(first: u8) -> &'static [Keyword]
+    ensures { result.now ≡ filter (begins_with first) KEYWORDS }
+{
+    match first {
+        b'a' => &[Keyword::Attach],
+        b'c' => &[Keyword::CInclude, Keyword::Config],
+        b'd' => &[
+            Keyword::Define,
+            Keyword::DevClass,
+            Keyword::DefPseudo,
+            Keyword::Device,
+            Keyword::DefFlag,
+            Keyword::DefParam,
+            Keyword::DefFs,
+            Keyword::DeviceMajor,
+        ],
+        b'e' => &[
+            Keyword::Condition(CondWord::ElifDef),
+            Keyword::Condition(CondWord::ElifNDef),
+            Keyword::Condition(CondWord::Else),
+            Keyword::Condition(CondWord::EndIf),
+        ],
+        b'f' => &[Keyword::FileSystem, Keyword::File],
+        b'i' => &[
+            Keyword::Include,
+            Keyword::Condition(CondWord::IfDef),
+            Keyword::Condition(CondWord::IfNDef),
+            Keyword::Ident,
+        ],
+        b'm' => &[
+            Keyword::MakeOptions,
+            Keyword::MaxUsers,
+            Keyword::MaxPartitions,
+            Keyword::Machine,
+        ],
+        b'n' => &[Keyword::No],
+        b'o' => &[Keyword::Options, Keyword::Obsolete],
+        b'p' => &[Keyword::Prefix, Keyword::PseudoDevice],
+        b'v' => &[Keyword::Version],
+        _ => &[],
+    }
+}
+
+/// The first of these keywords that a word is.
+fn keyword_among(keywords: &[Keyword], word: Word) -> Option<Keyword>
+    ensures { result ≡ find (λ keyword. is_word (spelling_of keyword) (piece_of word.entry)) keywords.now }
+{
+    keywords
+        .iter()
+        .copied()
+        .find(|&keyword| spells(word, keyword))
+}
+
 /// The keyword that a word is.
 pub fn keyword_of(word: Word) -> Option<Keyword>
     ensures { result ≡ find (λ keyword. is_word (spelling_of keyword) (piece_of word.entry)) KEYWORDS }
 {
-    KEYWORDS
-        .iter()
-        .copied()
-        .find(|&keyword| spells(word, keyword))
+    match word.text {
+        [first, ..] => keyword_among(keywords_by(*first), word),
+        [] => None,
+    }
 }
