@@ -31,10 +31,5 @@ pub fn push_place<K: Eq + Hash + Drop>(
 ) -> Result<(), Memory>
     ensures { OnOk result ((q : K) → list_at K.eq lists.new q ≡ (if K.eq key q then list_at K.eq lists.old q ++ place ∷ [] else list_at K.eq lists.old q)) }
 {
-    let mut list = take_places(alloc, lists, &key);
-    list.push(place)?;
-    match lists.insert(key, list) {
-        Ok(_) => Ok(()),
-        Err(_) => Err(Memory),
-    }
+    lists.entry(key)?.or_insert(List::make(alloc)).push(place)
 }
