@@ -13,6 +13,7 @@ use Rattle.config_rules.specs.Meaning.{idle_items, idle_names}
 use Rattle.config_rules.specs.Select.{drops, has_name, item_names, takes_item}
 use Rattle.config_rules.proofs.PlacedLaws.{stmts_more}
 use Rattle.cf_options.specs.ItemFlags.{idle_of, idle_places}
+use Rattle.cf_options.specs.Parts.{negates_items}
 use Rattle.cf_options.proofs.KeptLemmas.{filter_step}
 
 no_item : (h d : Bool) → ((h && not false) || false) ≡ (h || (false && not d))
@@ -51,6 +52,22 @@ pub takes_more : (kind : ItemKind) (name : List ℕ) (placed : List Placed) (i :
 takes_more kind name placed i p now next h is so_far new =
     new ∙ ap (λ b. has_name (item_names kind p.stmt) name || (b && not (drops kind name p.stmt))) so_far
     ∙ sym (ap (takes_item kind name) (stmts_more placed i p h is) ∙ takes_last kind name (stmts_of (take i placed)) p.stmt)
+
+-- where no statement is a negation of items none takes back nothing
+none_idle : (before : List Stmt) (s : Stmt) (later : List Stmt) → negates_items s ≡ false → idle_items (before ++ s ∷ []) later ≡ [] → idle_items before (s ∷ later) ≡ []
+unfolding idle_items
+none_idle before (stmt.NoItems kind names) later h e = cc
+none_idle before _ later h e = e
+
+pub no_idle : (placed : List Placed) (before : List Stmt) → list_any (λ p. negates_items p.stmt) placed ≡ false → idle_items before (stmts_of placed) ≡ []
+unfolding idle_items
+no_idle [] before h = refl
+no_idle (p ∷ placed) before h =
+    none_idle before p.stmt (stmts_of placed) (neither (negates_items p.stmt) h).0 (no_idle placed (before ++ p.stmt ∷ []) (neither (negates_items p.stmt) h).1)
+  where
+    neither : (a : Bool) → (a || list_any (λ p. negates_items p.stmt) placed) ≡ false → (a ≡ false) × (list_any (λ p. negates_items p.stmt) placed ≡ false)
+    neither true h = (h, cc)
+    neither false h = (refl, h)
 
 -- one more name
 pub idle_step : (stands : List ℕ → Bool) (names : List (List ℕ)) (place i : ℕ) (name : List ℕ) (first now next : List ℕ) → i < length names → name ≡ get_or names i name

@@ -3,12 +3,14 @@ use Rattle.std.proofs.Common.{◌≡◌, ℕ, ◌+◌, ◌<◌, ◌≤◌, ◌||
 use Rattle.std.specs.Prelude.{bytes_eq, nat_lt}
 use Rattle.std.specs.List.{list_any}
 use Rattle.std.proofs.lemmas.Bool.{cases_lt, lt-ltb, le-ltb}
-use Rattle.std.proofs.lemmas.Bool.Decides.{nat_tests}
 use Rattle.std.proofs.lemmas.List.{drop_all, take_more, length-take-le, drop-append-le}
 use Rattle.std.proofs.lemmas.List.Folds.{list_any-append}
 use Rattle.std.proofs.Math.Bool.{or-false, or-true}
 use Rattle.config_rules.specs.Select.{has_name}
-use Rattle.cf_options.specs.Last.{is_behind}
+use Rattle.cf_options.specs.Last.{is_behind, is_dropped}
+use Rattle.std.specs.HashMap.{HashMap, hash_map_len}
+use Rattle.std.specs.Map.{lookup}
+use denote.Ref.{Bor}
 
 pub cond_or : {X : Type 0} (a b : Bool) (x y : X) → cond b x (cond a x y) ≡ cond (a || (b || false)) x y
 cond_or true true x y = refl
@@ -58,3 +60,11 @@ pub last_none : {X : Type 0} (test : X → Bool) (i : ℕ) (o : Option ℕ) → 
 last_none test i o e =
     let k : 0 ≤ i + 1 = omega arith in
     ap (is_behind i) e ∙ sym (ap (list_any test) (drop_all (i + 1) [] k))
+
+-- where no name is negated none is dropped
+pub none_dropped : {S : Type 0} (last : HashMap (Bor (List ℕ)) ℕ S) (place : ℕ) (name : List ℕ) → hash_map_len last ≡ 0 → false ≡ is_dropped last place name
+none_dropped last place name h = by_entries last.entries h
+  where
+    by_entries : (es : List (Bor (List ℕ) × ℕ)) → length es ≡ 0 → false ≡ is_behind place (lookup (λ k. bytes_eq name k.now) es)
+    by_entries [] h = refl
+    by_entries (e ∷ es) h = absurd (omega (arith, h))

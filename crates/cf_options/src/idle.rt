@@ -1,7 +1,9 @@
 ghost use Rattle.std.specs.Prelude.{◌≡◌, ◌≤◌, ◌<◌, [], ◌∷◌, ◌++◌, length, IfOk, OnOk};
+ghost use Rattle.std.specs.List.{list_any};
 ghost use Rattle.config_rules.specs.Fault.{stmts_of};
 ghost use Rattle.config_rules.specs.Meaning.{idle_items};
 ghost use Rattle.cf_options.specs.ItemFlags.{idle_of, idle_places, stands_in};
+ghost use Rattle.cf_options.specs.Parts.{negates_items};
 
 use crate::standing::{Flags, note_statement, nothing_stands, stands};
 use cf_types::{ItemKind, List, Memory, Name, Placed, Stmt};
@@ -49,11 +51,23 @@ fn push_idle(idle: &mut List<u32>, flags: &Flags, stmt: &Stmt, place: u32) -> Re
     }
 }
 
+/// Whether one of these statements is a negation of items.
+fn negate_items(placed: &[Placed]) -> bool
+    ensures { result ≡ list_any (λ p. negates_items p.stmt) placed.now }
+{
+    placed
+        .iter()
+        .any(|statement| matches!(statement.stmt, Stmt::NoItems { .. }))
+}
+
 /// The places of the negations of items, each once for each of its names that takes back nothing.
 pub fn idle_items(alloc: Global, placed: &[Placed]) -> Result<List<u32>, Memory>
     requires { length placed.now ≤ 65536 }
     ensures { IfOk result (λ idle. idle ≡ idle_items [] (stmts_of placed.now)) }
 {
+    if !negate_items(placed) {
+        return Ok(List::make(alloc));
+    }
     let mut flags = nothing_stands(alloc);
     let mut idle = List::make(alloc);
     for (i, p) in placed.iter().enumerate() {

@@ -74,6 +74,9 @@ pub fn last_negations(
 pub fn is_dropped(last: &LastPlaces, name: &Name, place: usize) -> bool
     ensures { result ≡ is_dropped last.now place name.now }
 {
+    if last.is_empty() {
+        return false;
+    }
     match last.get(&name.bytes()) {
         Some(negation) => place < *negation,
         None => false,

@@ -1,8 +1,8 @@
-use Rattle.std.proofs.Common.{◌∙◌, ◌++◌, ℕ, List, [], ap}
+use Rattle.std.proofs.Common.{◌∙◌, ◌++◌, ℕ, List, [], ap, sym}
 use Rattle.config_rules.specs.Fault.{stmts_of}
 use Rattle.config_rules.specs.Meaning.{idle_items}
 use Rattle.cf_options.specs.ItemFlags.{stands_in}
-use Rattle.cf_options.proofs.IdleLemmas.{idle_more, idle_ends, takes_more, takes_none}
+use Rattle.cf_options.proofs.IdleLemmas.{idle_more, idle_ends, no_idle, takes_more, takes_none}
 use Rattle.cf_options.proofs.idle.idle_items.Goals as goal
 
 pub loop-i-init : goal.loop-i-init
@@ -21,3 +21,6 @@ loop-i-preserved c = record {
 
 pub returns : goal.returns
 returns c = idle_ends c.args.placed.now c.loop-i.i c.loop-i.idle _ c.loop-i-test.false c.loop-i.invariant.places
+
+pub returns-then-not-negate_items : goal.returns-then-not-negate_items
+returns-then-not-negate_items c = c.make.ensures ∙ sym (no_idle c.args.placed.now [] (sym c.if-not-negate_items.ensures))
