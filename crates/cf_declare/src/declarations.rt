@@ -6,7 +6,7 @@ ghost use Rattle.attr_graph.specs.Graphs.{IsGraphOf};
 ghost use Rattle.cf_declare.specs.Graphs.{FitsDeclared};
 ghost use Rattle.cf_declare.specs.Limits.{HasFewLocators};
 
-use crate::grow::grow;
+use crate::grow::{declares, grow};
 use crate::join::join;
 use crate::judge::code_of;
 use crate::names::name_hash;
@@ -79,6 +79,9 @@ impl Declarations {
         requires devices { length self.devices < 65536 }
         ensures { IfOk result (λ d. d ≡ declare self stmt.now) }
     {
+        if !declares(stmt) {
+            return Ok(self);
+        }
         let Declarations { lists, mut graph } = self;
         let lists = grow(alloc, lists, &mut graph, stmt)?;
         Ok(Declarations { lists, graph })

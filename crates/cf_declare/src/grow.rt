@@ -2,7 +2,7 @@ ghost use Rattle.std.specs.Prelude.{◌≡◌, None, ◌≤◌, ◌<◌, ◌++�
 ghost use Rattle.std.specs.Option.{option_to_list};
 ghost use Rattle.cf_types.specs.Offers.{named_by};
 ghost use Rattle.config_rules.specs.Fault.{code_of};
-ghost use Rattle.cf_declare.specs.Declare.{declare};
+ghost use Rattle.cf_declare.specs.Declare.{declare, declares};
 ghost use Rattle.attr_graph.specs.Graphs.{IsGraphOf};
 
 use crate::entry::{new_attach, new_attr, new_device};
@@ -99,6 +99,20 @@ fn grow_attach(alloc: Global, declared: Catalog, attach: Option<Attach>) -> Resu
         Some(attach) => declared.with_attach(alloc, attach),
         None => Ok(declared),
     }
+}
+
+/// Whether a statement declares something.
+pub fn declares(stmt: &Stmt) -> bool
+    ensures { result ≡ declares stmt.now }
+{
+    matches!(
+        stmt,
+        Stmt::Define { .. }
+            | Stmt::Class { .. }
+            | Stmt::DefPseudo { .. }
+            | Stmt::Device { .. }
+            | Stmt::Attach { .. }
+    )
 }
 
 /// Adds what an accepted statement declares.

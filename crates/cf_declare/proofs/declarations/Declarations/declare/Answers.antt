@@ -2,6 +2,7 @@ use Rattle.std.proofs.Common.{◌≡◌, None, sym, subst}
 use Rattle.config_rules.specs.Declared.{Declared}
 use Rattle.config_rules.specs.Fault.{code_of}
 use Rattle.cf_declare.specs.Graphs.{LocatorsFit}
+use Rattle.cf_declare.proofs.DeclareLaws.{nothing_more}
 use Rattle.cf_declare.proofs.GrowLemmas.{locators_more}
 use Rattle.cf_declare.proofs.declarations.Declarations.declare.Goals as goal
 
@@ -12,3 +13,6 @@ invariant_of-result c =
       c.in_ok-lists.ensures.graph,
       subst (λ (d : Declared). LocatorsFit d) (sym c.in_ok-lists.ensures.added) (locators_more c.self.inside.lists 0 c.args.stmt.now c.self.invariant.1 accepted c.requires.few),
     )
+
+pub returns-then-not-declares : goal.returns-then-not-declares
+returns-then-not-declares c = nothing_more c.args.self c.args.stmt.now c.if-not-declares.ensures
