@@ -1,12 +1,14 @@
 //! What a command is told, as an event has it.
-ghost use Rattle.std.specs.Prelude.{◌≡◌, ◌<◌, ◌+◌, ◌^◌, false, true, IfOk, Some, length};
+ghost use Rattle.std.specs.Prelude.{◌≡◌, ◌<◌, ◌+◌, ◌^◌, false, true, IfOk, None, Some, length, option_map};
 ghost use Rattle.std.specs.Option.{option_map_or};
 ghost use Rattle.run_rules.specs.declared.event.Act.TheVariants as act;
+ghost use Rattle.run_rules.specs.declared.event.Reply.{Reply};
 ghost use Rattle.run_rules.specs.Next as next;
 ghost use Rattle.run_rules.specs.Run as run;
+ghost use Rattle.run_rules.specs.World.{World};
 ghost use Rattle.run_world.specs.Events.{HaveRows};
 ghost use Rattle.run_world.specs.Input.{Bounded};
-ghost use Rattle.deed_event.specs.Sayings.{AnswersLive, EndsLive, RefusesLive, answer_by};
+ghost use Rattle.deed_event.specs.Sayings.{AnswersLive, EndsLive, RefusesLive, answer_by, name_given};
 ghost use Rattle.run_world.specs.View.{world_of};
 
 use crate::listed_names::{list_names, live_name, tree_names};
@@ -123,28 +125,6 @@ fn name_or_none(name: &Option<Name>) -> Result<Option<Name>, Memory>
     }
 }
 
-/// A power command with its reply.
-fn power_act(
-    alloc: Global,
-    setup: &Setup,
-    core: &Core,
-    kind: PowerKind,
-    name: &Name,
-    refused: Option<Refusal>,
-) -> Result<Act, Memory>
-    requires bounded { Bounded setup.now }
-    requires rows { HaveRows setup.now core.now.tree.live }
-    requires live { AnswersLive core.now.tree.live refused }
-    ensures { IfOk result (λ a. a ≡ act.Power kind name.now (answer_by (world_of setup.now core.now) refused)) }
-{
-    let (device, reply) = answered(alloc, setup, core, name, refused)?;
-    Ok(Act::Power {
-        kind,
-        device,
-        reply,
-    })
-}
-
 /// A list with its names.
 fn list_act(alloc: Global, setup: &Setup, core: &Core, name: &Option<Name>) -> Result<Act, Memory>
     requires bounded { Bounded setup.now }
@@ -168,6 +148,87 @@ fn tree_act(alloc: Global, setup: &Setup, core: &Core, name: &Option<Name>) -> R
     Ok(Act::TreeDev { device, names })
 }
 
+/// The names that a list or a tree tells.
+fn listing_act(alloc: Global, setup: &Setup, core: &Core, said: &Command) -> Result<Act, Memory>
+    requires bounded { Bounded setup.now }
+    requires rows { HaveRows setup.now core.now.tree.live }
+    requires few { length core.now.tree.live + 1 < 2 ^ 32 }
+    requires listing { name_given said.now ≡ None }
+    ensures { (r : Reply) → IfOk result (λ a. a ≡ run.told (world_of setup.now core.now) said.now r) }
+{
+    match said {
+        Command::ListDev(name) => list_act(alloc, setup, core, name),
+        Command::TreeDev(name) => tree_act(alloc, setup, core, name),
+        _ => unreachable!(),
+    }
+}
+
+/// The name that a command gives; none where it is a list or a tree.
+fn name_given(said: &Command) -> Option<&Name>
+    ensures { name_given said.now ≡ option_map (λ name. name.now) result }
+{
+    match said {
+        Command::OpenDev(name) => Some(name),
+        Command::OpenSole(name) => Some(name),
+        Command::CloseDev(name) => Some(name),
+        Command::Io(name, _) => Some(name),
+        Command::Detach(name) => Some(name),
+        Command::Rescan { device, .. } => Some(device),
+        Command::ListDev(_) => None,
+        Command::TreeDev(_) => None,
+        Command::Suspend(name) => Some(name),
+        Command::Resume(name) => Some(name),
+        Command::ResumeTree(name) => Some(name),
+        Command::Plug(name) => Some(name),
+        Command::Unplug(name) => Some(name),
+    }
+}
+
+/// The line of a command with the name that it gives, and its reply.
+fn named_act(said: &Command, name: Name, reply: Reply) -> Act
+    requires { name_given said.now ≡ Some name }
+    ensures { (w : World) → run.told w said.now reply ≡ result }
+{
+    let device = name;
+    match said {
+        Command::OpenDev(_) => Act::OpenDev { device, reply },
+        Command::OpenSole(_) => Act::OpenSole { device, reply },
+        Command::CloseDev(_) => Act::CloseDev { device, reply },
+        Command::Io(_, value) => Act::IoStart {
+            device,
+            value: *value,
+            reply,
+        },
+        Command::Detach(_) => Act::Detach { device, reply },
+        Command::Rescan { .. } => Act::Rescan { device, reply },
+        Command::Suspend(_) => Act::Power {
+            kind: PowerKind::Suspend,
+            device,
+            reply,
+        },
+        Command::Resume(_) => Act::Power {
+            kind: PowerKind::Resume,
+            device,
+            reply,
+        },
+        Command::ResumeTree(_) => Act::Power {
+            kind: PowerKind::ResumeTree,
+            device,
+            reply,
+        },
+        Command::Plug(_) => Act::Plug {
+            spot: device,
+            reply,
+        },
+        Command::Unplug(_) => Act::Unplug {
+            spot: device,
+            reply,
+        },
+        Command::ListDev(_) => unreachable!(),
+        Command::TreeDev(_) => unreachable!(),
+    }
+}
+
 /// A command that was refused, or had its effect.
 fn command_act(
     alloc: Global,
@@ -182,56 +243,12 @@ fn command_act(
     requires live { AnswersLive core.now.tree.live refused }
     ensures { IfOk result (λ a. a ≡ run.told (world_of setup.now core.now) said.now (answer_by (world_of setup.now core.now) refused)) }
 {
-    match said {
-        Command::OpenDev(name) => {
-            let (device, reply) = answered(alloc, setup, core, name, refused)?;
-            Ok(Act::OpenDev { device, reply })
-        }
-        Command::OpenSole(name) => {
-            let (device, reply) = answered(alloc, setup, core, name, refused)?;
-            Ok(Act::OpenSole { device, reply })
-        }
-        Command::CloseDev(name) => {
-            let (device, reply) = answered(alloc, setup, core, name, refused)?;
-            Ok(Act::CloseDev { device, reply })
-        }
-        Command::Io(name, value) => {
-            let (device, reply) = answered(alloc, setup, core, name, refused)?;
-            Ok(Act::IoStart {
-                device,
-                value: *value,
-                reply,
-            })
-        }
-        Command::Detach(name) => {
-            let (device, reply) = answered(alloc, setup, core, name, refused)?;
-            Ok(Act::Detach { device, reply })
-        }
-        Command::Rescan {
-            device: name,
-            attr: _,
-            given: _,
-        } => {
-            let (device, reply) = answered(alloc, setup, core, name, refused)?;
-            Ok(Act::Rescan { device, reply })
-        }
-        Command::ListDev(name) => list_act(alloc, setup, core, name),
-        Command::TreeDev(name) => tree_act(alloc, setup, core, name),
-        Command::Suspend(name) => {
-            power_act(alloc, setup, core, PowerKind::Suspend, name, refused)
-        }
-        Command::Resume(name) => power_act(alloc, setup, core, PowerKind::Resume, name, refused),
-        Command::ResumeTree(name) => {
-            power_act(alloc, setup, core, PowerKind::ResumeTree, name, refused)
-        }
-        Command::Plug(name) => {
-            let (spot, reply) = answered(alloc, setup, core, name, refused)?;
-            Ok(Act::Plug { spot, reply })
-        }
-        Command::Unplug(name) => {
-            let (spot, reply) = answered(alloc, setup, core, name, refused)?;
-            Ok(Act::Unplug { spot, reply })
-        }
+    match name_given(said) {
+        Some(name) => match answered(alloc, setup, core, name, refused) {
+            Ok((name, reply)) => Ok(named_act(said, name, reply)),
+            Err(_) => Err(Memory),
+        },
+        None => listing_act(alloc, setup, core, said),
     }
 }
 

@@ -4,6 +4,7 @@ use Rattle.std.specs.Prelude.{MatchOption, OnOk, OnErr, is_err}
 use Rattle.std.specs.declared.result.Result.{Result}
 use Rattle.std.specs.declared.result.Result.TheVariants.{Ok, Err}
 use Rattle.std.specs.List.{list_any, zip}
+use Rattle.std.proofs.lemmas.Bool.{eq-eqb}
 use Rattle.std.proofs.lemmas.List.Elements.{filter-append}
 use Rattle.run_rules.specs.declared.world.Setup.{Setup}
 use Rattle.run_rules.specs.declared.world.Dev.{Dev}
@@ -14,12 +15,22 @@ use Rattle.run_rules.specs.Search.{is_taken}
 use Rattle.run_rules.specs.After.{same_key}
 use Rattle.defer_queue.specs.Queue.{TakesLast, entry_of, entries_of}
 use Rattle.defer_queue.proofs.Queues.{key_itself, put_undone}
+use Rattle.unit_alloc.specs.Taken as alloc
+use Rattle.unit_alloc.specs.Taken.{TakenToo}
 
 -- a name is there exactly where its unit is taken
 pub named_is : (s : Setup) (live : List Dev) (device unit : ℕ)
     → list_any (λ (p : Dev × ℕ). p.1 == device && p.0.unit == unit) (zip live (map (λ d. driver_of s d.row) live)) ≡ is_taken s live device unit
 named_is s [] device unit = refl
 named_is s (d ∷ ds) device unit = ap (λ b. (driver_of s d.row == device && d.unit == unit) || b) (named_is s ds device unit)
+
+or_true : (b : Bool) → (b || true) ≡ true
+or_true true = refl
+or_true false = refl
+
+-- a unit that was taken just now is taken
+pub own_taken : (old new : List (List ℕ)) (device unit : ℕ) → TakenToo old new device unit → alloc.is_taken new device unit ≡ true
+own_taken old new device unit more = more.taken device unit ∙ rw (eq-eqb device device refl, eq-eqb unit unit refl) (or_true (alloc.is_taken old device unit))
 
 on_ok : {A B : Type 0} (P : Type 0) (r : Result A B) → is_err r ≡ false → OnOk r P → P
 on_ok P (Ok x) e h = h

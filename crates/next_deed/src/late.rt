@@ -8,7 +8,7 @@ ghost use Rattle.run_world.specs.Late as late;
 ghost use Rattle.run_world.specs.Sites.{world_at};
 ghost use Rattle.next_deed.specs.Turns.{is_late_at};
 
-use cf_types::Place;
+use cf_types::{Place, Spot};
 use run_rules::Dev;
 use run_world::{Core, Site, driver_of, has, has_spot};
 use scan_engine::offered;
@@ -32,21 +32,21 @@ fn offers_place(offered: &[u32], place: Place) -> bool
 }
 
 /// Whether a spot hangs below the device, on an attribute that the device offers.
+fn is_below(site: &Site, device: Dev, spot: &Spot) -> bool
+    ensures { result ≡ next.hangs_below site.now.setup device spot.now }
+{
+    let driver = driver_of(&site.setup, device.row);
+    let offers = offered(&site.graph, &site.setup.tables, driver);
+    let placed = offers_place(offers, spot.place);
+    is_number(spot.parent, device.spot) && placed
+}
+
+/// Whether the spot of a number does.
 fn hangs_below(site: &Site, device: Dev, spot: u16) -> bool
     ensures { result ≡ option_map_or (next.hangs_below site.now.setup device) (slice_get site.now.setup.machine.spots spot) false }
 {
     match site.setup.machine.spots.items().get(spot as usize) {
-        Some(s) => {
-            is_number(s.parent, device.spot)
-                && offers_place(
-                    offered(
-                        &site.graph,
-                        &site.setup.tables,
-                        driver_of(&site.setup, device.row),
-                    ),
-                    s.place,
-                )
-        }
+        Some(s) => is_below(site, device, s),
         None => false,
     }
 }

@@ -1,9 +1,11 @@
-use Rattle.std.proofs.Common.{◌≡◌, ◌<◌, ◌∙◌, refl, ap, arith, length, slice_set}
+use Rattle.run_rules.specs.declared.world.Arrival.{Arrival}
+use Rattle.std.specs.Prelude.{IfSome, Option}
+use Rattle.std.proofs.Common.{◌≡◌, ◌<◌, ◌∙◌, refl, ap, arith, length, slice_set, subst}
 use Rattle.std.specs.List.{slice_index_or}
 use Rattle.std.proofs.lemmas.List.{length-map}
 use Rattle.run_rules.specs.World.{World, caller_at, nobody}
 use Rattle.run_world.specs.View.{world_of, callers_of, caller_of}
-use Rattle.run_world.specs.Arrivals.{searched_too, finalised_too, called_too}
+use Rattle.run_world.specs.Arrivals.{MayArrive, searched_too, finalised_too, called_too}
 use Rattle.run_world.proofs.CallerLaws.{map_set, at_is}
 use Rattle.dev_board.proofs.AttachLaws.{attached_is}
 use Rattle.dev_board.proofs.attach.arrive.Goals as goal
@@ -31,3 +33,35 @@ returns-clause-ok c =
     (c.finaliser_placing-finaliser.ensures ∙ rw (c.policy_of-policy.ensures, c.is_ended.ensures s) refl)
     (c.scan_placing-scan.ensures ∙ rw (c.policy_of-policy.ensures, c.offered-offers.ensures, c.driver_of.ensures) refl)
     (rw (called, placed) (ap (λ (v : World). record v { finalisers = called_too f w.finalisers w.next; callers = slice_set w.callers k (searched_too p (finalised_too f (caller_at w k) w.next) w.next) }) c.in_ok-serial.ensures.ok.world)))
+
+pub list-requires-clause-books : goal.list-requires-clause-books
+list-requires-clause-books c = c.requires.books
+
+pub list-requires-clause-next : goal.list-requires-clause-next
+list-requires-clause-next c = c.requires.next
+
+pub list-requires-clause-may : goal.list-requires-clause-may
+list-requires-clause-may c = subst (λ (o : Option Arrival). IfSome o (MayArrive c.args.site.now.setup c.args.core.now.tree.live)) c.in-Some.is c.requires.may
+
+pub call_later-requires : goal.call_later-requires
+call_later-requires c = rw c.in_ok-serial.ensures.ok.finalisers c.requires.call_room
+
+pub returns-clause-books : goal.returns-clause-books
+returns-clause-books c = record {
+  marks = c.list.ensures.books.marks;
+  units = c.list.ensures.books.units;
+  drivers = c.list.ensures.books.drivers;
+}
+
+pub returns-clause-aside : goal.returns-clause-aside
+returns-clause-aside c = record {
+  stops = c.in_ok-serial.ensures.ok.aside.stops;
+  stopped = c.in_ok-serial.ensures.ok.aside.stopped;
+  events = c.in_ok-serial.ensures.ok.aside.events;
+}
+
+pub returns-in_err-serial-clause-books : goal.returns-in_err-serial-clause-books
+returns-in_err-serial-clause-books c = c.list.ensures.books
+
+pub returns-in_err-serial-clause-aside : goal.returns-in_err-serial-clause-aside
+returns-in_err-serial-clause-aside c = c.in_err-serial.ensures.err.aside

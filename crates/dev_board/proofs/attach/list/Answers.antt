@@ -2,10 +2,11 @@ use Rattle.std.proofs.Common.{◌≡◌, ◌∷◌, [], ◌∙◌, ℕ, false, r
 use Rattle.std.proofs.lemmas.List.{map-append}
 use Rattle.run_rules.specs.After.{listed, new_device}
 use Rattle.run_rules.specs.World.{driver_of}
+use Rattle.run_rules.proofs.OwnNames.{row_driver}
 use Rattle.run_world.specs.View.{world_of}
 use Rattle.run_world.specs.Arrivals.{put_off_too}
-use Rattle.dev_board.proofs.ArriveLaws.{err_of, named_is, ok_of}
-use Rattle.dev_board.proofs.MarkLaws.{more_marks}
+use Rattle.dev_board.proofs.ArriveLaws.{err_of, named_is, ok_of, own_taken}
+use Rattle.dev_board.proofs.MarkLaws.{more_marks, same_length}
 use Rattle.run_rules.specs.Search as rule
 use Rattle.run_world.proofs.UnitLaws.{more_units, same_units}
 use Rattle.unit_alloc.specs.Taken.{is_taken}
@@ -16,6 +17,37 @@ attach-requires-clause-name c =
     let s = c.args.site.now.setup in
     let live = c.args.core.now.tree.live in
     rw (c.requires.books.drivers, named_is s live c.driver_of-driver.result c.args.arrival.unit, c.driver_of-driver.ensures) c.requires.may.unit
+
+-- ---- the unit is of a device that is there, and free
+
+pub take-requires-clause-device : goal.take-requires-clause-device
+take-requires-clause-device c =
+    rw (c.driver_of-driver.ensures, c.requires.books.units.devices) (row_driver c.args.site.now.setup c.args.arrival.row c.args.site.now.bounded.tables.formed c.requires.may.row)
+
+pub take-requires-clause-free : goal.take-requires-clause-free
+take-requires-clause-free c =
+    c.requires.books.units.taken c.driver_of-driver.result c.args.arrival.unit
+    ∙ ap (λ (x : ℕ). rule.is_taken c.args.site.now.setup c.args.core.now.tree.live x c.args.arrival.unit) c.driver_of-driver.ensures ∙ c.requires.may.unit
+
+pub give-requires-clause-device : goal.give-requires-clause-device
+give-requires-clause-device c =
+    rw (c.in_ok-take.ensures.ok.devices, c.driver_of-driver.ensures, c.requires.books.units.devices) (row_driver c.args.site.now.setup c.args.arrival.row c.args.site.now.bounded.tables.formed c.requires.may.row)
+
+pub give-requires-clause-taken : goal.give-requires-clause-taken
+give-requires-clause-taken c = own_taken c.args.core.now.units c.take.new.self c.driver_of-driver.result c.args.arrival.unit c.in_ok-take.ensures.ok
+
+pub give-requires-in-Err-clause-device : goal.give-requires-in-Err-clause-device
+give-requires-in-Err-clause-device c =
+    rw (c.in_ok-take.ensures.ok.devices, c.driver_of-driver.ensures, c.requires.books.units.devices) (row_driver c.args.site.now.setup c.args.arrival.row c.args.site.now.bounded.tables.formed c.requires.may.row)
+
+pub give-requires-in-Err-clause-taken : goal.give-requires-in-Err-clause-taken
+give-requires-in-Err-clause-taken c = own_taken c.args.core.now.units c.take.new.self c.driver_of-driver.result c.args.arrival.unit c.in_ok-take.ensures.ok
+
+pub set_rows-requires-clause-length : goal.set_rows-requires-clause-length
+set_rows-requires-clause-length c = same_length c.args.site.now.setup c.args.core.now.tree.live c.args.core.now.rows c.requires.books.marks
+
+pub returns-in-Ok-clause-serial : goal.returns-in-Ok-clause-serial
+returns-in-Ok-clause-serial c = c.in-Ok.ensures.serial
 
 pub returns-in-Ok-clause-ok : goal.returns-in-Ok-clause-ok
 unfolding listed

@@ -74,3 +74,69 @@ returns-then-is_none-clause-ok c = λ of.
     hidden_now w (world_of s c.arrive.new.core) k c.args.got c.args.shown _ c.in_ok-arrive.ensures.ok c.show.ensures ∙ ap (shown_now w.hidden) quiet in
     frame_over w _ k of c.args.shown c.args.got c.args.listed c.args.anew quiet nothing c.in-None.is
     (rw (hidden, set) (ap (λ (v : World). record v { hidden = w.hidden; callers = slice_set w.callers k (framed (caller_at w k) (under_top (caller_at w k).stack)) }) same)))
+
+pub arrive-requires-clause-books : goal.arrive-requires-clause-books
+arrive-requires-clause-books c = c.requires.books
+
+pub arrive-requires-clause-caller : goal.arrive-requires-clause-caller
+arrive-requires-clause-caller c = c.requires.caller
+
+pub arrive-requires-clause-may : goal.arrive-requires-clause-may
+arrive-requires-clause-may c = c.requires.may
+
+pub arrive-requires-clause-next : goal.arrive-requires-clause-next
+arrive-requires-clause-next c = c.requires.next
+
+pub arrive-requires-clause-frame_room : goal.arrive-requires-clause-frame_room
+arrive-requires-clause-frame_room c = c.requires.frame_room
+
+pub arrive-requires-clause-call_room : goal.arrive-requires-clause-call_room
+arrive-requires-clause-call_room c = c.requires.call_room
+
+pub returns-in-Some-clause-books : goal.returns-in-Some-clause-books
+returns-in-Some-clause-books c = record {
+  marks = c.arrive.ensures.books.marks;
+  units = c.arrive.ensures.books.units;
+  drivers = c.arrive.ensures.books.drivers;
+}
+
+pub returns-in-Some-clause-aside : goal.returns-in-Some-clause-aside
+returns-in-Some-clause-aside c = record {
+  stops = c.arrive.ensures.aside.stops;
+  stopped = c.arrive.ensures.aside.stopped;
+  events = c.arrive.ensures.aside.events;
+}
+
+pub returns-then-is_none-clause-books : goal.returns-then-is_none-clause-books
+returns-then-is_none-clause-books c = record {
+  marks = c.arrive.ensures.books.marks;
+  units = c.arrive.ensures.books.units;
+  drivers = c.arrive.ensures.books.drivers;
+}
+
+pub returns-then-is_none-clause-aside : goal.returns-then-is_none-clause-aside
+returns-then-is_none-clause-aside c = record {
+  stops = c.arrive.ensures.aside.stops;
+  stopped = c.arrive.ensures.aside.stopped;
+  events = c.arrive.ensures.aside.events;
+}
+
+pub returns-else-is_none-clause-books : goal.returns-else-is_none-clause-books
+returns-else-is_none-clause-books c = record {
+  marks = c.arrive.ensures.books.marks;
+  units = c.arrive.ensures.books.units;
+  drivers = c.arrive.ensures.books.drivers;
+}
+
+pub returns-else-is_none-clause-aside : goal.returns-else-is_none-clause-aside
+returns-else-is_none-clause-aside c = record {
+  stops = c.arrive.ensures.aside.stops;
+  stopped = c.arrive.ensures.aside.stopped;
+  events = c.arrive.ensures.aside.events;
+}
+
+pub returns-in_err-arrive-clause-books : goal.returns-in_err-arrive-clause-books
+returns-in_err-arrive-clause-books c = c.arrive.ensures.books
+
+pub returns-in_err-arrive-clause-aside : goal.returns-in_err-arrive-clause-aside
+returns-in_err-arrive-clause-aside c = c.arrive.ensures.aside

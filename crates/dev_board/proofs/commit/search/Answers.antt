@@ -86,3 +86,43 @@ returns-then-is_err-clause-err c =
     ∙ ap (λ (xs : List Caller). slice_set xs k (stacked (stacked (caller_at w k) (moved_top c.args.moved (caller_at w k).stack)) (moved_top c.position-was.result (moved_top c.args.moved (caller_at w k).stack)))) same
     ∙ moved_back w k c.args.moved c.position-was.result here in
     ap (λ (v : World). with_callers v (callers_of (slice_set c.arrive.new.core.callers.items k c.advance-then-is_err.new.self))) mid ∙ ap (with_callers w) back
+
+pub arrive-requires-clause-may : goal.arrive-requires-clause-may
+arrive-requires-clause-may c = c.requires.may
+
+pub arrive-requires-clause-next : goal.arrive-requires-clause-next
+arrive-requires-clause-next c = c.requires.next
+
+pub arrive-requires-clause-call_room : goal.arrive-requires-clause-call_room
+arrive-requires-clause-call_room c = c.requires.call_room
+
+pub arrive-requires-clause-books : goal.arrive-requires-clause-books
+arrive-requires-clause-books c = record {
+  marks = c.requires.books.marks;
+  units = c.requires.books.units;
+  drivers = c.requires.books.drivers;
+}
+
+pub returns-clause-books : goal.returns-clause-books
+returns-clause-books c = c.arrive.ensures.books
+
+pub returns-clause-aside : goal.returns-clause-aside
+returns-clause-aside c = record {
+  stops = c.arrive.ensures.aside.stops;
+  stopped = c.arrive.ensures.aside.stopped;
+  events = c.arrive.ensures.aside.events;
+}
+
+pub returns-then-is_err-clause-books : goal.returns-then-is_err-clause-books
+returns-then-is_err-clause-books c = record {
+  marks = c.arrive.ensures.books.marks;
+  units = c.arrive.ensures.books.units;
+  drivers = c.arrive.ensures.books.drivers;
+}
+
+pub returns-then-is_err-clause-aside : goal.returns-then-is_err-clause-aside
+returns-then-is_err-clause-aside c = record {
+  stops = c.arrive.ensures.aside.stops;
+  stopped = c.arrive.ensures.aside.stopped;
+  events = c.arrive.ensures.aside.events;
+}

@@ -17,3 +17,15 @@ returns-then-is_over-clause-world c =
     ∙ sym c.is_target-is_over.ensures ∙ c.if-is_over.true in
     c.finish.ensures.world c.args.site.now.setup ∙ ap (λ (v : World). over v k) c.free_device.ensures.world
     ∙ ap (λ (b : Bool). cond b (over (freed w of) k) (freed w of)) (sym target)
+
+pub free_device-requires : goal.free_device-requires
+free_device-requires c = record {
+  books = c.requires.books;
+  sound = c.requires.sound;
+  rows = c.requires.rows;
+  live = c.requires.live;
+  children = c.requires.children;
+}
+
+pub returns-then-is_over-clause-books : goal.returns-then-is_over-clause-books
+returns-then-is_over-clause-books c = c.finish.ensures.books c.args.site.now.setup c.free_device.ensures.books

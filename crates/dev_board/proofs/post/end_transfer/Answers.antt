@@ -20,3 +20,12 @@ returns-in-Ok-clause-ok c = record {
 
 pub returns-in-Ok-clause-told : goal.returns-in-Ok-clause-told
 returns-in-Ok-clause-told c = rw (c.append_event.ensures.told, c.finish_transfer.ensures.aside.events, c.reserve.ensures.items, c.in-Ok.ensures.event) refl
+
+pub deed_event-requires : goal.deed_event-requires
+deed_event-requires c = record {
+  kept = c.requires.kept.kept;
+  may = c.requires.kept.may;
+  calls = c.requires.kept.calls;
+  scripts = c.requires.kept.scripts;
+  chosen = c.requires.chosen;
+}

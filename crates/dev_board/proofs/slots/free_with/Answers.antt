@@ -59,3 +59,43 @@ returns-in-Err-clause-halt g c = (
     denied_so = c.in-Err.ensures.held;
   },
 )
+
+pub free-requires-clause-books : goal.free-requires-clause-books
+free-requires-clause-books g c = c.requires.books
+
+pub free-requires-clause-sound : goal.free-requires-clause-sound
+free-requires-clause-sound g c = c.requires.kept.sound.devices
+
+pub free-requires-clause-rows : goal.free-requires-clause-rows
+free-requires-clause-rows g c = c.requires.kept.ranges.rows
+
+pub free-requires-clause-caller : goal.free-requires-clause-caller
+free-requires-clause-caller g c = c.requires.caller
+
+pub returns-in-Ok-clause-freed : goal.returns-in-Ok-clause-freed
+returns-in-Ok-clause-freed g c = c.free.ensures.world
+
+pub returns-in-Ok-clause-quiet : goal.returns-in-Ok-clause-quiet
+returns-in-Ok-clause-quiet g c = c.in-Ok.ensures.quiet
+
+pub returns-in-Ok-clause-books : goal.returns-in-Ok-clause-books
+returns-in-Ok-clause-books g c = c.free.ensures.books
+
+pub returns-in-Ok-clause-aside : goal.returns-in-Ok-clause-aside
+returns-in-Ok-clause-aside g c = c.free.ensures.aside
+
+pub returns-in-Err-clause-same : goal.returns-in-Err-clause-same
+returns-in-Err-clause-same g c = refl
+
+pub returns-in-Err-clause-agree : goal.returns-in-Err-clause-agree
+returns-in-Err-clause-agree g c = c.in-Err.ensures.same ∙ c.requires.agree
+
+pub returns-in-Err-clause-books : goal.returns-in-Err-clause-books
+returns-in-Err-clause-books g c = c.requires.books
+
+pub returns-in-Err-clause-aside : goal.returns-in-Err-clause-aside
+returns-in-Err-clause-aside g c = record {
+  stops = refl;
+  stopped = refl;
+  events = refl;
+}

@@ -41,3 +41,26 @@ returns-in_default-clause-books g c = c.do_with.ensures.books
 
 pub returns-in_default-clause-aside : goal.returns-in_default-clause-aside
 returns-in_default-clause-aside g c = c.do_with.ensures.aside
+
+pub free_with-requires : goal.free_with-requires
+free_with-requires g c = record {
+  may = c.requires.may;
+  books = c.requires.books;
+  kept = c.requires.kept;
+  caller = c.requires.caller;
+  chosen = rw c.in-Free.is at c.requires.chosen;
+  agree = c.requires.agree;
+}
+
+pub do_with-requires : goal.do_with-requires
+do_with-requires g c = record {
+  may = c.requires.may;
+  books = c.requires.books;
+  kept = c.requires.kept;
+  caller = c.requires.caller;
+  chosen = c.requires.chosen;
+  agree = c.requires.agree;
+  next = c.requires.next;
+  room = c.requires.room;
+  other = c.in_default.not-Free;
+}

@@ -32,3 +32,34 @@ returns-in-Ok-clause-agree g c = c.run_deed.ensures.agree
 
 pub returns-in-Err-clause-agree : goal.returns-in-Err-clause-agree
 returns-in-Err-clause-agree g c = c.run_deed.ensures.agree
+
+pub run_deed-requires-clause-may : goal.run_deed-requires-clause-may
+run_deed-requires-clause-may g c = c.requires.kept.may
+
+pub run_deed-requires-clause-books : goal.run_deed-requires-clause-books
+run_deed-requires-clause-books g c = c.requires.kept.books
+
+pub run_deed-requires-clause-kept : goal.run_deed-requires-clause-kept
+run_deed-requires-clause-kept g c = c.requires.kept.kept
+
+pub run_deed-requires-clause-caller : goal.run_deed-requires-clause-caller
+run_deed-requires-clause-caller g c = c.requires.caller
+
+pub run_deed-requires-clause-chosen : goal.run_deed-requires-clause-chosen
+run_deed-requires-clause-chosen g c = c.requires.chosen
+
+pub run_deed-requires-clause-agree : goal.run_deed-requires-clause-agree
+run_deed-requires-clause-agree g c = c.requires.agree
+
+pub run_deed-requires-clause-room : goal.run_deed-requires-clause-room
+run_deed-requires-clause-room g c = c.requires.room
+
+pub returns-in-Ok-clause-books : goal.returns-in-Ok-clause-books
+returns-in-Ok-clause-books g c = record {
+  marks = c.run_deed.ensures.books.marks;
+  units = c.run_deed.ensures.books.units;
+  drivers = c.run_deed.ensures.books.drivers;
+}
+
+pub returns-in-Err-clause-books : goal.returns-in-Err-clause-books
+returns-in-Err-clause-books g c = c.run_deed.ensures.books

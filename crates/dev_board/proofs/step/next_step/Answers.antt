@@ -85,3 +85,23 @@ returns-in-Ok-Does-clause-denials g c = c.step_deed.ensures.denials
 
 pub returns-in-Ok-Does-clause-falls : goal.returns-in-Ok-Does-clause-falls
 returns-in-Ok-Does-clause-falls g c = c.step_deed.ensures.falls
+
+pub is_ended-requires : goal.is_ended-requires
+is_ended-requires g c = c.requires.caller
+
+pub choose-requires : goal.choose-requires
+choose-requires g c = record {
+  may = c.requires.kept.may;
+  kept = c.requires.kept.kept;
+  books = c.requires.kept.books;
+  caller = c.requires.caller;
+}
+
+pub step_deed-requires : goal.step_deed-requires
+step_deed-requires g c = record {
+  kept = c.requires.kept;
+  caller = c.requires.caller;
+  agree = c.requires.agree;
+  goes_on = c.requires.goes_on;
+  chosen = rw c.in-Ok-Does.field-0-is at c.in-Ok-Does.ensures;
+}

@@ -37,3 +37,18 @@ returns-in-Some-clause-denials g c = (refl, refl)
 
 pub returns-in-Some-clause-falls : goal.returns-in-Some-clause-falls
 returns-in-Some-clause-falls g c = λ did. absurd did
+
+pub next_step-requires-clause-kept : goal.next_step-requires-clause-kept
+next_step-requires-clause-kept g c = c.requires.kept
+
+pub next_step-requires-clause-agree : goal.next_step-requires-clause-agree
+next_step-requires-clause-agree g c = c.requires.agree
+
+pub next_step-requires-clause-goes_on : goal.next_step-requires-clause-goes_on
+next_step-requires-clause-goes_on g c = c.in-None.is
+
+pub returns-in-Some-clause-boot : goal.returns-in-Some-clause-boot
+returns-in-Some-clause-boot g c = λ boots. tt
+
+pub returns-in-Some-clause-step : goal.returns-in-Some-clause-step
+returns-in-Some-clause-step g c = (c.in-Some.is, c.of_stop.ensures, refl)

@@ -89,3 +89,15 @@ returns-in-Done-clause-denials g c = (refl, refl)
 
 pub returns-in-Done-clause-falls : goal.returns-in-Done-clause-falls
 returns-in-Done-clause-falls g c = λ did. absurd did
+
+pub reserve-requires : goal.reserve-requires
+reserve-requires g c = record {
+  caller = c.requires.caller;
+  books = c.requires.kept.books;
+}
+
+pub step_in_room-requires-clause-room : goal.step_in_room-requires-clause-room
+step_in_room-requires-clause-room g c = c.in-Ok.ensures.room
+
+pub step_in_room-requires-clause-other : goal.step_in_room-requires-clause-other
+step_in_room-requires-clause-other g c = c.in_default.not-Done

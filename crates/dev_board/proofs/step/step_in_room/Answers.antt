@@ -64,3 +64,12 @@ returns-in-Err-Waits-clause-agree g c = c.perform.ensures.agree
 
 pub returns-in-Err-Waits-clause-falls : goal.returns-in-Err-Waits-clause-falls
 returns-in-Err-Waits-clause-falls g c = λ did. absurd did
+
+pub perform-requires : goal.perform-requires
+perform-requires g c = record {
+  kept = c.requires.kept;
+  caller = c.requires.caller;
+  agree = c.requires.agree;
+  chosen = c.requires.chosen;
+  room = c.requires.room;
+}

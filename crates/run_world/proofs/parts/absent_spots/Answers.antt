@@ -1,6 +1,10 @@
 use Rattle.std.proofs.Common.{◌≡◌, length, arith}
+use Rattle.std.proofs.lemmas.Grind.{common_steps}
 use Rattle.run_rules.specs.World.{absent_spots}
 use Rattle.run_world.proofs.parts.absent_spots.Goals as goal
+
+pub loop-spot-preserved : goal.loop-spot-preserved
+loop-spot-preserved c = grind (arith, common_steps)
 
 pub returns : goal.returns
 unfolding absent_spots
