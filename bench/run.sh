@@ -24,5 +24,6 @@ rows_of text.sh 'ioconf, a text of' KiB
 rows_of ioconf.sh ioconf, statements
 rows_of files.sh files, statements
 rows_of load.sh 'load, a bus with' disks
+rows_of search.sh 'boot, 4,000 rows,' spots
 rows_of rescan.sh 'play, 1,024 spots,' rescans
 rows_of replay.sh 'replay, 1,024 spots,' KiB

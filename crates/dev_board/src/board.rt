@@ -33,6 +33,7 @@ use crate::stepped::Stepped;
 use attr_graph::graph_of;
 use cf_types::{DevLine, List, Machine, Memory, Script, Tables};
 use deed_event::tree_of;
+use match_search::RowIndex;
 use ref_ledger::Slots;
 use run_rules::{Event, Setup};
 use run_world::{Core, Site, is_occupied, opening_core};
@@ -66,9 +67,18 @@ fn site_of(alloc: Global, setup: Setup) -> Result<Site, Memory>
     requires bounded { Bounded setup }
     ensures { IfOk result (λ site. site.setup ≡ setup) }
 {
-    match graph_of(alloc, &setup.tables) {
-        Ok(graph) => Ok(Site { setup, graph }),
+    let Ok(graph) = graph_of(alloc, &setup.tables) else {
+        drop(setup);
+        return Err(Memory);
+    };
+    match RowIndex::make(alloc, &setup.tables, &setup.machine) {
+        Ok(index) => Ok(Site {
+            setup,
+            graph,
+            index,
+        }),
         Err(_) => {
+            drop(graph);
             drop(setup);
             Err(Memory)
         }

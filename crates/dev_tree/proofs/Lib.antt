@@ -6,3 +6,5 @@ pub mod Alike
 pub mod Kept
 pub mod Gone
 pub mod DriverLaws
+pub mod OnSpots
+pub mod Slept

@@ -1,10 +1,10 @@
 -- The live devices in order of attachment, as contracts see them. After the device tree of autoconf(9).
 use Rattle.std.specs.Prelude.{◌≡◌, ◌≢◌, ℕ, ◌+◌, ◌<◌, Bool, false, not, ◌&&◌, ◌==◌, IsTrue, List, [], ◌∷◌, ◌++◌, length, map, filter, find, Option, None, option_map}
-use Rattle.std.specs.List.{AllByRecursion, list_any, zip}
+use Rattle.std.specs.List.{AllByRecursion, list_any, slice_index_or, zip}
 use Rattle.run_rules.specs.declared.world.Arrival.{Arrival}
 use Rattle.run_rules.specs.declared.world.Dev.{Dev}
 use Rattle.run_rules.specs.declared.world.Setup.{Setup}
-use Rattle.run_rules.specs.World.{driver_of}
+use Rattle.run_rules.specs.World.{device_on, driver_of, serial_of}
 use Rattle.run_rules.specs.Sound.{EachLater, IsPlaced}
 
 -- the live devices, for each of them the number of its driver, and the serial of the next one
@@ -61,3 +61,7 @@ pub record AreSound (t : Devices) : Type 0 where
   pub later : EachLater (λ d e. d.serial < e.serial) t.live
   pub spots : EachLater (λ d e. d.spot ≢ e.spot) t.live
   pub names : EachLater (λ p q. IsTrue (not (p.1 == q.1 && p.0.unit == q.0.unit))) (driven t)
+
+-- of each spot the serial of the device on it
+abbrev pub AreOnSpots : List Dev → List (Option ℕ) → Type 0
+AreOnSpots live spots = (x : ℕ) → slice_index_or spots x None ≡ serial_of (device_on live x)

@@ -3,6 +3,7 @@
 
 mod lookup;
 mod mark;
+mod spots;
 mod tree;
 
 pub use run_rules::Dev;

@@ -14,6 +14,11 @@ pub fn place_of(live: &[Dev], serial: u64) -> Option<usize>
     requires { AreInOrder live.now }
     ensures { MatchOption result (world.is_live live.now serial ≡ false) (λ i. (i < length live.now) × ((d : Dev) → (slice_index_or live.now i d).serial ≡ serial)) }
 {
+    // Where no earlier device was freed, the place is one below the serial.
+    let place = (serial as usize).saturating_sub(1);
+    if place < live.len() && live[place].serial == serial {
+        return Some(place);
+    }
     live.binary_search_by_key(&serial, |device| device.serial)
         .ok()
 }
@@ -27,13 +32,6 @@ pub fn device_at(live: &[Dev], serial: u64) -> Option<Dev>
         Some(place) => Some(live[place]),
         None => None,
     }
-}
-
-/// The serial of the device on a spot.
-pub fn on_spot(live: &[Dev], spot: u16) -> Option<u64>
-    ensures { result ≡ world.serial_of (world.device_on live.now spot) }
-{
-    live.iter().find(|d| d.spot == spot).map(|d| d.serial)
 }
 
 /// The serial of the device with the driver and the unit.

@@ -3,17 +3,17 @@ ghost use Rattle.std.specs.Prelude.{◌≡◌, map};
 ghost use Rattle.run_rules.specs.After.{with_sleep, with_condemner};
 ghost use Rattle.dev_tree.specs.Tree.{AreInOrder};
 
-use crate::lookup::is_under;
+use crate::lookup::{is_under, place_of};
 use run_rules::Dev;
 
 /// Puts a device to sleep or wakes it.
 pub fn mark_sleep(live: &mut [Dev], serial: u64, asleep: bool)
+    requires { AreInOrder live.old }
     ensures { live.new ≡ map (with_sleep serial asleep) live.old }
 {
-    for device in live.iter_mut() {
-        if device.serial == serial {
-            device.asleep = asleep;
-        }
+    match place_of(live, serial) {
+        Some(place) => live[place].asleep = asleep,
+        None => {}
     }
 }
 

@@ -6,6 +6,7 @@ ghost use Rattle.dev_tree.specs.Tree.{AreSound, is_named, serial_named, with_dev
 
 use crate::lookup;
 use crate::mark::{mark_condemned, mark_sleep};
+use crate::spots::{put_on, reach, take_off};
 use cf_types::{List, Memory};
 use run_rules::Dev;
 use std::alloc::Global;
@@ -19,17 +20,19 @@ pub struct DevTree {
     live: Vec<Dev>,
     /// The number of the device definition of each device, in the same order.
     drivers: Vec<u32>,
+    /// The serial of the device on each spot.
+    spots: Vec<Option<u64>>,
     next: u64,
 }
 
 impl Model for DevTree {
-    ghost use Rattle.dev_tree.specs.Tree.{AreSound, Devices};
+    ghost use Rattle.dev_tree.specs.Tree.{AreOnSpots, AreSound, Devices};
 
     ghost Value = { Devices };
 
     ghost view = { λ tree. record { live = tree.live.items; drivers = tree.drivers.items; next = tree.next } };
 
-    ghost invariant = { λ tree. AreSound (record { live = tree.live.items; drivers = tree.drivers.items; next = tree.next }) };
+    ghost invariant = { λ tree. AreSound (record { live = tree.live.items; drivers = tree.drivers.items; next = tree.next }) × AreOnSpots tree.live.items tree.spots.items };
 }
 
 /// Appends a device to a list that has room.
@@ -49,6 +52,7 @@ impl DevTree {
             alloc,
             live: Vec::new(alloc),
             drivers: Vec::new(alloc),
+            spots: Vec::new(alloc),
             next: 1,
         }
     }
@@ -78,6 +82,7 @@ impl DevTree {
         ensures ok { OnOk result (self.new ≡ with_device self.old device (record { row = row; unit = unit; parent = parent; spot = spot })) }
         ensures err { OnErr result (self.new ≡ self.old) }
     {
+        reach(&mut self.spots, spot)?;
         self.live.reserve(1)?;
         self.drivers.push(device)?;
         let serial = self.next;
@@ -93,6 +98,7 @@ impl DevTree {
                 condemned: None,
             },
         );
+        put_on(&mut self.spots, spot, serial);
         self.next += 1;
         Ok(serial)
     }
@@ -104,8 +110,9 @@ impl DevTree {
         ensures { self.new ≡ without_device self.old serial }
     {
         if let Some(place) = lookup::place_of(&self.live, serial) {
-            self.live.remove(place);
+            let gone = self.live.remove(place);
             self.drivers.remove(place);
+            take_off(&mut self.spots, gone.spot);
         }
     }
 
@@ -120,7 +127,10 @@ impl DevTree {
     pub fn on_spot(&self, spot: u16) -> Option<u64>
         ensures { result ≡ world.serial_of (world.device_on self.now.live spot) }
     {
-        lookup::on_spot(&self.live, spot)
+        match self.spots.get(spot as usize) {
+            Some(serial) => *serial,
+            None => None,
+        }
     }
 
     /// The device of a serial.

@@ -1,11 +1,11 @@
 -- The best of the rows so far is, in the end, the first of greatest worth; and it is the winner where the truth values are
 -- the rows' liveness.
-use Rattle.std.proofs.Common.{◌≡◌, ℕ, zero, suc, ◌<◌, ◌≤◌, Bool, true, false, not, ◌&&◌, ◌||◌, nat_lt, nat_le, List, [], ◌∷◌, length, find, Option, Some, None, option_map, slice_get, slice_index_or, refl, sym, ◌∙◌, ap, arith}
+use Rattle.std.proofs.Common.{◌≡◌, ℕ, zero, suc, ◌+◌, ◌<◌, ◌≤◌, Bool, true, false, not, ◌&&◌, ◌||◌, nat_lt, nat_le, List, [], ◌∷◌, length, find, Option, Some, None, option_map, slice_get, slice_index_or, refl, sym, ◌∙◌, ap, add-one, inl, inr, arith}
 use Rattle.std.specs.List.{list_all}
 use Rattle.std.specs.Option.{option_map_or}
 use Rattle.std.proofs.lemmas.Bool.Decides.{nat_tests}
 use Rattle.std.proofs.lemmas.Option.{slice_get-map}
-use Rattle.std.proofs.lemmas.Bool.{false_from_ne_true}
+use Rattle.std.proofs.lemmas.Bool.{cases_lt, false_from_ne_true}
 use Rattle.cf_types.specs.declared.machine.Machine.{Machine}
 use Rattle.cf_types.specs.declared.tables.Place.{Place}
 use Rattle.cf_types.specs.declared.tables.Row.{Row}
@@ -17,7 +17,7 @@ use Rattle.run_rules.specs.declared.world.ParentRef.{ParentRef}
 use Rattle.run_rules.specs.declared.world.Setup.{Setup}
 use Rattle.run_rules.specs.Search.{is_live_row, fits, found_at, match_value, is_candidate, value_of, winner}
 use Rattle.run_rules.proofs.Below.{and_both, find-none, find-is, all_below, at_below}
-use Rattle.run_rules.proofs.Winner.{IsBestOf, IsBest, winner_is}
+use Rattle.run_rules.proofs.Winner.{IsBestOf, IsBest, winner_is, best_none, best_same, best_first, best_kept, best_new}
 use Rattle.match_search.specs.Best.{best_row, live_rows, may_take, worth}
 
 -- ---- the first of greatest worth
@@ -93,7 +93,25 @@ best_wins s devices p place x best h =
     (best_same_tests (may_take s.tables s.machine (live_rows s devices) p place x) (is_candidate s devices p place x) (λ q. value_of s q x) (length s.tables.rows) best
     (candidate_same s devices p place x) h)
 
-pub best_is : (t : Tables) (m : Machine) (live : List Bool) (p : ParentRef) (place : Place) (x : ℕ) (best : Option ℕ)
-    → IsBest (may_take t m live p place x) (λ q. worth t m q x) (length t.rows) best
-    → (s : Setup) (devices : List Dev) → s.tables ≡ t → s.machine ≡ m → live ≡ live_rows s devices → winner s devices p place x ≡ best
-best_is t m live p place x best h s devices tables machine marks = best_wins s devices p place x best (rw (← tables, ← machine, marks) at h)
+-- some row is the best, or none may take the spot
+best_exists : (c : ℕ → Bool) (v : ℕ → ℕ) (n : ℕ) → (best : Option ℕ) × IsBest c v n best
+best_exists c v zero = (None, best_none c v)
+best_exists c v (suc n) = let so_far = best_exists c v n in rw add-one at (more (c n) refl so_far.0 so_far.1)
+  where
+    more : (b : Bool) → c n ≡ b → (best : Option ℕ) → IsBest c v n best → (after : Option ℕ) × IsBest c v (n + 1) after
+    more false e best h = (best, best_same c v n best e h)
+    more true e None h = (Some n, best_first c v n e h)
+    more true e (Some b) h = elim (cases_lt (v b) (v n)) [
+      | inl above ↦ (Some n, best_new c v n b e above h)
+      | inr most ↦ (Some b, best_kept c v n b most h)
+    ]
+
+best_row_wins : (s : Setup) (devices : List Dev) (p : ParentRef) (place : Place) (x : ℕ) (row : Option ℕ) → row ≡ best_row s.tables s.machine (live_rows s devices) p place x
+    → winner s devices p place x ≡ row
+best_row_wins s devices p place x row e =
+    let found = best_exists (may_take s.tables s.machine (live_rows s devices) p place x) (λ q. worth s.tables s.machine q x) (length s.tables.rows) in
+    best_wins s devices p place x found.0 found.1 ∙ row_is s.tables s.machine (live_rows s devices) p place x found.0 found.1 ∙ sym e
+
+pub row_wins : (t : Tables) (m : Machine) (live : List Bool) (p : ParentRef) (place : Place) (x : ℕ) (row : Option ℕ) → row ≡ best_row t m live p place x
+    → (s : Setup) (devices : List Dev) → s.tables ≡ t → s.machine ≡ m → live ≡ live_rows s devices → winner s devices p place x ≡ row
+row_wins t m live p place x row e s devices tables machine marks = best_row_wins s devices p place x row (rw (← tables, ← machine, marks) at e)

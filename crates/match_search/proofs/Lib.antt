@@ -1,1 +1,4 @@
 pub mod BestLaws
+pub mod CandidateLaws
+pub mod IndexLaws
+pub mod ListedLaws

@@ -1,2 +1,3 @@
 pub mod Best
+pub mod Index
 pub use Rattle.run_rules.specs.Search

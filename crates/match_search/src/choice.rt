@@ -1,13 +1,16 @@
 //! The best row for a spot.
-ghost use Rattle.std.specs.Prelude.{◌≡◌, ◌≤◌, List, length, nat_lt, true};
+ghost use Rattle.std.specs.Prelude.{◌≡◌, ◌≤◌, List, find, length, nat_lt, true};
 ghost use Rattle.std.specs.Option.{option_map_or};
 ghost use Rattle.run_rules.specs.declared.world.Dev.{Dev};
 ghost use Rattle.run_rules.specs.declared.world.Setup.{Setup};
 ghost use Rattle.run_rules.specs.Search.{winner};
 ghost use Rattle.attr_graph.specs.Graphs.{IsGraphOf, declared_by};
 ghost use Rattle.match_search.specs.Best.{best_row, live_rows, may_take, worth};
+ghost use Rattle.match_search.specs.Index as listed;
+ghost use Rattle.match_search.specs.Index.{IsIndexOf};
 
-use crate::fits::{fits, passes};
+use crate::fits::{fits, names_parent, parent_offers, passes, same_place};
+use crate::index::RowIndex;
 use crate::live::LiveRows;
 use crate::value::match_value;
 use attr_graph::Graph;
@@ -60,10 +63,8 @@ fn is_above(tables: &Tables, machine: &Machine, row: u32, best: Option<u32>, spo
     }
 }
 
-/// The row that takes a spot below a parent at a place: of those that are marked live, fit, pass submatch and have a match
-/// value above 0 the one of greatest match value, the earliest among equals. None where there is none. The truth values
-/// may be any. See autoconf(9).
-pub fn best(
+/// The same, found by a look at each row of the tables.
+fn best_of_all(
     tables: &Tables,
     graph: &Graph,
     machine: &Machine,
@@ -74,10 +75,7 @@ pub fn best(
 ) -> Option<u32>
     requires graph { IsGraphOf (declared_by tables.now) graph.now }
     requires few { length tables.now.rows ≤ 8192 }
-    ensures row { result ≡ best_row tables.now machine.now live.now parent place spot }
-
-    // So it is the winner of each world whose rows are live as the truth values say.
-    ensures winner { (s : Setup) (devices : List Dev) → s.tables ≡ tables.now → s.machine ≡ machine.now → live.now ≡ live_rows s devices → winner s devices parent place spot ≡ result }
+    ensures { result ≡ best_row tables.now machine.now live.now parent place spot }
 {
     let mut best = None;
     for row in 0..tables.rows.len() as u32 {
@@ -88,4 +86,86 @@ pub fn best(
         }
     }
     best
+}
+
+/// Whether a spot hangs at a place.
+fn hangs_at(machine: &Machine, spot: u16, place: Place) -> bool
+    ensures { result ≡ listed.hangs_at machine.now spot place }
+{
+    match machine.spots.items().get(spot as usize) {
+        Some(found) => same_place(found.place, place),
+        None => false,
+    }
+}
+
+/// Whether a row is marked live, and names this parent or none.
+fn is_open_to(tables: &Tables, live: &LiveRows, parent: ParentRef, row: u16) -> bool
+    ensures { result ≡ listed.is_open_to tables.now live.now parent row }
+{
+    live.is_live(u32::from(row))
+        && match tables.rows.items().get(row as usize) {
+            Some(row) => names_parent(row.parent, parent),
+            None => false,
+        }
+}
+
+/// The first of some rows that is marked live, and names this parent or none.
+fn first_open(tables: &Tables, live: &LiveRows, parent: ParentRef, rows: &[u16]) -> Option<u16>
+    ensures { result ≡ find (listed.is_open_to tables.now live.now parent) rows.now }
+{
+    rows.iter()
+        .copied()
+        .find(|row| is_open_to(tables, live, parent, *row))
+}
+
+/// The best row for a spot. Where the spot hangs at the place, only the rows that suit it are looked at, the best first.
+fn best_row_of(
+    tables: &Tables,
+    graph: &Graph,
+    index: &RowIndex,
+    machine: &Machine,
+    live: &LiveRows,
+    parent: ParentRef,
+    place: Place,
+    spot: u16,
+) -> Option<u32>
+    requires graph { IsGraphOf (declared_by tables.now) graph.now }
+    requires index { IsIndexOf tables.now machine.now index.now }
+    requires few { length tables.now.rows ≤ 8192 }
+    ensures { result ≡ best_row tables.now machine.now live.now parent place spot }
+{
+    if !hangs_at(machine, spot, place) {
+        return best_of_all(tables, graph, machine, live, parent, place, spot);
+    }
+    if !parent_offers(graph, tables, parent, place) {
+        return None;
+    }
+    match first_open(tables, live, parent, index.rows(spot)) {
+        Some(row) => Some(u32::from(row)),
+        None => None,
+    }
+}
+
+/// The row that takes a spot below a parent at a place: of those that are marked live, fit, pass submatch and have a match
+/// value above 0 the one of greatest match value, the earliest among equals. None where there is none. The truth values
+/// may be any. See autoconf(9).
+pub fn best(
+    tables: &Tables,
+    graph: &Graph,
+    index: &RowIndex,
+    machine: &Machine,
+    live: &LiveRows,
+    parent: ParentRef,
+    place: Place,
+    spot: u16,
+) -> Option<u32>
+    requires graph { IsGraphOf (declared_by tables.now) graph.now }
+    requires index { IsIndexOf tables.now machine.now index.now }
+    requires few { length tables.now.rows ≤ 8192 }
+    ensures row { result ≡ best_row tables.now machine.now live.now parent place spot }
+
+    // So it is the winner of each world whose rows are live as the truth values say.
+    ensures winner { (s : Setup) (devices : List Dev) → s.tables ≡ tables.now → s.machine ≡ machine.now → live.now ≡ live_rows s devices → winner s devices parent place spot ≡ result }
+{
+    best_row_of(tables, graph, index, machine, live, parent, place, spot)
 }

@@ -11,7 +11,7 @@ use cf_types::{Locs, Machine, ParentSpec, Place, Row, Tables};
 use locator_rules::submatch;
 use run_rules::ParentRef;
 
-fn names_parent(spec: Option<ParentSpec>, parent: ParentRef) -> bool
+pub fn names_parent(spec: Option<ParentSpec>, parent: ParentRef) -> bool
     ensures { result ≡ rule.names_parent spec parent }
 {
     match (spec, parent) {
@@ -23,7 +23,7 @@ fn names_parent(spec: Option<ParentSpec>, parent: ParentRef) -> bool
     }
 }
 
-fn same_place(a: Place, b: Place) -> bool
+pub fn same_place(a: Place, b: Place) -> bool
     ensures { result ≡ world.same_place a b }
 {
     match (a, b) {
@@ -46,7 +46,7 @@ fn offers(graph: &Graph, tables: &Tables, device: u32, attr: u32) -> bool
     }
 }
 
-fn parent_offers(graph: &Graph, tables: &Tables, parent: ParentRef, place: Place) -> bool
+pub fn parent_offers(graph: &Graph, tables: &Tables, parent: ParentRef, place: Place) -> bool
     requires graph { IsGraphOf (declared_by tables.now) graph.now }
     ensures { result ≡ rule.parent_offers tables.now parent place }
 {

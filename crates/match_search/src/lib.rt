@@ -3,10 +3,13 @@
 
 mod choice;
 mod fits;
+mod index;
 mod live;
 mod value;
+mod values;
 
 pub use choice::best;
 pub use fits::found_at;
+pub use index::RowIndex;
 pub use live::LiveRows;
 pub use run_rules::ParentRef;

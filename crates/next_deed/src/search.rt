@@ -32,6 +32,7 @@ pub fn winner_at(site: &Site, core: &Core, parent: u64, place: Place, spot: u16)
     best(
         &site.setup.tables,
         &site.graph,
+        &site.index,
         &site.setup.machine,
         &core.rows,
         parent_ref(&site.setup, &core.tree, parent),
