@@ -35,10 +35,12 @@ fn offers_place(offered: &[u32], place: Place) -> bool
 fn is_below(site: &Site, device: Dev, spot: &Spot) -> bool
     ensures { result ≡ next.hangs_below site.now.setup device spot.now }
 {
+    if !is_number(spot.parent, device.spot) {
+        return false;
+    }
     let driver = driver_of(&site.setup, device.row);
     let offers = offered(&site.graph, &site.setup.tables, driver);
-    let placed = offers_place(offers, spot.place);
-    is_number(spot.parent, device.spot) && placed
+    offers_place(offers, spot.place)
 }
 
 /// Whether the spot of a number does.
