@@ -98,8 +98,14 @@ impl<N: Naming> SharedBoard<N> {
         } = parts;
         board.stands();
         let (books, shares) = Books::open(closings, dids, stops, board.callers());
-        let seats = deal_seats(alloc, board.spots(), shares, callers)?;
-        Ok((share(board, outside, behind, keeper, books), seats))
+        match deal_seats(alloc, board.spots(), shares, callers) {
+            Ok(seats) => Ok((share(board, outside, behind, keeper, books), seats)),
+            Err(_) => {
+                drop(board);
+                drop(books);
+                Err(Memory)
+            }
+        }
     }
 
     /// One step of the seat's caller. Where the board waits, the call waits for a notice and steps again. At an event the lease

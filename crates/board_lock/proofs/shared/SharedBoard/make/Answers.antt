@@ -60,11 +60,11 @@ share-requires-clause-table g c =
     let table = ap (λ p. p.table) c.parts.view_is ∙ c.requires.names.table in
     (c.parts.invariant.2 ∙ table, c.parts.invariant.3 ∙ table, table)
 
-pub returns-clause-count : goal.returns-clause-count
-returns-clause-count g c =
-    ap length c.in_ok-seats.ensures ∙ length_below (spots_of g.N.Naming.opening) (scripts_of g.N.Naming.opening)
+pub returns-in-Ok-clause-count : goal.returns-in-Ok-clause-count
+returns-in-Ok-clause-count g c =
+    ap length c.in-Ok.ensures ∙ length_below (spots_of g.N.Naming.opening) (scripts_of g.N.Naming.opening)
 
-pub returns-clause-each : goal.returns-clause-each
-returns-clause-each g c =
-    ap length c.in_ok-seats.ensures ∙ (length_below (spots_of g.N.Naming.opening) (scripts_of g.N.Naming.opening)
+pub returns-in-Ok-clause-each : goal.returns-in-Ok-clause-each
+returns-in-Ok-clause-each g c =
+    ap length c.in-Ok.ensures ∙ (length_below (spots_of g.N.Naming.opening) (scripts_of g.N.Naming.opening)
     ∙ sym (same_scripts c.args.board g.N.Naming.opening c.requires.names.opening))
