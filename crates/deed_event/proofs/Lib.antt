@@ -1,3 +1,4 @@
 pub mod FormedNames
 pub mod LateLaws
 pub mod FormedEvents
+pub mod WalkLaws

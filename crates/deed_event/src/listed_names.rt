@@ -3,12 +3,14 @@ ghost use Rattle.std.specs.Prelude.{◌≡◌, ◌<◌, ◌+◌, ◌++◌, ◌^�
 ghost use Rattle.run_rules.specs.Run as run;
 ghost use Rattle.run_rules.specs.Tree.{tree_below};
 ghost use Rattle.run_rules.specs.World as world;
+ghost use Rattle.dev_tree.specs.Branching.{AreBranches};
 ghost use Rattle.run_world.specs.Events.{HaveRows, IsLive, name_live};
 ghost use Rattle.run_world.specs.Input.{Bounded};
 ghost use Rattle.run_world.specs.View.{world_of};
 
-use crate::names::{parent_name, unit_name};
+use crate::names::{device_name, parent_name};
 use cf_types::{List, Memory, Name};
+use dev_tree::Branches;
 use run_rules::{DepthName, Dev, Setup};
 use run_world::{Core, device_named};
 use std::alloc::Global;
@@ -24,20 +26,16 @@ pub fn live_name(alloc: Global, setup: &Setup, core: &Core, serial: u64) -> Resu
 }
 
 /// The names of the children of a device, or of the root for 0, by serial.
-fn child_names(
-    alloc: Global,
-    setup: &Setup,
-    live: &[Dev],
-    serial: u64,
-) -> Result<List<Name>, Memory>
+fn child_names(alloc: Global, setup: &Setup, core: &Core, serial: u64) -> Result<List<Name>, Memory>
     requires bounded { Bounded setup.now }
-    requires rows { HaveRows setup.now live.now }
-    ensures { IfOk result (λ names. names ≡ map (world.name_of setup.now) (world.children live.now serial)) }
+    requires rows { HaveRows setup.now core.now.tree.live }
+    ensures { IfOk result (λ names. names ≡ map (world.name_of setup.now) (world.children core.now.tree.live serial)) }
 {
     let mut names = List::make(alloc);
+    let live = core.tree.devices();
     for device in live {
         if device.parent == serial {
-            let name = unit_name(alloc, setup, device.row, device.unit)?;
+            let name = device_name(alloc, setup, core, device)?;
             names.push(name)?;
         }
     }
@@ -56,29 +54,34 @@ pub fn list_names(
     requires rows { HaveRows setup.now core.now.tree.live }
     ensures { IfOk result (λ names. names ≡ run.list_names (world_of setup.now core.now) name.now) }
 {
-    let live = core.tree.devices();
     match name {
         Some(name) => match device_named(setup, core, name.bytes()) {
             Some(device) => {
-                let names = child_names(alloc, setup, live, device.serial)?;
+                let names = child_names(alloc, setup, core, device.serial)?;
                 Ok(Some(names))
             }
             None => Ok(None),
         },
         None => {
-            let names = child_names(alloc, setup, live, 0)?;
+            let names = child_names(alloc, setup, core, 0)?;
             Ok(Some(names))
         }
     }
 }
 
 /// The name of a device in a tree, with its depth.
-fn depth_name(alloc: Global, setup: &Setup, depth: u32, device: Dev) -> Result<DepthName, Memory>
+fn depth_name(
+    alloc: Global,
+    setup: &Setup,
+    core: &Core,
+    depth: u32,
+    device: &Dev,
+) -> Result<DepthName, Memory>
     requires bounded { Bounded setup.now }
-    requires row { device.row < length setup.now.tables.rows }
-    ensures { IfOk result (λ d. d ≡ run.depth_name setup.now (depth, device)) }
+    requires row { device.now.row < length setup.now.tables.rows }
+    ensures { IfOk result (λ d. d ≡ run.depth_name setup.now (depth, device.now)) }
 {
-    let name = unit_name(alloc, setup, device.row, device.unit)?;
+    let name = device_name(alloc, setup, core, device)?;
     Ok(DepthName { depth, name })
 }
 
@@ -86,35 +89,36 @@ fn depth_name(alloc: Global, setup: &Setup, depth: u32, device: Dev) -> Result<D
 fn push_names(
     alloc: Global,
     setup: &Setup,
-    live: &[Dev],
+    core: &Core,
+    branches: &Branches,
     levels: u32,
     depth: u32,
     parent: u64,
     names: &mut List<DepthName>,
 ) -> Result<(), Memory>
     requires bounded { Bounded setup.now }
-    requires rows { HaveRows setup.now live.now }
+    requires rows { HaveRows setup.now core.now.tree.live }
+    requires branches { AreBranches core.now.tree.live branches.now }
     requires shallow { depth + levels < 2 ^ 32 }
-    ensures { OnOk result (names.new ≡ names.old ++ map (run.depth_name setup.now) (tree_below levels live.now depth parent)) }
+    ensures { OnOk result (names.new ≡ names.old ++ map (run.depth_name setup.now) (tree_below levels core.now.tree.live depth parent)) }
 {
     if levels == 0 {
         return Ok(());
     }
-    for index in 0..live.len() {
-        let device = live[index];
-        if device.parent == parent {
-            let name = depth_name(alloc, setup, depth, device)?;
-            names.push(name)?;
-            push_names(
-                alloc,
-                setup,
-                live,
-                levels - 1,
-                depth + 1,
-                device.serial,
-                names,
-            )?;
-        }
+    let children = branches.below(&core.tree, parent);
+    for device in children {
+        let name = depth_name(alloc, setup, core, depth, device)?;
+        names.push(name)?;
+        push_names(
+            alloc,
+            setup,
+            core,
+            branches,
+            levels - 1,
+            depth + 1,
+            device.serial,
+            names,
+        )?;
     }
     Ok(())
 }
@@ -123,23 +127,25 @@ fn push_names(
 fn names_from(
     alloc: Global,
     setup: &Setup,
-    live: &[Dev],
+    core: &Core,
     top: Dev,
 ) -> Result<List<DepthName>, Memory>
     requires bounded { Bounded setup.now }
-    requires rows { HaveRows setup.now live.now }
+    requires rows { HaveRows setup.now core.now.tree.live }
     requires row { top.row < length setup.now.tables.rows }
-    requires few { length live.now + 1 < 2 ^ 32 }
-    ensures { IfOk result (λ names. names ≡ map (run.depth_name setup.now) ((0, top) ∷ tree_below (length live.now) live.now 1 top.serial)) }
+    requires few { length core.now.tree.live + 1 < 2 ^ 32 }
+    ensures { IfOk result (λ names. names ≡ map (run.depth_name setup.now) ((0, top) ∷ tree_below (length core.now.tree.live) core.now.tree.live 1 top.serial)) }
 {
+    let branches = Branches::of(alloc, &core.tree)?;
     let mut names = List::make(alloc);
-    let first = depth_name(alloc, setup, 0, top)?;
+    let first = depth_name(alloc, setup, core, 0, &top)?;
     names.push(first)?;
     push_names(
         alloc,
         setup,
-        live,
-        live.len() as u32,
+        core,
+        &branches,
+        core.tree.count() as u32,
         1,
         top.serial,
         &mut names,
@@ -148,14 +154,24 @@ fn names_from(
 }
 
 /// The names of all that stands below the root, depth first.
-fn names_of_all(alloc: Global, setup: &Setup, live: &[Dev]) -> Result<List<DepthName>, Memory>
+fn names_of_all(alloc: Global, setup: &Setup, core: &Core) -> Result<List<DepthName>, Memory>
     requires bounded { Bounded setup.now }
-    requires rows { HaveRows setup.now live.now }
-    requires few { length live.now + 1 < 2 ^ 32 }
-    ensures { IfOk result (λ names. names ≡ map (run.depth_name setup.now) (tree_below (length live.now) live.now 0 0)) }
+    requires rows { HaveRows setup.now core.now.tree.live }
+    requires few { length core.now.tree.live + 1 < 2 ^ 32 }
+    ensures { IfOk result (λ names. names ≡ map (run.depth_name setup.now) (tree_below (length core.now.tree.live) core.now.tree.live 0 0)) }
 {
+    let branches = Branches::of(alloc, &core.tree)?;
     let mut names = List::make(alloc);
-    push_names(alloc, setup, live, live.len() as u32, 0, 0, &mut names)?;
+    push_names(
+        alloc,
+        setup,
+        core,
+        &branches,
+        core.tree.count() as u32,
+        0,
+        0,
+        &mut names,
+    )?;
     Ok(names)
 }
 
@@ -172,17 +188,16 @@ pub fn tree_names(
     requires few { length core.now.tree.live + 1 < 2 ^ 32 }
     ensures { IfOk result (λ names. names ≡ run.tree_names (world_of setup.now core.now) name.now) }
 {
-    let live = core.tree.devices();
     match name {
         Some(name) => match device_named(setup, core, name.bytes()) {
             Some(device) => {
-                let names = names_from(alloc, setup, live, device)?;
+                let names = names_from(alloc, setup, core, device)?;
                 Ok(Some(names))
             }
             None => Ok(None),
         },
         None => {
-            let names = names_of_all(alloc, setup, live)?;
+            let names = names_of_all(alloc, setup, core)?;
             Ok(Some(names))
         }
     }

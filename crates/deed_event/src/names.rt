@@ -32,27 +32,33 @@ pub fn unit_name(alloc: Global, setup: &Setup, row: u32, unit: u32) -> Result<Na
     joined(alloc, driver_name(setup, driver_of(setup, row)), unit)
 }
 
-/// The device that the last event tells, if it is one that a search tells at each event. Whoever takes it compares it first.
-fn last_device(events: &[Event]) -> Option<&Name> {
-    match events.last() {
-        Some(event) => match &event.act {
-            Act::Found { parent, .. } => Some(parent),
-            Act::ScanEnd { device } => Some(device),
-            Act::Rescan { device, .. } => Some(device),
-            _ => None,
-        },
-        None => None,
+/// The name that an event tells of a device that came.
+fn told_name(event: &Event) -> Option<&Name> {
+    match &event.act {
+        Act::Found { got: Some(got), .. } => Some(&got.name),
+        Act::Final {
+            shown: Some(Shown { got: Some(got), .. }),
+            ..
+        } => Some(&got.name),
+        _ => None,
     }
 }
 
-/// The name of a device. Where the last event tells it too, the name is shared with that event, since a search tells the
-/// same device over and over; else it is made anew.
-fn device_name(alloc: Global, setup: &Setup, events: &[Event], device: &Dev) -> Result<Name, Memory>
+/// The name that was told when a device came to a spot last. Whoever takes it compares it first.
+fn last_name(core: &Core, spot: u16) -> Option<&Name> {
+    let place = core.came.get(spot as usize)?;
+    let event = core.events.get(*place as usize)?;
+    told_name(event)
+}
+
+/// The name of a device. It is shared with the event that told the device when it came; where that tells another one, the
+/// name is made anew.
+pub fn device_name(alloc: Global, setup: &Setup, core: &Core, device: &Dev) -> Result<Name, Memory>
     requires bounded { Bounded setup.now }
     requires row { device.now.row < length setup.now.tables.rows }
     ensures { IfOk result (λ n. n ≡ world.name_of setup.now device.now) }
 {
-    match last_device(events) {
+    match last_name(core, device.spot) {
         Some(name) => {
             if is_called(setup, device, name.bytes()) {
                 Ok(name.clone()?)
@@ -72,7 +78,7 @@ pub fn parent_name(alloc: Global, setup: &Setup, core: &Core, serial: u64) -> Re
     ensures { IfOk result (λ n. n ≡ world.parent_name setup.now core.now.tree.live serial) }
 {
     match core.tree.get(serial) {
-        Some(device) => device_name(alloc, setup, &core.events, &device),
+        Some(device) => device_name(alloc, setup, core, &device),
         None => Name::make(alloc, b"root"),
     }
 }

@@ -1,12 +1,14 @@
 //! The lines of the device tree.
 ghost use Rattle.std.specs.Prelude.{◌≡◌, ◌<◌, ◌+◌, ◌++◌, ◌^◌, IfOk, OnOk, length, map};
 ghost use Rattle.run_rules.specs.Tree as rule;
+ghost use Rattle.dev_tree.specs.Branching.{AreBranches};
 ghost use Rattle.run_world.specs.Events.{HaveRows};
 ghost use Rattle.run_world.specs.Input.{Bounded};
 ghost use Rattle.run_world.specs.View.{world_of};
 
-use crate::names::{parent_name, unit_name};
+use crate::names::{device_name, parent_name};
 use cf_types::{DevLine, List, Memory};
+use dev_tree::Branches;
 use run_rules::{Dev, Setup};
 use run_world::Core;
 use std::alloc::Global;
@@ -18,14 +20,14 @@ fn line_of(
     setup: &Setup,
     core: &Core,
     depth: u32,
-    device: Dev,
+    device: &Dev,
 ) -> Result<DevLine, Memory>
     requires bounded { Bounded setup.now }
     requires rows { HaveRows setup.now core.now.tree.live }
-    requires row { device.row < length setup.now.tables.rows }
-    ensures { IfOk result (λ line. line ≡ rule.dev_line (world_of setup.now core.now) (depth, device)) }
+    requires row { device.now.row < length setup.now.tables.rows }
+    ensures { IfOk result (λ line. line ≡ rule.dev_line (world_of setup.now core.now) (depth, device.now)) }
 {
-    let name = unit_name(alloc, setup, device.row, device.unit)?;
+    let name = device_name(alloc, setup, core, device)?;
     let parent = parent_name(alloc, setup, core, device.parent)?;
     let holders = core.refs.holds_on(alloc, device.serial)?;
     Ok(DevLine {
@@ -44,7 +46,7 @@ fn push_below(
     alloc: Global,
     setup: &Setup,
     core: &Core,
-    live: &[Dev],
+    branches: &Branches,
     levels: u32,
     depth: u32,
     parent: u64,
@@ -52,29 +54,27 @@ fn push_below(
 ) -> Result<(), Memory>
     requires bounded { Bounded setup.now }
     requires rows { HaveRows setup.now core.now.tree.live }
-    requires live { live.now ≡ core.now.tree.live }
+    requires branches { AreBranches core.now.tree.live branches.now }
     requires shallow { depth + levels < 2 ^ 32 }
-    ensures { OnOk result (lines.new ≡ lines.old ++ map (rule.dev_line (world_of setup.now core.now)) (rule.tree_below levels live.now depth parent)) }
+    ensures { OnOk result (lines.new ≡ lines.old ++ map (rule.dev_line (world_of setup.now core.now)) (rule.tree_below levels core.now.tree.live depth parent)) }
 {
     if levels == 0 {
         return Ok(());
     }
-    for index in 0..live.len() {
-        let device = live[index];
-        if device.parent == parent {
-            let line = line_of(alloc, setup, core, depth, device)?;
-            lines.push(line)?;
-            push_below(
-                alloc,
-                setup,
-                core,
-                live,
-                levels - 1,
-                depth + 1,
-                device.serial,
-                lines,
-            )?;
-        }
+    let children = branches.below(&core.tree, parent);
+    for device in children {
+        let line = line_of(alloc, setup, core, depth, device)?;
+        lines.push(line)?;
+        push_below(
+            alloc,
+            setup,
+            core,
+            branches,
+            levels - 1,
+            depth + 1,
+            device.serial,
+            lines,
+        )?;
     }
     Ok(())
 }
@@ -86,12 +86,13 @@ pub fn tree_of(alloc: Global, setup: &Setup, core: &Core) -> Result<List<DevLine
     requires few { length core.now.tree.live < 2 ^ 32 }
     ensures { IfOk result (λ lines. lines ≡ rule.tree_lines (world_of setup.now core.now)) }
 {
+    let branches = Branches::of(alloc, &core.tree)?;
     let mut lines = List::make(alloc);
     push_below(
         alloc,
         setup,
         core,
-        core.tree.devices(),
+        &branches,
         core.tree.count() as u32,
         0,
         0,

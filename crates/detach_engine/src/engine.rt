@@ -1,12 +1,22 @@
-ghost use Rattle.std.specs.Prelude.{◌≡◌, IsTrue};
+ghost use Rattle.std.specs.Prelude.{◌≡◌, ◌&&◌, ◌||◌, not, IsTrue};
 ghost use Rattle.run_rules.specs.Next as next;
-ghost use Rattle.run_rules.specs.World.{is_live, is_number, serial_of};
+ghost use Rattle.run_rules.specs.World.{has, holds_in, is_condemned, is_live, is_number, serial_of};
 ghost use Rattle.detach_engine.specs.Hindrance.{hindrance, stands_in_way};
 
 use crate::marks::Marks;
 use dev_tree::DevTree;
 use ref_ledger::Refs;
 use run_rules::Dev;
+
+/// Whether a device may not go now: its driver, a scan, another freeing or a reference of the caller keeps it.
+fn is_kept(refs: &Refs, marks: &Marks, caller: u8, forced: bool, device: &Dev) -> bool
+    ensures { result ≡ ((not forced && has marks.now.undetachable device.now.serial) || has marks.now.pinned device.now.serial || is_condemned device.now || holds_in refs.now.refs caller device.now.serial) }
+{
+    (!forced && marks.is_undetachable(device.serial))
+        || marks.is_pinned(device.serial)
+        || device.condemned.is_some()
+        || refs.holds(device.serial, caller)
+}
 
 /// Whether the device keeps the target's subtree from going.
 fn stands_in_way(
@@ -20,11 +30,7 @@ fn stands_in_way(
 ) -> bool
     ensures { result ≡ stands_in_way tree.now.live refs.now.refs marks.now target caller forced device.now }
 {
-    tree.is_under(device.serial, target)
-        && ((!forced && marks.is_undetachable(device.serial))
-            || marks.is_pinned(device.serial)
-            || device.condemned.is_some()
-            || refs.holds(device.serial, caller))
+    is_kept(refs, marks, caller, forced, device) && tree.is_under(device.serial, target)
 }
 
 /// The device of least serial that keeps the target's subtree from going: its driver does not support detaching, unless

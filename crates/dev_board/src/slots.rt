@@ -131,7 +131,7 @@ fn condemn_too<S: Slots>(slots: &mut S, site: &Site, core: &Core, target: Option
 }
 
 /// The device that comes by a deed.
-fn got_of(deed: Deed) -> Option<Arrival>
+pub fn got_of(deed: Deed) -> Option<Arrival>
     ensures { result ≡ arrivals.got_of deed }
 {
     match deed {

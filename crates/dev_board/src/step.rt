@@ -17,7 +17,7 @@ ghost use Rattle.run_world.specs.Sites.{world_at};
 
 use crate::history::append_event;
 use crate::lease::lease_of;
-use crate::slots::{Halt, run_deed};
+use crate::slots::{Halt, got_of, run_deed};
 use crate::stepped::Stepped;
 use crate::told::Told;
 use cf_types::Memory;
@@ -42,6 +42,15 @@ fn frames_for(core: &Core, deed: Deed) -> usize
     }
 }
 
+/// Notes for the spot of the device that comes by a deed, if one does, the place of the event that tells it.
+fn note_coming(came: &mut Vec<u64>, deed: Deed, place: u64) {
+    if let Some(arrival) = got_of(deed) {
+        if let Some(noted) = came.get_mut(arrival.spot as usize) {
+            *noted = place;
+        }
+    }
+}
+
 /// Makes room for all that a deed may append; what the board shows stays.
 fn reserve(setup: &Setup, core: &mut Core, caller: u8, deed: Deed) -> Result<(), Memory>
     requires caller { caller < length core.old.callers.items }
@@ -54,6 +63,8 @@ fn reserve(setup: &Setup, core: &mut Core, caller: u8, deed: Deed) -> Result<(),
     core.callers[caller as usize].stack.reserve(frames)?;
     core.finalisers.reserve(1)?;
     core.events.reserve(1)?;
+    let place = core.events.len() as u64;
+    note_coming(&mut core.came, deed, place);
     Ok(())
 }
 

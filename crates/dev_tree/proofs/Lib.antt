@@ -8,3 +8,5 @@ pub mod Gone
 pub mod DriverLaws
 pub mod OnSpots
 pub mod Slept
+pub mod BranchLaws
+pub mod RestLaws

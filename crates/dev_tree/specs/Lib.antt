@@ -1,3 +1,5 @@
+pub mod Branching
+pub mod Rest
 pub mod Tree
 pub use Rattle.run_rules.specs.World
 pub use Rattle.run_rules.specs.Search

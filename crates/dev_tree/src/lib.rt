@@ -1,10 +1,13 @@
 //! The live devices: which there are, where each stands, and what is below what.
 #![tactic(auto)]
 
+mod branches;
 mod lookup;
 mod mark;
+mod resting;
 mod spots;
 mod tree;
 
+pub use branches::Branches;
 pub use run_rules::Dev;
 pub use tree::DevTree;

@@ -1,11 +1,13 @@
-ghost use Rattle.std.specs.Prelude.{◌≡◌, ◌<◌, ◌+◌, ◌-◌, ◌^◌, ◌||◌, ◌==◌, false, true, IsTrue, [], ◌∷◌, ◌++◌, vec_len, vec_capacity, map, length, slice_get, IfOk, OnOk, OnErr};
+ghost use Rattle.std.specs.Prelude.{◌≡◌, ◌<◌, ◌+◌, ◌-◌, ◌^◌, ◌||◌, ◌==◌, Bool, false, true, IsTrue, [], ◌∷◌, ◌++◌, vec_len, vec_capacity, find, reverse, map, length, slice_get, IfOk, OnOk, OnErr};
 ghost use Rattle.run_rules.specs.After.{with_sleep, with_condemner};
 ghost use Rattle.run_rules.specs.Search.{is_occupied};
 ghost use Rattle.run_rules.specs.World as world;
 ghost use Rattle.dev_tree.specs.Tree.{AreSound, is_named, serial_named, with_device, without_device};
+ghost use Rattle.run_rules.specs.declared.world.Dev.{Dev};
 
 use crate::lookup;
 use crate::mark::{mark_condemned, mark_sleep};
+use crate::resting::Resting;
 use crate::spots::{put_on, reach, take_off};
 use cf_types::{List, Memory};
 use run_rules::Dev;
@@ -22,17 +24,20 @@ pub struct DevTree {
     drivers: Vec<u32>,
     /// The serial of the device on each spot.
     spots: Vec<Option<u64>>,
+    /// Where the devices awake end, and those asleep begin.
+    rest: Resting,
     next: u64,
 }
 
 impl Model for DevTree {
+    ghost use Rattle.dev_tree.specs.Rest.{AreResting};
     ghost use Rattle.dev_tree.specs.Tree.{AreOnSpots, AreSound, Devices};
 
     ghost Value = { Devices };
 
     ghost view = { λ tree. record { live = tree.live.items; drivers = tree.drivers.items; next = tree.next } };
 
-    ghost invariant = { λ tree. AreSound (record { live = tree.live.items; drivers = tree.drivers.items; next = tree.next }) × AreOnSpots tree.live.items tree.spots.items };
+    ghost invariant = { λ tree. AreSound (record { live = tree.live.items; drivers = tree.drivers.items; next = tree.next }) × (AreOnSpots tree.live.items tree.spots.items × AreResting tree.live.items tree.rest) };
 }
 
 /// Appends a device to a list that has room.
@@ -53,6 +58,7 @@ impl DevTree {
             live: Vec::new(alloc),
             drivers: Vec::new(alloc),
             spots: Vec::new(alloc),
+            rest: Resting::none(),
             next: 1,
         }
     }
@@ -99,6 +105,7 @@ impl DevTree {
             },
         );
         put_on(&mut self.spots, spot, serial);
+        self.rest = self.rest.with_one(self.live.len());
         self.next += 1;
         Ok(serial)
     }
@@ -113,6 +120,7 @@ impl DevTree {
             let gone = self.live.remove(place);
             self.drivers.remove(place);
             take_off(&mut self.spots, gone.spot);
+            self.rest = self.rest.without_one();
         }
     }
 
@@ -145,6 +153,22 @@ impl DevTree {
         ensures { result.now ≡ self.now.live }
     {
         &self.live
+    }
+
+    /// The devices up to the last one that may be awake, in order. A test that sleeping devices fail finds the same from
+    /// their end as from the end of all.
+    pub fn front(&self) -> &[Dev]
+        ensures { (test : Dev → Bool) → ((d : Dev) → d.asleep ≡ true → test d ≡ false) → find test (reverse self.now.live) ≡ find test (reverse result.now) }
+    {
+        self.rest.front(&self.live)
+    }
+
+    /// The devices from the first one on that may sleep, in order. A test that devices awake fail finds the same among them
+    /// as among all.
+    pub fn back(&self) -> &[Dev]
+        ensures { (test : Dev → Bool) → ((d : Dev) → d.asleep ≡ false → test d ≡ false) → find test self.now.live ≡ find test result.now }
+    {
+        self.rest.back(&self.live)
     }
 
     /// How many devices there are.
@@ -187,6 +211,7 @@ impl DevTree {
         requires { IsTrue (world.is_live self.old.live serial) }
         ensures { self.new ≡ record self.old { live = map (with_sleep serial asleep) self.old.live } }
     {
+        self.rest = self.rest.marked(&self.live, serial, asleep);
         mark_sleep(&mut self.live, serial, asleep);
     }
 

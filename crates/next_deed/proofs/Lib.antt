@@ -3,3 +3,4 @@ pub mod ChooseLaws
 pub mod DueLaws
 pub mod PlanLaws
 pub mod RescanLaws
+pub mod PairLaws

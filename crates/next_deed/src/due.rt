@@ -7,6 +7,7 @@ ghost use Rattle.run_rules.specs.Search as rule;
 ghost use Rattle.run_world.specs.View.{Books};
 ghost use Rattle.next_deed.specs.Turns.{due_at, is_due_at, searcher_of};
 
+use crate::next_due::next_position;
 use crate::search::winner_at;
 use dev_tree::DevTree;
 use match_search::found_at;
@@ -58,7 +59,7 @@ fn passes_filter(found: &[i64], filter: &[Wanted]) -> bool
 
 /// Whether a spot is open to search.
 #[tactic(auto, unfolding(run_rules::specs::Search::is_open))]
-fn is_open(setup: &Setup, core: &Core, filter: &[Wanted], spot: u16) -> bool
+pub fn is_open(setup: &Setup, core: &Core, filter: &[Wanted], spot: u16) -> bool
     ensures { rule.is_open setup.now.machine core.now.tree.live core.now.absent.items core.now.hidden.items filter.now spot ≡ result }
 {
     let absent = has_spot(&core.absent, spot);
@@ -127,10 +128,6 @@ pub fn due_turn(
         if is_due(site, core, serial, filter, turn) {
             return Some(turn);
         }
-        position = Position {
-            attr: turn.at.attr,
-            row: turn.at.row,
-            spot: turn.at.spot + 1,
-        };
+        position = next_position(site, core, serial, filter, by.spot, turn);
     }
 }

@@ -7,6 +7,7 @@ mod freeing;
 mod hindered;
 mod late;
 mod next;
+mod next_due;
 mod plan;
 mod power;
 mod rescan;

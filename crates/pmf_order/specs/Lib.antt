@@ -1,3 +1,4 @@
+pub mod Resting
 pub use Rattle.dev_tree.specs.Tree
 pub use Rattle.run_rules.specs.World
 pub use Rattle.run_rules.specs.Next

@@ -41,6 +41,9 @@ pub struct Core {
     pub stops: u64,
     pub stopped: Option<u8>,
     pub events: Vec<Event>,
+    /// For each spot the place of the event that told the device which came there last, if any did. It saves making a name
+    /// anew, and no clause speaks of it: whoever takes a name from there compares it first.
+    pub came: Vec<u64>,
 }
 
 /// The late spots.
@@ -97,6 +100,7 @@ pub fn opening_core(alloc: Global, setup: &Setup) -> Result<Core, Memory>
     let rows = LiveRows::make(alloc, &setup.tables)?;
     let units = Units::make(alloc, setup.tables.devices.len() as u32)?;
     let callers = beginning(alloc, setup)?;
+    let came = vec![in alloc; 0; setup.machine.spots.len()]?;
     Ok(Core {
         tree: DevTree::make(alloc),
         rows,
@@ -114,6 +118,7 @@ pub fn opening_core(alloc: Global, setup: &Setup) -> Result<Core, Memory>
         stops: 0,
         stopped: None,
         events: Vec::new(alloc),
+        came,
     })
 }
 

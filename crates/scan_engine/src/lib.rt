@@ -8,4 +8,5 @@ mod stack;
 
 pub use run_rules::{Frame, Position, Turn, Wanted};
 pub use scan::{next_turn, offered};
+pub use spots::is_child;
 pub use stack::Stack;

@@ -6,7 +6,7 @@ ghost use Rattle.run_rules.specs.Search as rule;
 use cf_types::{Machine, Place};
 
 /// Whether a spot hangs below another one, or below the root, at a place.
-fn is_child(machine: &Machine, parent: Option<u16>, place: Place, spot: u16) -> bool
+pub fn is_child(machine: &Machine, parent: Option<u16>, place: Place, spot: u16) -> bool
     ensures { result ≡ rule.is_child machine.now parent place spot }
 {
     match machine.spots.items().get(spot as usize) {

@@ -1,15 +1,13 @@
 -- What the lists of taken units say once one of them is another.
-use Rattle.std.proofs.Common.{◌≡◌, ◌<◌, ◌+◌, ℕ, zero, suc, Bool, true, false, not, ◌&&◌, ◌||◌, ◌==◌, List, [], ◌∷◌, ◌++◌, length, filter, slice_set, slice_index_or, refl, sym, ◌∙◌, ap, subst, arith, map}
+use Rattle.std.proofs.Common.{◌≡◌, ◌≢◌, ◌<◌, ◌≤◌, ◌⊎◌, inl, inr, ◌+◌, ℕ, zero, suc, Bool, true, false, not, ◌&&◌, ◌||◌, ◌==◌, List, [], ◌∷◌, ◌++◌, length, filter, slice_set, slice_index_or, refl, sym, ◌∙◌, ap, subst, arith}
 use Rattle.std.proofs.lemmas.Bool.{eqb-true, eqb-false, eq-eqb, ne_eqb}
-use Rattle.std.specs.Global.{Global}
-use Rattle.std.specs.Prelude.{Vec}
-use Rattle.std.proofs.lemmas.List.{get_or-map, get_or-set_same, get_or-set_other, length-append, length-map, length-set, map-append, map-set, set-get_or}
+use Rattle.std.proofs.lemmas.List.{get_or-set_same, get_or-set_other, length-append, length-set, set-get_or}
 use Rattle.std.proofs.lemmas.List.Folds.{list_any-append}
 use Rattle.std.proofs.lemmas.Map.Views.{any-filter_same}
-use Rattle.std.proofs.Math.Bool.{or-false}
+use Rattle.std.proofs.Math.Bool.{or-false, or-true, and-false}
 use Rattle.cf_types.proofs.TestLemmas.{equal_turned}
 use Rattle.cf_types.specs.Gather.{is_in}
-use Rattle.unit_alloc.specs.Taken.{GivenBack, NoneTaken, TakenToo, is_taken}
+use Rattle.unit_alloc.specs.Taken.{AreBetween, GivenBack, NoneTaken, TakenToo, is_taken}
 
 -- one unit more
 pub one_more : (taken : List (List ℕ)) (device unit d n : ℕ) (list : List ℕ) → device < length taken → list ≡ slice_index_or taken device [] ++ unit ∷ []
@@ -45,25 +43,11 @@ one_less taken device unit d n list h e = cases (device == d) refl
 
 -- ---- the lists of units
 
-abbrev pub items_of : List (Vec ℕ Global) → List (List ℕ)
-items_of lists = map (λ list. list.items) lists
-
-set_is : (lists : List (Vec ℕ Global)) (old : List (List ℕ)) (device : ℕ) (now : Vec ℕ Global) → items_of lists ≡ old → items_of (slice_set lists device now) ≡ slice_set old device now.items
-set_is lists old device now e = map-set (λ list. list.items) lists device now ∙ ap (λ xs. slice_set xs device now.items) e
-
-read_is : (lists : List (Vec ℕ Global)) (old : List (List ℕ)) (device : ℕ) (was : Vec ℕ Global) → items_of lists ≡ old → device < length old → was ≡ slice_index_or lists device was
-    → was.items ≡ slice_index_or old device []
-read_is lists old device was e h is =
-    let long : length (items_of lists) ≡ length lists = length-map lists (λ list. list.items) in
-    ap (λ (v : Vec ℕ Global). v.items) is ∙ sym (get_or-map (λ (v : Vec ℕ Global). v.items) lists device was [] (omega (arith, long, ap length e)))
-    ∙ ap (λ xs. slice_index_or xs device []) e
-
-pub none_more : (lists : List (Vec ℕ Global)) (count : ℕ) (one : Vec ℕ Global) → NoneTaken count (items_of lists) → one.items ≡ [] → NoneTaken (count + 1) (items_of (lists ++ one ∷ []))
-none_more lists count one none e =
-    let more : items_of (lists ++ one ∷ []) ≡ items_of lists ++ [] ∷ [] = map-append (λ list. list.items) lists (one ∷ []) ∙ ap (λ xs. items_of lists ++ xs ∷ []) e in
+pub none_more : (lists : List (List ℕ)) (count : ℕ) → NoneTaken count lists → NoneTaken (count + 1) (lists ++ [] ∷ [])
+none_more lists count none =
     record {
-      devices = omega (arith, ap length more, length-append (items_of lists) ([] ∷ []), none.devices);
-      none = λ d n. ap (λ xs. is_taken xs d n) more ∙ ap (is_in n) (same (items_of lists) d) ∙ none.none d n;
+      devices = omega (arith, length-append lists ([] ∷ []), none.devices);
+      none = λ d n. ap (is_in n) (same lists d) ∙ none.none d n;
     }
   where
     same : (xs : List (List ℕ)) (d : ℕ) → slice_index_or (xs ++ [] ∷ []) d [] ≡ slice_index_or xs d []
@@ -72,25 +56,42 @@ none_more lists count one none e =
     same (x ∷ xs) zero = refl
     same (x ∷ xs) (suc d) = same xs d
 
-pub taken_by : (lists : List (Vec ℕ Global)) (old : List (List ℕ)) (device unit : ℕ) (was now : Vec ℕ Global) → items_of lists ≡ old → device < length old → was ≡ slice_index_or lists device was
-    → now.items ≡ was.items ++ unit ∷ [] → TakenToo old (items_of (slice_set lists device now)) device unit
-taken_by lists old device unit was now e h is more =
-    let set : items_of (slice_set lists device now) ≡ slice_set old device now.items = set_is lists old device now e in
-    record {
-      devices = ap length set ∙ length-set old device now.items;
-      taken = λ d n. ap (λ xs. is_taken xs d n) set ∙ one_more old device unit d n now.items h (more ∙ ap (λ xs. xs ++ unit ∷ []) (read_is lists old device was e h is));
-    }
+pub taken_by : (old : List (List ℕ)) (device unit : ℕ) (list : List ℕ) → device < length old → list ≡ slice_index_or old device [] ++ unit ∷ [] → TakenToo old (slice_set old device list) device unit
+taken_by old device unit list h more = record {
+  devices = length-set old device list;
+  taken = λ d n. one_more old device unit d n list h more;
+}
 
-pub kept_by : (lists : List (Vec ℕ Global)) (old : List (List ℕ)) (device : ℕ) (was now : Vec ℕ Global) → items_of lists ≡ old → device < length old → was ≡ slice_index_or lists device was
-    → now.items ≡ was.items → items_of (slice_set lists device now) ≡ old
-kept_by lists old device was now e h is same =
-    set_is lists old device now e ∙ ap (slice_set old device) (same ∙ read_is lists old device was e h is) ∙ set-get_or old device []
+pub kept_by : (old : List (List ℕ)) (device : ℕ) (list : List ℕ) → list ≡ slice_index_or old device [] → slice_set old device list ≡ old
+kept_by old device list same = ap (slice_set old device) same ∙ set-get_or old device []
 
-pub given_by : (lists : List (Vec ℕ Global)) (old : List (List ℕ)) (device unit : ℕ) (was now : Vec ℕ Global) → items_of lists ≡ old → device < length old → was ≡ slice_index_or lists device was
-    → now.items ≡ filter (λ y. not (y == unit)) was.items → GivenBack old (items_of (slice_set lists device now)) device unit
-given_by lists old device unit was now e h is less =
-    let set : items_of (slice_set lists device now) ≡ slice_set old device now.items = set_is lists old device now e in
-    record {
-      devices = ap length set ∙ length-set old device now.items;
-      taken = λ d n. ap (λ xs. is_taken xs d n) set ∙ one_less old device unit d n now.items h (less ∙ ap (filter (λ y. not (y == unit))) (read_is lists old device was e h is));
-    }
+pub given_by : (old : List (List ℕ)) (device unit : ℕ) (list : List ℕ) → device < length old → list ≡ filter (λ y. not (y == unit)) (slice_index_or old device [])
+    → GivenBack old (slice_set old device list) device unit
+given_by old device unit list h less = record {
+  devices = length-set old device list;
+  taken = λ d n. one_less old device unit d n list h less;
+}
+
+-- ---- what lies between
+
+pub between_more : (below from below' from' unit : ℕ) (units : List ℕ) → ((n : ℕ) → n < below' → (n < below) ⊎ (unit ≡ n)) → ((n : ℕ) → from' ≤ n → (from ≤ n) × (unit ≢ n))
+    → AreBetween below from units → AreBetween below' from' (units ++ unit ∷ [])
+between_more below from below' from' unit units low high h = record {
+  below = λ n lt. list_any-append (λ y. y == n) units (unit ∷ []) ∙ elim (low n lt) [
+    | inl less ↦ rw (h.below n less) refl
+    | inr same ↦ rw (eq-eqb unit n same) (or-true (is_in n units))
+  ];
+  from = λ n le. let parts = high n le in list_any-append (λ y. y == n) units (unit ∷ []) ∙ rw (h.from n parts.0, ne_eqb unit n parts.1) refl;
+}
+
+pub between_less : (below from below' unit : ℕ) (units : List ℕ) → ((n : ℕ) → n < below' → (n < below) × (unit ≢ n)) → AreBetween below from units → AreBetween below' from (filter (λ y. not (y == unit)) units)
+between_less below from below' unit units low h = record {
+  below = λ n lt. let parts = low n lt in left n ∙ rw (ne_eqb unit n parts.1, h.below n parts.0) refl;
+  from = λ n le. left n ∙ ap (λ b. not (unit == n) && b) (h.from n le) ∙ and-false (not (unit == n));
+}
+  where
+    other : (n k : ℕ) → (k == n) ≡ true → not (k == unit) ≡ not (unit == n)
+    other n k is = ap not (equal_turned k unit ∙ ap (λ i. unit == i) (eqb-true k n is))
+
+    left : (n : ℕ) → is_in n (filter (λ y. not (y == unit)) units) ≡ (not (unit == n) && is_in n units)
+    left n = any-filter_same (λ y. y == n) (λ y. not (y == unit)) (not (unit == n)) (other n) units

@@ -12,6 +12,11 @@ is_taken taken device unit = is_in unit (slice_index_or taken device [])
 abbrev pub PassesFew : (ℕ → Bool) → Type 0
 PassesFew test = (n : ℕ) → count_by test (below n) ≤ 1024
 
+-- all numbers below the first one are in the list, and none from the second one on
+pub record AreBetween (all_below none_from : ℕ) (units : List ℕ) : Type 0 where
+  pub below : (n : ℕ) → n < all_below → is_in n units ≡ true
+  pub from : (n : ℕ) → none_from ≤ n → is_in n units ≡ false
+
 -- the least number from the first one on that fails the test
 pub record IsLeastFree (test : ℕ → Bool) (first number : ℕ) : Type 0 where
   pub from_first : first ≤ number

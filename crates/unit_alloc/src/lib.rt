@@ -2,6 +2,7 @@
 #![tactic(auto)]
 
 mod least;
+mod list;
 mod units;
 
 pub use units::Units;

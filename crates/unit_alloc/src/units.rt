@@ -1,7 +1,7 @@
 ghost use Rattle.std.specs.Prelude.{◌≡◌, ◌<◌, ◌≤◌, false, true, length, IfOk, OnOk, OnErr};
 ghost use Rattle.unit_alloc.specs.Taken.{GivenBack, IsLeastFree, NoneTaken, PassesFew, TakenToo, is_taken};
 
-use crate::least::least_free;
+use crate::list::UnitList;
 use cf_types::Memory;
 use std::alloc::Global;
 use std::marker::Model;
@@ -9,15 +9,15 @@ use std::marker::Model;
 /// For each device the units that are taken. Contracts see a list of units for each device, whose order no clause tells.
 #[derive(Drop)]
 pub struct Units {
-    lists: Vec<Vec<u32>>,
+    lists: Vec<UnitList>,
 }
 
 impl Model for Units {
-    ghost use Rattle.std.specs.Prelude.{ℕ, List, map};
+    ghost use Rattle.std.specs.Prelude.{ℕ, List};
 
     ghost Value = { List (List ℕ) };
 
-    ghost view = { λ units. map (λ list. list.items) units.lists.items };
+    ghost view = { λ units. units.lists.items };
 }
 
 impl Units {
@@ -27,7 +27,7 @@ impl Units {
     {
         let mut lists = Vec::new(alloc);
         for _device in 0..devices {
-            lists.push(Vec::new(alloc))?;
+            lists.push(UnitList::make(alloc))?;
         }
         Ok(Units { lists })
     }
@@ -40,7 +40,7 @@ impl Units {
         requires few { PassesFew (is_taken self.now device) }
         ensures { IsLeastFree (is_taken self.now device) first result }
     {
-        least_free(&self.lists[device as usize], first)
+        self.lists[device as usize].pick(first)
     }
 
     /// Takes a unit of a device that is not taken. At `Memory` all is as before.
@@ -50,9 +50,7 @@ impl Units {
         ensures ok { OnOk result (TakenToo self.old self.new device unit) }
         ensures err { OnErr result (self.new ≡ self.old) }
     {
-        let list = &mut self.lists[device as usize];
-        list.push(unit)?;
-        Ok(())
+        self.lists[device as usize].take(unit)
     }
 
     /// Gives back a unit of a device that is taken. It takes no memory.
@@ -61,7 +59,6 @@ impl Units {
         requires taken { is_taken self.old device unit ≡ true }
         ensures { GivenBack self.old self.new device unit }
     {
-        let list = &mut self.lists[device as usize];
-        list.retain(|taken| *taken != unit);
+        self.lists[device as usize].give(unit);
     }
 }

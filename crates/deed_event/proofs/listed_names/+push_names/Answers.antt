@@ -1,30 +1,33 @@
-use Rattle.std.proofs.Common.{◌∙◌, ap, ◌++◌, List, arith}
+use Rattle.std.proofs.Common.{◌≡◌, ◌<◌, ◌∙◌, ap, ◌++◌, List, length, take, false, None, arith}
+use Rattle.run_rules.specs.declared.world.Dev.{Dev}
 use Rattle.run_rules.specs.declared.event.DepthName.{DepthName}
 use Rattle.run_rules.specs.Run.{depth_name}
-use Rattle.run_rules.proofs.Levels.{no_level, told_of, told_child, told_other, told_whole, lines_on}
+use Rattle.run_rules.proofs.Levels.{no_level, lines_on}
+use Rattle.deed_event.proofs.WalkLaws.{told_among, among_more, among_whole, child_has}
 use Rattle.deed_event.proofs.listed_names.+push_names.Goals as goal
-use Rattle.deed_event.proofs.listed_names.+push_names.Goals.{then-device-parent+in_ok-name+in_ok-push+in_ok-push_names, else-device-parent}
 
 pub returns-then-levels-eq0 : goal.returns-then-levels-eq0
-returns-then-levels-eq0 t c = no_level (depth_name c.args.setup.now) c.args.live.now c.args.levels c.args.depth c.args.parent c.args.names.now c.if-levels-eq0.true
+returns-then-levels-eq0 t c = no_level (depth_name c.args.setup.now) c.args.core.now.tree.live c.args.levels c.args.depth c.args.parent c.args.names.now c.if-levels-eq0.true
 
-pub loop-index-preserved : goal.loop-index-preserved
-loop-index-preserved t c =
+-- what stands past the end
+abbrev blank : Dev
+blank = record { serial = 0; row = 0; unit = 0; parent = 0; spot = 0; asleep = false; condemned = None }
+
+pub depth_name-requires-clause-row : goal.depth_name-requires-clause-row
+depth_name-requires-clause-row t c =
+    child_has (λ d. d.row < length c.args.setup.now.tables.rows) c.args.core.now.tree.live c.below-children.result.now c.args.parent c.loop-device.device-index blank c.requires.rows c.below-children.ensures c.loop-device-test.true
+
+pub loop-device-preserved : goal.loop-device-preserved
+loop-device-preserved t c =
     let f = depth_name c.args.setup.now in
-    let live = c.args.live.now in
-    elim c.if-device-parent.branch [
-      | then-device-parent+in_ok-name+in_ok-push+in_ok-push_names w ↦
-          rw (told_child f live c.args.levels c.args.depth c.args.parent c.loop-index.index _ c.loop-index-test.true w.if-device-parent.true)
-          (w.names-is ∙ lines_on c.args.names.now c.loop-index.names w.push.new.self w.push_names.new.names _ _
-          (told_of f live c.args.levels c.args.depth c.args.parent c.loop-index.index)
-          w.in_ok-push_names.ensures (rw (← w.in_ok-name.ensures) w.in_ok-push.ensures.ok) c.loop-index.invariant)
-      | else-device-parent w ↦
-          rw (told_other f live c.args.levels c.args.depth c.args.parent c.loop-index.index _ c.loop-index-test.true w.if-device-parent.false)
-          (w.names-is ∙ c.loop-index.invariant)
-    ]
+    let live = c.args.core.now.tree.live in
+    let kids = c.below-children.result.now in
+    rw (among_more f live c.args.levels c.args.depth kids c.loop-device.device-index blank c.loop-device-test.true)
+    (lines_on c.args.names.now c.loop-device.names c.push.new.self c.push_names.new.names _ _ (told_among f live c.args.levels c.args.depth (take c.loop-device.device-index kids))
+    c.in_ok-push_names.ensures (rw (← c.in_ok-name.ensures) c.in_ok-push.ensures.ok) c.loop-device.invariant)
 
 pub returns : goal.returns
 returns t c =
-    c.loop-index.invariant
+    c.loop-device.invariant
     ∙ ap (λ (more : List DepthName). c.args.names.now ++ more)
-    (told_whole (depth_name c.args.setup.now) c.args.live.now c.args.levels c.args.depth c.args.parent c.loop-index.index c.if-levels-eq0.false (omega arith))
+    (among_whole (depth_name c.args.setup.now) c.args.core.now.tree.live c.args.levels c.args.depth c.args.parent c.loop-device.device-index c.below-children.result.now c.if-levels-eq0.false c.below-children.ensures c.loop-device-test.false)

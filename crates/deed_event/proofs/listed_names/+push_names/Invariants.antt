@@ -1,10 +1,10 @@
-use Rattle.std.proofs.Common.{◌≡◌, ◌++◌}
+use Rattle.std.proofs.Common.{◌≡◌, ◌++◌, take}
 use Rattle.run_rules.specs.Run.{depth_name}
-use Rattle.run_rules.proofs.Levels.{told_of}
+use Rattle.deed_event.proofs.WalkLaws.{told_among}
 use Rattle.deed_event.proofs.listed_names.+push_names.Given as goal
 
 abbrev pub decreases-push_names : goal.decreases-push_names
 decreases-push_names l = l.levels
 
-abbrev pub invariant-loop-index : goal.invariant-loop-index
-invariant-loop-index l = l.names ≡ l.initial.names ++ told_of (depth_name l.setup) l.live l.levels l.depth l.parent l.index
+abbrev pub invariant-loop-device : goal.invariant-loop-device
+invariant-loop-device l = l.names ≡ l.initial.names ++ told_among (depth_name l.setup) l.core.tree.live l.levels l.depth (take l.device-index l.children)

@@ -1,30 +1,34 @@
-use Rattle.std.proofs.Common.{◌∙◌, ap, ◌++◌, List, arith}
+use Rattle.std.proofs.Common.{◌≡◌, ◌<◌, ◌∙◌, ap, ◌++◌, List, length, take, false, None, arith}
 use Rattle.cf_types.specs.declared.tree.DevLine.{DevLine}
+use Rattle.run_rules.specs.declared.world.Dev.{Dev}
 use Rattle.run_rules.specs.Tree.{dev_line}
 use Rattle.run_world.specs.View.{world_of}
-use Rattle.run_rules.proofs.Levels.{no_level, told_of, told_child, told_other, told_whole, lines_on}
+use Rattle.run_rules.proofs.Levels.{no_level, lines_on}
+use Rattle.deed_event.proofs.WalkLaws.{told_among, among_more, among_whole, child_has}
 use Rattle.deed_event.proofs.tree.+push_below.Goals as goal
-use Rattle.deed_event.proofs.tree.+push_below.Goals.{then-device-parent+in_ok-line+in_ok-push+in_ok-push_below, else-device-parent}
 
 pub returns-then-levels-eq0 : goal.returns-then-levels-eq0
-returns-then-levels-eq0 t c = no_level (dev_line (world_of c.args.setup.now c.args.core.now)) c.args.live.now c.args.levels c.args.depth c.args.parent c.args.lines.now c.if-levels-eq0.true
+returns-then-levels-eq0 t c = no_level (dev_line (world_of c.args.setup.now c.args.core.now)) c.args.core.now.tree.live c.args.levels c.args.depth c.args.parent c.args.lines.now c.if-levels-eq0.true
 
-pub loop-index-preserved : goal.loop-index-preserved
-loop-index-preserved t c =
+-- what stands past the end
+abbrev blank : Dev
+blank = record { serial = 0; row = 0; unit = 0; parent = 0; spot = 0; asleep = false; condemned = None }
+
+pub line_of-requires-clause-row : goal.line_of-requires-clause-row
+line_of-requires-clause-row t c =
+    child_has (λ d. d.row < length c.args.setup.now.tables.rows) c.args.core.now.tree.live c.below-children.result.now c.args.parent c.loop-device.device-index blank c.requires.rows c.below-children.ensures c.loop-device-test.true
+
+pub loop-device-preserved : goal.loop-device-preserved
+loop-device-preserved t c =
     let f = dev_line (world_of c.args.setup.now c.args.core.now) in
-    elim c.if-device-parent.branch [
-      | then-device-parent+in_ok-line+in_ok-push+in_ok-push_below w ↦
-          rw (told_child f c.args.live.now c.args.levels c.args.depth c.args.parent c.loop-index.index _ c.loop-index-test.true w.if-device-parent.true)
-          (w.lines-is ∙ lines_on c.args.lines.now c.loop-index.lines w.push.new.self w.push_below.new.lines _ _
-          (told_of f c.args.live.now c.args.levels c.args.depth c.args.parent c.loop-index.index)
-          w.in_ok-push_below.ensures (rw (← w.in_ok-line.ensures) w.in_ok-push.ensures.ok) c.loop-index.invariant)
-      | else-device-parent w ↦
-          rw (told_other f c.args.live.now c.args.levels c.args.depth c.args.parent c.loop-index.index _ c.loop-index-test.true w.if-device-parent.false)
-          (w.lines-is ∙ c.loop-index.invariant)
-    ]
+    let live = c.args.core.now.tree.live in
+    let kids = c.below-children.result.now in
+    rw (among_more f live c.args.levels c.args.depth kids c.loop-device.device-index blank c.loop-device-test.true)
+    (lines_on c.args.lines.now c.loop-device.lines c.push.new.self c.push_below.new.lines _ _ (told_among f live c.args.levels c.args.depth (take c.loop-device.device-index kids))
+    c.in_ok-push_below.ensures (rw (← c.in_ok-line.ensures) c.in_ok-push.ensures.ok) c.loop-device.invariant)
 
 pub returns : goal.returns
 returns t c =
-    c.loop-index.invariant
+    c.loop-device.invariant
     ∙ ap (λ (more : List DevLine). c.args.lines.now ++ more)
-    (told_whole (dev_line (world_of c.args.setup.now c.args.core.now)) c.args.live.now c.args.levels c.args.depth c.args.parent c.loop-index.index c.if-levels-eq0.false (omega arith))
+    (among_whole (dev_line (world_of c.args.setup.now c.args.core.now)) c.args.core.now.tree.live c.args.levels c.args.depth c.args.parent c.loop-device.device-index c.below-children.result.now c.if-levels-eq0.false c.below-children.ensures c.loop-device-test.false)

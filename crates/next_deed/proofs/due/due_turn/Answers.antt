@@ -1,5 +1,6 @@
 use Rattle.std.proofs.Common.{◌∙◌, sym}
-use Rattle.next_deed.proofs.DueLaws.{none_due, this_due, not_due, fewer_turns}
+use Rattle.next_deed.proofs.DueLaws.{none_due, this_due}
+use Rattle.next_deed.proofs.PairLaws.{fewer_gone, gone_on}
 use Rattle.next_deed.proofs.due.due_turn.Goals as goal
 
 pub returns-in_err-turn-clause-due : goal.returns-in_err-turn-clause-due
@@ -18,11 +19,13 @@ returns-then-is_due-clause-due c =
     c.who_searches-by.ensures c.in_ok-turn.ensures.next (c.is_due.ensures ∙ c.if-is_due.true)
 
 pub loop-turn-smaller : goal.loop-turn-smaller
-loop-turn-smaller c = fewer_turns c.args.site.now.setup c.who_searches-by.result c.args.only c.loop-turn.position c.in_ok-turn.turn c.in_ok-turn.ensures.next
+loop-turn-smaller c =
+    fewer_gone c.args.site.now.setup c.who_searches-by.result c.args.only c.loop-turn.position c.next_position-position.result c.in_ok-turn.turn c.in_ok-turn.ensures.next c.next_position-position.ensures.behind
 
 pub loop-turn-preserved : goal.loop-turn-preserved
 loop-turn-preserved c =
     let core = c.args.core.now in
-    not_due c.args.site.now.setup core.tree.live core.absent.items core.hidden.items c.args.serial c.args.only c.args.filter.now c.loop-turn.position c.who_searches-by.result c.in_ok-turn.turn
-    c.who_searches-by.ensures c.in_ok-turn.ensures.next (c.is_due.ensures ∙ c.if-is_due.false)
+    gone_on c.args.site.now.setup core.tree.live core.absent.items core.hidden.items c.args.serial c.args.only c.args.filter.now c.loop-turn.position c.next_position-position.result c.who_searches-by.result
+    c.in_ok-turn.turn c.who_searches-by.ensures c.in_ok-turn.ensures.next (c.is_due.ensures ∙ c.if-is_due.false) c.next_position-position.ensures.straight c.next_position-position.ensures.behind c.next_position-position.ensures.bus
+    c.next_position-position.ensures.idle
     ∙ c.loop-turn.invariant

@@ -5,6 +5,7 @@ use Rattle.run_rules.specs.Search.{is_occupied}
 use Rattle.dev_tree.specs.Tree.{Devices, is_named}
 use Rattle.dev_tree.proofs.Kept.{sound_with}
 use Rattle.dev_tree.proofs.OnSpots.{on_with}
+use Rattle.std.proofs.Common.{length, length-append, refl, arith}
 use Rattle.dev_tree.proofs.tree.DevTree.attach.Goals as goal
 
 pub invariant_of-self-2 : goal.invariant_of-self-2
@@ -19,6 +20,9 @@ invariant_of-self-2 c =
           (ap (λ t. is_named t c.args.device c.args.unit) seen ∙ c.requires.name)
           free
           (subst (λ (t : Devices). IsTrue (c.args.parent == 0 || is_live t.live c.args.parent)) (sym seen) c.requires.parent)),
-      λ x. c.put_on.ensures x ∙ ap (λ (o : Option ℕ). cond (c.args.spot == x) (Some old.next) o) (c.in_ok-reach.ensures.same x ∙ c.self.invariant.1 x)
-          ∙ sym (on_with old.live (record { serial = old.next; row = c.args.row; unit = c.args.unit; parent = c.args.parent; spot = c.args.spot; asleep = false; condemned = None }) x free),
+      (
+        λ x. c.put_on.ensures x ∙ ap (λ (o : Option ℕ). cond (c.args.spot == x) (Some old.next) o) (c.in_ok-reach.ensures.same x ∙ c.self.invariant.1.0 x)
+            ∙ sym (on_with old.live (record { serial = old.next; row = c.args.row; unit = c.args.unit; parent = c.args.parent; spot = c.args.spot; asleep = false; condemned = None }) x free),
+        c.with_one-self-inside.ensures old.live (record { serial = old.next; row = c.args.row; unit = c.args.unit; parent = c.args.parent; spot = c.args.spot; asleep = false; condemned = None }) (omega (arith, c.len.ensures, ap length live, length-append old.live (record { serial = old.next; row = c.args.row; unit = c.args.unit; parent = c.args.parent; spot = c.args.spot; asleep = false; condemned = None } ∷ []))) refl c.self.invariant.1.1,
+      ),
     )

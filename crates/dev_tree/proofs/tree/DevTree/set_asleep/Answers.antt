@@ -4,6 +4,9 @@ use Rattle.dev_tree.proofs.Alike.{map_alike, sleep_plain}
 use Rattle.dev_tree.proofs.Halves.{given_back}
 use Rattle.dev_tree.proofs.Kept.{sound_marked}
 use Rattle.dev_tree.proofs.OnSpots.{on_alike}
+use Rattle.std.proofs.Common.{List, sym, subst}
+use Rattle.run_rules.specs.declared.world.Dev.{Dev}
+use Rattle.dev_tree.specs.Rest.{AreResting}
 use Rattle.dev_tree.proofs.tree.DevTree.set_asleep.Goals as goal
 
 pub invariant_of-self : goal.invariant_of-self
@@ -15,5 +18,5 @@ invariant_of-self c =
     let same = map_alike (with_sleep c.args.serial c.args.asleep) (sleep_plain c.args.serial c.args.asleep) old in
     rw back (
       sound_marked old (map (with_sleep c.args.serial c.args.asleep) old) c.self.inside.drivers.items c.self.inside.next same c.self.invariant.0,
-      λ x. c.self.invariant.1 x ∙ on_alike old (map (with_sleep c.args.serial c.args.asleep) old) x same,
+      (λ x. c.self.invariant.1.0 x ∙ on_alike old (map (with_sleep c.args.serial c.args.asleep) old) x same, subst (λ (ds : List Dev). AreResting (map (with_sleep c.args.serial c.args.asleep) ds) c.marked-self-inside.result) c.deref.ensures.value (c.marked-self-inside.ensures (subst (λ (ds : List Dev). AreResting ds c.self.inside.rest) (sym c.deref.ensures.value) c.self.invariant.1.1))),
     )

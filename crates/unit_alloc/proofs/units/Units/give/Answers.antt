@@ -1,9 +1,14 @@
-use Rattle.std.proofs.Common.{rules}
-use Rattle.std.proofs.lemmas.Fn.{filter_same}
+use Rattle.std.proofs.Common.{◌≡◌, ◌<◌, ◌∙◌, List, ℕ, [], ap, subst, length, slice_index_or, slice_set, arith}
+use Rattle.std.specs.Prelude.{filter, not, ◌==◌}
+use Rattle.std.proofs.lemmas.List.{get_or_default}
+use Rattle.unit_alloc.specs.Taken.{GivenBack}
 use Rattle.unit_alloc.proofs.TakenLaws.{given_by}
 use Rattle.unit_alloc.proofs.units.Units.give.Goals as goal
 
 pub returns : goal.returns
 returns c =
-    given_by c.self.inside.lists.items c.args.self.now c.args.device c.args.unit c.index_mut-list.result.now c.retain.new.self c.self.view_is c.requires.device c.index_mut-list.ensures.value
-    (filter_same _ _ _ (λ x b f' k. search rules) _ _ c.retain.ensures.filtered)
+    let lists : List (List ℕ) = c.self.inside.lists.items in
+    let within : c.args.device < length lists = omega (arith, ap length c.self.view_is, c.requires.device) in
+    let was : c.index_mut.result.now ≡ slice_index_or lists c.args.device [] = c.index_mut.ensures.value ∙ get_or_default lists c.args.device _ [] within in
+    subst (λ (old : List (List ℕ)). GivenBack old (slice_set lists c.args.device c.give.new.self) c.args.device c.args.unit) c.self.view_is
+    (given_by lists c.args.device c.args.unit c.give.new.self within (c.give.ensures ∙ ap (filter (λ y. not (y == c.args.unit))) was))

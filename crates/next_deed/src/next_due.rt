@@ -1,0 +1,107 @@
+//! Where a scan goes on behind a turn that is not due.
+ghost use Rattle.std.specs.Prelude.{◌≡◌, ◌≤◌, ◌<◌, ℕ, Some, true, false, length, option_map, IfSome};
+ghost use Rattle.run_rules.specs.Search as rule;
+ghost use Rattle.run_rules.specs.declared.world.Position as places;
+ghost use Rattle.scan_engine.specs.Turns.{past};
+ghost use Rattle.run_world.specs.View.{Books};
+ghost use Rattle.next_deed.specs.Pairs.{at_pair};
+ghost use Rattle.next_deed.specs.Turns.{is_due_at};
+
+use crate::due::is_open;
+use crate::search::winner_at;
+use run_rules::{Position, Turn, Wanted};
+use run_world::{Core, Site};
+use scan_engine::is_child;
+
+/// Whether a position is before another: by attribute, then row, then spot.
+#[tactic(auto, unfolding(run_rules::specs::Search::is_before))]
+fn is_before(a: Position, b: Position) -> bool
+    ensures { result ≡ rule.is_before a b }
+{
+    a.attr < b.attr || (a.attr == b.attr && (a.row < b.row || (a.row == b.row && a.spot < b.spot)))
+}
+
+/// The sooner of two positions; the second one counts only if it is there and behind a third.
+#[tactic(auto, unfolding(run_rules::specs::Search::is_before))]
+fn sooner(behind: Position, next: Position, found: Option<Position>) -> Position
+    ensures behind { rule.is_before behind next ≡ true → rule.is_before behind result ≡ true }
+    ensures sooner { (p : places.Position) → rule.is_before p result ≡ true → rule.is_before p next ≡ true }
+    ensures found { IfSome found (λ p. rule.is_before behind p ≡ true → rule.is_before p result ≡ false) }
+{
+    match found {
+        Some(position) => {
+            if is_before(behind, position) && is_before(position, next) {
+                position
+            } else {
+                next
+            }
+        }
+        None => next,
+    }
+}
+
+/// Where a spot is due on the bus of a turn: at the row that takes it, if it is open.
+#[tactic(auto, unfolding(run_rules::specs::Search::is_due))]
+fn due_position(
+    site: &Site,
+    core: &Core,
+    serial: u64,
+    filter: &[Wanted],
+    parent: Option<u16>,
+    turn: Turn,
+    spot: u16,
+) -> Option<Position>
+    requires books { Books site.now.setup core.now }
+    ensures place { IfSome result (λ p. (p.attr ≡ turn.at.attr) × (p.spot ≡ spot)) }
+    ensures due { (r : ℕ) → turn.indirect ≡ true → rule.is_child site.now.setup.machine parent turn.place spot ≡ true → is_due_at site.now core.now serial filter.now (at_pair turn r spot) ≡ true → option_map (λ p. p.row) result ≡ Some r }
+{
+    if !is_child(&site.setup.machine, parent, turn.place, spot)
+        || !is_open(&site.setup, core, filter, spot)
+    {
+        return None;
+    }
+    let row = winner_at(site, core, serial, turn.place, spot)?;
+    Some(Position {
+        attr: turn.at.attr,
+        row,
+        spot,
+    })
+}
+
+/// Where a search goes on behind a turn that is not due. On an indirect bus it is the first pair of an open spot and of the
+/// row that takes it, so that no row is gone through that takes nothing.
+pub fn next_position(
+    site: &Site,
+    core: &Core,
+    serial: u64,
+    filter: &[Wanted],
+    parent: Option<u16>,
+    turn: Turn,
+) -> Position
+    requires books { Books site.now.setup core.now }
+    requires few { length site.now.setup.machine.spots ≤ 1024 }
+    requires attr { turn.at.attr < 64 }
+    requires spot { turn.at.spot < 1024 }
+    ensures straight { turn.indirect ≡ false → result ≡ past turn.at }
+    ensures behind { rule.is_before turn.at result ≡ true }
+    ensures bus { (p : places.Position) → rule.is_before p result ≡ true → p.attr ≤ turn.at.attr }
+    ensures idle { (r x : ℕ) → turn.indirect ≡ true → x < length site.now.setup.machine.spots → rule.is_child site.now.setup.machine parent turn.place x ≡ true → rule.is_before turn.at (at_pair turn r x).at ≡ true → rule.is_before (at_pair turn r x).at result ≡ true → is_due_at site.now core.now serial filter.now (at_pair turn r x) ≡ false }
+{
+    if !turn.indirect {
+        return Position {
+            attr: turn.at.attr,
+            row: turn.at.row,
+            spot: turn.at.spot + 1,
+        };
+    }
+    let mut next = Position {
+        attr: turn.at.attr + 1,
+        row: 0,
+        spot: 0,
+    };
+    for spot in 0..site.setup.machine.spots.len() as u16 {
+        let found = due_position(site, core, serial, filter, parent, turn, spot);
+        next = sooner(turn.at, next, found);
+    }
+    next
+}
