@@ -1,14 +1,15 @@
-ghost use Rattle.std.specs.Prelude.{◌≡◌, ◌<◌, ◌≤◌, ◌++◌, ◌+◌, [], ℕ, List as Items, None, length, IfOk, OnOk, if◌then◌else◌};
+ghost use Rattle.std.specs.Prelude.{◌≡◌, ◌<◌, ◌≤◌, ◌++◌, ◌∷◌, ◌+◌, [], ℕ, List as Items, None, length, IfOk, OnOk, if◌then◌else◌};
 ghost use Rattle.std.specs.Option.{option_to_list};
 ghost use Rattle.cf_types.specs.declared.stmt.Placed.{Placed};
 ghost use Rattle.cf_declare.specs.Graphs.{FitsDeclared};
-ghost use Rattle.config_rules.specs.Fault.{is_instance, refusal, stmts_of};
+ghost use Rattle.config_rules.specs.Fault.{code_of, is_instance, refusal, stmts_of};
 ghost use Rattle.config_rules.specs.Select.{kept};
 ghost use Rattle.config_rules.specs.Written.{AreWritten};
 ghost use Rattle.cf_compile.specs.Judged.{Judges, instance_at};
 
-use cf_declare::Declarations;
+use cf_declare::{Declarations, MAX_INSTANCES};
 use cf_rows::file_name;
+use cf_types::code::configuration as code;
 use cf_types::{Instance, List, Memory, Placed, Refusal, Stmt, Text};
 use std::alloc::Global;
 
@@ -42,15 +43,35 @@ pub fn refusal(
     })
 }
 
-/// Appends the instance of a statement, if it is one that joins something.
-fn push_instance(
-    declarations: &Declarations,
+/// Appends the instance at a place, if it survives.
+fn push_kept(
     instances: &mut List<Instance>,
+    instance: Instance,
+    is_kept: bool,
+) -> Result<(), Memory>
+    ensures { OnOk result (instances.new ≡ instances.old ++ (if is_kept then instance ∷ [] else [])) }
+{
+    if is_kept {
+        return instances.push(instance);
+    }
+    Ok(())
+}
+
+/// The first code of a statement behind what is declared and so many instances. An instance without one is appended, if
+/// it survives.
+fn judge_statement(
+    alloc: Global,
+    declarations: &mut Declarations,
+    instances: &mut List<Instance>,
+    count: usize,
     place: u32,
     stmt: &Stmt,
-) -> Result<(), Memory>
-    requires { FitsDeclared declarations.now }
-    ensures { OnOk result (instances.new ≡ instances.old ++ option_to_list (instance_at declarations.now place stmt.now)) }
+    is_kept: bool,
+) -> Result<Option<u8>, Memory>
+    requires { FitsDeclared declarations.old }
+    ensures code { IfOk result (λ code. code ≡ code_of declarations.old count stmt.now) }
+    ensures same { declarations.new ≡ declarations.old }
+    ensures kept { IfOk result (λ code. code ≡ None → instances.new ≡ instances.old ++ (if is_kept then option_to_list (instance_at declarations.old place stmt.now) else [])) }
 {
     let Stmt::Inst {
         base,
@@ -60,34 +81,24 @@ fn push_instance(
         flags,
     } = stmt
     else {
-        return Ok(());
+        return declarations.code_of(alloc, count, stmt);
     };
+    if count >= MAX_INSTANCES {
+        return Ok(Some(code::TOO_MANY_INSTANCES));
+    }
     match declarations.join(base.bytes(), at, pairs.items()) {
-        Ok(joined) => instances.push(Instance {
-            stmt: place,
-            joined,
-            mark: *mark,
-            flags: *flags,
-        }),
-        Err(_) => Ok(()),
+        Ok(joined) => {
+            let instance = Instance {
+                stmt: place,
+                joined,
+                mark: *mark,
+                flags: *flags,
+            };
+            push_kept(instances, instance, is_kept)?;
+            Ok(None)
+        }
+        Err(code) => Ok(Some(code)),
     }
-}
-
-/// Appends the instance of a statement that survives.
-fn push_kept(
-    declarations: &Declarations,
-    instances: &mut List<Instance>,
-    place: u32,
-    stmt: &Stmt,
-    is_kept: bool,
-) -> Result<(), Memory>
-    requires { FitsDeclared declarations.now }
-    ensures { OnOk result (instances.new ≡ instances.old ++ (if is_kept then option_to_list (instance_at declarations.now place stmt.now) else [])) }
-{
-    if is_kept {
-        return push_instance(declarations, instances, place, stmt);
-    }
-    Ok(())
 }
 
 /// How many instances a statement is.
@@ -116,16 +127,18 @@ pub fn judge(
     let mut instances = List::make(alloc);
     let mut count = 0;
     for (place, statement) in placed.iter().enumerate() {
-        if let Some(code) = declarations.code_of(alloc, count, &statement.stmt)? {
-            return Ok(Verdict::Refused(refusal(alloc, files, statement, code)?));
-        }
-        push_kept(
-            &declarations,
+        let code = judge_statement(
+            alloc,
+            &mut declarations,
             &mut instances,
+            count,
             place as u32,
             &statement.stmt,
             survive[place],
         )?;
+        if let Some(code) = code {
+            return Ok(Verdict::Refused(refusal(alloc, files, statement, code)?));
+        }
         declarations = declarations.declare(alloc, &statement.stmt)?;
         count += instance_count(&statement.stmt);
     }

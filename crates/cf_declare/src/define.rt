@@ -1,7 +1,7 @@
-ghost use Rattle.std.specs.Prelude.{◌≡◌, ◌==◌, ◌≤◌, ◌<◌, ◌&&◌, not, nat_lt, false, length, filter, find, All, IfOk};
+ghost use Rattle.std.specs.Prelude.{◌≡◌, ◌==◌, ◌≤◌, ◌<◌, ◌+◌, ◌&&◌, not, nat_lt, false, length, filter, find, if◌then◌else◌, All, IfOk};
 ghost use Rattle.std.specs.List.{list_any};
-ghost use Rattle.cf_types.specs.Offers.{firsts, nodes_of};
-ghost use Rattle.config_rules.specs.Fault.{attr_numbers, is_class, has_classes, lacks_attr, offers_too_much, define_fault, device_fault};
+ghost use Rattle.cf_types.specs.Offers.{firsts, interfaces_of, nodes_of};
+ghost use Rattle.config_rules.specs.Fault.{attr_numbers, is_class, lacks_attr, define_fault, device_fault};
 
 use crate::fault::{attr_numbers, has_attr, has_device, lacks_attr, repeats_locator};
 use crate::lookup::is_root;
@@ -22,22 +22,13 @@ fn known_numbers(alloc: Global, declared: &Catalog, names: &[Name]) -> Result<Li
     Ok(numbers)
 }
 
-/// Whether an interface list would have more than 64 entries.
-fn offers_too_much(
-    alloc: Global,
-    declared: &Catalog,
-    graph: &mut Graph,
-    locators: &Option<List<Locator>>,
-    needs: &[Name],
-) -> Result<bool, Memory>
-    requires few { length declared.now.attrs ≤ 65536 }
-    requires known { lacks_attr declared.now needs.now ≡ false }
-    requires graph { graph.old.attrs ≡ nodes_of declared.now.attrs }
-    ensures many { IfOk result (λ many. many ≡ offers_too_much declared.now locators.now needs.now) }
+/// Whether the interface list of these attributes, with its own where there is one, would have more than 64 entries.
+fn offers_too_much(graph: &mut Graph, own: bool, numbers: &[u32]) -> Result<bool, Memory>
+    requires { All (λ a. a < length graph.old.attrs) numbers.now }
+    ensures many { IfOk result (λ many. many ≡ nat_lt 64 ((if own then 1 else 0) + length (interfaces_of graph.old.attrs numbers.now))) }
     ensures same { graph.new ≡ graph.old }
 {
-    let numbers = known_numbers(alloc, declared, needs)?;
-    let fits = graph.fits(locators.is_some(), numbers.items())?;
+    let fits = graph.fits(own, numbers)?;
     Ok(!fits)
 }
 
@@ -64,7 +55,8 @@ pub fn define_fault(
     if lacks_attr(declared, needs) {
         return Ok(Some(code::UNKNOWN_ATTRIBUTE));
     }
-    if offers_too_much(alloc, declared, graph, locators, needs)? {
+    let numbers = known_numbers(alloc, declared, needs)?;
+    if offers_too_much(graph, locators.is_some(), numbers.items())? {
         return Ok(Some(code::TOO_MANY_INTERFACES));
     }
     Ok(None)
@@ -107,15 +99,6 @@ fn has_classes(declared: &Catalog, numbers: &[u32]) -> bool
     }
 }
 
-/// Whether the attributes of a device are of two device classes.
-fn names_classes(alloc: Global, declared: &Catalog, needs: &[Name]) -> Result<bool, Memory>
-    requires { length declared.now.attrs ≤ 65536 }
-    ensures { IfOk result (λ two. two ≡ has_classes declared.now needs.now) }
-{
-    let numbers = attr_numbers(alloc, declared, needs)?;
-    Ok(has_classes(declared, numbers.items()))
-}
-
 /// The first code of a device.
 pub fn device_fault(
     alloc: Global,
@@ -142,10 +125,11 @@ pub fn device_fault(
     if lacks_attr(declared, needs) {
         return Ok(Some(code::UNKNOWN_ATTRIBUTE));
     }
-    if names_classes(alloc, declared, needs)? {
+    let numbers = known_numbers(alloc, declared, needs)?;
+    if has_classes(declared, numbers.items()) {
         return Ok(Some(code::SECOND_CLASS));
     }
-    if offers_too_much(alloc, declared, graph, locators, needs)? {
+    if offers_too_much(graph, locators.is_some(), numbers.items())? {
         return Ok(Some(code::TOO_MANY_INTERFACES));
     }
     Ok(None)

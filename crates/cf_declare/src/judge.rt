@@ -14,7 +14,7 @@ use cf_types::{AtSpec, GivenLoc, Memory, Stmt};
 use std::alloc::Global;
 
 /// How many instance statements there may be.
-const MAX_INSTANCES: usize = 8_192;
+pub const MAX_INSTANCES: usize = 8_192;
 
 /// The code of a device class.
 fn class_fault(declared: &Catalog, name: &[u8]) -> Option<u8>

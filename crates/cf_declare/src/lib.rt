@@ -12,3 +12,4 @@ mod lookup;
 mod names;
 
 pub use declarations::Declarations;
+pub use judge::MAX_INSTANCES;

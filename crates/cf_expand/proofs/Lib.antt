@@ -1,5 +1,7 @@
 pub mod AskedLemmas
+pub mod ConditionLemmas
 pub mod StatementLemmas
 pub mod ReaderLemmas
+pub mod PathLemmas
 pub mod ReadLemmas
 pub mod NameLemmas

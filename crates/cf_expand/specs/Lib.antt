@@ -3,6 +3,7 @@ pub mod Lines
 pub mod Conditions
 pub mod Loaded
 pub mod Names
+pub mod Paths
 pub mod Prefixes
 pub mod Stop
 pub mod Steps

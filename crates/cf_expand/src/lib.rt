@@ -5,6 +5,7 @@ mod conditions;
 mod lines;
 mod open;
 mod placed;
+mod prefixes;
 mod progress;
 mod reading;
 mod source;

@@ -20,10 +20,13 @@ fn spells(word: Word, condition: CondWord) -> bool
 fn condition_of(word: Word) -> Option<CondWord>
     ensures { result ≡ find (λ condition. is_word (condition_spelling condition) (piece_of word.entry)) CONDITION_WORDS }
 {
-    CONDITION_WORDS
-        .iter()
-        .copied()
-        .find(|&condition| spells(word, condition))
+    match word.text {
+        [b'e' | b'i', ..] => CONDITION_WORDS
+            .iter()
+            .copied()
+            .find(|&condition| spells(word, condition)),
+        _ => None,
+    }
 }
 
 /// The condition word with which a statement begins, if it does.

@@ -6,9 +6,9 @@ ghost use Rattle.cf_expand.specs.Prefixes.{Pops};
 ghost use Rattle.cf_expand.specs.Steps.{expanded};
 
 use crate::placed::PlacedList;
+use crate::prefixes::Prefixes;
 use cf_types::{Expanded, List, Memory, Placed, Refusal, Stmt, Text};
 use std::alloc::Global;
-use std::collections::VecDeque;
 use std::marker::Model;
 
 /// What was read so far.
@@ -18,8 +18,7 @@ pub struct Progress {
     files: List<Text>,
     /// The names of the files that were asked for, in this order.
     asked: List<Text>,
-    /// The prefixes that stand, the top one first.
-    prefixes: VecDeque<Text>,
+    prefixes: Prefixes,
     fault: Option<Refusal>,
 }
 
@@ -28,7 +27,7 @@ impl Model for Progress {
 
     ghost Value = { Reading };
 
-    ghost view = { λ it. record { placed = it.placed; files = it.files; asked = it.asked; prefixes = it.prefixes.items; fault = it.fault } };
+    ghost view = { λ it. record { placed = it.placed; files = it.files; asked = it.asked; prefixes = it.prefixes; fault = it.fault } };
 }
 
 impl Progress {
@@ -40,7 +39,7 @@ impl Progress {
             placed: PlacedList::make(alloc),
             files: List::make(alloc),
             asked: List::make(alloc),
-            prefixes: VecDeque::new(alloc),
+            prefixes: Prefixes::make(alloc),
             fault: None,
         }
     }
@@ -111,26 +110,21 @@ impl Progress {
     pub fn under_prefix(&self, alloc: Global, path: &[u8]) -> Result<Text, Memory>
         ensures { IfOk result (λ text. text ≡ under_prefix self.now.prefixes path.now) }
     {
-        match self.prefixes.front() {
-            Some(top) => joined(alloc, top.items(), path),
-            None => List::copied(alloc, path),
-        }
+        self.prefixes.under(alloc, path)
     }
 
     /// Puts a path on top of the prefixes, itself behind the top one.
-    pub fn push_prefix(&mut self, alloc: Global, path: &[u8]) -> Result<(), Memory>
+    pub fn push_prefix(&mut self, path: &[u8]) -> Result<(), Memory>
         ensures { OnOk result (self.new ≡ record self.old { prefixes = under_prefix self.old.prefixes path.now ∷ self.old.prefixes }) }
     {
-        let path = self.under_prefix(alloc, path)?;
-        self.prefixes.push_front(path)?;
-        Ok(())
+        self.prefixes.push(path)
     }
 
     /// Takes the top prefix away; `false` where there is none.
     pub fn pop_prefix(&mut self) -> bool
         ensures { Pops self.old result self.new }
     {
-        self.prefixes.pop_front().is_some()
+        self.prefixes.pop()
     }
 
     /// What was read, without the prefixes.
@@ -150,17 +144,4 @@ impl Progress {
             fault,
         }
     }
-}
-
-/// A path behind a prefix and one `/`, or a path that begins with `/` alone.
-fn joined(alloc: Global, top: &[u8], path: &[u8]) -> Result<Text, Memory>
-    ensures { IfOk result (λ text. text ≡ under_prefix (top.now ∷ []) path.now) }
-{
-    if let [b'/', ..] = path {
-        return List::copied(alloc, path);
-    }
-    let mut bytes = Vec::from_slice(alloc, top)?;
-    bytes.push(b'/')?;
-    bytes.extend_from_slice(path)?;
-    Ok(List::from_vec(bytes))
 }

@@ -68,7 +68,7 @@ fn turn_prefix(
     let line = line_number(tokens);
     match path {
         Some(path) => {
-            progress.push_prefix(alloc, path.items())?;
+            progress.push_prefix(path.items())?;
             progress.place(source.number, line, Stmt::Prefix { path: Some(path) })
         }
         None => if progress.pop_prefix() {

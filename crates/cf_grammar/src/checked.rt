@@ -166,11 +166,11 @@ fn piece(alloc: Global, word: Word) -> Result<Piece, Memory>
 fn pieces(alloc: Global, words: &[Word]) -> Result<List<Piece>, Memory>
     ensures { IfOk result (λ pieces. pieces ≡ map piece_of words.now) }
 {
-    let mut pieces = List::make(alloc);
+    let mut pieces = Vec::with_capacity(alloc, words.len())?;
     for &word in words {
         pieces.push(piece(alloc, word)?)?;
     }
-    Ok(pieces)
+    Ok(List::from_vec(pieces))
 }
 
 /// A statement that may have any words, one at least.

@@ -1,20 +1,20 @@
 -- Marks with the places that are marked, with more of them, and with those that wait for something.
-use Rattle.std.proofs.Common.{◌⊎◌, inl, inr, ◌≡◌, ℕ, ◌+◌, ◌<◌, ◌≤◌, ◌||◌, ◌==◌, Bool, true, false, cond, List, [], ◌∷◌, ◌++◌, length, take, drop, get_or, refl, ap, sym, ◌∙◌, arith}
+use Rattle.std.proofs.Common.{◌⊎◌, inl, inr, ◌≡◌, ℕ, ◌+◌, ◌<◌, ◌≤◌, ◌||◌, ◌==◌, Bool, true, false, cond, List, [], ◌∷◌, ◌++◌, length, map, take, drop, get_or, refl, ap, sym, ◌∙◌, arith}
 use Rattle.std.specs.Prelude.{All}
-use Rattle.std.specs.List.{list_any}
+use Rattle.std.specs.List.{list_any, slice_index_or}
 use Rattle.std.specs.HashMap.{HashMap}
-use Rattle.std.proofs.lemmas.Bool.Decides.{nat_tests}
 use Rattle.std.proofs.lemmas.List.{take_all, take-append-drop, take-append-le, length-append}
 use Rattle.std.proofs.lemmas.List.Elements.{All-nil, All-cons}
 use Rattle.std.proofs.lemmas.List.Folds.{list_any-append}
 use Rattle.std.proofs.Math.Bool.{or-false, or-true}
-use Rattle.std.proofs.lemmas.Bool.{or_parts, cases_Bool}
+use Rattle.std.proofs.lemmas.Bool.{or_parts, cases_Bool, false≢true}
 use Rattle.cf_types.proofs.TestLemmas.{equal_itself}
 use Rattle.cf_types.specs.Gather.{is_in}
 use Rattle.cf_select.specs.Places.{list_at}
 use Rattle.cf_select.specs.Reached.{AreWaiting, AreWithin, Marks, Serves}
-use Rattle.cf_select.specs.Wanted.{waits}
+use Rattle.cf_select.specs.Wanted.{AreNoted, waits}
 use Rattle.cf_select.specs.contracts.want.WantPartialEq.TheImpl as block
+use Rattle.cf_select.specs.declared.want.Carrier.{Carrier}
 use Rattle.cf_select.specs.declared.want.Want.{Want}
 
 or_assoc : (a b c : Bool) → ((a || b) || c) ≡ (a || (b || c))
@@ -116,3 +116,28 @@ serves_none w m o within = record {
   left = λ wanted known. known;
   served = λ wanted known. mark_none m o (λ x. false) (λ x h. absurd (cc));
 }
+
+-- nobody waits for an attribute that is not noted
+pub serves_nobody : {S : Type 0} (w : HashMap Want (List ℕ) S) (m : List Bool) (o : List ℕ) (noted : List Bool) (a : ℕ) (carriers : List Carrier)
+    → AreWithin w m → AreNoted w noted → slice_index_or noted a false ≡ false → Serves w m o w m o (map (λ c. record { attr = a; carrier = c }) carriers)
+serves_nobody w m o noted a carriers within known none = record {
+  within = within;
+  left = λ wanted same. same;
+  served = λ wanted same. mark_none m o (λ x. list_any (λ q. wanted q x) (map want_by carriers)) (λ x h. marked wanted same x h (cases_Bool (get_or m x false)));
+}
+  where
+    want_by : Carrier → Want
+    want_by c = record { attr = a; carrier = c }
+
+    nobody : (c : Carrier) (x : ℕ) → (waits w (want_by c) x ≡ true) ⊎ (waits w (want_by c) x ≡ false) → waits w (want_by c) x ≡ false
+    nobody c x (inl e) = absurd (false≢true (sym none ∙ known (want_by c) x e))
+    nobody c x (inr e) = e
+
+    unwanted : (wanted : Want → ℕ → Bool) → AreWaiting wanted w m → (x : ℕ) → get_or m x false ≡ false → (cs : List Carrier) → list_any (λ q. wanted q x) (map want_by cs) ≡ false
+    unwanted wanted same x e [] = refl
+    unwanted wanted same x e (c ∷ cs) =
+        ap (λ b. b || list_any (λ q. wanted q x) (map want_by cs)) (sym (same (want_by c) x e) ∙ nobody c x (cases_Bool (waits w (want_by c) x))) ∙ unwanted wanted same x e cs
+
+    marked : (wanted : Want → ℕ → Bool) → AreWaiting wanted w m → (x : ℕ) → list_any (λ q. wanted q x) (map want_by carriers) ≡ true → (get_or m x false ≡ true) ⊎ (get_or m x false ≡ false) → get_or m x false ≡ true
+    marked wanted same x h (inl e) = e
+    marked wanted same x h (inr e) = absurd (false≢true (sym (unwanted wanted same x e carriers) ∙ h))

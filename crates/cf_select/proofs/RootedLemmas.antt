@@ -1,5 +1,5 @@
 -- Marks that are spread from the root, along a list of those that are marked, mark all that is rooted.
-use Rattle.std.proofs.Common.{◌⊎◌, inl, inr, zero, suc, take, drop, subst, ◌||◌, ◌==◌, ◌≡◌, ℕ, ◌<◌, ◌≤◌, ◌+◌, Bool, true, false, List, [], ◌∷◌, length, get_or, map, refl, ap, sym, ◌∙◌, arith}
+use Rattle.std.proofs.Common.{inl, inr, zero, suc, take, drop, subst, ◌||◌, ◌==◌, ◌≡◌, ℕ, ◌<◌, ◌≤◌, ◌+◌, Bool, true, false, List, [], ◌∷◌, length, get_or, map, refl, ap, sym, ◌∙◌, arith}
 use Rattle.std.specs.Prelude.{All, Some, None, slice_get}
 use Rattle.attr_graph.specs.Reach.{Shape}
 use Rattle.std.specs.List.{list_any}

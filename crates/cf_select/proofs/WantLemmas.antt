@@ -58,6 +58,18 @@ wants_more insts i d q x now next h so_far new =
     ∙ ap (λ n. wants_at front q x || (wants (inst_of (get_or insts i d)) q && (n == x))) size in
     new ∙ ap (λ b. b || (wants (inst_of (get_or insts i d)) q && (i == x))) so_far ∙ sym more
 
+-- one more instance, with its attribute noted
+pub noted_more : (insts : List Inst) (i : ℕ) (d : Inst) (q : Want) (x : ℕ) (old new : List Bool) → i < length insts → (wants_at (map inst_of (take i insts)) q x ≡ true → slice_index_or old q.attr false ≡ true)
+    → (wants (inst_of (get_or insts i d)) q ≡ true → slice_index_or new q.attr false ≡ true) → (slice_index_or old q.attr false ≡ true → slice_index_or new q.attr false ≡ true)
+    → wants_at (map inst_of (take (i + 1) insts)) q x ≡ true → slice_index_or new q.attr false ≡ true
+noted_more insts i d q x old new h so_far own kept now =
+    either (wants_at (map inst_of (take i insts)) q x) (wants (inst_of (get_or insts i d)) q) (i == x) (λ e. kept (so_far e)) own (wants_more insts i d q x _ _ h refl refl ∙ now)
+  where
+    either : (a b c : Bool) → {A : Type 0} → (a ≡ true → A) → (b ≡ true → A) → (a || (b && c)) ≡ true → A
+    either true b c f g e = f refl
+    either false true c f g e = g refl
+    either false false c f g e = absurd (cc)
+
 -- ---- what an instance serves
 
 pub three_wants : (i : select.Inst) (a : ℕ) (own : Carrier) → carriers_of i ≡ carrier.Any ∷ carrier.Of i.device ∷ own ∷ []

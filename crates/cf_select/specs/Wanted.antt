@@ -1,5 +1,6 @@
 -- What an instance waits for, and what it is for those that wait.
-use Rattle.std.specs.Prelude.{ℕ, Bool, true, false, ◌&&◌, ◌==◌, List, [], ◌∷◌, Option, Some, None, flat_map, map, slice_get}
+use Rattle.std.specs.Prelude.{◌≡◌, ℕ, Bool, true, false, ◌&&◌, ◌==◌, List, [], ◌∷◌, Option, Some, None, flat_map, map, slice_get}
+use Rattle.std.specs.List.{slice_index_or}
 use Rattle.std.specs.Option.{option_map_or}
 use Rattle.cf_types.specs.declared.stmt.UnitMark.{UnitMark}
 use Rattle.cf_types.specs.declared.stmt.UnitMark.TheVariants.{Fixed, Star}
@@ -62,6 +63,10 @@ carriers_of i = carrier.Any ∷ carrier.Of i.device ∷ own_of i.device i.mark �
 -- the instance is among those that wait
 abbrev pub waits : {S : Type 0} → HashMap Want (List ℕ) S → Want → ℕ → Bool
 waits waiting q place = holds block.ghosts.eq waiting q place
+
+-- each attribute that somebody waits for is noted
+abbrev pub AreNoted : {S : Type 0} → HashMap Want (List ℕ) S → List Bool → Type 0
+AreNoted lists noted = (q : Want) (x : ℕ) → waits lists q x ≡ true → slice_index_or noted q.attr false ≡ true
 
 -- what an instance serves by attributes that it offers
 abbrev pub wants_of : select.Inst → List ℕ → List Want

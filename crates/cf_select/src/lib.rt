@@ -7,6 +7,7 @@ mod marks;
 mod named;
 mod negations;
 mod standing;
+mod waiting;
 mod want;
 mod wants;
 

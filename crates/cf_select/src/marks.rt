@@ -11,13 +11,12 @@ ghost use Rattle.cf_select.specs.Wanted.{carriers_of, wants_at, wants_of};
 ghost use Rattle.cf_select.specs.declared.want.Want.{Want as Wanted};
 
 use crate::instance::{Inst, is_at_root};
-use crate::lists::take_places;
+use crate::waiting::Waiting;
 use crate::want::{Carrier, Want};
 use crate::wants::{own_carrier, waiting_lists};
 use attr_graph::Graph;
 use cf_types::{List, Memory};
 use std::alloc::Global;
-use std::collections::HashMap;
 
 /// Marks a place, and appends it to those that are marked, unless it is one of them.
 fn mark(marks: &mut Vec<bool>, order: &mut Vec<usize>, place: usize) -> Result<(), Memory>
@@ -45,15 +44,15 @@ fn mark_all(marks: &mut Vec<bool>, order: &mut Vec<usize>, places: &[usize]) -> 
 /// Marks all that wait for this, and they wait no longer.
 fn serve_want(
     alloc: Global,
-    waiting: &mut HashMap<Want, List<usize>>,
+    waiting: &mut Waiting,
     marks: &mut Vec<bool>,
     order: &mut Vec<usize>,
     want: Want,
 ) -> Result<(), Memory>
-    requires { AreWithin waiting.old marks.old.items }
-    ensures { OnOk result (Serves waiting.old marks.old.items order.old.items waiting.new marks.new.items order.new.items (want ∷ [])) }
+    requires { AreWithin waiting.old.lists marks.old.items }
+    ensures { OnOk result (Serves waiting.old.lists marks.old.items order.old.items waiting.new.lists marks.new.items order.new.items (want ∷ [])) }
 {
-    let places = take_places(alloc, waiting, &want);
+    let places = waiting.take(alloc, &want);
     mark_all(marks, order, places.items())?;
     Ok(())
 }
@@ -61,15 +60,18 @@ fn serve_want(
 /// Marks all that wait for an instance because of an attribute that it offers.
 fn serve_attr(
     alloc: Global,
-    waiting: &mut HashMap<Want, List<usize>>,
+    waiting: &mut Waiting,
     marks: &mut Vec<bool>,
     order: &mut Vec<usize>,
     attr: u32,
     inst: &Inst,
 ) -> Result<(), Memory>
-    requires { AreWithin waiting.old marks.old.items }
-    ensures { OnOk result (Serves waiting.old marks.old.items order.old.items waiting.new marks.new.items order.new.items (wants_of (inst_of inst.now) (attr ∷ []))) }
+    requires { AreWithin waiting.old.lists marks.old.items }
+    ensures { OnOk result (Serves waiting.old.lists marks.old.items order.old.items waiting.new.lists marks.new.items order.new.items (wants_of (inst_of inst.now) (attr ∷ []))) }
 {
+    if !waiting.is_noted(attr) {
+        return Ok(());
+    }
     let any = Carrier::Any;
     let of_device = Carrier::Of(inst.device);
     let own = own_carrier(inst);
@@ -92,14 +94,14 @@ fn serve_attr(
 fn serve(
     alloc: Global,
     graph: &Graph,
-    waiting: &mut HashMap<Want, List<usize>>,
+    waiting: &mut Waiting,
     marks: &mut Vec<bool>,
     order: &mut Vec<usize>,
     inst: &Inst,
 ) -> Result<(), Memory>
     requires known { inst.now.device < length graph.now.devices }
-    requires within { AreWithin waiting.old marks.old.items }
-    ensures { OnOk result (Serves waiting.old marks.old.items order.old.items waiting.new marks.new.items order.new.items (wants_of (inst_of inst.now) (interfaces_of graph.now.attrs (slice_index_or graph.now.devices inst.now.device [])))) }
+    requires within { AreWithin waiting.old.lists marks.old.items }
+    ensures { OnOk result (Serves waiting.old.lists marks.old.items order.old.items waiting.new.lists marks.new.items order.new.items (wants_of (inst_of inst.now) (interfaces_of graph.now.attrs (slice_index_or graph.now.devices inst.now.device [])))) }
 {
     for attr in graph.interfaces(inst.device) {
         serve_attr(alloc, waiting, marks, order, *attr, inst)?;
@@ -120,15 +122,15 @@ fn spread(
     alloc: Global,
     graph: &Graph,
     insts: &[Inst],
-    waiting: &mut HashMap<Want, List<usize>>,
+    waiting: &mut Waiting,
     marks: &mut Vec<bool>,
     order: &mut Vec<usize>,
 ) -> Result<(), Memory>
     requires known { All (λ i. i.device < length graph.now.devices) insts.now }
     requires size { length marks.old.items ≡ length insts.now }
     requires order { AreMarked marks.old.items order.old.items }
-    requires within { AreWithin waiting.old marks.old.items }
-    requires waiting { AreWaiting (wants_at (map inst_of insts.now)) waiting.old marks.old.items }
+    requires within { AreWithin waiting.old.lists marks.old.items }
+    requires waiting { AreWaiting (wants_at (map inst_of insts.now)) waiting.old.lists marks.old.items }
     requires sound { AllRooted (is_at_root_at (map inst_of insts.now)) (carries_at (offered_in graph.now) (map inst_of insts.now)) (length insts.now) marks.old.items }
     requires roots { (i : ℕ) → i < length insts.now → is_at_root_at (map inst_of insts.now) i ≡ true → slice_index_or marks.old.items i false ≡ true }
     ensures { OnOk result (AreRooted (is_at_root_at (map inst_of insts.now)) (carries_at (offered_in graph.now) (map inst_of insts.now)) (length insts.now) marks.new.items) }

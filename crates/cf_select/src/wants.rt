@@ -1,4 +1,5 @@
-ghost use Rattle.std.specs.Prelude.{◌≡◌, ℕ, ◌&&◌, ◌||◌, ◌==◌, [], ◌∷◌, length, map, IfOk, OnOk};
+ghost use Rattle.std.specs.Prelude.{◌≡◌, ℕ, ◌&&◌, ◌||◌, ◌==◌, true, false, [], ◌∷◌, length, map, IfOk, OnOk};
+ghost use Rattle.std.specs.List.{slice_index_or};
 ghost use Rattle.cf_select.specs.Carried.{inst_of};
 ghost use Rattle.cf_select.specs.Wanted.{carriers_of, waits, wants, wants_at};
 ghost use Rattle.cf_select.specs.declared.want.Carrier.TheVariants.{Any, Of};
@@ -6,6 +7,7 @@ ghost use Rattle.cf_select.specs.declared.want.Want.{Want as Wanted};
 
 use crate::instance::Inst;
 use crate::lists::push_place;
+use crate::waiting::Waiting;
 use crate::want::{Carrier, Want};
 use cf_types::{List, Memory, ParentSpec, Place};
 use std::alloc::Global;
@@ -54,12 +56,55 @@ fn put(
 }
 
 /// The places of the instances by what they wait for.
-pub fn waiting_lists(alloc: Global, insts: &[Inst]) -> Result<HashMap<Want, List<usize>>, Memory>
-    ensures { IfOk result (λ waiting. (q : Want) (x : ℕ) → waits waiting q x ≡ wants_at (map inst_of insts.now) q x) }
+fn lists_of(alloc: Global, insts: &[Inst]) -> Result<HashMap<Want, List<usize>>, Memory>
+    ensures { IfOk result (λ lists. (q : Want) (x : ℕ) → waits lists q x ≡ wants_at (map inst_of insts.now) q x) }
 {
-    let mut waiting = HashMap::new(alloc);
+    let mut lists = HashMap::new(alloc);
     for (place, inst) in insts.iter().enumerate() {
-        put(alloc, &mut waiting, inst, place)?;
+        put(alloc, &mut lists, inst, place)?;
     }
-    Ok(waiting)
+    Ok(lists)
+}
+
+/// Notes an attribute.
+fn note(noted: &mut Vec<bool>, attr: u32) -> Result<(), Memory>
+    ensures attr { OnOk result (slice_index_or noted.new.items attr false ≡ true) }
+    ensures kept { OnOk result ((a : ℕ) → slice_index_or noted.old.items a false ≡ true → slice_index_or noted.new.items a false ≡ true) }
+{
+    if attr as usize >= noted.len() {
+        noted.resize(attr as usize + 1, false)?;
+    }
+    noted[attr as usize] = true;
+    Ok(())
+}
+
+/// Notes the attribute at whose place an instance is.
+fn note_place(noted: &mut Vec<bool>, inst: &Inst) -> Result<(), Memory>
+    ensures wanted { OnOk result ((q : Want) → wants (inst_of inst.now) q ≡ true → slice_index_or noted.new.items q.attr false ≡ true) }
+    ensures kept { OnOk result ((a : ℕ) → slice_index_or noted.old.items a false ≡ true → slice_index_or noted.new.items a false ≡ true) }
+{
+    match inst.place {
+        Place::At(attr) => note(noted, attr),
+        Place::Root => Ok(()),
+    }
+}
+
+/// For each attribute whether an instance waits for a carrier that offers it.
+fn noted_attrs(alloc: Global, insts: &[Inst]) -> Result<Vec<bool>, Memory>
+    ensures { IfOk result (λ noted. (q : Want) (x : ℕ) → wants_at (map inst_of insts.now) q x ≡ true → slice_index_or noted.items q.attr false ≡ true) }
+{
+    let mut noted = Vec::new(alloc);
+    for inst in insts {
+        note_place(&mut noted, inst)?;
+    }
+    Ok(noted)
+}
+
+/// The places of the instances by what they wait for.
+pub fn waiting_lists(alloc: Global, insts: &[Inst]) -> Result<Waiting, Memory>
+    ensures { IfOk result (λ waiting. (q : Want) (x : ℕ) → waits waiting.lists q x ≡ wants_at (map inst_of insts.now) q x) }
+{
+    let lists = lists_of(alloc, insts)?;
+    let noted = noted_attrs(alloc, insts)?;
+    Ok(Waiting { lists, noted })
 }

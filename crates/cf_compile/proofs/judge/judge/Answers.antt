@@ -13,8 +13,8 @@ pub loop-place-init : goal.loop-place-init
 loop-place-init c =
     walked_begins c.args.files.now c.args.placed.now c.make-declarations.result c.make-instances.result c.make-declarations.ensures c.make-instances.ensures
 
-pub code_of-requires : goal.code_of-requires
-code_of-requires c =
+pub judge_statement-requires : goal.judge_statement-requires
+judge_statement-requires c =
     walked_fits c.args.files.now c.args.placed.now c.loop-place.place c.loop-place.declarations c.loop-place.instances c.loop-place.count
     (omega (arith, c.loop-place-test.true, c.requires.written.few)) c.loop-place.invariant
 
@@ -29,12 +29,13 @@ bounds-survive-place c = survive_within c.args.placed.now c.args.survive.now c.l
 
 pub loop-place-preserved : goal.loop-place-preserved
 loop-place-preserved c =
-    let none : code_of c.loop-place.declarations c.loop-place.count c.index-placed-place.result.stmt ≡ None = sym c.in_ok-code.ensures.code ∙ none_left _ c.in_default.not-Some in
-    let own : Declared → List Bool → List Instance = λ d marks. if slice_index_or marks c.loop-place.place false then option_to_list (instance_at d c.loop-place.place c.index-placed-place.result.stmt) else [] in
-    let more : c.push_kept.new.instances ≡ c.loop-place.instances ++ own c.code_of.new.self c.args.survive.now = c.in_ok-push_kept.ensures in
-    walked_goes_on c.args.files.now c.args.placed.now c.loop-place.place c.loop-place.declarations c.in_ok-declarations.declarations c.loop-place.instances c.push_kept.new.instances c.loop-place.count _ c.instance_count.result c.index-placed-place.result
+    let left : c.in_ok-code.code ≡ None = none_left _ c.in_default.not-Some in
+    let none : code_of c.loop-place.declarations c.loop-place.count c.index-placed-place.result.stmt ≡ None = sym c.in_ok-code.ensures.code ∙ left in
+    let own : List Bool → List Instance = λ marks. if slice_index_or marks c.loop-place.place false then option_to_list (instance_at c.loop-place.declarations c.loop-place.place c.index-placed-place.result.stmt) else [] in
+    let more : c.judge_statement.new.instances ≡ c.loop-place.instances ++ own c.args.survive.now = c.in_ok-code.ensures.kept left in
+    walked_goes_on c.args.files.now c.args.placed.now c.loop-place.place c.loop-place.declarations c.in_ok-declarations.declarations c.loop-place.instances c.judge_statement.new.instances c.loop-place.count _ c.instance_count.result c.index-placed-place.result
     c.loop-place-test.true c.index-placed-place.is c.loop-place.invariant none
-    (more ∙ ap (λ (d : Declared). c.loop-place.instances ++ own d c.args.survive.now) c.in_ok-code.ensures.same ∙ ap (λ (marks : List Bool). c.loop-place.instances ++ own c.loop-place.declarations marks) c.requires.survive)
+    (more ∙ ap (λ (marks : List Bool). c.loop-place.instances ++ own marks) c.requires.survive)
     (c.in_ok-declarations.ensures ∙ ap (λ (d : Declared). declare d c.index-placed-place.result.stmt) c.in_ok-code.ensures.same) c.instance_count.ensures refl
 
 pub returns : goal.returns

@@ -5,4 +5,4 @@ use Rattle.cf_select.specs.Wanted.{wants_of}
 use Rattle.cf_select.proofs.marks.serve.Given as goal
 
 abbrev pub invariant-loop-attr : goal.invariant-loop-attr
-invariant-loop-attr l = Serves l.initial.waiting l.initial.marks.items l.initial.order.items l.waiting l.marks.items l.order.items (wants_of (inst_of l.inst) (take l.attr-index l.attr-items))
+invariant-loop-attr l = Serves l.initial.waiting.lists l.initial.marks.items l.initial.order.items l.waiting.lists l.marks.items l.order.items (wants_of (inst_of l.inst) (take l.attr-index l.attr-items))

@@ -2,7 +2,7 @@ use Rattle.std.proofs.Common.{false}
 use Rattle.std.specs.Prelude.{None}
 use Rattle.cf_types.specs.declared.tables.Place.TheVariants.{Root}
 use Rattle.cf_select.proofs.WantLemmas.{wants_more}
-use Rattle.cf_select.proofs.wants.waiting_lists.Goals as goal
+use Rattle.cf_select.proofs.wants.lists_of.Goals as goal
 
 pub loop-place-preserved : goal.loop-place-preserved
 loop-place-preserved c = λ q x.

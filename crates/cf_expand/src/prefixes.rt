@@ -1,0 +1,156 @@
+//! The prefixes that stand, in one text: what a prefix adds to the one below it stands behind that.
+ghost use Rattle.std.specs.Prelude.{◌≡◌, ◌==◌, ◌≤◌, ◌++◌, ◌∷◌, [], IfOk, IfSome, OnOk, length, slice_index, take, drop};
+ghost use Rattle.config_rules.specs.Reading.{under_prefix};
+ghost use Rattle.cf_expand.specs.Paths.{PopsTop, behind, end_of, path_at, top_of};
+
+use cf_types::{List, Memory, Text};
+use std::alloc::Global;
+use std::collections::VecDeque;
+use std::marker::Model;
+
+/// Where the path of a prefix stands in the text.
+#[derive(Clone, Copy)]
+pub struct PathSpan {
+    pub start: usize,
+    pub end: usize,
+}
+
+/// The prefixes that stand, the top one first. Contracts see their paths.
+#[derive(Drop)]
+pub struct Prefixes {
+    text: Vec<u8>,
+    spans: VecDeque<PathSpan>,
+}
+
+impl Model for Prefixes {
+    ghost use Rattle.std.specs.Prelude.{List, ℕ, map, length};
+    ghost use Rattle.cf_expand.specs.Paths.{AreNested, path_at};
+
+    ghost Value = { List (List ℕ) };
+
+    ghost view = { λ it. map (path_at it.text.items) it.spans.items };
+
+    ghost invariant = { λ it. AreNested (length it.text.items) it.spans.items };
+}
+
+/// Whether a path begins with `/`, and so stands for itself.
+fn is_absolute(path: &[u8]) -> bool
+    ensures { result ≡ (slice_index path.now 0 == 47) }
+{
+    match path {
+        [first, ..] => *first == b'/',
+        [] => false,
+    }
+}
+
+fn end_of(span: Option<PathSpan>) -> usize
+    ensures { result ≡ end_of span }
+{
+    match span {
+        Some(span) => span.end,
+        None => 0,
+    }
+}
+
+/// The top one of these.
+fn top_of(spans: &VecDeque<PathSpan>) -> Option<PathSpan>
+    ensures { result ≡ top_of spans.now.items }
+{
+    spans.front().copied()
+}
+
+/// The path that stands there.
+fn path_at(text: &[u8], span: PathSpan) -> &[u8]
+    requires { (span.start ≤ span.end) × (span.end ≤ length text.now) }
+    ensures { result.now ≡ path_at text.now span }
+{
+    &text[..span.end][span.start..]
+}
+
+/// Makes place for a path behind a prefix, and tells where both begin.
+fn begin(text: &mut Vec<u8>, top: Option<PathSpan>, path: &[u8]) -> Result<usize, Memory>
+    requires { IfSome top (λ s. (s.start ≤ s.end) × (s.end ≤ length text.old.items)) }
+    ensures kept { take (end_of top) text.new.items ≡ take (end_of top) text.old.items }
+    ensures within { end_of top ≤ length text.new.items }
+    ensures begun { IfOk result (λ start. (start ≤ length text.new.items) × (drop start text.new.items ++ path.now ≡ behind text.old.items top path.now)) }
+{
+    text.truncate(end_of(top));
+    match top {
+        Some(top) => {
+            if is_absolute(path) {
+                return Ok(text.len());
+            }
+            text.push(b'/')?;
+            Ok(top.start)
+        }
+        None => Ok(text.len()),
+    }
+}
+
+/// Appends a path behind a prefix, in place of what stands there, and tells where both stand.
+fn add_path(text: &mut Vec<u8>, top: Option<PathSpan>, path: &[u8]) -> Result<PathSpan, Memory>
+    requires { IfSome top (λ s. (s.start ≤ s.end) × (s.end ≤ length text.old.items)) }
+    ensures kept { take (end_of top) text.new.items ≡ take (end_of top) text.old.items }
+    ensures within { end_of top ≤ length text.new.items }
+    ensures span { IfOk result (λ s. (s.start ≤ s.end) × (s.end ≤ length text.new.items) × (end_of top ≤ s.end)) }
+    ensures path { IfOk result (λ s. path_at text.new.items s ≡ behind text.old.items top path.now) }
+{
+    let start = begin(text, top, path)?;
+    text.extend_from_slice(path)?;
+    Ok(PathSpan {
+        start,
+        end: text.len(),
+    })
+}
+
+/// A path behind a prefix and one `/`, or a path that begins with `/` alone.
+fn joined(alloc: Global, top: &[u8], path: &[u8]) -> Result<Text, Memory>
+    ensures { IfOk result (λ text. text ≡ under_prefix (top.now ∷ []) path.now) }
+{
+    if is_absolute(path) {
+        return List::copied(alloc, path);
+    }
+    let mut bytes = Vec::from_slice(alloc, top)?;
+    bytes.push(b'/')?;
+    bytes.extend_from_slice(path)?;
+    Ok(List::from_vec(bytes))
+}
+
+impl Prefixes {
+    /// No prefix.
+    pub fn make(alloc: Global) -> Prefixes
+        ensures { result ≡ [] }
+    {
+        Prefixes {
+            text: Vec::new(alloc),
+            spans: VecDeque::new(alloc),
+        }
+    }
+
+    /// A path behind the top prefix, unless it begins with `/` or there is none.
+    pub fn under(&self, alloc: Global, path: &[u8]) -> Result<Text, Memory>
+        ensures { IfOk result (λ text. text ≡ under_prefix self.now path.now) }
+    {
+        match self.spans.front() {
+            Some(span) => joined(alloc, path_at(&self.text, *span), path),
+            None => List::copied(alloc, path),
+        }
+    }
+
+    /// Puts a path on top, itself behind the top one.
+    pub fn push(&mut self, path: &[u8]) -> Result<(), Memory>
+        ensures { OnOk result (self.new ≡ under_prefix self.old path.now ∷ self.old) }
+    {
+        let top = top_of(&self.spans);
+        let span = add_path(&mut self.text, top, path)?;
+        self.spans.push_front(span)?;
+        Ok(())
+    }
+
+    /// Takes the top one away; `false` where there is none.
+    pub fn pop(&mut self) -> bool
+        ensures { PopsTop self.old result self.new }
+    {
+        self.spans.pop_front().is_some()
+    }
+}
