@@ -50,3 +50,22 @@ make_script() {
         }
     }'
 }
+
+# A bus with so many disks, a script that does some commands so often, with `,` between them, and an order file with so many
+# turns for each time.
+make_disks() {
+    printf '%s\n' 'device bus {[slot = -1]}' 'attach bus at root' 'device disk' 'attach disk at bus' \
+        'bus0 at root' 'disk* at bus?' >"$folder/conf"
+    awk -v disks="$1" -v times="$2" -v commands="$3" -v turns="$4" -v folder="$folder" 'BEGIN {
+        print "spot b root root" > (folder "/mach")
+        for (i = 0; i < disks; i++) print "spot s" i " b bus slot=" i > (folder "/mach")
+        print "match bus * 10" > (folder "/mach")
+        print "match disk * 10" > (folder "/mach")
+        for (turn = 0; turn < turns; turn++) line = line "1 "
+        gsub(",", "\n", commands)
+        for (i = 0; i < times; i++) {
+            print commands > (folder "/script")
+            print line > (folder "/order")
+        }
+    }'
+}

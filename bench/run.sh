@@ -25,5 +25,8 @@ rows_of ioconf.sh ioconf, statements
 rows_of files.sh files, statements
 rows_of load.sh 'load, a bus with' disks
 rows_of search.sh 'boot, 4,000 rows,' spots
+rows_of indirect.sh 'boot, an indirect bus with' spots
 rows_of rescan.sh 'play, 1,024 spots,' rescans
+rows_of tree.sh 'play, trees of' disks
+rows_of power.sh 'play, a bus that sleeps with' disks
 rows_of replay.sh 'replay, 1,024 spots,' KiB

@@ -1,11 +1,12 @@
 ghost use Rattle.std.specs.Prelude.{◌≡◌, ◌++◌, OnOk, codes, decimal};
 ghost use Rattle.run_rules.specs.Lines as text;
 
+use crate::number::put_number;
 use crate::parts::{
     put_answer, put_depth_names, put_got, put_got_1, put_named, put_names, put_of, put_reply,
     put_said, put_shown, put_shown_1, put_started,
 };
-use cf_types::{List, Memory, Name, put_bytes, put_decimal};
+use cf_types::{List, Memory, Name, put_bytes};
 use run_rules::{Act, DepthName, Got, IoAnswer, PowerKind, Reply, Shown};
 
 fn power_word(kind: PowerKind) -> &'static [u8]
@@ -73,7 +74,7 @@ fn put_transfer(out: &mut Vec<u8>, device: &Name, value: u32, reply: &Reply) -> 
 {
     put_named(out, b"io ", device)?;
     put_bytes(out, b" ")?;
-    put_decimal(out, i64::from(value))?;
+    put_number(out, value)?;
     put_bytes(out, b": ")?;
     put_started(out, reply)
 }

@@ -5,6 +5,7 @@ mod act;
 mod cut;
 mod formed;
 mod line;
+mod number;
 mod parts;
 mod read;
 mod read_act;

@@ -2,16 +2,20 @@ ghost use Rattle.std.specs.Prelude.{◌≡◌, ◌++◌, OnOk, OnErr, codes, dec
 ghost use Rattle.run_rules.specs.Lines.{line_of, line_of_1};
 
 use crate::act::{put_act, put_act_1};
-use cf_types::{Memory, put_bytes, put_decimal};
+use crate::number::put_number;
+use cf_types::{Memory, put_bytes};
 use run_rules::Event;
+
+/// How many bytes serve for most lines.
+const USUAL: usize = 96;
 
 /// Appends who did the event, and the number of its command.
 fn put_head(out: &mut Vec<u8>, event: &Event) -> Result<(), Memory>
     ensures { OnOk result (out.new.items ≡ out.old.items ++ (decimal event.now.caller ++ codes "." ++ decimal event.now.number ++ codes " ")) }
 {
-    put_decimal(out, i64::from(event.caller))?;
+    put_number(out, u32::from(event.caller))?;
     put_bytes(out, b".")?;
-    put_decimal(out, i64::from(event.number))?;
+    put_number(out, event.number)?;
     put_bytes(out, b" ")
 }
 
@@ -21,7 +25,7 @@ pub fn put_event(event: &Event, out: &mut Vec<u8>) -> Result<(), Memory>
     ensures ok { OnOk result (out.new.items ≡ out.old.items ++ line_of event.now) }
     ensures err { OnErr result (out.new.items ≡ out.old.items) }
 {
-    let mut line = Vec::new(*out.allocator());
+    let mut line = Vec::with_capacity(*out.allocator(), USUAL)?;
     put_head(&mut line, event)?;
     put_act(&mut line, &event.act)?;
     out.extend_from_slice(&line)?;
@@ -35,7 +39,7 @@ pub fn put_event_1(event: &Event, out: &mut Vec<u8>) -> Result<(), Memory>
     ensures ok { OnOk result (out.new.items ≡ out.old.items ++ line_of_1 event.now) }
     ensures err { OnErr result (out.new.items ≡ out.old.items) }
 {
-    let mut line = Vec::new(*out.allocator());
+    let mut line = Vec::with_capacity(*out.allocator(), USUAL)?;
     put_head(&mut line, event)?;
     put_act_1(&mut line, &event.act)?;
     out.extend_from_slice(&line)?;
