@@ -7,7 +7,7 @@ ghost use Rattle.config_rules.specs.Select.{kept};
 ghost use Rattle.config_rules.specs.Written.{AreWritten};
 ghost use Rattle.cf_compile.specs.Judged.{Judges, instance_at};
 
-use cf_declare::{Declarations, MAX_INSTANCES};
+use cf_declare::{Declarations, MAX_INSTANCES, declares};
 use cf_rows::file_name;
 use cf_types::code::configuration as code;
 use cf_types::{Instance, List, Memory, Placed, Refusal, Stmt, Text};
@@ -139,8 +139,11 @@ pub fn judge(
         if let Some(code) = code {
             return Ok(Verdict::Refused(refusal(alloc, files, statement, code)?));
         }
-        declarations = declarations.declare(alloc, &statement.stmt)?;
         count += instance_count(&statement.stmt);
+        if !declares(&statement.stmt) {
+            continue;
+        }
+        declarations = declarations.declare(alloc, &statement.stmt)?;
     }
     Ok(Verdict::Accepted(Standing {
         declarations,

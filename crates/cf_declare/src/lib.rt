@@ -12,4 +12,5 @@ mod lookup;
 mod names;
 
 pub use declarations::Declarations;
+pub use grow::declares;
 pub use judge::MAX_INSTANCES;

@@ -18,6 +18,7 @@ use crate::stop::ExpandStop;
 use cf_io::Files;
 use cf_types::code::configuration as code;
 use cf_types::{Expanded, Memory, Token};
+use cf_words::Word;
 use std::alloc::Global;
 
 /// Ends a file: no condition may be open.
@@ -38,13 +39,14 @@ fn read_end(
 
 /// Reads a statement, with the file that it includes.
 #[cycle(statements)]
-fn read_with_include<F: Files>(
+fn read_with_include<'a, F: Files>(
     alloc: Global,
     files: &mut F,
     progress: &mut Progress,
-    source: &Source,
+    source: &'a Source,
     conditions: &Conditions,
     tokens: &[Token],
+    words: &mut Vec<Word<'a>>,
 ) -> Result<(), ExpandStop>
     requires { AreWithin source.now.text tokens.now }
     ensures told { F.told files.new ≡ F.told files.old }
@@ -55,7 +57,7 @@ fn read_with_include<F: Files>(
         (λ named around. read_statement named (reader source.now.levels named) (here_of around source.now) conditions.now (statement_of source.now.text tokens.now) progress.old)
         result (F.asked files.old) (F.asked files.new) }
 {
-    let Some(wanted) = read_statement(alloc, progress, source, conditions, tokens)? else {
+    let Some(wanted) = read_statement(alloc, progress, source, conditions, tokens, words)? else {
         return Ok(());
     };
     let line = line_number(tokens);
@@ -81,11 +83,20 @@ fn read_source<F: Files>(
     ensures asked { AsksIn (F.told files.old) source.now progress.old (λ named around. entered named around (Some source.now) progress.old) result (F.asked files.old) (F.asked files.new) }
 {
     let mut conditions = Conditions::make(alloc);
+    let mut words = Vec::new(alloc);
     let mut tokens = source.tokens.items();
     while let Some((statement, rest)) = first_statement(tokens) {
         let word = condition_word(source.text.items(), statement);
         let condition_holds = holds(progress, word, source.text.items(), statement);
-        read_with_include(alloc, files, progress, source, &conditions, statement)?;
+        read_with_include(
+            alloc,
+            files,
+            progress,
+            source,
+            &conditions,
+            statement,
+            &mut words,
+        )?;
         if progress.has_fault() {
             return Ok(());
         }

@@ -12,6 +12,7 @@ use crate::source::{Include, Source};
 use cf_grammar::{GrammarStop, statement, word_of};
 use cf_types::code::configuration as code;
 use cf_types::{CondWord, Memory, Stmt, Text, Token};
+use cf_words::Word;
 use std::alloc::Global;
 
 /// The most statements that are placed.
@@ -110,12 +111,13 @@ fn treat(
 }
 
 /// Reads a statement of a part that is not left out.
-fn read_placed(
+fn read_placed<'a>(
     alloc: Global,
     progress: &mut Progress,
-    source: &Source,
+    source: &'a Source,
     conditions: &Conditions,
     tokens: &[Token],
+    words: &mut Vec<Word<'a>>,
 ) -> Result<Option<Include>, Memory>
     requires { AreWithin source.now.text tokens.now }
     ensures few { IfOk result (λ wanted. IfSome wanted (λ _. length progress.new.placed < 65536)) }
@@ -131,7 +133,7 @@ fn read_placed(
         )?;
         return Ok(None);
     }
-    match statement(alloc, source.text.items(), tokens) {
+    match statement(alloc, words, source.text.items(), tokens) {
         Ok(stmt) => treat(alloc, progress, source, conditions, tokens, stmt),
         Err(GrammarStop::Fault { code }) => {
             progress.refuse(alloc, source.name.items(), line_number(tokens), code)?;
@@ -141,13 +143,15 @@ fn read_placed(
     }
 }
 
-/// Reads a statement, up to the file that it includes. In a part that is left out only its first word is looked at.
-pub fn read_statement(
+/// Reads a statement, up to the file that it includes. In a part that is left out only its first word is looked at. The
+/// words are room for those of the statement.
+pub fn read_statement<'a>(
     alloc: Global,
     progress: &mut Progress,
-    source: &Source,
+    source: &'a Source,
     conditions: &Conditions,
     tokens: &[Token],
+    words: &mut Vec<Word<'a>>,
 ) -> Result<Option<Include>, Memory>
     requires { AreWithin source.now.text tokens.now }
     ensures few { IfOk result (λ wanted. IfSome wanted (λ _. length progress.new.placed < 65536)) }
@@ -155,7 +159,7 @@ pub fn read_statement(
     ensures steps { Steps source.now conditions.now (statement_of source.now.text tokens.now) (λ files below here. read_statement files below here conditions.now (statement_of source.now.text tokens.now) progress.old) result progress.new }
 {
     if is_placed(source, conditions, tokens) {
-        return read_placed(alloc, progress, source, conditions, tokens);
+        return read_placed(alloc, progress, source, conditions, tokens, words);
     }
     if is_misplaced(source, conditions, tokens) {
         progress.refuse(

@@ -49,9 +49,12 @@ fn spells_left_out(word: Word, left_out: LeftOut) -> bool
 fn is_left_out_word(word: Word) -> bool
     ensures { result ≡ is_left_out_word (piece_of word.entry) }
 {
-    LEFT_OUT
-        .iter()
-        .any(|&left_out| spells_left_out(word, left_out))
+    match word.text {
+        [b'b' | b'i' | b'o' | b'p' | b's', ..] => LEFT_OUT
+            .iter()
+            .any(|&left_out| spells_left_out(word, left_out)),
+        _ => false,
+    }
 }
 
 /// A chunk with the shape of a name, of any length, other than `flags`.

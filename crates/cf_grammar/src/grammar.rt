@@ -1,4 +1,4 @@
-ghost use Rattle.std.specs.Prelude.{◌≡◌, IfErr, IfOk, false, is_some, map};
+ghost use Rattle.std.specs.Prelude.{◌≡◌, IfErr, IfOk, OnOk, false, is_some, map};
 ghost use Rattle.config_rules.specs.Cut.{piece, pieces};
 ghost use Rattle.config_rules.specs.Form.{Form, form_of};
 ghost use Rattle.cf_words.specs.Words.{piece_of};
@@ -55,19 +55,21 @@ pub fn word_of<'a>(text: &'a [u8], token: Token) -> Word<'a>
     }
 }
 
-fn words_of<'a>(
-    alloc: Global,
+/// Puts the tokens with their bytes in place of what is there.
+fn put_words<'a>(
+    words: &mut Vec<Word<'a>>,
     text: &'a [u8],
     tokens: &[Token],
-) -> Result<Vec<Word<'a>>, AllocError>
+) -> Result<(), AllocError>
     requires { AreWithin text.now tokens.now }
-    ensures { IfOk result (λ words. map piece_of words.items ≡ pieces text.now tokens.now) }
+    ensures { OnOk result (map piece_of words.new.items ≡ pieces text.now tokens.now) }
 {
-    let mut words = Vec::with_capacity(alloc, tokens.len())?;
+    words.clear();
+    words.reserve(tokens.len())?;
     for &token in tokens {
         words.push(word_of(text, token))?;
     }
-    Ok(words)
+    Ok(())
 }
 
 /// Whether words are a statement, whatever its numbers.
@@ -111,12 +113,18 @@ fn read(alloc: Global, words: &[Word]) -> Result<Stmt, GrammarStop>
 
 /// Reads the tokens of one statement, without its `Stop`, as the statement that they are. Their spans lie within the
 /// text, as those that `cut` gives do. The error is the first of the codes `LEFT_OUT`, `NO_FORM` and `OUT_OF_RANGE`
-/// that the tokens have, as the grammar of config(5) is read here, or want of memory.
-pub fn statement(alloc: Global, text: &[u8], tokens: &[Token]) -> Result<Stmt, GrammarStop>
+/// that the tokens have, as the grammar of config(5) is read here, or want of memory. The words stand in place of what was
+/// there; for many statements hand in the same vector.
+pub fn statement<'a>(
+    alloc: Global,
+    words: &mut Vec<Word<'a>>,
+    text: &'a [u8],
+    tokens: &[Token],
+) -> Result<Stmt, GrammarStop>
     requires { AreWithin text.now tokens.now }
     ensures form { IfOk result (λ s. Form (pieces text.now tokens.now) s) }
     ensures fault { IfErr result (λ stop. IsFaultOf (pieces text.now tokens.now) stop) }
 {
-    let words = words_of(alloc, text, tokens)?;
-    read(alloc, &words)
+    put_words(words, text, tokens)?;
+    read(alloc, words)
 }

@@ -231,6 +231,9 @@ fn put_entry(out: &mut Vec<u8>, tables: &Tables, graph: &Graph, n: u32) -> Resul
     Ok(left.is_none())
 }
 
+/// The room that is made for a line at first, in bytes. Most lines are shorter.
+const LINE_ROOM: usize = 120;
+
 /// Appends line `n` of the listing of the tables, counted from 0 and without its newline, and answers whether there is
 /// one; the graph tells what devices offer. Where there is none, or memory runs out, nothing is appended.
 pub fn put_line_with(
@@ -243,7 +246,7 @@ pub fn put_line_with(
     ensures ok { IfOk result (λ more. PutsLine (slice_get (lines tables.now) n) more out.old.items out.new.items) }
     ensures err { OnErr result (out.new.items ≡ out.old.items) }
 {
-    let mut line = Vec::new(*out.allocator());
+    let mut line = Vec::with_capacity(*out.allocator(), LINE_ROOM)?;
     let more = put_entry(&mut line, tables, graph, n)?;
     out.extend_from_slice(&line)?;
     Ok(more)

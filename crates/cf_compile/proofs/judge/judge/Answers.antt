@@ -4,6 +4,7 @@ use Rattle.std.specs.Option.{option_to_list}
 use Rattle.cf_types.specs.declared.instance.Instance.{Instance}
 use Rattle.config_rules.specs.Declared.{Declared}
 use Rattle.config_rules.specs.Fault.{code_of}
+use Rattle.cf_declare.proofs.DeclareLaws.{nothing_more}
 use Rattle.cf_declare.specs.Declare.{declare}
 use Rattle.cf_compile.specs.Judged.{instance_at}
 use Rattle.cf_compile.proofs.WalkLaws.{none_left, survive_within, walked_begins, walked_fits, walked_goes_on, walked_stops, walked_ends}
@@ -37,6 +38,18 @@ loop-place-preserved c =
     c.loop-place-test.true c.index-placed-place.is c.loop-place.invariant none
     (more ∙ ap (λ (marks : List Bool). c.loop-place.instances ++ own marks) c.requires.survive)
     (c.in_ok-declarations.ensures ∙ ap (λ (d : Declared). declare d c.index-placed-place.result.stmt) c.in_ok-code.ensures.same) c.instance_count.ensures refl
+
+pub loop-place-preserved-then-not-declares : goal.loop-place-preserved-then-not-declares
+loop-place-preserved-then-not-declares c =
+    let d = c.loop-place.declarations in
+    let left : c.in_ok-code.code ≡ None = none_left _ c.in_default.not-Some in
+    let none : code_of d c.loop-place.count c.index-placed-place.result.stmt ≡ None = sym c.in_ok-code.ensures.code ∙ left in
+    let own : List Bool → List Instance = λ marks. if slice_index_or marks c.loop-place.place false then option_to_list (instance_at d c.loop-place.place c.index-placed-place.result.stmt) else [] in
+    let more : c.judge_statement.new.instances ≡ c.loop-place.instances ++ own c.args.survive.now = c.in_ok-code.ensures.kept left in
+    walked_goes_on c.args.files.now c.args.placed.now c.loop-place.place d c.judge_statement.new.declarations c.loop-place.instances c.judge_statement.new.instances c.loop-place.count _ c.instance_count.result c.index-placed-place.result
+    c.loop-place-test.true c.index-placed-place.is c.loop-place.invariant none
+    (more ∙ ap (λ (marks : List Bool). c.loop-place.instances ++ own marks) c.requires.survive)
+    (c.in_ok-code.ensures.same ∙ nothing_more d c.index-placed-place.result.stmt c.if-not-declares.ensures) c.instance_count.ensures refl
 
 pub returns : goal.returns
 returns c = walked_ends c.args.files.now c.args.placed.now c.loop-place.place c.loop-place.declarations c.loop-place.instances c.loop-place.count c.loop-place-test.false c.loop-place.invariant
