@@ -1,10 +1,10 @@
-# make             proves and builds the programs, as far as they are not: the first time takes long, as ./devconf does
+# make             proves and builds the programs, as far as they are not: the first time takes long, as with ./devconf
 # make install     puts programs, manual pages, tools and completions below PREFIX; run make before
 # make uninstall   takes away what install put there
 # make check       all checks, as .ci/run
 PREFIX = /usr/local
 DESTDIR =
-PROGRAMS = devconf
+PROGRAMS = devconf drvrun
 TOOLS = explain summary draw compare
 DOCS = CONFIGURATION.md MACHINE.md SCRIPTS.md HISTORY.md FAULTS.md CI.md
 
@@ -15,6 +15,7 @@ zsh = $(root)/share/zsh/site-functions
 
 all:
 	./devconf load 1 >/dev/null
+	cd crates/drvrun/data && ../../../drvrun conf mach s1 >/dev/null
 
 check:
 	.ci/run

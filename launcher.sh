@@ -5,6 +5,20 @@
 explain=$top/tools/explain
 . "$top/tools/lib/terminal.sh"
 
+# May each of these words stand in a form?
+are_operands() {
+    for word; do
+        case $word in '' | -*) return 1 ;; esac
+    done
+}
+
+# Ends with the usage line of the program $1, where the words behind it certainly have no form: that needs no program.
+refuse_words() {
+    usage=$(sed -n "s/^ *b\"\(usage: $1 .*\)\\\\n\";\$/\1/p" "$top"/crates/*/src/*.rt)
+    shift
+    [ -z "$usage" ] || tell_in_words 2 "$usage" "$@"
+}
+
 # Is the program there, and no source newer?
 is_current() {
     [ -x "$program" ] && [ -z "$(find "$top/crates" "$top/crates.txt" -name out -prune -o -type f \

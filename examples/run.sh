@@ -1,9 +1,10 @@
 #!/bin/sh
 # Runs all examples and compares what they write with the stored outputs: a line for each, and status 1 at the first that
-# differs. Without a word it runs ./devconf, which takes the program where `rt ci` leaves it too, in crates/devconf/out/, and
-# builds it only where it is missing or older than a source. Usage: examples/run.sh [PROGRAM]
+# differs. Without words it runs ./devconf and ./drvrun, which take the programs where `rt ci` leaves them too, in
+# crates/devconf/out/ and crates/drvrun/out/, and build them only where they are missing or older than a source.
+# Usage: examples/run.sh [DEVCONF DRVRUN]
 here=$(cd "$(dirname "$0")" && pwd)
-program=$(readlink -f "${1:-$here/../devconf}") || exit 1
+devconf=$(readlink -f "${1:-$here/../devconf}") && drvrun=$(readlink -f "${2:-$here/../drvrun}") || exit 1
 written=$(mktemp) || exit 1
 trap 'rm -f "$written"' EXIT
 
@@ -11,25 +12,29 @@ trap 'rm -f "$written"' EXIT
 same() {
     stored=$1
     folder=$2
-    shift 2
+    name=$3
+    shift 3
+    case $name in devconf) program=$devconf ;; drvrun) program=$drvrun ;; esac
     if ! (cd "$here/$folder" && "$program" "$@") >"$written" || ! cmp -s "$written" "$here/outputs/$stored"; then
-        echo "$stored: devconf $*: not as stored in examples/outputs"
+        echo "$stored: $name $*: not as stored in examples/outputs"
         diff "$here/outputs/$stored" "$written" | head -n 10
         exit 1
     fi
-    echo "$stored: devconf $*: as stored"
+    echo "$stored: $name $*: as stored"
 }
 
-same first.listing . ioconf first.conf
-same small.boot . boot small.conf small.machine
-same hub.boot . boot hub.conf hub.machine
-same pc.listing pc ioconf GENERIC
-same amd64.listing amd64 ioconf GENERIC
-same amd64.sources amd64 files GENERIC
-same server.boot amd64 boot GENERIC ../machines/server
-same detach.play pc play GENERIC ../machines/pc ../detach.order ../hold.script ../detach.script
-same plug.play pc play GENERIC ../machines/pc ../plug.order ../plug.script
-same power.play pc play GENERIC ../machines/pc ../power.order ../power.script
-same check.play pc play GENERIC ../machines/pc ../check.order ../mount.script ../check.script
-same detach.tree pc replay GENERIC ../machines/pc ../outputs/detach.play ../hold.script ../detach.script
-same detach.upgraded pc upgrade GENERIC ../machines/pc ../detach.history ../hold.script ../detach.script
+same first.listing . devconf ioconf first.conf
+same small.boot . devconf boot small.conf small.machine
+same hub.boot . devconf boot hub.conf hub.machine
+same pc.listing pc devconf ioconf GENERIC
+same amd64.listing amd64 devconf ioconf GENERIC
+same amd64.sources amd64 devconf files GENERIC
+same server.boot amd64 devconf boot GENERIC ../machines/server
+same detach.play pc devconf play GENERIC ../machines/pc ../detach.order ../hold.script ../detach.script
+same plug.play pc devconf play GENERIC ../machines/pc ../plug.order ../plug.script
+same power.play pc devconf play GENERIC ../machines/pc ../power.order ../power.script
+same check.play pc devconf play GENERIC ../machines/pc ../check.order ../mount.script ../check.script
+same detach.tree pc devconf replay GENERIC ../machines/pc ../outputs/detach.play ../hold.script ../detach.script
+same detach.upgraded pc devconf upgrade GENERIC ../machines/pc ../detach.history ../hold.script ../detach.script
+same plug.play pc drvrun GENERIC ../machines/pc ../plug.script
+same power.play pc drvrun GENERIC ../machines/pc ../power.script

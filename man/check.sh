@@ -2,7 +2,7 @@
 # Renders the manual pages and fails where the renderer warns. It takes mandoc, man or groff, whichever is there; with none
 # of them it says so and passes. Usage: man/check.sh
 cd "$(dirname "$0")" || exit 1
-for page in devconf.1 devconf.5; do
+for page in *.1 *.5; do
     if command -v mandoc >/dev/null; then
         said=$(mandoc -T lint -W warning "$page" 2>&1)
     elif command -v man >/dev/null; then

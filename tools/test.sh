@@ -323,13 +323,16 @@ try_install() {
     tool='make install'
     before=$wrong
     command -v make >/dev/null || { echo "$tool: not tried: there is no make"; return; }
-    [ -x "$top/crates/devconf/out/devconf" ] || { echo "$tool: not tried: the program is not built"; return; }
+    for program in devconf drvrun; do
+        [ -x "$top/crates/$program/out/$program" ] || { echo "$tool: not tried: $program is not built"; return; }
+    done
     prefix=$work/usr
     (cd "$top" && make -s install PREFIX="$prefix") || differ install 'make ends with a fault' ''
     (cd "$work" && "$prefix/bin/devconf" load 5) >"$work/said" 2>&1 || differ devconf "$(cat "$work/said")" ''
     (cd "$work" && "$prefix/bin/devconf-explain" 13) >"$work/said" 2>&1 || differ devconf-explain "$(cat "$work/said")" ''
     "$prefix/bin/devconf" boot "$top/examples/small.conf" "$top/examples/small.machine" 2>&1 \
         | "$prefix/bin/devconf-draw" >"$work/said" 2>&1 || differ devconf-draw "$(cat "$work/said")" ''
+    (cd "$top/crates/drvrun/data" && "$prefix/bin/drvrun" conf mach s1) 2>&1 | cmp -s - "$top/crates/drvrun/stdout" || differ drvrun 'the output' ''
     [ -f "$prefix/share/man/man1/devconf.1" ] || differ man 'no manual page' ''
     (cd "$top" && make -s uninstall PREFIX="$prefix") || differ uninstall 'make ends with a fault' ''
     left=$(find "$prefix" -type f -o -type l)

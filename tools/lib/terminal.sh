@@ -12,6 +12,8 @@ run_program() {
     # Standard output has to be open to be handed on.
     wants_words && { true 3>&1; } 2>/dev/null || exec "$program" "$@"
     { said=$("$program" "$@" 2>&1 >&3 3>&-) && status=0 || status=$?; } 3>&1
+    # The words of drvrun begin with the configuration; tools/explain takes it from the second one.
+    [ "${program##*/}" != drvrun ] || set -- drvrun "$@"
     tell_in_words "$status" "$said" "$@"
 }
 

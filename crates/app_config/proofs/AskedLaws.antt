@@ -14,7 +14,7 @@ use Rattle.file_select.specs.Answers.{asked_for}
 use Rattle.app_input.specs.Asked.{AsksInputs, Names}
 use Rattle.app_input.specs.Inputs.{Reads}
 use Rattle.app_input.specs.Status.{status_of, status_of_stop}
-use Rattle.app_input.specs.Words.{Form, boot, ioconf, is_compiled, is_from_outside, load, machine_in, scripted, sources}
+use Rattle.app_input.specs.Words.{Form, boot, ioconf, is_compiled, is_from_outside, load, machine_in, scripted, side_by_side, sources}
 use Rattle.app_input.specs.declared.inputs.Inputs.{Inputs}
 use Rattle.app_input.specs.declared.inputs.Inputs.TheVariants as input
 use Rattle.app_input.specs.declared.status.Status.{Status}
@@ -37,11 +37,14 @@ sources_unread name told Memory reads = refl
 sources_unread name told (ConfigRefused file line code) (f, is, compiled, fault) = let never = at_sources (λ form. is_compiled form ≡ true) name f is compiled in absurd cc
 sources_unread name told Usage reads = absurd cc
 sources_unread name told (MachineRefused line code) (f, file, tables, is, machine, meant, described) = let never = at_sources (λ form. machine_in form ≡ Some file) name f is machine in absurd cc
-sources_unread name told (ScriptRefused which line code) (task, tables, m, (file, machine, course, names, is, meant, described, refused)) = absurd cc
+sources_unread name told (ScriptRefused which line code) (inl (task, tables, m, (file, machine, course, names, is, meant, described, refused))) = absurd cc
+sources_unread name told (ScriptRefused which line code) (inr (tables, m, (file, machine, names, is, meant, described, refused))) = absurd cc
 sources_unread name told (Absent absent) (inl (f, file, tables, is, machine, meant, why)) = let never = at_sources (λ form. machine_in form ≡ Some file) name f is machine in absurd cc
-sources_unread name told (Absent absent) (inr (task, tables, m, (file, machine, course, names, is, meant, described, refused))) = absurd cc
+sources_unread name told (Absent absent) (inr (inl (task, tables, m, (file, machine, course, names, is, meant, described, refused)))) = absurd cc
+sources_unread name told (Absent absent) (inr (inr (tables, m, (file, machine, names, is, meant, described, refused)))) = absurd cc
 sources_unread name told (TooLong long) (inl (f, file, tables, is, machine, meant, why)) = let never = at_sources (λ form. machine_in form ≡ Some file) name f is machine in absurd cc
-sources_unread name told (TooLong long) (inr (task, tables, m, (file, machine, course, names, is, meant, described, refused))) = absurd cc
+sources_unread name told (TooLong long) (inr (inl (task, tables, m, (file, machine, course, names, is, meant, described, refused)))) = absurd cc
+sources_unread name told (TooLong long) (inr (inr (tables, m, (file, machine, names, is, meant, described, refused)))) = absurd cc
 sources_unread name told ReadFault (f, is, outside) = let never = at_sources (λ form. is_from_outside form ≡ true) name f is outside in absurd cc
 sources_unread name told Ok never = elim never [ ]
 sources_unread name told WriteFault never = elim never [ ]
@@ -58,6 +61,7 @@ refused_asked (Some (ioconf file)) told status old new reads asked = asked
 refused_asked (Some (boot file machine)) told status old new reads asked = asked
 refused_asked (Some (load n)) told status old new reads asked = asked
 refused_asked (Some (scripted task file machine course names)) told status old new reads asked = asked
+refused_asked (Some (side_by_side file machine names)) told status old new reads asked = asked
 refused_asked (Some (sources name)) told status old new reads asked =
     subst (λ (s : Status). AsksSources told name s old new) (sym (sources_unread name told status reads)) (none_of_sources told name old new asked)
 
@@ -90,6 +94,9 @@ found_asked form told reads (input.Replay tables machine scripts history) status
     run_asked form told Replay file name course names status old mid new is asked later
 found_asked form told reads (input.Upgrade tables machine scripts history) status old mid new same (file, name, course, names, is, meant, described, given) asked later =
     run_asked form told Upgrade file name course names status old mid new is asked later
+found_asked form told reads (input.Run tables machine scripts) status old mid new same (file, name, names, is, meant, described, given) asked later =
+    subst (λ (f : Option Form). AsksFiles f told status old new) (sym is)
+    (quiet_then (Some (side_by_side file name names)) told status old mid new (subst (λ (f : Option Form). AsksInputs f told Ok old mid) is asked) later)
 found_asked form told reads (input.Files name) status old mid new same is asked later =
     let before : mid ≡ old = subst (λ (f : Option Form). AsksInputs f told Ok old mid) is asked in
     subst (λ (f : Option Form). AsksFiles f told status old new) (sym is)
@@ -108,6 +115,7 @@ files_all (Some (ioconf file)) told status old new asked = inputs_all (Some (ioc
 files_all (Some (boot file machine)) told status old new asked = inputs_all (Some (boot file machine)) told status old new asked
 files_all (Some (load n)) told status old new asked = asked
 files_all (Some (scripted task file machine course names)) told status old new asked = inputs_all (Some (scripted task file machine course names)) told status old new asked
+files_all (Some (side_by_side file machine names)) told status old new asked = inputs_all (Some (side_by_side file machine names)) told status old new asked
 files_all (Some (sources name)) told status old new asked = sources_all told name status old new asked
 
 sources_memory : (told : Option Files) (name : List ℕ) (status : Status) (old new : Names) → AsksSources told name status old new → AsksSources told name Memory old new
@@ -120,6 +128,7 @@ files_memory (Some (ioconf file)) told status old new asked = inputs_memory (Som
 files_memory (Some (boot file machine)) told status old new asked = inputs_memory (Some (boot file machine)) told status old new asked
 files_memory (Some (load n)) told status old new asked = asked
 files_memory (Some (scripted task file machine course names)) told status old new asked = inputs_memory (Some (scripted task file machine course names)) told status old new asked
+files_memory (Some (side_by_side file machine names)) told status old new asked = inputs_memory (Some (side_by_side file machine names)) told status old new asked
 files_memory (Some (sources name)) told status old new asked = sources_memory told name status old new asked
 
 -- telling of a status asks for no file

@@ -1,9 +1,8 @@
--- The status that is due, by what was read, found and written.
+-- The status that is due, by what was read and found.
 use Rattle.std.proofs.Common.{inl, inr, ◌≡◌, ℕ, ◌≤◌, Option, Some, None, List, ap, refl, subst, sym, arith}
 use Rattle.std.specs.Prelude.{◌⊎◌, IfSome, Result}
 use Rattle.std.specs.Prelude as std
 use Rattle.cf_io.specs.Faults.{Rose}
-use Rattle.cf_io.specs.Told.{Told}
 use Rattle.config_rules.specs.Reading.{Files}
 use Rattle.run_rules.specs.declared.world.Setup.{Setup}
 use Rattle.run_rules.specs.Reread.{reread}
@@ -14,13 +13,10 @@ use Rattle.app_input.specs.declared.inputs.Inputs.{Inputs}
 use Rattle.app_input.specs.declared.inputs.Inputs.TheVariants as input
 use Rattle.app_input.specs.declared.status.Status.{Status}
 use Rattle.app_input.specs.declared.status.Status.TheVariants.{Ok, ConfigRefused, Usage, MachineRefused, ScriptRefused, HistoryRefused, Absent, TooLong, ReadFault, WriteFault, Memory}
-use Rattle.app_output.specs.Output.{Writes}
-use Rattle.app_output.specs.declared.stop.OutputStop.{OutputStop}
-use Rattle.app_output.specs.declared.stop.OutputStop.TheVariants as stops
 use Rattle.app_config.specs.Asked.{IsAskedText}
 use Rattle.app_config.specs.Found.{FindsFor, Unfound, Unselected, Untaken, found_text}
 use Rattle.app_input.specs.Status.{status_of}
-use Rattle.app_config.specs.Run.{IsDueOr, IsInputsStatus, history_status, status_after}
+use Rattle.app_config.specs.Run.{IsDueOr, IsInputsStatus, history_status}
 use Rattle.app_config.specs.declared.found.Found.{Found}
 
 -- ---- finding
@@ -35,6 +31,7 @@ asked_status files (input.Load n tables machine) text is = refl
 asked_status files (input.Play tables machine scripts order) text is = refl
 asked_status files (input.Replay tables machine scripts history) text (h, w, takes, reliable, is) = sym (ap history_status takes)
 asked_status files (input.Upgrade tables machine scripts history) text (h, w, takes, reliable, is) = sym (ap history_status takes)
+asked_status files (input.Run tables machine scripts) text is = absurd is
 
 -- why the sources were not selected, where no reading failed
 unselected_status : (files : Files) (name : List ℕ) (before after : ℕ) (status : Status) → Unselected (Some files) name status → Counts {A = Found} before after (std.Err status)
@@ -75,6 +72,7 @@ unfound_status files (input.Ioconf tables) before after status why counts quiet 
 unfound_status files (input.Boot tables machine) before after status why counts quiet = absurd why
 unfound_status files (input.Load n tables machine) before after status why counts quiet = absurd why
 unfound_status files (input.Play tables machine scripts order) before after status why counts quiet = absurd why
+unfound_status files (input.Run tables machine scripts) before after status why counts quiet = absurd why
 
 due_found : (form : Option Form) (files : Files) (asked : Inputs) (before after : ℕ) (result : Result Found Status) → IsDue form files (std.Ok asked)
     → FindsFor (Some files) asked result → Counts before after result → ¬ Rose before after → IsDueOr form files (status_of result)
@@ -134,36 +132,3 @@ pub due_refused : (told : Option Files) (form : Option Form) (before after : ℕ
     → IfSome told (λ files. ¬ Rose before after → IsDueOr form files status)
 due_refused None form before after status due = due
 due_refused (Some files) form before after status due = λ quiet. refused_due form files status (due quiet)
-
--- ---- writing
-
-due_written : {A : Type 0} (form : Option Form) (files : Files) (text : List ℕ) (old new : Told) (result : Result A OutputStop)
-    → IsDueOr form files Ok → Writes text old new result → ¬ Rose old.faults new.faults → IsDueOr form files (status_after result)
-due_written form files text old new (std.Ok done) due put quiet = due
-due_written form files text old new (std.Err stops.WriteFault) due put quiet = absurd (quiet put.1.1)
-due_written form files text old new (std.Err stops.Memory) due put quiet = inl refl
-
--- where something was found
-pub due_put : {A : Type 0} (told : Option Files) (form : Option Form) (text : List ℕ) (before after : ℕ) (old new : Told) (result : Result A OutputStop)
-    → IfSome told (λ files. ¬ Rose before after → IsDueOr form files Ok) → Writes text old new result
-    → IfSome told (λ files. ¬ Rose before after → ¬ Rose old.faults new.faults → IsDueOr form files (status_after result))
-due_put None form text before after old new result due put = due
-due_put (Some files) form text before after old new result due put = λ unread unwritten. due_written form files text old new result (due unread) put unwritten
-
--- where nothing was found
-pub due_unfound : (told : Option Files) (form : Option Form) (before after writes writes' : ℕ) (status : Status)
-    → IfSome told (λ files. ¬ Rose before after → IsDueOr form files status)
-    → IfSome told (λ files. ¬ Rose before after → ¬ Rose writes writes' → IsDueOr form files status)
-due_unfound None form before after writes writes' status due = due
-due_unfound (Some files) form before after writes writes' status due = λ unread unwritten. due unread
-
-told_due : (form : Option Form) (files : Files) (status result : Status) → IsDueOr form files status → (result ≡ status) ⊎ (result ≡ Memory) → IsDueOr form files result
-told_due form files status result due (inl e) = subst (IsDueOr form files) (sym e) due
-told_due form files status result due (inr e) = inl e
-
--- where the status was told, or its telling wanted memory
-pub due_told : (told : Option Files) (form : Option Form) (reads reads' writes writes' : ℕ) (status result : Status)
-    → IfSome told (λ files. ¬ Rose reads reads' → ¬ Rose writes writes' → IsDueOr form files status) → (result ≡ status) ⊎ (result ≡ Memory)
-    → IfSome told (λ files. ¬ Rose reads reads' → ¬ Rose writes writes' → IsDueOr form files result)
-due_told None form reads reads' writes writes' status result due is = due
-due_told (Some files) form reads reads' writes writes' status result due is = λ unread unwritten. told_due form files status result (due unread unwritten) is

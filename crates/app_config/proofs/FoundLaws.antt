@@ -4,9 +4,6 @@ use Rattle.std.specs.Prelude.{◌⊎◌, IfOk, IfSome, IsErrAnd, Result, Vec}
 use Rattle.std.specs.Global.{Global}
 use Rattle.cf_types.specs.Lines.{ended, text_of}
 use Rattle.std.specs.Prelude as std
-use Rattle.cf_io.specs.Faults.{Rises}
-use Rattle.cf_io.proofs.GrowsLemmas.{part_flushed, whole_flushed}
-use Rattle.cf_io.specs.Told.{Grows, Told}
 use Rattle.cf_types.specs.declared.machine.Command.{Command}
 use Rattle.cf_types.specs.declared.machine.Machine.{Machine}
 use Rattle.cf_types.specs.declared.tables.Tables.{Tables}
@@ -28,11 +25,8 @@ use Rattle.app_input.specs.declared.inputs.Inputs.{Inputs}
 use Rattle.app_input.specs.declared.inputs.Inputs.TheVariants as input
 use Rattle.app_input.specs.declared.status.Status.{Status}
 use Rattle.app_input.specs.declared.status.Status.TheVariants.{Ok, ConfigRefused, Usage, MachineRefused, ScriptRefused, HistoryRefused, Absent, TooLong, ReadFault, WriteFault, Memory}
-use Rattle.app_output.specs.Output.{IsFlushed, Stops, Writes}
 use Rattle.app_output.proofs.RunLaws.{tree_is}
 use Rattle.app_output.specs.RunText.{run_text, tree_of}
-use Rattle.app_output.specs.declared.stop.OutputStop.{OutputStop}
-use Rattle.app_output.specs.declared.stop.OutputStop.TheVariants as stops
 use Rattle.app_config.specs.Asked.{IsAskedText, IsPlayed}
 use Rattle.app_config.specs.Found.{FindsFor, Finds, Retells, Unfound, Unselected, Untaken}
 use Rattle.app_config.specs.declared.found.Found.{Found}
@@ -192,19 +186,3 @@ pub found_read : (form : Option Form) (told reading : Option Files) (asked : Inp
     → FindsFor reading asked result → Finds form told result
 found_read form told reading asked result is read formed finds =
     found_asked form told asked result read formed (subst (λ (f : Option Files). FindsFor f asked result) is finds)
-
--- ---- writing it
-
--- a text was put, and then the output was flushed
-pub wrote : {A : Type 0} (text : List ℕ) (old mid new : Told) (result : Result A OutputStop)
-    → Grows text old mid × (mid.faults ≡ old.faults) → IsFlushed mid new result → Writes text old new result
-wrote text old mid new (std.Ok done) puts flushed = (whole_flushed text old mid new puts.0 flushed.0 flushed.1, flushed.2 ∙ puts.1)
-wrote text old mid new (std.Err stops.WriteFault) puts flushed =
-    (part_flushed text old mid new puts.0 flushed.0, subst (λ (n : ℕ). Rises n new.faults) puts.1 flushed.1)
-wrote text old mid new (std.Err stops.Memory) puts flushed = absurd flushed
-
--- why a text was not put is passed on
-pub stopped : {A : Type 0} (text : List ℕ) (old new : Told) (result : Result A OutputStop) (stop : OutputStop)
-    → IsErrAnd result (λ e. e ≡ stop) → Stops text old new stop → Writes text old new result
-stopped text old new (std.Ok done) stop is h = absurd is
-stopped text old new (std.Err e) stop is h = subst (Stops text old new) (sym is) h

@@ -55,7 +55,8 @@ replay_text h w = tree_text w
 abbrev pub upgrade_text : List Event → World → List ℕ
 upgrade_text h w = lines h ++ tree_text w
 
--- the text that these inputs ask for, where the files are told if it is that of the sources
+-- the text that these inputs ask for, where the files are told if it is that of the sources; scripts side by side are another
+-- program's
 unfoldable pub IsAskedText : Option Files → Inputs → List ℕ → Type 0
 IsAskedText told (input.Ioconf tables) text = text ≡ listing tables
 IsAskedText told (input.Files name) text = IfSome told (λ files. IsSelection files name text)
@@ -64,6 +65,7 @@ IsAskedText told (input.Load n tables machine) text = IsSummary n tables machine
 IsAskedText told (input.Play tables machine scripts order) text = IsPlayedText tables machine scripts order text
 IsAskedText told (input.Replay tables machine scripts history) text = IsTakenText replay_text (setup_of tables machine scripts) history text
 IsAskedText told (input.Upgrade tables machine scripts history) text = IsTakenText upgrade_text (setup_of tables machine scripts) history text
+IsAskedText told (input.Run tables machine scripts) text = ⊥
 
 -- the words and the files give inputs, which are formed and ask for the text
 pub record Asks (form : Option Form) (told : Option Files) (text : List ℕ) : Type 0 where

@@ -14,6 +14,7 @@ pub fn booted(alloc: Global, tables: Tables, machine: Machine) -> Result<Board, 
     requires fits { FittingMachine tables machine }
     ensures { IfOk result (IsBootOf (setup_of tables machine [])) }
 {
-    let (board, _slots) = booted_board(alloc, tables, machine, List::make(alloc))?;
+    let (board, slots) = booted_board(alloc, tables, machine, List::make(alloc))?;
+    drop(slots);
     Ok(board)
 }

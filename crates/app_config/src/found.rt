@@ -1,6 +1,7 @@
 //! Does what the inputs ask for. Nothing here sees the output, so a run has ended before anything of it is put.
 ghost use Rattle.std.specs.Prelude.{◌≡◌, IfOk};
-ghost use Rattle.app_input.specs.Inputs.{Counts, FormedInputs};
+ghost use Rattle.app_input.specs.Inputs.{Counts, FormedInputs, IsInputsOf};
+ghost use Rattle.app_input.specs.declared.inputs.Program.TheVariants as Program;
 ghost use Rattle.app_input.specs.Status.{status_of};
 ghost use Rattle.app_output.specs.Output.{Puts};
 ghost use Rattle.app_config.specs.FilesAsked.{AsksThen};
@@ -38,7 +39,8 @@ pub enum Found {
 
 /// Compiles, selects, boots, plays and replays as the inputs ask for. Files are read for the sources alone.
 pub fn found_by<F: Files>(alloc: Global, files: &mut F, inputs: Inputs) -> Result<Found, Status>
-    requires { FormedInputs inputs }
+    requires formed { FormedInputs inputs }
+    requires kind { IsInputsOf Program.Devconf inputs }
     ensures told { F.told files.new ≡ F.told files.old }
     ensures found { FindsFor (F.told files.old) inputs result }
     ensures asked { AsksThen (F.told files.old) inputs (status_of result) (F.asked files.old) (F.asked files.new) }
@@ -90,6 +92,7 @@ pub fn found_by<F: Files>(alloc: Global, files: &mut F, inputs: Inputs) -> Resul
             let told = retold(alloc, tables, machine, scripts, history)?;
             Ok(Found::Retold(told))
         }
+        Inputs::Run { .. } => unreachable!(),
     }
 }
 

@@ -20,5 +20,7 @@ pub fn loaded(
     ensures { IfOk result (λ line. IsSummary count tables machine line.items) }
 {
     let board = booted(alloc, tables, machine)?;
-    summary_of(alloc, count, &board)
+    let line = summary_of(alloc, count, &board);
+    drop(board);
+    line
 }

@@ -24,7 +24,16 @@ pub fn played(
     ensures { IfOk result (IsPlayOf (setup_of tables machine scripts) order.now) }
 {
     let (mut board, mut slots) = booted_board(alloc, tables, machine, scripts)?;
-    run_turns(&mut board, &mut slots, order)?;
-    board.stands();
-    Ok(board)
+    match run_turns(&mut board, &mut slots, order) {
+        Ok(()) => {
+            drop(slots);
+            board.stands();
+            Ok(board)
+        }
+        Err(stop) => {
+            drop(slots);
+            drop(board);
+            Err(stop)
+        }
+    }
 }

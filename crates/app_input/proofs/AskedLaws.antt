@@ -1,7 +1,7 @@
 -- Files that are due, and are asked for one after the other.
 use Rattle.std.proofs.Common.{◌≡◌, ℕ, ◌+◌, ◌<◌, ◌≤◌, inl, inr, List, [], ◌∷◌, ◌++◌, length, map, drop, get_or, if◌then◌else◌, Bool, true, false, Option, Some, None, ap, sym, ◌∙◌, refl, subst, append_assoc, append-nil}
 use Rattle.std.specs.Prelude as std
-use Rattle.std.specs.Prelude.{IfSome, Result, filter_map, is_some, ⊤}
+use Rattle.std.specs.Prelude.{◌⊎◌, IfSome, Result, filter_map, is_some, ⊤}
 use Rattle.std.specs.List.{cons_option}
 use Rattle.std.specs.Result.{result_err, result_ok}
 use Rattle.std.proofs.lemmas.List.{drop_all}
@@ -24,7 +24,7 @@ use Rattle.app_input.specs.declared.scripts.Course.{Course}
 use Rattle.app_input.specs.declared.words.Task.{Task}
 use Rattle.app_input.specs.Scripted.{IsCalledFor, course_of, script_of, scripts_from, scripts_of, unless_refused}
 use Rattle.app_input.specs.Status.{status_of, status_of_stop}
-use Rattle.app_input.specs.Words.{Form, boot, config_of, ioconf, is_from_outside, scripted}
+use Rattle.app_input.specs.Words.{Form, boot, config_of, ioconf, is_from_outside, scripted, side_by_side}
 use Rattle.app_input.specs.declared.status.Status.{Status}
 use Rattle.app_input.specs.declared.status.Status.TheVariants.{Ok, ConfigRefused, Usage, MachineRefused, ScriptRefused, HistoryRefused, Absent, TooLong, ReadFault, WriteFault, Memory}
 use Rattle.app_input.proofs.DueLaws.{long_file, short_file}
@@ -414,42 +414,47 @@ boot_asked told reads file name tables machine old mid new same meant before rea
               (machine_read files name tables machine read) asked),
         )
 
+-- behind a configuration, these files are due behind the machine file
+abbrev pub BehindMachine : Form → List ℕ → (Files → List DueFile) → Type 0
+BehindMachine form name rest = (files : Files) (tables : Tables) → files_behind form files tables ≡ machine_file files tables name ∷ rest files
+
 -- the machine file of a run was refused, or could not be read
-pub run_unfit : (task : Task) (told reads : Option Files) (file name course : List ℕ) (scripts : List (List ℕ)) (tables : Tables) (status : Status) (old mid new : Names) → reads ≡ told
-    → IsMeant told file tables → IfSome told (λ files. mid ≡ asked_behind old (reading files file).asked) → ReadsMachine reads name tables (std.Err status)
-    → IsAskedFor (name ∷ []) status mid new → IfSome told (λ files. AsksForm (scripted task file name course scripts) files status old new)
-run_unfit task told reads file name course scripts tables status old mid new same meant before read asked =
+pub run_unfit : (form : Form) (name : List ℕ) (rest : Files → List DueFile) (told reads : Option Files) (tables : Tables) (status : Status) (old mid new : Names) → BehindMachine form name rest
+    → reads ≡ told → IsMeant told (config_of form) tables → IfSome told (λ files. mid ≡ asked_behind old (reading files (config_of form)).asked)
+    → ReadsMachine reads name tables (std.Err status) → IsAskedFor (name ∷ []) status mid new → IfSome told (λ files. AsksForm form files status old new)
+run_unfit form name rest told reads tables status old mid new behind same meant before read asked =
     by_told told meant before (subst (λ (files : Option Files). ReadsMachine files name tables (std.Err status)) same read)
   where
-    by_told : (told : Option Files) → IsMeant told file tables → IfSome told (λ files. mid ≡ asked_behind old (reading files file).asked) → ReadsMachine told name tables (std.Err status)
-        → IfSome told (λ files. AsksForm (scripted task file name course scripts) files status old new)
+    by_told : (told : Option Files) → IsMeant told (config_of form) tables → IfSome told (λ files. mid ≡ asked_behind old (reading files (config_of form)).asked)
+        → ReadsMachine told name tables (std.Err status) → IfSome told (λ files. AsksForm form files status old new)
     by_told None meant before read = tt
-    by_told (Some files) meant before read =
-        machine_ends (scripted task file name course scripts) files name tables (scripted_files task files scripts course) status old mid new meant refl before read asked
+    by_told (Some files) meant before read = machine_ends form files name tables (rest files) status old mid new meant (behind files tables) before read asked
 
--- the scripts of a run and the file with their course were asked for
-pub run_asked : (task : Task) (told reads later : Option Files) (file name course : List ℕ) (scripts : List (List ℕ)) (tables : Tables) (machine : Machine) (status : Status) (old mid loaded new : Names)
-    → reads ≡ told → later ≡ told → IsMeant told file tables → IfSome told (λ files. mid ≡ asked_behind old (reading files file).asked) → ReadsMachine reads name tables (std.Ok machine)
-    → loaded ≡ asked_behind mid (name ∷ []) → IfSome later (λ files. IsAskedFor (up_to_refused (scripted_files task files scripts course)) status loaded new)
-    → IfSome told (λ files. AsksForm (scripted task file name course scripts) files status old new)
-run_asked task told reads later file name course scripts tables machine status old mid loaded new same same' meant before read asked rest_due =
+-- the files of a run behind the machine file were asked for
+pub run_asked : (form : Form) (name : List ℕ) (rest : Files → List DueFile) (told reads later : Option Files) (tables : Tables) (machine : Machine) (status : Status) (old mid loaded new : Names)
+    → BehindMachine form name rest → reads ≡ told → later ≡ told → IsMeant told (config_of form) tables
+    → IfSome told (λ files. mid ≡ asked_behind old (reading files (config_of form)).asked) → ReadsMachine reads name tables (std.Ok machine)
+    → loaded ≡ asked_behind mid (name ∷ []) → IfSome later (λ files. IsAskedFor (up_to_refused (rest files)) status loaded new)
+    → IfSome told (λ files. AsksForm form files status old new)
+run_asked form name rest told reads later tables machine status old mid loaded new behind same same' meant before read asked rest_due =
     by_told told meant before (subst (λ (files : Option Files). ReadsMachine files name tables (std.Ok machine)) same read)
-    (subst (λ (told : Option Files). IfSome told (λ files. IsAskedFor (up_to_refused (scripted_files task files scripts course)) status loaded new)) same' rest_due)
+    (subst (λ (told : Option Files). IfSome told (λ files. IsAskedFor (up_to_refused (rest files)) status loaded new)) same' rest_due)
   where
-    by_told : (told : Option Files) → IsMeant told file tables → IfSome told (λ files. mid ≡ asked_behind old (reading files file).asked) → ReadsMachine told name tables (std.Ok machine)
-        → IfSome told (λ files. IsAskedFor (up_to_refused (scripted_files task files scripts course)) status loaded new)
-        → IfSome told (λ files. AsksForm (scripted task file name course scripts) files status old new)
+    by_told : (told : Option Files) → IsMeant told (config_of form) tables → IfSome told (λ files. mid ≡ asked_behind old (reading files (config_of form)).asked)
+        → ReadsMachine told name tables (std.Ok machine) → IfSome told (λ files. IsAskedFor (up_to_refused (rest files)) status loaded new)
+        → IfSome told (λ files. AsksForm form files status old new)
     by_told None meant before read rest_due = tt
     by_told (Some files) meant before read rest_due =
-        let config = (reading files file).asked in
-        let rest = up_to_refused (scripted_files task files scripts course) in
-        let behind = up_to_refused (machine_file files tables name ∷ scripted_files task files scripts course) in
+        let config = (reading files (config_of form)).asked in
+        let more = up_to_refused (rest files) in
+        let due = up_to_refused (machine_file files tables name ∷ rest files) in
         inr (
           tables,
           meant,
-          rest_asked (config ++ behind) rest status old loaded new
-              (goes_on (config ++ behind) (name ∷ []) rest (boot_of tables name files) (Boot tables machine) old mid loaded (config_read config behind old mid before)
-              (machine_read files name tables machine read) asked) rest_due,
+          subst (λ (behind : List DueFile). IsAskedFor (config ++ up_to_refused behind) status old new) (sym (behind files tables))
+              (rest_asked (config ++ due) more status old loaded new
+              (goes_on (config ++ due) (name ∷ []) more (boot_of tables name files) (Boot tables machine) old mid loaded (config_read config due old mid before)
+              (machine_read files name tables machine read) asked) rest_due),
         )
 
 -- ---- the words
@@ -490,6 +495,12 @@ pub inputs_memory : (form : Option Form) (told : Option Files) (status : Status)
 inputs_memory None told status old new asked = asked
 inputs_memory (Some form) told status old new asked = if_form (is_from_outside form) form told status Memory old new (λ files. form_memory form files status old new) asked
 
+-- telling of a status asks for no file
+pub inputs_told : (form : Option Form) (told : Option Files) (status result : Status) (old new : Names) → AsksInputs form told status old new
+    → (result ≡ status) ⊎ (result ≡ Memory) → AsksInputs form told result old new
+inputs_told form told status result old new asked (inl e) = subst (λ (s : Status). AsksInputs form told s old new) (sym e) asked
+inputs_told form told status result old new asked (inr e) = subst (λ (s : Status). AsksInputs form told s old new) (sym e) (inputs_memory form told status old new asked)
+
 -- the same by what the words were read as
 pub boot_words : (form : Option Form) (told : Option Files) (file name given named : List ℕ) (status : Status) (old new : Names) → form ≡ Some (boot given named) → file ≡ given → name ≡ named
     → IfSome told (λ files. AsksForm (boot file name) files status old new) → AsksInputs form told status old new
@@ -505,3 +516,11 @@ scripted_words form told task file name course given named other scripts status 
     (subst (λ (o : List ℕ). AsksInputs (Some (scripted task given named o scripts)) told status old new) same''
     (subst (λ (n : List ℕ). AsksInputs (Some (scripted task given n course scripts)) told status old new) same'
     (subst (λ (f : List ℕ). AsksInputs (Some (scripted task f name course scripts)) told status old new) same asked)))
+
+pub side_by_side_words : (form : Option Form) (told : Option Files) (file name given named : List ℕ) (scripts : List (List ℕ)) (status : Status) (old new : Names)
+    → form ≡ Some (side_by_side given named scripts) → file ≡ given → name ≡ named
+    → IfSome told (λ files. AsksForm (side_by_side file name scripts) files status old new) → AsksInputs form told status old new
+side_by_side_words form told file name given named scripts status old new is same same' asked =
+    subst (λ (f : Option Form). AsksInputs f told status old new) (sym is)
+    (subst (λ (n : List ℕ). AsksInputs (Some (side_by_side given n scripts)) told status old new) same'
+    (subst (λ (f : List ℕ). AsksInputs (Some (side_by_side f name scripts)) told status old new) same asked))

@@ -15,16 +15,16 @@ use Rattle.config_rules.specs.MachineText.{machine_of}
 use Rattle.config_rules.specs.Meaning.{Means}
 use Rattle.config_rules.specs.Reading.{Files}
 use Rattle.app_input.specs.declared.inputs.Inputs.{Inputs}
-use Rattle.app_input.specs.declared.inputs.Inputs.TheVariants.{Ioconf, Boot, Load, Play, Replay, Upgrade}
+use Rattle.app_input.specs.declared.inputs.Inputs.TheVariants.{Ioconf, Boot, Load, Play, Replay, Upgrade, Run}
 use Rattle.app_input.specs.declared.inputs.Inputs.TheVariants as inputs
 use Rattle.app_input.specs.declared.status.Status.{Status}
 use Rattle.app_input.specs.declared.status.Status.TheVariants.{Ok, ConfigRefused, Usage, MachineRefused, ScriptRefused, HistoryRefused, Absent, TooLong, ReadFault, WriteFault, Memory}
 use Rattle.app_input.specs.declared.scripts.Course.{Course}
 use Rattle.app_input.specs.declared.scripts.Course.TheVariants as courses
 use Rattle.app_input.specs.declared.words.Task.{Task}
-use Rattle.app_input.specs.Inputs.{Counts, IsDue, IsDueAt, IsDueIf, IsRefusedRun, IsRun, Reads, booted, booted_from, files_of, given_by, inputs_at, inputs_by, refused_by, scripted_with, told_of}
-use Rattle.app_input.specs.Scripted.{file_gives, task_of}
-use Rattle.app_input.specs.Words.{Form, boot, config_of, ioconf, is_compiled, load, machine_in, scripted, sources}
+use Rattle.app_input.specs.Inputs.{AreScripts, Counts, IsDue, IsDueAt, IsDueIf, IsRefusedRun, IsRun, Reads, RunsSideBySide, booted, booted_from, files_of, given_by, inputs_at, inputs_by, refused_by, scripted_with, side_by_side_with, told_of}
+use Rattle.app_input.specs.Scripted.{file_gives, scripts_of, task_of}
+use Rattle.app_input.specs.Words.{Form, boot, config_of, ioconf, is_compiled, load, machine_in, scripted, side_by_side, sources}
 
 -- where the files are told, those that a form speaks of are
 at_files : (P : Files → Type 0) (form : Form) (files : Files) → IfSome (told_of form (Some files)) P → P (files_of form files)
@@ -33,6 +33,7 @@ at_files P (sources file) files holds = holds
 at_files P (boot file name) files holds = holds
 at_files P (load n) files holds = holds
 at_files P (scripted task file name course names) files holds = holds
+at_files P (side_by_side file name names) files holds = holds
 
 -- what is due where the inputs are compiled
 due_compiled : (form : Form) (files : Files) (answer : Result Inputs Status) → is_compiled form ≡ true
@@ -59,6 +60,7 @@ machine_compiled (sources file) name is = absurd cc
 machine_compiled (boot file machine) name is = refl
 machine_compiled (load n) name is = refl
 machine_compiled (scripted task file machine course names) name is = refl
+machine_compiled (side_by_side file machine names) name is = refl
 
 -- what a form with a machine file gives
 machine_given : (form : Form) (files : Files) (name : List ℕ) (tables : Tables) → machine_in form ≡ Some name
@@ -74,6 +76,9 @@ machine_given (load n) files name tables is =
 machine_given (scripted task file other course names) files name tables is =
     let same : other ≡ name = cc in
     (scripted_with task files course names tables, ap (λ (x : List ℕ). booted_from (scripted_with task files course names tables) tables x (files x)) same)
+machine_given (side_by_side file other names) files name tables is =
+    let same : other ≡ name = cc in
+    (side_by_side_with files names tables, ap (λ (x : List ℕ). booted_from (side_by_side_with files names tables) tables x (files x)) same)
 
 -- what the machine file gives is due
 due_by_machine : (form : Form) (files : Files) (name : List ℕ) (tables : Tables) (answer : Result Inputs Status) → machine_in form ≡ Some name
@@ -118,11 +123,23 @@ due_run form files tables machine scripts course (file, name, at, names, is, mea
     due_by_run form files (task_of course) file name at names tables machine text (std.Ok (inputs_at tables machine scripts course)) is meant there short described
     (ap (λ r. r >>= λ p. std.Ok (inputs_by tables machine p)) gives)
 
+-- what scripts side by side give is due, where the machine file describes a machine
+due_side_by_side : (form : Option Form) (files : Files) (file name : List ℕ) (names : List (List ℕ)) (tables : Tables) (machine : Machine) (text : List ℕ) (given : Result (List (List Command)) Status)
+    → form ≡ Some (side_by_side file name names) → Means files file tables → files name ≡ Some text → length text ≤ MAX_FILE → machine_of tables text ≡ std.Ok machine
+    → scripts_of files names ≡ given → IsDue form files (given >>= λ scripts. std.Ok (Run tables machine scripts))
+due_side_by_side form files file name names tables machine text given is meant there short described gives =
+    let next = side_by_side_with files names tables in
+    let answer : Result Inputs Status = given >>= λ scripts. std.Ok (Run tables machine scripts) in
+    rw is (due_by_tables (side_by_side file name names) files tables answer refl meant
+    (sym (short_file next tables name text (files name) there short ∙ ap (booted next) described ∙ ap (λ r. r >>= λ scripts. std.Ok (Run tables machine scripts)) gives)))
+
 -- the refusal of a script or of the file with their course is due
 due_refused : (form : Option Form) (files : Files) (status : Status) → IsRefusedRun form (Some files) status → IsDue form files (std.Err status)
-due_refused form files status (task, tables, machine, (file, name, course, names, is, meant, (text, there, short, described), (gives, of))) =
+due_refused form files status (inl (task, tables, machine, (file, name, course, names, is, meant, (text, there, short, described), (gives, of)))) =
     due_by_run form files task file name course names tables machine text (std.Err status) is meant there short described
     (ap (λ r. r >>= λ p. std.Ok (inputs_by tables machine p)) gives)
+due_refused form files status (inr (tables, machine, (file, name, names, is, meant, (text, there, short, described), (gives, of)))) =
+    due_side_by_side form files file name names tables machine text (std.Err status) is meant there short described gives
 
 due : (form : Option Form) (files : Files) (before after : ℕ) (answer : Result Inputs Status) → Reads form (Some files) answer → Counts before after answer
     → ¬ Rose before after → (answer ≡ std.Err Memory) ⊎ IsDue form files answer
@@ -137,6 +154,8 @@ due form files before after (std.Ok (Load n tables machine)) (is, (meant, (text,
 due form files before after (std.Ok (Play tables machine scripts order)) run counts quiet = inr (due_run form files tables machine scripts (courses.Play order) run)
 due form files before after (std.Ok (Replay tables machine scripts history)) run counts quiet = inr (due_run form files tables machine scripts (courses.Replay history) run)
 due form files before after (std.Ok (Upgrade tables machine scripts history)) run counts quiet = inr (due_run form files tables machine scripts (courses.Upgrade history) run)
+due form files before after (std.Ok (Run tables machine scripts)) (file, name, names, is, meant, (text, there, short, described), gives) counts quiet =
+    inr (due_side_by_side form files file name names tables machine text (std.Ok scripts) is meant there short described gives)
 due form files before after (std.Err (ScriptRefused which line code)) refused counts quiet = inr (due_refused form files (ScriptRefused which line code) refused)
 due form files before after (std.Err (Absent absent)) (inr refused) counts quiet = inr (due_refused form files (Absent absent) refused)
 due form files before after (std.Err (TooLong long)) (inr refused) counts quiet = inr (due_refused form files (TooLong long) refused)

@@ -1,5 +1,5 @@
 -- What the scripts of a run give, one by one, and what their refusals and that of the file with their course come to.
-use Rattle.std.proofs.Common.{◌≡◌, ℕ, ◌+◌, ◌<◌, ◌≤◌, inl, inr, List, [], ◌∷◌, ◌++◌, length, map, drop, get_or, append_assoc, append-nil, Option, Some, None, ap, sym, ◌∙◌, refl, subst}
+use Rattle.std.proofs.Common.{◌≡◌, ℕ, ◌+◌, ◌<◌, ◌≤◌, inl, inr, true, List, [], ◌∷◌, ◌++◌, length, map, drop, get_or, append_assoc, append-nil, Option, Some, None, ap, sym, ◌∙◌, refl, subst}
 use Rattle.std.specs.Prelude as std
 use Rattle.std.specs.Prelude.{IfErr, IfOk, IfSome, Result, filter_map, slice_get}
 use Rattle.std.specs.List.{cons_option}
@@ -22,9 +22,10 @@ use Rattle.app_input.specs.declared.scripts.Course.{Course}
 use Rattle.app_input.specs.declared.scripts.Course.TheVariants as courses
 use Rattle.app_input.specs.declared.scripts.Scripted.{Scripted}
 use Rattle.app_input.specs.declared.inputs.Inputs.{Inputs}
-use Rattle.app_input.specs.Inputs.{AreFormed, FormedInputs, IsDescribed, IsMeant, IsRun, Reads, ReadsFile, inputs_at, inputs_by}
+use Rattle.app_input.specs.declared.inputs.Inputs.TheVariants as input
+use Rattle.app_input.specs.Inputs.{AreFormed, FormedInputs, IsDescribed, IsMeant, IsRefusedRun, IsRun, Reads, ReadsFile, inputs_at, inputs_by}
 use Rattle.app_input.specs.Scripted.{FormedRun, IsCalledFor, IsCourseOf, IsOfFile, IsOfScript, IsOfScripted, course_in, course_of, script_of, scripted_of, scripts_from, scripts_of, task_of, unless_bad_line, unless_refused}
-use Rattle.app_input.specs.Words.{Form, scripted}
+use Rattle.app_input.specs.Words.{Form, is_from_outside, scripted, side_by_side}
 use Rattle.app_input.proofs.DueLaws.{whole_file}
 
 -- ---- the scripts
@@ -163,28 +164,42 @@ called_refused told called status read room (inl e) = absurd (read (cc))
 called_refused told called status read room (inr (inl e)) = absurd (room (cc))
 called_refused told called status read room (inr (inr is)) = is
 
-not_of : (names : List (List ℕ)) (course : List ℕ) (status : Status) → ((which : ℕ) (name : List ℕ) → IsOfFile which name status → ⊥) → IsOfScripted names course status → ⊥
-not_of names course status never (inl (place, name, there, of)) = never (place + 1) name of
-not_of names course status never (inr of) = never 0 course of
+-- the words and the files are refused by one of the files behind the machine file
+reads_refused : (form : Option Form) (told : Option Files) (f : Form) (which : ℕ) (name : List ℕ) (status : Status) → form ≡ Some f → is_from_outside f ≡ true → IsOfFile which name status
+    → (¬ (status ≡ ReadFault) → ¬ (status ≡ Memory) → IsRefusedRun form told status) → Reads form told (std.Err status)
+reads_refused form told f which name (ScriptRefused number line code) is outside of refused = refused (λ e. absurd (cc)) (λ e. absurd (cc))
+reads_refused form told f which name (Absent absent) is outside of refused = inr (refused (λ e. absurd (cc)) (λ e. absurd (cc)))
+reads_refused form told f which name (TooLong long) is outside of refused = inr (refused (λ e. absurd (cc)) (λ e. absurd (cc)))
+reads_refused form told f which name ReadFault is outside of refused = (f, is, outside)
+reads_refused form told f which name Memory is outside of refused = tt
+reads_refused form told f which name Ok is outside of refused = absurd of
+reads_refused form told f which name (ConfigRefused file line code) is outside of refused = absurd of
+reads_refused form told f which name Usage is outside of refused = absurd of
+reads_refused form told f which name (MachineRefused line code) is outside of refused = absurd of
+reads_refused form told f which name (HistoryRefused line) is outside of refused = absurd of
+reads_refused form told f which name WriteFault is outside of refused = absurd of
 
--- no other refusal is one of a script or of the file with their course
+-- by a script or the file with their course
 pub run_refused : (form : Option Form) (told : Option Files) (task : Task) (file name course : List ℕ) (names : List (List ℕ)) (tables : Tables) (machine : Machine) (status : Status)
     → form ≡ Some (scripted task file name course names) → IsMeant told file tables → IsDescribed told name tables (std.Ok machine)
     → IsCalledFor told (λ files. scripted_of task files names course) (std.Err status) → IsOfScripted names course status → Reads form told (std.Err status)
-run_refused form told task file name course names tables machine (ScriptRefused which line code) is meant described called of =
-    (task, tables, machine, (file, name, course, names, is, meant, described, (called_refused told (λ files. scripted_of task files names course) (ScriptRefused which line code) (λ e. absurd (cc)) (λ e. absurd (cc)) called, of)))
-run_refused form told task file name course names tables machine (Absent absent) is meant described called of =
-    inr (task, tables, machine, (file, name, course, names, is, meant, described, (called_refused told (λ files. scripted_of task files names course) (Absent absent) (λ e. absurd (cc)) (λ e. absurd (cc)) called, of)))
-run_refused form told task file name course names tables machine (TooLong long) is meant described called of =
-    inr (task, tables, machine, (file, name, course, names, is, meant, described, (called_refused told (λ files. scripted_of task files names course) (TooLong long) (λ e. absurd (cc)) (λ e. absurd (cc)) called, of)))
-run_refused form told task file name course names tables machine ReadFault is meant described called of = (scripted task file name course names, is, refl)
-run_refused form told task file name course names tables machine Memory is meant described called of = tt
-run_refused form told task file name course names tables machine Ok is meant described called of = absurd (not_of names course Ok (λ which n h. h) of)
-run_refused form told task file name course names tables machine (ConfigRefused at line code) is meant described called of = absurd (not_of names course (ConfigRefused at line code) (λ which n h. h) of)
-run_refused form told task file name course names tables machine Usage is meant described called of = absurd (not_of names course Usage (λ which n h. h) of)
-run_refused form told task file name course names tables machine (MachineRefused line code) is meant described called of = absurd (not_of names course (MachineRefused line code) (λ which n h. h) of)
-run_refused form told task file name course names tables machine (HistoryRefused line) is meant described called of = absurd (not_of names course (HistoryRefused line) (λ which n h. h) of)
-run_refused form told task file name course names tables machine WriteFault is meant described called of = absurd (not_of names course WriteFault (λ which n h. h) of)
+run_refused form told task file name course names tables machine status is meant described called of = by_file of
+  where
+    refused : ¬ (status ≡ ReadFault) → ¬ (status ≡ Memory) → IsRefusedRun form told status
+    refused read room =
+        inl (task, tables, machine, (file, name, course, names, is, meant, described, (called_refused told (λ files. scripted_of task files names course) status read room called, of)))
+
+    by_file : IsOfScripted names course status → Reads form told (std.Err status)
+    by_file (inl (place, script, there, one)) = reads_refused form told (scripted task file name course names) (place + 1) script status is refl one refused
+    by_file (inr one) = reads_refused form told (scripted task file name course names) 0 course status is refl one refused
+
+-- by one of the scripts that are to run side by side
+pub side_by_side_refused : (form : Option Form) (told : Option Files) (file name : List ℕ) (names : List (List ℕ)) (tables : Tables) (machine : Machine) (status : Status)
+    → form ≡ Some (side_by_side file name names) → IsMeant told file tables → IsDescribed told name tables (std.Ok machine)
+    → IsCalledFor told (λ files. scripts_of files names) (std.Err status) → IsOfScript names status → Reads form told (std.Err status)
+side_by_side_refused form told file name names tables machine status is meant described called (place, script, there, one) =
+    reads_refused form told (side_by_side file name names) (place + 1) script status is refl one
+    (λ read room. inr (tables, machine, (file, name, names, is, meant, described, (called_refused told (λ files. scripts_of files names) status read room called, (place, script, there, one)))))
 
 -- scripts and a course that were read
 called_given : {A : Type 0} (told : Option Files) (called : Files → Result A Status) (x : A) → IsCalledFor told called (std.Ok x) → IfSome told (λ files. called files ≡ std.Ok x)
@@ -223,3 +238,10 @@ formed_at tables machine scripts (courses.Upgrade history) formed = formed
 pub formed_run : (tables : Tables) (machine : Machine) (run : Scripted) (inputs : Inputs) → FormedTables tables → FittingMachine tables machine → FormedRun run → inputs ≡ inputs_by tables machine run
     → FormedInputs inputs
 formed_run tables machine run inputs formed fits run_formed made = rw made (formed_at tables machine run.scripts run.course (formed, fits, run_formed))
+
+-- scripts that were read, to run side by side
+pub side_by_side_read : (told : Option Files) (file name : List ℕ) (names : List (List ℕ)) (tables : Tables) (machine : Machine) (scripts : List (List Command))
+    → IsMeant told file tables → IsDescribed told name tables (std.Ok machine) → IsCalledFor told (λ files. scripts_of files names) (std.Ok scripts)
+    → Reads (Some (side_by_side file name names)) told (std.Ok (input.Run tables machine scripts))
+side_by_side_read told file name names tables machine scripts meant described called =
+    (file, name, names, refl, meant, described, called_given told (λ files. scripts_of files names) scripts called)

@@ -10,7 +10,7 @@ use Rattle.config_rules.specs.Meaning.{Means}
 use Rattle.config_rules.specs.Reading.{Files, reading}
 use Rattle.app_input.specs.Inputs.{booted_from}
 use Rattle.app_input.specs.Scripted.{course_of, script_of}
-use Rattle.app_input.specs.Words.{Form, ioconf, sources, boot, load, scripted, config_of, is_from_outside}
+use Rattle.app_input.specs.Words.{Form, ioconf, sources, boot, load, scripted, side_by_side, config_of, is_from_outside}
 use Rattle.app_input.specs.declared.inputs.Inputs.TheVariants.{Boot}
 use Rattle.app_input.specs.declared.status.Status.{Status}
 use Rattle.app_input.specs.declared.words.Task.{Task}
@@ -46,6 +46,7 @@ files_behind (sources file) files tables = []
 files_behind (boot file name) files tables = machine_file files tables name ∷ []
 files_behind (load n) files tables = []
 files_behind (scripted task file name course scripts) files tables = machine_file files tables name ∷ scripted_files task files scripts course
+files_behind (side_by_side file name scripts) files tables = machine_file files tables name ∷ script_files files 1 scripts
 
 -- the names up to the first file that is refused
 abbrev pub up_to_refused : List DueFile → List (List ℕ)

@@ -17,16 +17,18 @@ use Rattle.config_rules.specs.Meaning.{Means}
 use Rattle.config_rules.specs.Reading.{Files}
 use Rattle.load_maker.specs.Generated.{conf_text, machine_text}
 use Rattle.app_input.specs.declared.inputs.Inputs.{Inputs}
-use Rattle.app_input.specs.declared.inputs.Inputs.TheVariants.{Ioconf, Boot, Load, Play, Replay, Upgrade}
+use Rattle.app_input.specs.declared.inputs.Inputs.TheVariants.{Ioconf, Boot, Load, Play, Replay, Upgrade, Run}
 use Rattle.app_input.specs.declared.inputs.Inputs.TheVariants as inputs
+use Rattle.app_input.specs.declared.inputs.Program.{Program}
+use Rattle.app_input.specs.declared.inputs.Program.TheVariants.{Devconf, Drvrun}
 use Rattle.app_input.specs.declared.status.Status.{Status}
 use Rattle.app_input.specs.declared.status.Status.TheVariants.{Ok, ConfigRefused, Usage, MachineRefused, ScriptRefused, HistoryRefused, Absent, TooLong, ReadFault, WriteFault, Memory}
 use Rattle.app_input.specs.declared.scripts.Course.{Course}
 use Rattle.app_input.specs.declared.scripts.Course.TheVariants as courses
 use Rattle.app_input.specs.declared.scripts.Scripted.{Scripted}
 use Rattle.app_input.specs.declared.words.Task.{Task}
-use Rattle.app_input.specs.Scripted.{FormedRun, IsOfScripted, file_gives, scripted_of, task_of}
-use Rattle.app_input.specs.Words.{Form, ioconf, sources, boot, load, scripted, config_of, is_compiled, is_from_outside, machine_in}
+use Rattle.app_input.specs.Scripted.{FormedRun, FormedScripts, IsOfScript, IsOfScripted, file_gives, scripted_of, scripts_of, task_of}
+use Rattle.app_input.specs.Words.{Form, ioconf, sources, boot, load, scripted, side_by_side, config_of, is_compiled, is_from_outside, machine_in}
 
 -- the generated files of a machine with so many spots
 unfoldable pub made_files : ℕ → List MemFile
@@ -38,6 +40,7 @@ told_of (ioconf file) told = told
 told_of (sources file) told = told
 told_of (boot file machine) told = told
 told_of (scripted task file machine course scripts) told = told
+told_of (side_by_side file machine scripts) told = told
 told_of (load n) told = Some (file_named (made_files n))
 
 -- the files that a form speaks of
@@ -46,6 +49,7 @@ files_of (ioconf file) files = files
 files_of (sources file) files = files
 files_of (boot file machine) files = files
 files_of (scripted task file machine course scripts) files = files
+files_of (side_by_side file machine scripts) files = files
 files_of (load n) files = file_named (made_files n)
 
 -- where the files are told, the configuration means the tables
@@ -133,11 +137,32 @@ abbrev pub IsRun : Option Form → Option Files → Tables → Machine → List 
 IsRun form told tables machine scripts course =
     Runs (task_of course) form told tables machine (IsScripted (task_of course) told (std.Ok (record { scripts = scripts; course = course })))
 
+-- the words ask for scripts side by side, the configuration means the tables, the machine file describes the machine with
+-- them, and P holds of the names of the scripts
+abbrev pub RunsSideBySide : Option Form → Option Files → Tables → Machine → (List (List ℕ) → Type 0) → Type 0
+RunsSideBySide form told tables machine P =
+    (file name : List ℕ) × (names : List (List ℕ)) × (form ≡ Some (side_by_side file name names)) × IsMeant told file tables
+    × IsDescribed told name tables (std.Ok machine) × P names
+
+-- where the files are told, the scripts give this
+abbrev pub AreScripts : Option Files → Result (List (List Command)) Status → List (List ℕ) → Type 0
+AreScripts told given names = IfSome told (λ files. scripts_of files names ≡ given)
+
 -- the scripts or the file with their course are refused so
-abbrev pub IsRefusedRun : Option Form → Option Files → Status → Type 0
-IsRefusedRun form told status =
+abbrev pub IsRefusedScripted : Option Form → Option Files → Status → Type 0
+IsRefusedScripted form told status =
     (task : Task) × (tables : Tables) × (machine : Machine)
     × Runs task form told tables machine (λ names course. IsScripted task told (std.Err status) names course × IsOfScripted names course status)
+
+-- the scripts that are to run side by side are refused so
+abbrev pub IsRefusedSideBySide : Option Form → Option Files → Status → Type 0
+IsRefusedSideBySide form told status =
+    (tables : Tables) × (machine : Machine)
+    × RunsSideBySide form told tables machine (λ names. AreScripts told (std.Err status) names × IsOfScript names status)
+
+-- the scripts are refused so, or the file with their course where there is one
+abbrev pub IsRefusedRun : Option Form → Option Files → Status → Type 0
+IsRefusedRun form told status = IsRefusedScripted form told status ⊎ IsRefusedSideBySide form told status
 
 -- the generated configuration means the tables, and the generated machine file describes the machine with them
 abbrev pub Made : ℕ → Tables → Machine → Type 0
@@ -154,6 +179,7 @@ Reads form told (std.Ok (Load n tables machine)) = (form ≡ Some (load n)) × M
 Reads form told (std.Ok (Play tables machine scripts order)) = IsRun form told tables machine scripts (courses.Play order)
 Reads form told (std.Ok (Replay tables machine scripts history)) = IsRun form told tables machine scripts (courses.Replay history)
 Reads form told (std.Ok (Upgrade tables machine scripts history)) = IsRun form told tables machine scripts (courses.Upgrade history)
+Reads form told (std.Ok (Run tables machine scripts)) = RunsSideBySide form told tables machine (AreScripts told (std.Ok scripts))
 Reads form told (std.Err (ConfigRefused file line code)) =
     (f : Form) × (form ≡ Some f) × (is_compiled f ≡ true) × IsFirstFault (told_of f told) (config_of f) (record { file = file; line = line; code = code })
 Reads form told (std.Err Usage) = form ≡ None
@@ -188,6 +214,14 @@ FormedInputs (Load n tables machine) = FormedTables tables × FittingMachine tab
 FormedInputs (Play tables machine scripts order) = AreFormed tables machine scripts (courses.Play order)
 FormedInputs (Replay tables machine scripts history) = AreFormed tables machine scripts (courses.Replay history)
 FormedInputs (Upgrade tables machine scripts history) = AreFormed tables machine scripts (courses.Upgrade history)
+FormedInputs (Run tables machine scripts) = FormedTables tables × FittingMachine tables machine × FormedScripts scripts
+
+-- the words of the program may ask for such inputs: scripts side by side are what `drvrun` runs, and all that it does
+abbrev pub IsInputsOf : Program → Inputs → Type 0
+IsInputsOf Devconf (Run tables machine scripts) = ⊥
+IsInputsOf Devconf inputs = ⊤
+IsInputsOf Drvrun (Run tables machine scripts) = ⊤
+IsInputsOf Drvrun inputs = ⊥
 
 -- what a machine file gives: what follows by its machine, or its refusal
 abbrev pub booted : (Machine → Result Inputs Status) → Result Machine (ℕ × ℕ) → Result Inputs Status
@@ -211,6 +245,10 @@ inputs_by tables machine p = inputs_at tables machine p.scripts p.course
 abbrev pub scripted_with : Task → Files → List ℕ → List (List ℕ) → Tables → Machine → Result Inputs Status
 scripted_with task files course names tables machine = scripted_of task files names course >>= λ p. std.Ok (inputs_by tables machine p)
 
+-- what scripts side by side give behind a machine
+abbrev pub side_by_side_with : Files → List (List ℕ) → Tables → Machine → Result Inputs Status
+side_by_side_with files names tables machine = scripts_of files names >>= λ scripts. std.Ok (Run tables machine scripts)
+
 -- what a form gives where its configuration means the tables
 abbrev pub given_by : Form → Files → Tables → Result Inputs Status
 given_by (ioconf file) files tables = std.Ok (Ioconf tables)
@@ -218,6 +256,7 @@ given_by (sources file) files tables = std.Ok (inputs.Files file)
 given_by (boot file name) files tables = booted_from (λ machine. std.Ok (Boot tables machine)) tables name (files name)
 given_by (load n) files tables = booted_from (λ machine. std.Ok (Load n tables machine)) tables (codes "mach") (files (codes "mach"))
 given_by (scripted task file name course names) files tables = booted_from (scripted_with task files course names tables) tables name (files name)
+given_by (side_by_side file name names) files tables = booted_from (side_by_side_with files names tables) tables name (files name)
 
 -- the refusal of a configuration
 abbrev pub refused_by : Refusal → Result Inputs Status

@@ -108,6 +108,12 @@ FormedCourse callers (courses.Play turns) = All (λ turn. (1 ≤ turn) × (turn 
 FormedCourse callers (courses.Replay history) = length history ≤ MAX_FILE
 FormedCourse callers (courses.Upgrade history) = length history ≤ MAX_FILE
 
+-- from 1 to 16 scripts, each formed
+pub record FormedScripts (scripts : List (List Command)) : Type 0 where
+  pub some : 1 ≤ length scripts
+  pub few : length scripts ≤ 16
+  pub each : All FormedScript scripts
+
 -- from 1 to 16 scripts, each formed, and a course for so many callers
 pub record FormedRun (p : Scripted) : Type 0 where
   pub some : 1 ≤ length p.scripts

@@ -6,7 +6,7 @@ use Rattle.std.specs.Str.{bytes_eq}
 use Rattle.cf_text.specs.Shapes.{number}
 use Rattle.config_rules.specs.Form.{given}
 use Rattle.app_input.specs.declared.inputs.Program.{Program}
-use Rattle.app_input.specs.declared.inputs.Program.TheVariants.{Devconf}
+use Rattle.app_input.specs.declared.inputs.Program.TheVariants.{Devconf, Drvrun}
 use Rattle.app_input.specs.declared.words.Task.{Task}
 use Rattle.app_input.specs.declared.words.Task.TheVariants.{Play, Replay, Upgrade}
 use Rattle.app_input.specs.declared.words.Words.{Words}
@@ -18,13 +18,14 @@ use Rattle.app_input.specs.declared.words.WordStop.TheVariants.{Usage, Memory}
 
 -- what words ask for: the listing of a configuration, the sources that it selects, the boot of a machine by a
 -- configuration, the boot of a generated machine with so many spots, or a boot with scripts behind it, whose course a file
--- has
+-- has, or which run side by side
 pub data Form : Type 0 where
   ioconf : List ℕ → Form
   sources : List ℕ → Form
   boot : List ℕ → List ℕ → Form
   load : ℕ → Form
   scripted : Task → List ℕ → List ℕ → List ℕ → List (List ℕ) → Form
+  side_by_side : List ℕ → List ℕ → List (List ℕ) → Form
 
 -- a word that is not empty and does not begin with `-`
 abbrev pub is_operand : List ℕ → Bool
@@ -68,6 +69,12 @@ scripted_form task (file ∷ []) = None
 scripted_form task (file ∷ machine ∷ []) = None
 scripted_form task (file ∷ machine ∷ course ∷ scripts) = given (is_script_count (length scripts)) (scripted task file machine course scripts)
 
+-- `FILE MACHINE SCRIPT..`
+abbrev pub side_by_side_form : List (List ℕ) → Option Form
+side_by_side_form [] = None
+side_by_side_form (file ∷ []) = None
+side_by_side_form (file ∷ machine ∷ scripts) = given (is_script_count (length scripts)) (side_by_side file machine scripts)
+
 -- the operands behind the first word, which is compared byte for byte
 abbrev pub form_named : List ℕ → List (List ℕ) → Option Form
 form_named word operands =
@@ -84,9 +91,14 @@ abbrev pub devconf_form : List (List ℕ) → Option Form
 devconf_form [] = None
 devconf_form (word ∷ operands) = if list_all is_operand operands then form_named word operands else None
 
+-- the form of the words of `drvrun`: each word is an operand
+abbrev pub drvrun_form : List (List ℕ) → Option Form
+drvrun_form words = if list_all is_operand words then side_by_side_form words else None
+
 -- the form of the words behind a program's name
 abbrev pub form_of : Program → List (List ℕ) → Option Form
 form_of Devconf words = devconf_form words
+form_of Drvrun words = drvrun_form words
 
 -- the configuration of a form, by its name
 abbrev pub config_of : Form → List ℕ
@@ -94,6 +106,7 @@ config_of (ioconf file) = file
 config_of (sources file) = file
 config_of (boot file machine) = file
 config_of (scripted task file machine course scripts) = file
+config_of (side_by_side file machine scripts) = file
 config_of (load n) = codes "conf"
 
 -- the machine file of a form, by its name
@@ -102,6 +115,7 @@ machine_in (ioconf file) = None
 machine_in (sources file) = None
 machine_in (boot file machine) = Some machine
 machine_in (scripted task file machine course scripts) = Some machine
+machine_in (side_by_side file machine scripts) = Some machine
 machine_in (load n) = Some (codes "mach")
 
 -- whether the inputs of a form are compiled; the sources are selected later
@@ -110,6 +124,7 @@ is_compiled (ioconf file) = true
 is_compiled (sources file) = false
 is_compiled (boot file machine) = true
 is_compiled (scripted task file machine course scripts) = true
+is_compiled (side_by_side file machine scripts) = true
 is_compiled (load n) = true
 
 -- whether the inputs of a form are read from files from outside
@@ -118,6 +133,7 @@ is_from_outside (ioconf file) = true
 is_from_outside (sources file) = false
 is_from_outside (boot file machine) = true
 is_from_outside (scripted task file machine course scripts) = true
+is_from_outside (side_by_side file machine scripts) = true
 is_from_outside (load n) = false
 
 -- words are refused where they say nothing
@@ -133,6 +149,8 @@ HasForm form (std.Ok (words.Boot file machine)) = form ≡ Some (boot file.now m
 HasForm form (std.Ok (words.Load count)) = (form ≡ Some (load count)) × (1 ≤ count) × (count ≤ 1000)
 HasForm form (std.Ok (words.Scripted task file machine course scripts)) =
     (form ≡ Some (scripted task file.now machine.now course.now (map string_bytes scripts.now))) × (1 ≤ length scripts.now) × (length scripts.now ≤ 16)
+HasForm form (std.Ok (words.Run file machine scripts)) =
+    (form ≡ Some (side_by_side file.now machine.now (map string_bytes scripts.now))) × (1 ≤ length scripts.now) × (length scripts.now ≤ 16)
 HasForm form (std.Err stop) = IsStopped form stop
 
 -- a parse that failed for another cause than memory refuses the words

@@ -3,13 +3,13 @@ ghost use Rattle.cf_io.specs.Faults.{Rose};
 ghost use Rattle.config_rules.specs.Formed.{FormedTables};
 ghost use Rattle.config_rules.specs.Reading.{Files as NamedFiles, reading};
 ghost use Rattle.app_input.specs.Asked.{AsksForm, AsksInputs, IsAskedFor};
-ghost use Rattle.app_input.specs.Inputs.{Counts, FormedInputs, IsDue, Reads, ReadsTables, inputs_by};
+ghost use Rattle.app_input.specs.Inputs.{Counts, FormedInputs, IsDue, IsInputsOf, Reads, ReadsTables, inputs_by};
 ghost use Rattle.app_input.specs.Status.{status_of};
-ghost use Rattle.app_input.specs.Words.{boot, form_of, ioconf, load, scripted, sources};
+ghost use Rattle.app_input.specs.Words.{boot, form_of, ioconf, load, scripted, side_by_side, sources};
 
 use crate::machine_file::load_machine;
 use crate::made::made_files;
-use crate::scripts::{Course, Scripted, load_scripted};
+use crate::scripts::{Course, Scripted, load_scripted, load_scripts};
 use crate::status::Status;
 use crate::words::{Task, WordStop, Words, read_words};
 use cf_compile::compile;
@@ -22,6 +22,8 @@ use std::alloc::Global;
 pub enum Program {
     /// The compiler of configurations, which also boots machines by them.
     Devconf,
+    /// It boots a machine and runs scripts on it side by side.
+    Drvrun,
 }
 
 /// What the words and the files that they name give.
@@ -67,6 +69,13 @@ pub enum Inputs {
         machine: Machine,
         scripts: List<Script>,
         history: Text,
+    },
+    /// The tables of a configuration, a machine that is to boot by them, and 1 to 16 scripts that run side by side behind
+    /// that. See drvctl(8).
+    Run {
+        tables: Tables,
+        machine: Machine,
+        scripts: List<Script>,
     },
 }
 
@@ -197,6 +206,41 @@ fn read_scripted<F: Files>(
     }
 }
 
+/// Reads the inputs of `FILE MACHINE SCRIPT..`: the configuration, the machine, the scripts.
+fn read_side_by_side<F: Files>(
+    alloc: Global,
+    files: &mut F,
+    config: &[u8],
+    name: &[u8],
+    scripts: &[String],
+) -> Result<Inputs, Status>
+    requires some { 1 ≤ length scripts.now }
+    requires few { length scripts.now ≤ 16 }
+    ensures told { F.told files.new ≡ F.told files.old }
+    ensures reads { Reads (Some (side_by_side config.now name.now (map string_bytes scripts.now))) (F.told files.old) result }
+    ensures asked { IfSome (F.told files.old)
+        (λ named. AsksForm (side_by_side config.now name.now (map string_bytes scripts.now)) named (status_of result) (F.asked files.old) (F.asked files.new)) }
+    ensures counted { Counts (F.faults files.old) (F.faults files.new) result }
+    ensures formed { IfOk result FormedInputs }
+{
+    let tables = match read_tables(alloc, files, config) {
+        Ok(tables) => tables,
+        Err(status) => return Err(status),
+    };
+    let machine = match load_machine(alloc, files, name, &tables) {
+        Ok(machine) => machine,
+        Err(status) => return Err(status),
+    };
+    match load_scripts(alloc, files, scripts) {
+        Ok(scripts) => Ok(Inputs::Run {
+            tables,
+            machine,
+            scripts,
+        }),
+        Err(status) => Err(status),
+    }
+}
+
 /// Reads the inputs of `load N` from the generated files, the configuration first. No file from outside is asked for.
 fn read_load(alloc: Global, count: u32) -> Result<Inputs, Status>
     requires some { 1 ≤ count }
@@ -237,6 +281,7 @@ pub fn read_inputs<F: Files>(
     ensures reads { Reads (form_of program (map string_bytes words.now)) (F.told files.old) result }
     ensures asked { AsksInputs (form_of program (map string_bytes words.now)) (F.told files.old) (status_of result) (F.asked files.old) (F.asked files.new) }
     ensures counted { Counts (F.faults files.old) (F.faults files.new) result }
+    ensures kind { IfOk result (IsInputsOf program) }
     ensures formed { IfOk result FormedInputs }
 
     // With files that are told and no fault, the answer is the one that is due, or memory ran out.
@@ -269,6 +314,13 @@ pub fn read_inputs<F: Files>(
                 scripts,
             )
         }
+        Ok(
+            Words::Run {
+                file,
+                machine,
+                scripts,
+            },
+        ) => { read_side_by_side(alloc, files, file.as_bytes(), machine.as_bytes(), scripts) }
         Err(WordStop::Usage) => Err(Status::Usage),
         Err(WordStop::Memory) => Err(Status::Memory),
     }

@@ -1,6 +1,7 @@
 //! Reads the words of the programs, and all the files that the words name. See config(1).
 #![tactic(auto)]
 
+mod called;
 mod count;
 mod file;
 mod inputs;
@@ -11,5 +12,6 @@ mod scripts;
 mod status;
 mod words;
 
+pub use called::words_behind_name;
 pub use inputs::{Inputs, Program, read_inputs};
 pub use status::Status;

@@ -11,7 +11,7 @@ use clap::{Arg, Command, Error};
 use std::alloc::{AllocError, Global};
 
 /// The most scripts of a run.
-const MAX_SCRIPTS: usize = 16;
+pub const MAX_SCRIPTS: usize = 16;
 
 impl From<AllocError> for WordStop {
     ghost from_gives = { λ _ stop. stop ≡ stops.Memory };

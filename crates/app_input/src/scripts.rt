@@ -128,7 +128,7 @@ fn load_course<F: Files>(
 }
 
 /// Loads the scripts of these names and reads them, each before the next is loaded.
-fn load_scripts<F: Files>(
+pub fn load_scripts<F: Files>(
     alloc: Global,
     files: &mut F,
     names: &[String],

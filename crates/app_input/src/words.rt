@@ -1,10 +1,10 @@
 ghost use Rattle.std.specs.Prelude.{◌≡◌, map, option_map, string_bytes, true};
 ghost use Rattle.std.specs.List.{list_all};
-ghost use Rattle.app_input.specs.Words.{HasForm, devconf_form, file_in, form_of, ioconf, is_operand, load_form, sources};
+ghost use Rattle.app_input.specs.Words.{HasForm, devconf_form, drvrun_form, file_in, form_of, ioconf, is_operand, load_form, sources};
 
 use crate::count::count_of;
 use crate::inputs::Program;
-use crate::operands::{boot_words, file_word, scripted_words};
+use crate::operands::{MAX_SCRIPTS, boot_words, file_word, scripted_words};
 use std::alloc::Global;
 
 /// What is done with the scripts of a machine, by the file that has their course.
@@ -45,6 +45,12 @@ pub enum Words<'a> {
         file: &'a str,
         machine: &'a str,
         course: &'a str,
+        scripts: &'a [String],
+    },
+    /// `FILE MACHINE SCRIPT..`, with 1 to 16 scripts: the words of `drvrun`.
+    Run {
+        file: &'a str,
+        machine: &'a str,
         scripts: &'a [String],
     },
 }
@@ -141,6 +147,29 @@ fn devconf_words<'a>(alloc: Global, words: &'a [String]) -> Result<Words<'a>, Wo
     Err(WordStop::Usage)
 }
 
+/// Reads the words `FILE MACHINE SCRIPT..`.
+fn drvrun_words<'a>(words: &'a [String]) -> Result<Words<'a>, WordStop>
+    ensures { HasForm (drvrun_form (map string_bytes words.now)) result }
+{
+    if !are_operands(words) {
+        return Err(WordStop::Usage);
+    }
+    let Some((file, operands)) = words.split_first() else {
+        return Err(WordStop::Usage);
+    };
+    let Some((machine, scripts)) = operands.split_first() else {
+        return Err(WordStop::Usage);
+    };
+    if scripts.is_empty() || MAX_SCRIPTS < scripts.len() {
+        return Err(WordStop::Usage);
+    }
+    Ok(Words::Run {
+        file: file.as_str(),
+        machine: machine.as_str(),
+        scripts,
+    })
+}
+
 /// Reads the words behind the program's name as the form that they have.
 pub fn read_words<'a>(
     alloc: Global,
@@ -151,5 +180,6 @@ pub fn read_words<'a>(
 {
     match program {
         Program::Devconf => devconf_words(alloc, words),
+        Program::Drvrun => drvrun_words(words),
     }
 }

@@ -1,3 +1,4 @@
+pub mod Ended
 pub mod NextLines
 pub mod Puts
 pub mod RunLaws

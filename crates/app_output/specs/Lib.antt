@@ -1,3 +1,4 @@
+pub mod Ended
 pub mod NextLine
 pub mod Output
 pub mod RunText

@@ -1,13 +1,14 @@
 -- What a status says on standard error.
 use Rattle.std.specs.Prelude.{ℕ, ◌+◌, List, [], ◌∷◌, ◌++◌, codes, decimal, slice_index_or}
 use Rattle.app_input.specs.declared.inputs.Program.{Program}
-use Rattle.app_input.specs.declared.inputs.Program.TheVariants.{Devconf}
+use Rattle.app_input.specs.declared.inputs.Program.TheVariants.{Devconf, Drvrun}
 use Rattle.app_input.specs.declared.status.Status.{Status}
 use Rattle.app_input.specs.declared.status.Status.TheVariants.{Ok, ConfigRefused, Usage, MachineRefused, ScriptRefused, HistoryRefused, Absent, TooLong, ReadFault, WriteFault, Memory}
 
 -- the forms that the words of a program may have
 abbrev pub usage_text : Program → List ℕ
 usage_text Devconf = codes "usage: devconf ioconf FILE | boot FILE MACHINE | play FILE MACHINE ORDER SCRIPT.. | replay FILE MACHINE HISTORY SCRIPT.. | upgrade FILE MACHINE HISTORY SCRIPT.. | files FILE | load N"
+usage_text Drvrun = codes "usage: drvrun FILE MACHINE SCRIPT.."
 
 -- a file of a kind, at a line
 abbrev pub place_text : List ℕ → List ℕ → ℕ → List ℕ
@@ -17,13 +18,16 @@ place_text kind file line = kind ++ codes " " ++ file ++ codes ":" ++ decimal li
 abbrev pub refused_text : List ℕ → List ℕ → ℕ → ℕ → List ℕ
 refused_text kind file line code = place_text kind file line ++ codes ": code " ++ decimal code
 
--- the third word of `devconf` names the machine file
+-- the third word of `devconf` names the machine file, and the second one of `drvrun`
 abbrev pub machine_word : Program → List (List ℕ) → List ℕ
 machine_word Devconf words = slice_index_or words 2 []
+machine_word Drvrun words = slice_index_or words 1 []
 
--- the fourth word of `devconf` names the order file or the history, and those behind it the scripts, numbered from 1
+-- the fourth word of `devconf` names the order file or the history, and those behind it the scripts, numbered from 1; those
+-- of `drvrun` stand behind its second word
 abbrev pub script_word : Program → List (List ℕ) → ℕ → List ℕ
 script_word Devconf words which = slice_index_or words (3 + which) []
+script_word Drvrun words which = slice_index_or words (1 + which) []
 
 -- the line that tells of a status of these words, nothing where all went well
 abbrev pub err_text : Program → List (List ℕ) → Status → List ℕ

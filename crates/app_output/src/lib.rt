@@ -18,5 +18,5 @@ pub use paths::put_paths;
 pub use piece::{flush, put_piece};
 pub use run::put_run;
 pub use status::report;
-pub use stop::OutputStop;
+pub use stop::{OutputStop, status_after};
 pub use tree::put_tree;

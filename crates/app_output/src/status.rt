@@ -12,12 +12,15 @@ use std::alloc::Global;
 const DEVCONF_USAGE: &[u8] =
     b"usage: devconf ioconf FILE | boot FILE MACHINE | play FILE MACHINE ORDER SCRIPT.. | replay FILE MACHINE HISTORY SCRIPT.. | upgrade FILE MACHINE HISTORY SCRIPT.. | files FILE | load N\n";
 
+const DRVRUN_USAGE: &[u8] = b"usage: drvrun FILE MACHINE SCRIPT..\n";
+
 /// The forms that the words of a program may have, with a newline.
 fn usage(program: Program) -> &'static [u8]
     ensures { result.now ≡ ended (usage_text program) }
 {
     match program {
         Program::Devconf => DEVCONF_USAGE,
+        Program::Drvrun => DRVRUN_USAGE,
     }
 }
 
@@ -72,6 +75,7 @@ fn machine_word(program: Program, words: &[String]) -> &[u8]
 {
     match program {
         Program::Devconf => word_at(words, 2),
+        Program::Drvrun => word_at(words, 1),
     }
 }
 
@@ -81,6 +85,7 @@ fn script_word(program: Program, words: &[String], which: u8) -> &[u8]
 {
     match program {
         Program::Devconf => word_at(words, 3 + which as usize),
+        Program::Drvrun => word_at(words, 1 + which as usize),
     }
 }
 

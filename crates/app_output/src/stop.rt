@@ -1,3 +1,8 @@
+ghost use Rattle.std.specs.Prelude.{◌≡◌};
+ghost use Rattle.app_output.specs.Ended.{status_after};
+
+use app_input::Status;
+
 /// Why a text was not put whole.
 #[derive(Clone, Copy)]
 pub enum OutputStop {
@@ -5,4 +10,15 @@ pub enum OutputStop {
     WriteFault,
     /// Memory ran out.
     Memory,
+}
+
+/// The status behind writing.
+pub fn status_after(written: Result<(), OutputStop>) -> Status
+    ensures { result ≡ status_after written }
+{
+    match written {
+        Ok(()) => Status::Ok,
+        Err(OutputStop::WriteFault) => Status::WriteFault,
+        Err(OutputStop::Memory) => Status::Memory,
+    }
 }

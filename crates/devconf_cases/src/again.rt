@@ -1,7 +1,9 @@
-//! Plays that are read again: `replay` has to give their tree, and `upgrade` their history with it.
+//! Plays that are run once more: `replay` has to give their tree, and `upgrade` their history with it; where there is one
+//! script and it has ended, `drvrun` has to write what the play wrote.
 
-use crate::case::{Answer, Case};
+use crate::case::Case;
 use crate::stop::Stop;
+use app_input::Program;
 use cf_io::MemFile;
 use cf_types::{List, Text};
 use std::alloc::Global;
@@ -11,9 +13,9 @@ const HISTORY: &str = "the-history";
 
 /// Whether the case is a play that ends well.
 fn is_play(case: &Case) -> bool {
-    let plays = match case.words.first() {
-        Some(word) => word.as_str() == "play",
-        None => false,
+    let plays = match (case.program, case.words.first()) {
+        (Program::Devconf, Some(word)) => word.as_str() == "play",
+        _ => false,
     };
     plays && case.answer.status == 0
 }
@@ -66,19 +68,11 @@ fn files_again(alloc: Global, case: &Case) -> Result<List<MemFile>, Stop> {
 
 /// The play read again by another form, which has to write what the play wrote from this line on.
 fn case_again(alloc: Global, case: &Case, form: &str, head: &[u8]) -> Result<Case, Stop> {
-    Ok(Case {
-        name: format!(in alloc; "{} ({form})", case.name)?,
-        words: words_again(alloc, &case.words, form)?,
-        files: files_again(alloc, case)?,
-        failing_loads: List::make(alloc),
-        failing_puts: List::make(alloc),
-        failing_errors: List::make(alloc),
-        answer: Answer {
-            output: text_from(alloc, &case.answer.output, head)?,
-            errors: Vec::new(alloc),
-            status: 0,
-        },
-    })
+    let mut again = Case::make(alloc, format!(in alloc; "{} ({form})", case.name)?);
+    again.words = words_again(alloc, &case.words, form)?;
+    again.files = files_again(alloc, case)?;
+    again.answer.output = text_from(alloc, &case.answer.output, head)?;
+    Ok(again)
 }
 
 /// Two more cases for each play that ends well.
@@ -91,4 +85,42 @@ pub fn cases_again(alloc: Global, cases: &[Case]) -> Result<Vec<Case>, Stop> {
         }
     }
     Ok(again)
+}
+
+/// Whether the case is a play of one script, which has ended: so the turns were no fewer than its events.
+fn is_whole_of_one(case: &Case) -> bool {
+    is_play(case)
+        && case.words.len() == 5
+        && case
+            .answer
+            .output
+            .split(|byte| *byte == b'\n')
+            .any(|line| line.starts_with(b"1.") && line.ends_with(b" end"))
+}
+
+/// The words of a play without the form and the order file.
+fn words_of_run(alloc: Global, words: &[String]) -> Result<Vec<String>, Stop> {
+    let mut left = Vec::new(alloc);
+    for (place, word) in words.iter().enumerate() {
+        if place != 0 && place != 3 {
+            left.push(String::from_str(alloc, word.as_str())?)?;
+        }
+    }
+    Ok(left)
+}
+
+/// One more case for each play of one script that has ended: `drvrun` runs it in a thread.
+pub fn cases_of_one(alloc: Global, cases: &[Case]) -> Result<Vec<Case>, Stop> {
+    let mut runs = Vec::new(alloc);
+    for case in cases {
+        if is_whole_of_one(case) {
+            let mut run = Case::make(alloc, format!(in alloc; "{} (drvrun)", case.name)?);
+            run.program = Program::Drvrun;
+            run.words = words_of_run(alloc, &case.words)?;
+            run.files = files_again(alloc, case)?;
+            run.answer.output = Vec::from_slice(alloc, &case.answer.output)?;
+            runs.push(run)?;
+        }
+    }
+    Ok(runs)
 }

@@ -1,5 +1,6 @@
-//! A case of the program.
+//! A case of a program.
 
+use app_input::Program;
 use cf_io::MemFile;
 use cf_types::List;
 use std::alloc::Global;
@@ -7,11 +8,12 @@ use std::alloc::Global;
 /// Numbers of calls that have to fail, counted from 1.
 pub type Calls = List<u64>;
 
-/// What the program is called with, and what it has to answer.
+/// What a program is called with, and what it has to answer.
 #[derive(Drop)]
 pub struct Case {
     /// What the case shows.
     pub name: String,
+    pub program: Program,
     /// The words behind the program's name.
     pub words: Vec<String>,
     pub files: List<MemFile>,
@@ -20,6 +22,8 @@ pub struct Case {
     pub failing_puts: Calls,
     /// Calls of standard error that have to fail.
     pub failing_errors: Calls,
+    /// How many transfers have to be under way at the same time.
+    pub together: u64,
     pub answer: Answer,
 }
 
@@ -32,15 +36,17 @@ pub struct Answer {
 }
 
 impl Case {
-    /// A case without words and files that is to write nothing and to end well.
+    /// A case of devconf without words and files that is to write nothing and to end well.
     pub fn make(alloc: Global, name: String) -> Case {
         Case {
             name,
+            program: Program::Devconf,
             words: Vec::new(alloc),
             files: List::make(alloc),
             failing_loads: List::make(alloc),
             failing_puts: List::make(alloc),
             failing_errors: List::make(alloc),
+            together: 0,
             answer: Answer {
                 output: Vec::new(alloc),
                 errors: Vec::new(alloc),

@@ -1,18 +1,20 @@
-//! Runs the cases of the program `devconf`: each file that a word names is a topic, whose cases are run over files and sinks
-//! in memory. Each play that ends well is read again by `replay` and by `upgrade`. For each topic it writes how many cases it
-//! has and how many plays were read again, and for each case that is answered otherwise than it tells, the first line that
-//! differs. The status is 0 where none differs.
+//! Runs the cases of the programs `devconf` and `drvrun`: each file that a word names is a topic, whose cases are run over
+//! files and sinks in memory. Each play that ends well is read again by `replay` and by `upgrade`, and each play of one script
+//! that has ended is run by `drvrun` too. For each topic it writes how many of each there are, and for each case that is
+//! answered otherwise than it tells, the first line that differs. The status is 0 where none differs.
 #![tactic(auto)]
 
 mod again;
+mod callers;
 mod case;
 mod difference;
 mod form;
+mod medium;
 mod reader;
 mod run;
 mod stop;
 
-use crate::again::cases_again;
+use crate::again::{cases_again, cases_of_one};
 use crate::case::Case;
 use crate::difference::put_differences;
 use crate::reader::Reader;
@@ -23,12 +25,16 @@ use std::alloc::Global;
 use std::env;
 use std::io::Write;
 use std::process::ExitCode;
+use std::sync::Wait;
+use std::thread::Threads;
 
-/// How many cases there are, how many plays were read again, and how many of all these runs differ.
+/// How many cases there are, how many plays were read again, how many were run by `drvrun` too, and how many of all these
+/// runs differ.
 #[derive(Clone, Copy)]
 struct Count {
     cases: usize,
     again: usize,
+    run: usize,
     different: usize,
 }
 
@@ -37,15 +43,19 @@ impl Count {
         Count {
             cases: self.cases.saturating_add(other.cases),
             again: self.again.saturating_add(other.again),
+            run: self.run.saturating_add(other.run),
             different: self.different.saturating_add(other.different),
         }
     }
 
-    /// The words for it: `12 cases`, `12 cases, 10 replayed and upgraded`, `12 cases, 1 different`.
+    /// The words for it: `12 cases`, `12 cases, 10 replayed and upgraded, 4 run by drvrun`, `12 cases, 1 different`.
     fn words(self, alloc: Global) -> Result<String, Stop> {
         let mut words = format!(in alloc; "{} cases", self.cases)?;
         if self.again != 0 {
             words.push_str(&format!(in alloc; ", {} replayed and upgraded", self.again)?)?;
+        }
+        if self.run != 0 {
+            words.push_str(&format!(in alloc; ", {} run by drvrun", self.run)?)?;
         }
         if self.different != 0 {
             words.push_str(&format!(in alloc; ", {} different", self.different)?)?;
@@ -55,7 +65,8 @@ impl Count {
 }
 
 /// Runs cases, and writes of each that differs where it does; answers how many differ.
-fn try_cases<W: Write>(
+fn try_cases<R: Threads + Wait + Sync, W: Write>(
+    threads: &R,
     alloc: Global,
     topic: &str,
     cases: Vec<Case>,
@@ -63,7 +74,7 @@ fn try_cases<W: Write>(
 ) -> Result<usize, Stop> {
     let mut different: usize = 0;
     for case in cases {
-        let (wanted, answer) = answer_to(alloc, case)?;
+        let (wanted, answer) = answer_to(threads, alloc, case)?;
         let mut report = Vec::new(alloc);
         put_differences(&wanted, &answer, topic, &mut report)?;
         if !report.is_empty() {
@@ -74,26 +85,33 @@ fn try_cases<W: Write>(
     Ok(different)
 }
 
-/// Runs the cases of a topic, and its plays once more as they are read again.
-fn try_all<W: Write>(
+/// Runs the cases of a topic, and its plays once more as they are read again, or run by `drvrun`.
+fn try_all<R: Threads + Wait + Sync, W: Write>(
+    threads: &R,
     alloc: Global,
     topic: &str,
     cases: Vec<Case>,
     out: &mut W,
 ) -> Result<Count, Stop> {
     let again = cases_again(alloc, &cases)?;
-    let (count, plays) = (cases.len(), again.len() / 2);
-    let different = try_cases(alloc, topic, cases, out)?;
-    Ok(Count {
-        cases: count,
-        again: plays,
-        different: different.saturating_add(try_cases(alloc, topic, again, out)?),
-    })
+    let of_one = cases_of_one(alloc, &cases)?;
+    let mut count = Count {
+        cases: cases.len(),
+        again: again.len() / 2,
+        run: of_one.len(),
+        different: 0,
+    };
+    for cases in [cases, again, of_one] {
+        let different = try_cases(threads, alloc, topic, cases, out)?;
+        count.different = count.different.saturating_add(different);
+    }
+    Ok(count)
 }
 
 /// Reads the file of a topic and runs its cases.
-fn try_topic<W: Write>(
+fn try_topic<R: Threads + Wait + Sync, W: Write>(
     rt: &HostRuntime,
+    threads: &R,
     reader: &mut Reader,
     topic: &str,
     out: &mut W,
@@ -106,23 +124,24 @@ fn try_topic<W: Write>(
     }
     reader.read(&bytes)?;
     let cases = reader.take_cases();
-    let count = try_all(rt.alloc(), topic, cases, out)?;
+    let count = try_all(threads, rt.alloc(), topic, cases, out)?;
     let line = format!(in rt.alloc(); "{topic}: {}\n", count.words(rt.alloc())?)?;
     out.write_all(line.as_bytes())?;
     Ok(count)
 }
 
 /// Runs the topics that the words name, and tells whether no case differs.
-fn try_topics(rt: &HostRuntime) -> Result<bool, Stop> {
+fn try_topics<R: Threads + Wait + Sync>(rt: &HostRuntime, threads: &R) -> Result<bool, Stop> {
     let mut reader = Reader::make(rt.alloc());
     let mut out = rt.stdout();
     let mut count = Count {
         cases: 0,
         again: 0,
+        run: 0,
         different: 0,
     };
     for topic in env::args(rt)?.skip(1) {
-        match try_topic(rt, &mut reader, topic.as_str(), &mut out) {
+        match try_topic(rt, threads, &mut reader, topic.as_str(), &mut out) {
             Ok(more) => count = count.and(more),
             Err(stop) => {
                 let line = format!(in rt.alloc(); "{topic}: {stop}\n")?;
@@ -137,7 +156,7 @@ fn try_topics(rt: &HostRuntime) -> Result<bool, Stop> {
 }
 
 fn main(rt: HostRuntime) -> ExitCode {
-    match try_topics(&rt) {
+    match try_topics(&rt, &rt) {
         Ok(true) => ExitCode::SUCCESS,
         _ => ExitCode::FAILURE,
     }

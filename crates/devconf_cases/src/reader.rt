@@ -3,6 +3,7 @@
 use crate::case::Case;
 use crate::form::put_form;
 use crate::stop::Stop;
+use app_input::Program;
 use cf_io::MemFile;
 use cf_types::{List, Text};
 use std::alloc::Global;
@@ -130,7 +131,9 @@ impl Reader {
     fn direct(&mut self, said: &str) -> Result<(), Stop> {
         let (word, rest) = parted(said);
         match word {
-            "words" => self.set_words(rest),
+            "words" => self.set_words(Program::Devconf, rest),
+            "drvrun" => self.set_words(Program::Drvrun, rest),
+            "together" => self.set_together(rest),
             "file" => self.open_file(rest),
             "output" => self.open(Section::Output, rest),
             "errors" => self.open(Section::Errors, rest),
@@ -179,10 +182,11 @@ impl Reader {
         Err(Stop::BadLine(0))
     }
 
-    fn set_words(&mut self, rest: &str) -> Result<(), Stop> {
+    fn set_words(&mut self, program: Program, rest: &str) -> Result<(), Stop> {
         self.close()?;
         let alloc = self.alloc;
         let case = self.case()?;
+        case.program = program;
         for word in rest.split_whitespace() {
             let word = if word == "''" { "" } else { word };
             case.words.push(String::from_str(alloc, word)?)?;
@@ -193,6 +197,12 @@ impl Reader {
     fn set_status(&mut self, rest: &str) -> Result<(), Stop> {
         self.close()?;
         self.case()?.answer.status = number(rest)?;
+        Ok(())
+    }
+
+    fn set_together(&mut self, rest: &str) -> Result<(), Stop> {
+        self.close()?;
+        self.case()?.together = number(rest)?;
         Ok(())
     }
 

@@ -2,7 +2,7 @@
 #![tactic(auto)]
 
 ghost use Rattle.std.specs.Prelude.{◌<◌, ◌≤◌, All, IfOk, IfSome, length};
-ghost use Rattle.app_input.specs.Inputs.{FormedInputs};
+ghost use Rattle.app_input.specs.Inputs.{FormedInputs, IsInputsOf};
 ghost use Rattle.config_rules.specs.Formed.{FittingMachine, FormedTables};
 ghost use Rattle.config_rules.specs.ScriptText.{FormedScript};
 ghost use Rattle.sample_machine.specs.Ready.{IsReady};
@@ -42,7 +42,6 @@ fn files_of(alloc: Global, scripts: &[&[u8]]) -> Result<MemFiles, Memory> {
     let mut files = List::make(alloc);
     put_file(alloc, &mut files, b"conf", CONF)?;
     put_file(alloc, &mut files, b"mach", MACHINE)?;
-    put_file(alloc, &mut files, b"ord", b"")?;
     for (number, script) in scripts.iter().enumerate() {
         let name = name_of(alloc, number)?;
         put_file(alloc, &mut files, name.as_bytes(), script)?;
@@ -53,7 +52,7 @@ fn files_of(alloc: Global, scripts: &[&[u8]]) -> Result<MemFiles, Memory> {
 // The words of a call with so many scripts.
 fn words_of(alloc: Global, scripts: usize) -> Result<Vec<String>, Memory> {
     let mut words = Vec::new(alloc);
-    for word in ["play", "conf", "mach", "ord"] {
+    for word in ["conf", "mach"] {
         words.push(String::from_str(alloc, word)?)?;
     }
     for number in 0..scripts {
@@ -77,34 +76,38 @@ fn ready_board(
     ensures { IfSome result IsReady }
 {
     match booted_board(alloc, tables, machine, scripts) {
-        Ok((board, _slots)) => Some(board),
+        Ok((board, slots)) => {
+            drop(slots);
+            Some(board)
+        }
         Err(_) => None,
     }
 }
 
-// The board of the inputs of a run; none where they are others.
+// The board of the inputs of a run; none where memory ran out.
 fn board_of(alloc: Global, inputs: Inputs) -> Option<Board>
-    requires { FormedInputs inputs }
+    requires formed { FormedInputs inputs }
+    requires kind { IsInputsOf Program.Drvrun inputs }
     ensures { IfSome result IsReady }
 {
     match inputs {
-        Inputs::Play {
+        Inputs::Run {
             tables,
             machine,
             scripts,
-            order: _,
         } => ready_board(alloc, tables, machine, scripts),
-        _ => None,
+        _ => unreachable!(),
     }
 }
 
 // The inputs of a run with these scripts; none where they are refused.
 fn inputs_of(alloc: Global, scripts: &[&[u8]]) -> Result<Inputs, Status>
-    ensures { IfOk result FormedInputs }
+    ensures formed { IfOk result FormedInputs }
+    ensures kind { IfOk result (IsInputsOf Program.Drvrun) }
 {
     let mut files = files_of(alloc, scripts)?;
     let words = words_of(alloc, scripts.len())?;
-    read_inputs(alloc, Program::Devconf, words.as_slice(), &mut files)
+    read_inputs(alloc, Program::Drvrun, words.as_slice(), &mut files)
 }
 
 /// A machine with the spots mb, isa, u0 and u1, after the boot that attached com0 and com1, with up to sixteen scripts of

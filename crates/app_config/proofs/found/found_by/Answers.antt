@@ -46,12 +46,12 @@ returns-in_ok-told-in-Upgrade-clause-found g c =
 
 pub returns-in_ok-board-in-Boot-clause-graphed : goal.returns-in_ok-board-in-Boot-clause-graphed
 returns-in_ok-board-in-Boot-clause-graphed g c =
-    boot_graph c.args.inputs c.in-Boot.tables c.in-Boot.machine c.in_ok-board-in-Boot.board c.requires c.in-Boot.is c.in_ok-board-in-Boot.ensures
+    boot_graph c.args.inputs c.in-Boot.tables c.in-Boot.machine c.in_ok-board-in-Boot.board c.requires.formed c.in-Boot.is c.in_ok-board-in-Boot.ensures
 
 pub returns-in_ok-board-in-Play-clause-graphed : goal.returns-in_ok-board-in-Play-clause-graphed
 returns-in_ok-board-in-Play-clause-graphed g c =
     play_graph c.args.inputs c.in-Play.tables c.in-Play.machine c.in-Play.scripts c.in-Play.order c.items-in-Play.result.now c.in_ok-board-in-Play.board
-    c.requires c.in-Play.is c.in_ok-board-in-Play.ensures
+    c.requires.formed c.in-Play.is c.in_ok-board-in-Play.ensures
 
 pub returns-in-Ioconf-clause-asked : goal.returns-in-Ioconf-clause-asked
 returns-in-Ioconf-clause-asked g c = then_by (g.F.Files.told c.args.files.now) c.args.inputs (input.Ioconf c.in-Ioconf.tables) status.Ok (g.F.Files.asked c.args.files.now) c.in-Ioconf.is refl

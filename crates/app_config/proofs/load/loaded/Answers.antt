@@ -4,8 +4,8 @@ use Rattle.app_config.proofs.Attached.{boot_devices}
 use Rattle.app_config.proofs.FoundLaws.{summed}
 use Rattle.app_config.proofs.load.loaded.Goals as goal
 
-pub summary_of-requires : goal.summary_of-requires
-summary_of-requires c = boot_devices (setup_of c.args.tables c.args.machine []) c.in_ok-board.board.events c.in_ok-board.board.world c.in_ok-board.ensures.boot
+pub summary_of-line-requires : goal.summary_of-line-requires
+summary_of-line-requires c = boot_devices (setup_of c.args.tables c.args.machine []) c.in_ok-board.board.events c.in_ok-board.board.world c.in_ok-board.ensures.boot
 
 pub returns : goal.returns
-returns c = summed c.args.count c.args.tables c.args.machine c.in_ok-board.board c.summary_of.result c.in_ok-board.ensures c.summary_of.ensures
+returns c = summed c.args.count c.args.tables c.args.machine c.in_ok-board.board c.summary_of-line.result c.in_ok-board.ensures c.summary_of-line.ensures

@@ -1,5 +1,5 @@
 use Rattle.app_config.specs.Found.{found_text}
-use Rattle.app_config.proofs.FoundLaws.{stopped, wrote}
+use Rattle.app_output.proofs.Ended.{stopped, wrote}
 use Rattle.app_config.proofs.top.write_found.Goals as goal
 
 pub returns-in_err-put_found : goal.returns-in_err-put_found

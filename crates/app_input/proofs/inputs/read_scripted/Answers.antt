@@ -2,6 +2,7 @@ use Rattle.std.proofs.Common.{◌∙◌, refl, map, string_bytes, subst, Option,
 use Rattle.config_rules.specs.Reading.{Files}
 use Rattle.app_input.specs.Inputs.{IsDescribed}
 use Rattle.app_input.specs.Scripted.{IsCalledFor, scripted_of}
+use Rattle.app_input.specs.Asked.{scripted_files}
 use Rattle.app_input.specs.Words.{scripted}
 use Rattle.app_input.specs.declared.status.Status.TheVariants as status
 use Rattle.app_input.proofs.AskedLaws.{config_stops, run_asked, run_unfit}
@@ -37,17 +38,23 @@ returns-in-Err-clause-asked g c =
 
 pub returns-in-Err-load_machine-clause-asked : goal.returns-in-Err-load_machine-clause-asked
 returns-in-Err-load_machine-clause-asked g c =
-    run_unfit c.args.task _ _ c.args.config.now c.args.name.now c.args.course.now (map string_bytes c.args.scripts.now) c.in-Ok.tables c.in-Err-load_machine.status _ _ _ c.read_tables.ensures.told
+    let names = map string_bytes c.args.scripts.now in
+    run_unfit (scripted c.args.task c.args.config.now c.args.name.now c.args.course.now names) c.args.name.now (λ files. scripted_files c.args.task files names c.args.course.now)
+    _ _ c.in-Ok.tables c.in-Err-load_machine.status _ _ _ (λ files tables. refl) c.read_tables.ensures.told
     c.in-Ok.ensures.reads c.in-Ok.ensures.asked c.in-Err-load_machine.ensures.reads c.in-Err-load_machine.ensures.asked
 
 pub returns-in-Ok-load_scripted-clause-asked : goal.returns-in-Ok-load_scripted-clause-asked
 returns-in-Ok-load_scripted-clause-asked g c =
-    run_asked c.args.task _ _ _ c.args.config.now c.args.name.now c.args.course.now (map string_bytes c.args.scripts.now) c.in-Ok.tables c.in-Ok-load_machine.machine status.Ok _ _ _ _
+    let names = map string_bytes c.args.scripts.now in
+    run_asked (scripted c.args.task c.args.config.now c.args.name.now c.args.course.now names) c.args.name.now (λ files. scripted_files c.args.task files names c.args.course.now)
+    _ _ _ c.in-Ok.tables c.in-Ok-load_machine.machine status.Ok _ _ _ _ (λ files tables. refl)
     c.read_tables.ensures.told (c.load_machine.ensures.told ∙ c.read_tables.ensures.told) c.in-Ok.ensures.reads c.in-Ok.ensures.asked
     c.in-Ok-load_machine.ensures.reads c.in-Ok-load_machine.ensures.asked c.in-Ok-load_scripted.ensures.asked
 
 pub returns-in-Err-load_scripted-clause-asked : goal.returns-in-Err-load_scripted-clause-asked
 returns-in-Err-load_scripted-clause-asked g c =
-    run_asked c.args.task _ _ _ c.args.config.now c.args.name.now c.args.course.now (map string_bytes c.args.scripts.now) c.in-Ok.tables c.in-Ok-load_machine.machine c.in-Err-load_scripted.status _ _ _ _
+    let names = map string_bytes c.args.scripts.now in
+    run_asked (scripted c.args.task c.args.config.now c.args.name.now c.args.course.now names) c.args.name.now (λ files. scripted_files c.args.task files names c.args.course.now)
+    _ _ _ c.in-Ok.tables c.in-Ok-load_machine.machine c.in-Err-load_scripted.status _ _ _ _ (λ files tables. refl)
     c.read_tables.ensures.told (c.load_machine.ensures.told ∙ c.read_tables.ensures.told) c.in-Ok.ensures.reads c.in-Ok.ensures.asked
     c.in-Ok-load_machine.ensures.reads c.in-Ok-load_machine.ensures.asked c.in-Err-load_scripted.ensures.asked

@@ -1,0 +1,111 @@
+#!/bin/sh
+# Runs scripts of so many rescans (500 where none are named) side by side by `drvrun`, on machines of 1,024 spots. Prints how many
+# events there were, the seconds on the clock and of the processors, and the most memory.
+# `one script`: a script alone searches a bus of 1,006 spots. `fifteen wait`: sixteen scripts search that bus one after the
+# other, each once the one before it has closed a device; the others sleep. `sixteen, one bus`: sixteen scripts search it at
+# once. `sixteen buses`: each of them searches a bus of 62 spots of its own.
+# Usage: bench/workers.sh [RESCANS [DRVRUN]]
+set -e
+export LC_ALL=C
+top=$(cd "$(dirname "$0")/.." && pwd)
+rescans=${1:-500}
+drvrun=$(readlink -f "${2:-$top/crates/drvrun/out/drvrun}")
+[ $# -ge 2 ] || "$top/drvrun" >/dev/null 2>&1 || true
+room=$(mktemp -d)
+trap 'rm -rf "$room"' EXIT
+callers='1 2 3 4 5 6 7 8 9 10 11 12 13 14 15 16'
+all='s1 s2 s3 s4 s5 s6 s7 s8 s9 s10 s11 s12 s13 s14 s15 s16'
+
+printf '%s\n' 'device mainbus {}' 'attach mainbus at root' 'device bus {[slot = -1]}' 'attach bus at mainbus' \
+    'device disk' 'attach disk at bus' 'device leaf' 'attach leaf at mainbus' 'mainbus0 at root' 'bus* at mainbus?' \
+    'disk* at bus?' 'leaf* at mainbus?' >"$room/conf"
+
+# Sixteen leaves, and a bus of 1,006 spots that no driver takes.
+one_bus() {
+    awk 'BEGIN {
+        print "spot mb root root\nspot b mb mainbus"
+        for (i = 0; i < 16; i++) print "spot l" i " mb mainbus"
+        for (i = 0; i < 1006; i++) print "spot s" i " b bus slot=" i
+        print "match mainbus mb 10\nmatch bus b 20\nmatch leaf * 10"
+    }' >"$room/machine"
+}
+
+# Sixteen buses of 62 spots that no driver takes.
+sixteen_buses() {
+    awk 'BEGIN {
+        print "spot mb root root"
+        for (k = 0; k < 16; k++) print "spot b" k " mb mainbus"
+        for (k = 0; k < 16; k++) for (i = 0; i < 62; i++) print "spot s" k "x" i " b" k " bus slot=" i
+        print "match mainbus mb 10\nmatch bus * 20"
+    }' >"$room/machine"
+}
+
+# Script k has leaf k-1 open while it searches, and searches once leaf k-2 is gone, which script k-1 has open. Some searches
+# before that let every script open its leaf first.
+waiting_scripts() {
+    for k in $callers; do
+        awk -v k="$k" -v n="$rescans" 'BEGIN {
+            print "open leaf" k - 1
+            for (i = 0; i < 4; i++) print "rescan bus0"
+            if (k > 1) print "detach leaf" k - 2
+            for (i = 4; i < n; i++) print "rescan bus0"
+            print "close leaf" k - 1
+        }' >"$room/s$k"
+    done
+}
+
+# Script k searches this bus, with k - 1 behind its name where it is one of many.
+searching_scripts() {
+    for k in $callers; do
+        awk -v bus="$1" -v k="$k" -v n="$rescans" 'BEGIN {
+            if (bus == "bus") bus = bus k - 1
+            for (i = 0; i < n; i++) print "rescan " bus
+        }' >"$room/s$k"
+    done
+}
+
+# The most memory that a process has had, in KiB, once it is gone.
+watched() {
+    most=0
+    while :; do
+        now=
+        while read -r key value _; do [ "$key" != VmHWM: ] || now=$value; done 2>/dev/null <"/proc/$1/status" || break
+        [ -n "$now" ] || break
+        most=$now
+        sleep 0.2
+    done
+}
+
+# Runs these scripts, and says what they took.
+run() {
+    printf '%s: ' "$1"
+    shift
+    (
+        cd "$room"
+        begun=$(date +%s)
+        "$drvrun" conf machine "$@" >written &
+        watched $!
+        wait $! || echo refused
+        echo "clock $(($(date +%s) - begun)) memory $most"
+        times
+    ) >"$room/took"
+    echo "events $(sed '1,/^history/d; /^tree$/,$d' "$room/written" | wc -l)" | cat - "$room/took" | awk '
+    function seconds(time, part) { split(time, part, "[ms]"); return part[1] * 60 + part[2] }
+    /^refused/ { print "refused"; exit 1 }
+    /^events/ { events = $2; next }
+    /^clock/ { clock = $2; memory = $4; next }
+    { user = seconds($1); kernel = seconds($2) }
+    END { printf "%d events, %d s on the clock, %.1f s of the processors (%.1f of them in the kernel), %d MiB\n",
+        events, clock, user + kernel, kernel, memory / 1024 }'
+    rm -f "$room/written"
+}
+
+one_bus
+searching_scripts bus0
+run 'one script' s1
+run 'sixteen, one bus' $all
+waiting_scripts
+run 'fifteen wait' $all
+sixteen_buses
+searching_scripts bus
+run 'sixteen buses' $all

@@ -1,0 +1,22 @@
+use Rattle.std.proofs.Common.{◌<◌, length, subst, sym, ◌∙◌}
+use Rattle.run_rules.specs.declared.world.Setup.{Setup}
+use Rattle.run_rules.specs.World.{opening}
+use Rattle.run_rules.specs.Run.{Run}
+use Rattle.dev_board.proofs.Began.{opening_setup}
+use Rattle.board_lock.proofs.Opened.{same_setup}
+use Rattle.app_run.proofs.scripts.side_by_side.Goals as goal
+
+pub run_scripts-requires-clause-some : goal.run_scripts-requires-clause-some
+run_scripts-requires-clause-some g c = λ κs bounds. subst (λ (s : Setup). 0 < length s.scripts) (sym c.in_ok-board.ensures.setup) c.requires.some
+
+pub returns : goal.returns
+returns g c =
+    let is = c.in_ok-board.ensures.setup in
+    let left = c.in_ok-left.left.board in
+    let begun = same_setup left (opening c.in_ok-board.board.world.setup) c.in_ok-left.ensures.opening in
+    record {
+      run = subst (λ (s : Setup). Run (opening s) left.events left.world) is c.in_ok-left.ensures.run;
+      made = begun ∙ (opening_setup c.in_ok-board.board.world.setup ∙ is);
+      whole = c.in_ok-left.ensures.whole.whole;
+      reliable = c.in_ok-left.ensures.whole.reliable;
+    }

@@ -1,0 +1,133 @@
+//! The top call.
+ghost use Rattle.std.specs.Prelude.{◌≡◌, ◌≤◌, map, string_bytes, IfOk, IfSome};
+ghost use Rattle.attr_graph.specs.Graphs.{FitGraph};
+ghost use Rattle.cf_io.specs.Faults.{Rose};
+ghost use Rattle.cf_io.specs.Told.{Takes};
+ghost use Rattle.app_input.specs.Asked.{AsksInputs};
+ghost use Rattle.app_input.specs.Inputs.{Counts, FormedInputs, IsInputsOf};
+ghost use Rattle.app_input.specs.Status.{status_of};
+ghost use Rattle.app_input.specs.Words.{drvrun_form};
+ghost use Rattle.app_output.specs.Ended.{Faults};
+ghost use Rattle.app_output.specs.Output.{Writes};
+ghost use Rattle.app_output.specs.RunText.{run_text};
+ghost use Rattle.app_output.specs.Status.{err_text};
+ghost use Rattle.app_run.specs.Asked.{Explains, FindsRun, IsDueOr, RanFor};
+
+use crate::scripts::side_by_side;
+use app_input::{Inputs, Program, Status, read_inputs};
+use app_output::{OutputStop, flush, put_run, report, status_after};
+use cf_io::{Files, Sink};
+use dev_board::Board;
+use drv_workers::Medium;
+use std::alloc::Global;
+use std::sync::Wait;
+use std::thread::Threads;
+
+/// The board of these inputs, once all of their scripts have ended.
+fn board_of<R: Threads + Wait + Sync, M: Medium + Sync>(
+    rt: &R,
+    alloc: Global,
+    inputs: Inputs,
+    medium: &M,
+) -> Result<Board, Status>
+    requires formed { FormedInputs inputs }
+    requires kind { IsInputsOf Program.Drvrun inputs }
+    ensures { RanFor inputs result }
+{
+    match inputs {
+        Inputs::Run {
+            tables,
+            machine,
+            scripts,
+        } => {
+            let board = side_by_side(rt, alloc, tables, machine, scripts, medium)?;
+            Ok(board)
+        }
+        _ => unreachable!(),
+    }
+}
+
+/// Reads what the words name, and runs the scripts.
+fn find<R: Threads + Wait + Sync, F: Files, M: Medium + Sync>(
+    rt: &R,
+    alloc: Global,
+    words: &[String],
+    files: &mut F,
+    medium: &M,
+) -> Result<Board, Status>
+    ensures told { F.told files.new ≡ F.told files.old }
+    ensures found { FindsRun (drvrun_form (map string_bytes words.now)) (F.told files.old) result }
+    ensures counted { Counts (F.faults files.old) (F.faults files.new) result }
+    ensures due { IfSome (F.told files.old) (λ named. ¬ Rose (F.faults files.old) (F.faults files.new)
+        → IsDueOr (drvrun_form (map string_bytes words.now)) named (status_of result)) }
+    ensures asked { AsksInputs (drvrun_form (map string_bytes words.now)) (F.told files.old) (status_of result) (F.asked files.old) (F.asked files.new) }
+    ensures graphed { IfOk result (λ board. FitGraph board.world.setup.tables) }
+{
+    match read_inputs(alloc, Program::Drvrun, words, files) {
+        Ok(inputs) => board_of(rt, alloc, inputs, medium),
+        Err(status) => Err(status),
+    }
+}
+
+/// Writes the listing, the history and the tree to the stream.
+fn write_run<S: Sink>(alloc: Global, board: &Board, out: &mut S) -> Result<(), OutputStop>
+    requires { FitGraph board.now.world.setup.tables }
+    ensures { Writes (run_text board.now.world.setup.tables board.now.events board.now.world) (S.told out.old) (S.told out.new) result }
+{
+    put_run(alloc, board, out)?;
+    flush(out)
+}
+
+/// Runs the scripts that the words name, and once all of them have ended writes what they did.
+fn run<R: Threads + Wait + Sync, F: Files, S: Sink, M: Medium + Sync>(
+    rt: &R,
+    alloc: Global,
+    words: &[String],
+    files: &mut F,
+    out: &mut S,
+    medium: &M,
+) -> Status
+    ensures explained { Explains (drvrun_form (map string_bytes words.now)) (F.told files.old) (S.told out.old) (S.told out.new) result }
+    ensures faults { Faults (F.faults files.old) (F.faults files.new) (S.told out.old).faults (S.told out.new).faults result }
+    ensures due { IfSome (F.told files.old) (λ named. ¬ Rose (F.faults files.old) (F.faults files.new) → ¬ Rose (S.told out.old).faults (S.told out.new).faults
+        → IsDueOr (drvrun_form (map string_bytes words.now)) named result) }
+    ensures asked { AsksInputs (drvrun_form (map string_bytes words.now)) (F.told files.old) result (F.asked files.old) (F.asked files.new) }
+    ensures files { F.told files.new ≡ F.told files.old }
+{
+    match find(rt, alloc, words, files, medium) {
+        Ok(board) => {
+            let written = write_run(alloc, &board, out);
+            drop(board);
+            status_after(written)
+        }
+        Err(status) => status,
+    }
+}
+
+/// Runs the program on the words behind its name: reads what they name from `files`, boots the machine, runs each script in
+/// a thread of its own, with transfers through `medium`, and once all have ended writes the listing, the history and the
+/// device tree to `out`; the line of a refusal or a fault goes to `err`. Nothing is held back in the end. Where scripts wait
+/// for one another for good, so does the call. See config(1), autoconf(9) and drvctl(8).
+pub fn drvrun_top<R: Threads + Wait + Sync, F: Files, S: Sink, E: Sink, M: Medium + Sync>(
+    rt: &R,
+    alloc: Global,
+    words: &[String],
+    files: &mut F,
+    out: &mut S,
+    err: &mut E,
+    medium: &M,
+) -> Status
+    ensures explained { Explains (drvrun_form (map string_bytes words.now)) (F.told files.old) (S.told out.old) (S.told out.new) result }
+    ensures faults { Faults (F.faults files.old) (F.faults files.new) (S.told out.old).faults (S.told out.new).faults result }
+
+    // With files that are told and no fault, the status is the one that is due, or memory ran out.
+    ensures due { IfSome (F.told files.old) (λ named. ¬ Rose (F.faults files.old) (F.faults files.new) → ¬ Rose (S.told out.old).faults (S.told out.new).faults
+        → IsDueOr (drvrun_form (map string_bytes words.now)) named result) }
+    ensures asked { AsksInputs (drvrun_form (map string_bytes words.now)) (F.told files.old) result (F.asked files.old) (F.asked files.new) }
+    ensures files { F.told files.new ≡ F.told files.old }
+    ensures err { Takes (err_text Program.Drvrun (map string_bytes words.now) result) (E.told err.old) (E.told err.new) }
+    ensures err_counted { (E.told err.old).faults ≤ (E.told err.new).faults }
+{
+    let status = run(rt, alloc, words, files, out, medium);
+    report(alloc, Program::Drvrun, words, status, err)
+}

@@ -1,0 +1,106 @@
+ghost use Rattle.std.specs.Prelude.{◌<◌};
+ghost use Rattle.dev_board.specs.Booting.{IsBooted};
+ghost use Rattle.board_lock.specs.Boards.{scripts_of};
+ghost use Rattle.board_lock.specs.Names.{AreNames};
+ghost use Rattle.board_lock.specs.Seats.{PartsFit};
+
+use crate::turns::started;
+use board_lock::{DoneEnd, Naming, RunParts, Seat, SharedBoard};
+use cf_types::{List, Ticket};
+use dev_board::Board;
+use drv_workers::{SoftMedium, work};
+use sample_machine::booted;
+use std::alloc::Global;
+use std::marker::Brand;
+use std::sync::Wait;
+use std::test::*;
+use std::thread;
+use std::thread::Threads;
+
+// How often a caller looks at its slot.
+const LOOKS: u64 = 10_000_000;
+
+// Looks at the slot of a transfer until it is condemned, for a bounded number of looks.
+fn await_condemned<N: Naming>(shared: &SharedBoard<N>, seat: &mut Seat<N>, ticket: &Ticket) {
+    for _ in 0..LOOKS {
+        match shared.look(seat, ticket) {
+            Some(word) if !word.condemned => thread::yield_now(),
+            _ => return,
+        }
+    }
+}
+
+// The caller that stopped the board, where a worker ended by that.
+fn stopper(end: &DoneEnd) -> Option<u8> {
+    match end {
+        DoneEnd::Stopped(first, _) => Some(*first),
+        _ => None,
+    }
+}
+
+// A worker runs beside caller 1, which stops the board once the worker has condemned the device of this transfer, for whose
+// references it waits then: by whom the worker was stopped.
+fn stopped_by<N: Naming + Send + Sync, R: Threads + Wait + Sync>(
+    rt: &R,
+    shared: &SharedBoard<N>,
+    first: Seat<N>,
+    ticket: Ticket,
+    second: Seat<N>,
+) -> Option<u8> {
+    thread::scope(thread::scope_env(), rt, move |scope| {
+        match scope.spawn(move || work(rt, shared, second, &SoftMedium)) {
+            Ok(handle) => {
+                let mut first = first;
+                await_condemned(shared, &mut first, &ticket);
+                shared.stop(rt, &mut first);
+                stopper(handle.join(rt).end())
+            }
+            Err(_) => None,
+        }
+    })
+}
+
+// Caller 1 is in a transfer, and caller 2 takes the device of it away: by whom the worker of caller 2 was stopped.
+fn stopped_with<N: Naming + Send + Sync, R: Threads + Wait + Sync>(
+    rt: &R,
+    shared: &SharedBoard<N>,
+    seats: List<Seat<N>>,
+) -> Option<u8> {
+    let mut seats = seats.into_vec();
+    let second = seats.pop()?;
+    let mut first = seats.pop()?;
+    let ticket = started(rt, shared, &mut first)?;
+    stopped_by(rt, shared, first, ticket, second)
+}
+
+fn stopped_of<N: Naming + Send + Sync, R: Threads + Wait + Sync>(
+    rt: &R,
+    alloc: Global,
+    board: Board,
+    parts: RunParts,
+) -> Option<u8>
+    requires names { AreNames N.opening N.closings N.dids N.stops N.table board parts }
+    requires fits { PartsFit parts board }
+    requires booted { IsBooted board }
+    requires some { 0 < scripts_of board.world }
+{
+    match SharedBoard::<N>::make(alloc, board, parts) {
+        Ok((shared, seats)) => stopped_with(rt, &shared, seats),
+        Err(_) => None,
+    }
+}
+
+// By whom the worker of caller 2 was stopped; nothing where memory ran out, or where it went another way.
+fn stopped<R: Threads + Wait + Sync>(rt: &R, alloc: Global) -> Option<u8> {
+    let board = booted(alloc, &[b"open com0\nio com0 5\n", b"detach com0\n"])?;
+    match RunParts::make(alloc, &board) {
+        Ok(parts) => stopped_of::<Brand, R>(rt, alloc, board, parts),
+        Err(_) => None,
+    }
+}
+
+#[test]
+fn a_stop_ends_a_worker_that_waits(rt: HostRuntime) -> Result<(), Fail> {
+    assert_eq!(rt; stopped(&rt, rt.alloc()), Some(1));
+    Ok(())
+}
