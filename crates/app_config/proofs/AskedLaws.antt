@@ -2,9 +2,6 @@
 use Rattle.std.proofs.Common.{◌≡◌, ℕ, ◌⊎◌, inl, inr, true, Option, Some, None, List, sym, refl, subst}
 use Rattle.std.specs.Prelude as std
 use Rattle.std.specs.Prelude.{IfSome, IsErrAnd, Result}
-use Rattle.cf_types.specs.declared.machine.Command.{Command}
-use Rattle.cf_types.specs.declared.machine.Machine.{Machine}
-use Rattle.cf_types.specs.declared.tables.Tables.{Tables}
 use Rattle.cf_compile.specs.Compiles.{AsksDue}
 use Rattle.cf_compile.specs.declared.stop.CompileStop.{CompileStop}
 use Rattle.cf_io.specs.Load.{asked_behind}

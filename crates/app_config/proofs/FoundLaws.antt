@@ -1,5 +1,5 @@
 -- What was found for the inputs has the text that they ask for.
-use Rattle.std.proofs.Common.{inl, inr, ◌≡◌, ℕ, ◌++◌, List, [], Option, Some, None, refl, sym, ap, ◌∙◌, subst}
+use Rattle.std.proofs.Common.{inl, inr, ◌≡◌, ℕ, ◌++◌, List, [], Option, Some, None, refl, sym, ap, subst}
 use Rattle.std.specs.Prelude.{◌⊎◌, IfOk, IfSome, IsErrAnd, Result, Vec}
 use Rattle.std.specs.Global.{Global}
 use Rattle.cf_types.specs.Lines.{ended, text_of}

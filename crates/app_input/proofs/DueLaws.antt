@@ -22,7 +22,7 @@ use Rattle.app_input.specs.declared.status.Status.TheVariants.{Ok, ConfigRefused
 use Rattle.app_input.specs.declared.scripts.Course.{Course}
 use Rattle.app_input.specs.declared.scripts.Course.TheVariants as courses
 use Rattle.app_input.specs.declared.words.Task.{Task}
-use Rattle.app_input.specs.Inputs.{AreScripts, Counts, IsDue, IsDueAt, IsDueIf, IsRefusedRun, IsRun, Reads, RunsSideBySide, booted, booted_from, files_of, given_by, inputs_at, inputs_by, refused_by, scripted_with, side_by_side_with, told_of}
+use Rattle.app_input.specs.Inputs.{Counts, IsDue, IsDueAt, IsDueIf, IsRefusedRun, IsRun, Reads, booted, booted_from, files_of, given_by, inputs_at, inputs_by, refused_by, scripted_with, side_by_side_with, told_of}
 use Rattle.app_input.specs.Scripted.{file_gives, scripts_of, task_of}
 use Rattle.app_input.specs.Words.{Form, boot, config_of, ioconf, is_compiled, load, machine_in, scripted, side_by_side, sources}
 

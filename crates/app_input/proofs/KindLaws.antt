@@ -1,5 +1,5 @@
 -- The words of each program ask for the inputs of that program.
-use Rattle.std.proofs.Common.{◌≡◌, ℕ, Bool, true, false, Option, Some, None, List, [], ◌∷◌, length, if◌then◌else◌, subst}
+use Rattle.std.proofs.Common.{ℕ, Bool, true, false, Option, Some, None, List, [], ◌∷◌, length, if◌then◌else◌, subst}
 use Rattle.std.specs.Prelude.{bytes_eq, codes, option_map, ⊤}
 use Rattle.std.specs.Prelude as std
 use Rattle.std.specs.List.{list_all}
@@ -13,7 +13,7 @@ use Rattle.app_input.specs.declared.status.Status.{Status}
 use Rattle.app_input.specs.declared.words.Task.{Task}
 use Rattle.app_input.specs.declared.words.Task.TheVariants.{Play, Replay, Upgrade}
 use Rattle.app_input.specs.Inputs.{IsInputsOf, Reads}
-use Rattle.app_input.specs.Words.{Form, boot, boot_form, count_of, devconf_form, drvrun_form, file_in, form_named, form_of, ioconf, is_operand, is_script_count, load, load_form, scripted, scripted_form, side_by_side, side_by_side_form, sources}
+use Rattle.app_input.specs.Words.{Form, boot, boot_form, count_of, file_in, form_named, form_of, ioconf, is_operand, is_script_count, load, load_form, scripted, scripted_form, side_by_side, side_by_side_form, sources}
 
 -- a form that words of the program may have
 abbrev IsFormOf : Program → Option Form → Type 0

@@ -9,7 +9,6 @@ use Rattle.std.proofs.lemmas.Option.{slice_get-map, slice_get_read}
 use Rattle.cf_types.specs.declared.machine.Command.{Command}
 use Rattle.cf_types.specs.declared.machine.Machine.{Machine}
 use Rattle.cf_types.specs.declared.tables.Tables.{Tables}
-use Rattle.cf_io.specs.declared.files.TheConstants.{MAX_FILE}
 use Rattle.config_rules.specs.Cut.{◌>>=◌}
 use Rattle.config_rules.specs.Formed.{FittingMachine, FormedTables}
 use Rattle.config_rules.specs.Reading.{Files}

@@ -4,19 +4,15 @@ use Rattle.cf_types.specs.declared.machine.Command.{Command}
 use Rattle.cf_types.specs.declared.machine.Machine.{Machine}
 use Rattle.cf_types.specs.declared.tables.Tables.{Tables}
 use Rattle.config_rules.specs.Listing.{listing}
-use Rattle.config_rules.specs.Meaning.{Means}
-use Rattle.config_rules.specs.Reading.{Files}
 use Rattle.run_rules.specs.declared.event.Event.{Event}
 use Rattle.run_rules.specs.declared.event.Format.TheVariants as format
 use Rattle.run_rules.specs.World.{World, setup_of}
-use Rattle.replay_laws.specs.OneLine.{IsOneLine}
 use Rattle.replay_laws.specs.Taken.{MayPlay, Takes, history_in}
 use Rattle.replay_laws.proofs.Meant.{meant_taken}
 use Rattle.history_replay.proofs.Told.{may_replay}
 use Rattle.app_input.specs.Inputs.{FormedInputs}
 use Rattle.app_input.specs.declared.inputs.Inputs.TheVariants.{Run}
 use Rattle.app_output.specs.RunText.{run_text}
-use Rattle.app_run.specs.Asked.{IsRunText}
 use Rattle.app_run.specs.Laws.{TakesPrinted}
 
 -- the parts of the text

@@ -75,7 +75,9 @@ fn is_free(board: &Board, place: u64) -> bool {
 
 // Whether a device was freed by the event at a place, in a run that is over.
 fn has_freed(left: Finished, place: u64) -> bool {
-    is_free(&left.board, place)
+    let freed = is_free(&left.board, place);
+    drop(left);
+    freed
 }
 
 // What a caller leaves that stops the board.
@@ -165,7 +167,10 @@ fn looked<R: Wait>(rt: &R, alloc: Global) -> Option<(Looks, bool)> {
     )?;
     match RunParts::make(alloc, &board) {
         Ok(parts) => looks_of::<Brand, R>(rt, alloc, board, parts),
-        Err(_) => None,
+        Err(_) => {
+            drop(board);
+            None
+        }
     }
 }
 

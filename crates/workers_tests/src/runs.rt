@@ -68,7 +68,16 @@ fn ran<M: Medium + Sync, R: Threads + Wait + Sync>(
 
 // What the callers did in a run that is over; nothing where memory ran out.
 fn lines_left(alloc: Global, left: Finished) -> Option<Vec<u8>> {
-    lines_of(alloc, &left.board).ok()
+    let lines = lines_of(alloc, &left.board).ok();
+    drop(left);
+    lines
+}
+
+// How many callers ended in a run that is over.
+fn ended_left(left: Finished) -> u64 {
+    let ended = left.ended;
+    drop(left);
+    ended
 }
 
 // What two callers do that each open a device, carry a transfer of 5 out, and close it.
@@ -102,7 +111,7 @@ const GREEDY: &[u8] =
 #[test]
 fn sixteen_scripts_that_want_the_same_end(rt: HostRuntime) -> Result<(), Fail> {
     let ended = match ran(&rt, rt.alloc(), &SoftMedium, &[GREEDY; 16]) {
-        Some(left) => left.ended,
+        Some(left) => ended_left(left),
         None => 0,
     };
     assert_eq!(rt; ended, 16);

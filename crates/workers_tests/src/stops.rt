@@ -95,7 +95,10 @@ fn stopped<R: Threads + Wait + Sync>(rt: &R, alloc: Global) -> Option<u8> {
     let board = booted(alloc, &[b"open com0\nio com0 5\n", b"detach com0\n"])?;
     match RunParts::make(alloc, &board) {
         Ok(parts) => stopped_of::<Brand, R>(rt, alloc, board, parts),
-        Err(_) => None,
+        Err(_) => {
+            drop(board);
+            None
+        }
     }
 }
 

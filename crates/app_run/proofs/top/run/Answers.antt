@@ -1,4 +1,4 @@
-use Rattle.std.proofs.Common.{map, string_bytes, refl, subst, sym}
+use Rattle.std.proofs.Common.{map, string_bytes, subst, sym}
 use Rattle.app_input.specs.Words.{drvrun_form}
 use Rattle.app_input.proofs.AskedLaws.{inputs_all}
 use Rattle.app_output.specs.Ended.{Faults}
