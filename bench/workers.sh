@@ -1,14 +1,13 @@
 #!/bin/sh
-# Runs scripts of so many rescans (500 where none are named) side by side by `drvrun`, on machines of 1,024 spots. Prints how many
-# events there were, the seconds on the clock and of the processors, and the most memory.
-# `one script`: a script alone searches a bus of 1,006 spots. `fifteen wait`: sixteen scripts search that bus one after the
-# other, each once the one before it has closed a device; the others sleep. `sixteen, one bus`: sixteen scripts search it at
-# once. `sixteen buses`: each of them searches a bus of 62 spots of its own.
-# Usage: bench/workers.sh [RESCANS [DRVRUN]]
+# Runs scripts of so many commands (500 where none are named, the most that a script may have) side by side by `drvrun`, on
+# machines of 1,024 spots. Prints how many events there were, the seconds on the clock and of the processors, and the most memory.
+# `one script`: a script alone searches a bus of 1,022 spots. `sixteen buses`: sixteen scripts search a bus of 62 spots each.
+# `fifteen wait`: sixteen scripts put one bus with 1,022 devices to sleep and wake it again; one has the turn, the others wait.
+# Usage: bench/workers.sh [COMMANDS [DRVRUN]]
 set -e
 export LC_ALL=C
 top=$(cd "$(dirname "$0")/.." && pwd)
-rescans=${1:-500}
+commands=${1:-500}
 drvrun=$(readlink -f "${2:-$top/crates/drvrun/out/drvrun}")
 [ $# -ge 2 ] || "$top/drvrun" >/dev/null 2>&1 || true
 room=$(mktemp -d)
@@ -17,16 +16,15 @@ callers='1 2 3 4 5 6 7 8 9 10 11 12 13 14 15 16'
 all='s1 s2 s3 s4 s5 s6 s7 s8 s9 s10 s11 s12 s13 s14 s15 s16'
 
 printf '%s\n' 'device mainbus {}' 'attach mainbus at root' 'device bus {[slot = -1]}' 'attach bus at mainbus' \
-    'device disk' 'attach disk at bus' 'device leaf' 'attach leaf at mainbus' 'mainbus0 at root' 'bus* at mainbus?' \
-    'disk* at bus?' 'leaf* at mainbus?' >"$room/conf"
+    'device disk' 'attach disk at bus' 'device nobody' 'attach nobody at mainbus' 'mainbus0 at root' 'bus* at mainbus?' \
+    'disk* at bus?' >"$room/conf"
 
-# Sixteen leaves, and a bus of 1,006 spots that no driver takes.
+# A bus of 1,022 spots; this driver takes them.
 one_bus() {
-    awk 'BEGIN {
+    awk -v driver="$1" 'BEGIN {
         print "spot mb root root\nspot b mb mainbus"
-        for (i = 0; i < 16; i++) print "spot l" i " mb mainbus"
-        for (i = 0; i < 1006; i++) print "spot s" i " b bus slot=" i
-        print "match mainbus mb 10\nmatch bus b 20\nmatch leaf * 10"
+        for (i = 0; i < 1022; i++) print "spot s" i " b bus slot=" i
+        print "match mainbus mb 10\nmatch bus b 20\nmatch " driver " * 10"
     }' >"$room/machine"
 }
 
@@ -40,26 +38,13 @@ sixteen_buses() {
     }' >"$room/machine"
 }
 
-# Script k has leaf k-1 open while it searches, and searches once leaf k-2 is gone, which script k-1 has open. Some searches
-# before that let every script open its leaf first.
-waiting_scripts() {
+# Script k, from 1 to 16, has these two commands by turns, with k - 1 behind the name where that is to be one of many.
+write_scripts() {
     for k in $callers; do
-        awk -v k="$k" -v n="$rescans" 'BEGIN {
-            print "open leaf" k - 1
-            for (i = 0; i < 4; i++) print "rescan bus0"
-            if (k > 1) print "detach leaf" k - 2
-            for (i = 4; i < n; i++) print "rescan bus0"
-            print "close leaf" k - 1
-        }' >"$room/s$k"
-    done
-}
-
-# Script k searches this bus, with k - 1 behind its name where it is one of many.
-searching_scripts() {
-    for k in $callers; do
-        awk -v bus="$1" -v k="$k" -v n="$rescans" 'BEGIN {
-            if (bus == "bus") bus = bus k - 1
-            for (i = 0; i < n; i++) print "rescan " bus
+        awk -v first="$1" -v second="$2" -v k="$k" -v n="$commands" 'BEGIN {
+            sub(/bus$/, "bus" k - 1, first)
+            sub(/bus$/, "bus" k - 1, second)
+            for (i = 0; i < n; i++) print i % 2 ? second : first
         }' >"$room/s$k"
     done
 }
@@ -100,12 +85,12 @@ run() {
     rm -f "$room/written"
 }
 
-one_bus
-searching_scripts bus0
+one_bus nobody
+write_scripts 'rescan bus0' 'rescan bus0'
 run 'one script' s1
-run 'sixteen, one bus' $all
-waiting_scripts
+one_bus disk
+write_scripts 'suspend bus0' 'resumetree bus0'
 run 'fifteen wait' $all
 sixteen_buses
-searching_scripts bus
+write_scripts 'rescan bus' 'rescan bus'
 run 'sixteen buses' $all

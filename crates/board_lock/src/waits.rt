@@ -4,7 +4,7 @@ use run_rules::Act;
 
 /// Whether an event may end the wait of another caller. Who waits does so for a reference that goes, a scan that ends, a power
 /// command that ends, or a device that comes or goes. What only asks or looks, begins a search or a transfer, ends a transfer,
-/// or searches a spot in vain brings none of these.
+/// searches a spot in vain, or puts one device to sleep or wakes it brings none of these.
 pub fn may_end_wait(act: &Act) -> bool {
     !matches!(
         act,
@@ -17,5 +17,7 @@ pub fn may_end_wait(act: &Act) -> bool {
             | Act::ListDev { .. }
             | Act::TreeDev { .. }
             | Act::Plug { .. }
+            | Act::Sleep { .. }
+            | Act::Wake { .. }
     )
 }
