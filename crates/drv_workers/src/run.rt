@@ -169,6 +169,11 @@ pub fn run_scripts<M: Medium + Sync, R: Threads + Wait + Sync>(
     ensures ended { IfOk result (λ r. r.ended ≡ ends_of r.board.events) }
     ensures whole { IfOk result (λ r. IsWhole r.ended r.board) }
 {
-    let parts = RunParts::make(alloc, &board)?;
-    run_named::<Brand, M, R>(rt, alloc, board, parts, medium)
+    match RunParts::make(alloc, &board) {
+        Ok(parts) => run_named::<Brand, M, R>(rt, alloc, board, parts, medium),
+        Err(_) => {
+            drop(board);
+            Err(Memory)
+        }
+    }
 }
