@@ -9,7 +9,7 @@ export LC_ALL=C
 top=$(cd "$(dirname "$0")/.." && pwd)
 commands=${1:-500}
 drvrun=$(readlink -f "${2:-$top/crates/drvrun/out/drvrun}")
-[ $# -ge 2 ] || "$top/drvrun" >/dev/null 2>&1 || true
+[ $# -ge 2 ] || (cd "$top/crates/drvrun/data" && "$top/drvrun" conf mach s1 >/dev/null)
 room=$(mktemp -d)
 trap 'rm -rf "$room"' EXIT
 callers='1 2 3 4 5 6 7 8 9 10 11 12 13 14 15 16'
