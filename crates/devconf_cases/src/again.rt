@@ -52,17 +52,11 @@ fn words_again(alloc: Global, words: &[String], form: &str) -> Result<Vec<String
 
 /// The files of a play, and what it wrote as the history.
 fn files_again(alloc: Global, case: &Case) -> Result<List<MemFile>, Stop> {
-    let mut files = List::make(alloc);
+    let mut files = case.copied_files(alloc)?;
     files.push(MemFile {
         name: Text::copied(alloc, HISTORY.as_bytes())?,
         bytes: Text::copied(alloc, &case.answer.output)?,
     })?;
-    for file in case.files.items() {
-        files.push(MemFile {
-            name: Text::copied(alloc, file.name.items())?,
-            bytes: Text::copied(alloc, file.bytes.items())?,
-        })?;
-    }
     Ok(files)
 }
 

@@ -1,8 +1,9 @@
 //! A case of a program.
 
+use crate::stop::Stop;
 use app_input::Program;
 use cf_io::MemFile;
-use cf_types::List;
+use cf_types::{List, Text};
 use std::alloc::Global;
 
 /// Numbers of calls that have to fail, counted from 1.
@@ -53,5 +54,16 @@ impl Case {
                 status: 0,
             },
         }
+    }
+    /// Copies of the files.
+    pub fn copied_files(&self, alloc: Global) -> Result<List<MemFile>, Stop> {
+        let mut files = List::make(alloc);
+        for file in self.files.items() {
+            files.push(MemFile {
+                name: Text::copied(alloc, file.name.items())?,
+                bytes: Text::copied(alloc, file.bytes.items())?,
+            })?;
+        }
+        Ok(files)
     }
 }

@@ -1,6 +1,6 @@
 //! Runs the cases of the programs `devconf` and `drvrun`: each file that a word names is a topic, whose cases are run over
-//! files and sinks in memory. Each play that ends well is read again by `replay` and by `upgrade`, and each play of one script
-//! that has ended is run by `drvrun` too. For each topic it writes how many of each there are, and for each case that is
+//! files and sinks in memory. Each play that ends well is read again by `replay` and by `upgrade`, each play of one script
+//! that has ended is run by `drvrun` too, and the history of each boot and play is followed by plain looks. For each topic it writes how many of each there are, and for each case that is
 //! answered otherwise than it tells, the first line that differs. The status is 0 where none differs.
 #![tactic(auto)]
 
@@ -8,6 +8,7 @@ mod again;
 mod callers;
 mod case;
 mod difference;
+mod followed;
 mod form;
 mod medium;
 mod reader;
@@ -17,10 +18,12 @@ mod stop;
 use crate::again::{cases_again, cases_of_one};
 use crate::case::Case;
 use crate::difference::put_differences;
+use crate::followed::followed;
 use crate::reader::Reader;
 use crate::run::answer_to;
 use crate::stop::Stop;
 use cf_io::{Files, HostFiles, Load};
+use plain_forms::Followed;
 use std::alloc::Global;
 use std::env;
 use std::io::Write;
@@ -28,13 +31,14 @@ use std::process::ExitCode;
 use std::sync::Wait;
 use std::thread::Threads;
 
-/// How many cases there are, how many plays were read again, how many were run by `drvrun` too, and how many of all these
-/// runs differ.
+/// How many cases there are, how many plays were read again, how many were run by `drvrun` too, how many histories were
+/// followed by plain looks, and how many of all these differ.
 #[derive(Clone, Copy)]
 struct Count {
     cases: usize,
     again: usize,
     run: usize,
+    followed: usize,
     different: usize,
 }
 
@@ -44,11 +48,12 @@ impl Count {
             cases: self.cases.saturating_add(other.cases),
             again: self.again.saturating_add(other.again),
             run: self.run.saturating_add(other.run),
+            followed: self.followed.saturating_add(other.followed),
             different: self.different.saturating_add(other.different),
         }
     }
 
-    /// The words for it: `12 cases`, `12 cases, 10 replayed and upgraded, 4 run by drvrun`, `12 cases, 1 different`.
+    /// The words for it: `12 cases`, `12 cases, 10 replayed and upgraded, 4 run by drvrun, 12 followed`, `12 cases, 1 different`.
     fn words(self, alloc: Global) -> Result<String, Stop> {
         let mut words = format!(in alloc; "{} cases", self.cases)?;
         if self.again != 0 {
@@ -56,6 +61,9 @@ impl Count {
         }
         if self.run != 0 {
             words.push_str(&format!(in alloc; ", {} run by drvrun", self.run)?)?;
+        }
+        if self.followed != 0 {
+            words.push_str(&format!(in alloc; ", {} followed", self.followed)?)?;
         }
         if self.different != 0 {
             words.push_str(&format!(in alloc; ", {} different", self.different)?)?;
@@ -85,6 +93,33 @@ fn try_cases<R: Threads + Wait + Sync, W: Write>(
     Ok(different)
 }
 
+/// Follows the histories of cases, and writes of each that plain looks would have otherwise where that is; answers how many
+/// there are, and how many differ.
+fn follow_all<W: Write>(
+    alloc: Global,
+    topic: &str,
+    cases: &[Case],
+    out: &mut W,
+) -> Result<(usize, usize), Stop> {
+    let mut histories: usize = 0;
+    let mut different: usize = 0;
+    for case in cases {
+        match followed(alloc, case)? {
+            Some(Followed::Whole(_)) => histories = histories.saturating_add(1),
+            Some(Followed::UpTo(line)) => {
+                different = different.saturating_add(1);
+                let name = case.name.as_str();
+                let report = format!(in alloc;
+                    "{topic}: {name}: plain looks differ at line {line}\n"
+                )?;
+                out.write_all(report.as_bytes())?;
+            }
+            None => {}
+        }
+    }
+    Ok((histories, different))
+}
+
 /// Runs the cases of a topic, and its plays once more as they are read again, or run by `drvrun`.
 fn try_all<R: Threads + Wait + Sync, W: Write>(
     threads: &R,
@@ -95,11 +130,13 @@ fn try_all<R: Threads + Wait + Sync, W: Write>(
 ) -> Result<Count, Stop> {
     let again = cases_again(alloc, &cases)?;
     let of_one = cases_of_one(alloc, &cases)?;
+    let (followed, different) = follow_all(alloc, topic, &cases, out)?;
     let mut count = Count {
         cases: cases.len(),
         again: again.len() / 2,
         run: of_one.len(),
-        different: 0,
+        followed,
+        different,
     };
     for cases in [cases, again, of_one] {
         let different = try_cases(threads, alloc, topic, cases, out)?;
@@ -138,6 +175,7 @@ fn try_topics<R: Threads + Wait + Sync>(rt: &HostRuntime, threads: &R) -> Result
         cases: 0,
         again: 0,
         run: 0,
+        followed: 0,
         different: 0,
     };
     for topic in env::args(rt)?.skip(1) {
