@@ -8,17 +8,22 @@ ghost use Rattle.run_world.specs.Events.{HaveRows};
 ghost use Rattle.deed_event.specs.Sayings.{HasRow};
 
 use cf_types::{Memory, Name};
+use itoa::Buffer;
 use run_rules::{Act, Arrival, Dev, Event, Got, Setup, Shown};
 use run_world::{Core, driver_name, driver_of, is_called};
 use std::alloc::Global;
+
+/// How many bytes a name may have.
+const LONGEST: usize = 80;
 
 fn joined(alloc: Global, name: &[u8], unit: u32) -> Result<Name, Memory>
     requires { IsTrue (is_written name.now) }
     ensures { IfOk result (λ n. n ≡ name.now ++ decimal unit) }
 {
-    let mut bytes = Vec::from_slice(alloc, name)?;
-    let digits = format!(in alloc; "{unit}")?;
-    bytes.extend_from_slice(digits.as_bytes())?;
+    let mut digits = Buffer::new();
+    let mut bytes = Vec::with_capacity(alloc, LONGEST)?;
+    bytes.extend_from_slice(name)?;
+    bytes.extend_from_slice(digits.format(unit).as_bytes())?;
     Name::make(alloc, &bytes)
 }
 

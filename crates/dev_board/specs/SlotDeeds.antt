@@ -1,5 +1,5 @@
 -- What deeds do to slots: those of a subtree are condemned, and a device whose slot callers hold is not freed.
-use Rattle.std.specs.Prelude.{length, ◌≡◌, ◌≢◌, ◌<◌, ℕ, false, IsTrue, List, map, Option, Some, None}
+use Rattle.std.specs.Prelude.{length, ◌≡◌, ◌≢◌, ◌<◌, ℕ, false, IsTrue, List, [], map, Option, Some, None}
 use Rattle.std.specs.List.{AllByRecursion}
 use Rattle.ref_ledger.specs.declared.state.SlotState.{SlotState}
 use Rattle.run_rules.specs.After.{with_condemner}
@@ -14,7 +14,7 @@ use Rattle.ref_ledger.specs.Slots.{Denial}
 use Rattle.run_rules.specs.declared.world.Dev.{Dev}
 use Rattle.run_rules.specs.declared.world.Wait.{Wait}
 use Rattle.run_rules.specs.declared.world.Wait.TheVariants as wait
-use Rattle.run_rules.specs.World.{device_at, is_condemned, is_under}
+use Rattle.run_rules.specs.World.{children, device_at, is_condemned, is_live, is_under}
 
 -- the slots are still as before a device and all that is below it were condemned, none of which was condemned then
 pub record LatelyCondemned (s : Setup) (live : List Dev) (target : ℕ) (states : List SlotState) : Type 0 where
@@ -43,6 +43,10 @@ abbrev pub condemned_by : Deed → Option ℕ
 condemned_by (Detach of) = Some of
 condemned_by (Unplug spot of) = of
 condemned_by _ = None
+
+-- the device lives and has no children
+abbrev pub IsAlone : List Dev → ℕ → Type 0
+IsAlone live s = IsTrue (is_live live s) × (children live s ≡ [])
 
 -- before slots are condemned: those of the subtree are as before the deed, or, where it condemned nothing, all agree with the devices
 abbrev pub SlotsLag : Setup → List Dev → Option ℕ → List SlotState → Type 0

@@ -1,5 +1,5 @@
 //! What deeds do to the slots of spots.
-ghost use Rattle.std.specs.Prelude.{◌≡◌, ◌≢◌, ◌<◌, ◌-◌, ◌^◌, ℕ, IfErr, OnErr, OnOk, Some, false, length, slice_get, slice_set};
+ghost use Rattle.std.specs.Prelude.{◌≡◌, ◌≢◌, ◌<◌, ◌-◌, ◌^◌, ℕ, IfErr, OnErr, OnOk, Some, false, true, length, slice_get, slice_set};
 ghost use Rattle.std.specs.Option.{option_map_or};
 ghost use Rattle.ref_ledger.specs.declared.state.SlotState.TheVariants.{Free, Condemned};
 ghost use Rattle.run_rules.specs.declared.deed.Deed.TheVariants as deeds;
@@ -7,7 +7,7 @@ ghost use Rattle.run_rules.specs.declared.deed.Choice.TheVariants.{Does};
 ghost use Rattle.run_rules.specs.Next.{next};
 ghost use Rattle.run_sound.specs.Kept.{Kept, MayRun};
 ghost use Rattle.dev_board.specs.SlotDeeds as slot_deeds;
-ghost use Rattle.dev_board.specs.SlotDeeds.{HaltIs, IsDenied, LatelyCondemned, SlotsLag};
+ghost use Rattle.dev_board.specs.SlotDeeds.{HaltIs, IsAlone, IsDenied, LatelyCondemned, SlotsLag};
 ghost use Rattle.dev_board.specs.Commits.{HasRoom, IsAfter};
 ghost use Rattle.run_world.specs.Arrivals as arrivals;
 ghost use Rattle.dev_board.specs.Publishing.{SlotReady, published};
@@ -31,12 +31,26 @@ pub enum Halt {
     Waits(Wait),
 }
 
-/// Whether a spot's device is in the subtree of another.
-fn stands_below(tree: &DevTree, spot: u16, target: u64) -> bool
+/// Whether a live device is in the subtree of another, which may be known to have no children.
+fn is_below(tree: &DevTree, bare: bool, serial: u64, target: u64) -> bool
+    requires { bare ≡ true → IsAlone tree.now.live target }
+    ensures { world.is_under tree.now.live target serial ≡ result }
+{
+    tree.stands();
+    if bare {
+        serial == target
+    } else {
+        tree.is_under(serial, target)
+    }
+}
+
+/// Whether a spot's device is in the subtree of another, which may be known to have no children.
+fn stands_below(tree: &DevTree, bare: bool, spot: u16, target: u64) -> bool
+    requires { bare ≡ true → IsAlone tree.now.live target }
     ensures { option_map_or (λ d. world.is_under tree.now.live target d.serial) (world.device_on tree.now.live spot) false ≡ result }
 {
     match tree.on_spot(spot) {
-        Some(serial) => tree.is_under(serial, target),
+        Some(serial) => is_below(tree, bare, serial, target),
         None => false,
     }
 }
@@ -48,8 +62,9 @@ pub fn condemn_slots<S: Slots>(slots: &mut S, site: &Site, core: &Core, target: 
     ensures denials { S.denials slots.new ≡ S.denials slots.old }
     ensures last { S.last_denial slots.new ≡ S.last_denial slots.old }
 {
+    let bare = core.tree.is_bare(target);
     for spot in 0..site.setup.machine.spots.len() as u16 {
-        if stands_below(&core.tree, spot, target) {
+        if stands_below(&core.tree, bare, spot, target) {
             slots.condemn(spot);
         }
     }

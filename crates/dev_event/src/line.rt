@@ -1,4 +1,4 @@
-ghost use Rattle.std.specs.Prelude.{◌≡◌, ◌++◌, OnOk, OnErr, codes, decimal};
+ghost use Rattle.std.specs.Prelude.{◌≡◌, ◌++◌, [], OnOk, OnErr, codes, decimal};
 ghost use Rattle.run_rules.specs.Lines.{line_of, line_of_1};
 
 use crate::act::{put_act, put_act_1};
@@ -19,15 +19,40 @@ fn put_head(out: &mut Vec<u8>, event: &Event) -> Result<(), Memory>
     put_bytes(out, b" ")
 }
 
-/// Appends the line of an event, without its newline: format 2. Where memory runs out, nothing is appended.
+/// Appends the line of an event. Where memory runs out, some of it may have been appended.
 #[tactic(auto, unfolding(run_rules::specs::Lines::line_of))]
+fn put_line(out: &mut Vec<u8>, event: &Event) -> Result<(), Memory>
+    ensures { OnOk result (out.new.items ≡ out.old.items ++ line_of event.now) }
+{
+    put_head(out, event)?;
+    put_act(out, &event.act)
+}
+
+/// Puts the line of an event where nothing stands. Where memory runs out, nothing stands there.
+fn put_alone(out: &mut Vec<u8>, event: &Event) -> Result<(), Memory>
+    requires empty { out.old.items ≡ [] }
+    ensures ok { OnOk result (out.new.items ≡ line_of event.now) }
+    ensures err { OnErr result (out.new.items ≡ []) }
+{
+    match put_line(out, event) {
+        Ok(()) => Ok(()),
+        Err(_) => {
+            out.clear();
+            Err(Memory)
+        }
+    }
+}
+
+/// Appends the line of an event, without its newline: format 2. Where memory runs out, nothing is appended.
 pub fn put_event(event: &Event, out: &mut Vec<u8>) -> Result<(), Memory>
     ensures ok { OnOk result (out.new.items ≡ out.old.items ++ line_of event.now) }
     ensures err { OnErr result (out.new.items ≡ out.old.items) }
 {
+    if out.is_empty() {
+        return put_alone(out, event);
+    }
     let mut line = Vec::with_capacity(*out.allocator(), USUAL)?;
-    put_head(&mut line, event)?;
-    put_act(&mut line, &event.act)?;
+    put_line(&mut line, event)?;
     out.extend_from_slice(&line)?;
     Ok(())
 }

@@ -29,7 +29,7 @@ sound_start = record { drivers = refl; from_one = omega arith; placed = tt; late
 
 -- ---- one device more
 
-known_below : (t : Devices) (p : ℕ) → AreSound t → IsTrue (p == 0 || is_live t.live p) → p < t.next
+pub known_below : (t : Devices) (p : ℕ) → AreSound t → IsTrue (p == 0 || is_live t.live p) → p < t.next
 known_below t p h known = cases (p == 0) refl known
   where
     cases : (b : Bool) → (p == 0) ≡ b → IsTrue (b || is_live t.live p) → p < t.next

@@ -10,3 +10,4 @@ pub mod OnSpots
 pub mod Slept
 pub mod BranchLaws
 pub mod RestLaws
+pub mod BareLaws

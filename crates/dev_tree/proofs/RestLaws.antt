@@ -1,5 +1,5 @@
 -- Which devices are awake and asleep, with one device more, with one less, and with one that fell asleep or woke.
-use Rattle.std.proofs.Common.{◌≡◌, ◌≢◌, ℕ, zero, suc, ◌+◌, ◌-◌, ◌<◌, ◌≤◌, Bool, true, false, ◌==◌, Some, None, List, [], ◌∷◌, ◌++◌, length, get_or, take, drop, map, refl, ap, sym, ◌∙◌, subst, inl, inr, arith}
+use Rattle.std.proofs.Common.{◌≡◌, ◌≢◌, ℕ, zero, suc, ◌+◌, ◌-◌, ◌<◌, ◌≤◌, Bool, true, false, ◌==◌, Some, None, List, [], ◌∷◌, ◌++◌, length, get_or, take, drop, map, refl, ap, sym, ◌∙◌, inl, inr, arith}
 use Rattle.std.specs.Prelude.{find, remove, reverse, ◌⊎◌, if◌then◌else◌}
 use Rattle.std.specs.List.{AllByRecursion}
 use Rattle.std.proofs.lemmas.Bool.{cases_lt, eqb-true, eqb-false}
@@ -10,20 +10,19 @@ use Rattle.run_rules.proofs.Marked.{sleep_at, sleep_past}
 use Rattle.run_rules.specs.After.{with_sleep, with_condemner}
 use Rattle.run_rules.specs.declared.world.Dev.{Dev}
 use Rattle.run_rules.specs.Sound.{EachLater}
-use Rattle.run_rules.specs.World.{is_live, is_under}
+use Rattle.run_rules.specs.World.{is_under}
 use Rattle.dev_tree.specs.declared.resting.Resting.{Resting}
 use Rattle.dev_tree.specs.Rest.{AreResting}
-use Rattle.dev_tree.proofs.BranchLaws.{apart_at, not_there}
-use Rattle.dev_tree.proofs.Slept.{none_slept}
+use Rattle.dev_tree.proofs.BranchLaws.{apart_at}
 
 -- ---- one device more, one less
 
-snoc_at : (live : List Dev) (e : Dev) (i : ℕ) (d : Dev) → i < length live → get_or (live ++ e ∷ []) i d ≡ get_or live i d
+pub snoc_at : {A : Type 0} (live : List A) (e : A) (i : ℕ) (d : A) → i < length live → get_or (live ++ e ∷ []) i d ≡ get_or live i d
 snoc_at [] e i d lt = absurd (omega arith)
 snoc_at (x ∷ xs) e zero d lt = refl
 snoc_at (x ∷ xs) e (suc i) d lt = snoc_at xs e i d (omega arith)
 
-snoc_end : (live : List Dev) (e : Dev) (i : ℕ) (d : Dev) → i ≡ length live → get_or (live ++ e ∷ []) i d ≡ e
+pub snoc_end : {A : Type 0} (live : List A) (e : A) (i : ℕ) (d : A) → i ≡ length live → get_or (live ++ e ∷ []) i d ≡ e
 snoc_end [] e zero d is = refl
 snoc_end [] e (suc i) d is = absurd (omega arith)
 snoc_end (x ∷ xs) e zero d is = absurd (omega arith)
@@ -40,7 +39,7 @@ rest_more live e old new same end awake h =
       asleep = λ i d lt high. absurd (omega (arith, long, end));
     }
 
-removed_short : (live : List Dev) (k : ℕ) → k < length live → length (remove live k) + 1 ≡ length live
+pub removed_short : {A : Type 0} (live : List A) (k : ℕ) → k < length live → length (remove live k) + 1 ≡ length live
 removed_short [] k lt = absurd (omega arith)
 removed_short (x ∷ xs) zero lt = omega arith
 removed_short (x ∷ xs) (suc k) lt = omega (arith, removed_short xs k (omega arith))

@@ -1,3 +1,4 @@
+pub mod Bare
 pub mod Branching
 pub mod Rest
 pub mod Tree

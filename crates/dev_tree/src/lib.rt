@@ -1,6 +1,7 @@
 //! The live devices: which there are, where each stands, and what is below what.
 #![tactic(auto)]
 
+mod bare;
 mod branches;
 mod lookup;
 mod mark;

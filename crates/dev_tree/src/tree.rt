@@ -5,6 +5,7 @@ ghost use Rattle.run_rules.specs.World as world;
 ghost use Rattle.dev_tree.specs.Tree.{AreSound, is_named, serial_named, with_device, without_device};
 ghost use Rattle.run_rules.specs.declared.world.Dev.{Dev};
 
+use crate::bare::{is_marked, unmark};
 use crate::lookup;
 use crate::mark::{mark_condemned, mark_sleep};
 use crate::resting::Resting;
@@ -26,10 +27,13 @@ pub struct DevTree {
     spots: Vec<Option<u64>>,
     /// Where the devices awake end, and those asleep begin.
     rest: Resting,
+    /// Of each device whether it is known to have no children. No mark is set anew where the last child goes.
+    bare: Vec<bool>,
     next: u64,
 }
 
 impl Model for DevTree {
+    ghost use Rattle.dev_tree.specs.Bare.{AreBare};
     ghost use Rattle.dev_tree.specs.Rest.{AreResting};
     ghost use Rattle.dev_tree.specs.Tree.{AreOnSpots, AreSound, Devices};
 
@@ -37,7 +41,7 @@ impl Model for DevTree {
 
     ghost view = { λ tree. record { live = tree.live.items; drivers = tree.drivers.items; next = tree.next } };
 
-    ghost invariant = { λ tree. AreSound (record { live = tree.live.items; drivers = tree.drivers.items; next = tree.next }) × (AreOnSpots tree.live.items tree.spots.items × AreResting tree.live.items tree.rest) };
+    ghost invariant = { λ tree. AreSound (record { live = tree.live.items; drivers = tree.drivers.items; next = tree.next }) × (AreOnSpots tree.live.items tree.spots.items × (AreResting tree.live.items tree.rest × AreBare tree.live.items tree.bare.items)) };
 }
 
 /// Appends a device to a list that has room.
@@ -46,6 +50,14 @@ fn append(live: &mut Vec<Dev>, device: Dev)
     ensures { live.new.items ≡ live.old.items ++ device ∷ [] }
 {
     let _ = live.push(device);
+}
+
+/// Marks a device more, in a list that has room.
+fn append_mark(bare: &mut Vec<bool>)
+    requires { vec_len bare.old < vec_capacity bare.old }
+    ensures { bare.new.items ≡ bare.old.items ++ true ∷ [] }
+{
+    let _ = bare.push(true);
 }
 
 impl DevTree {
@@ -59,6 +71,7 @@ impl DevTree {
             drivers: Vec::new(alloc),
             spots: Vec::new(alloc),
             rest: Resting::none(),
+            bare: Vec::new(alloc),
             next: 1,
         }
     }
@@ -90,7 +103,10 @@ impl DevTree {
     {
         reach(&mut self.spots, spot)?;
         self.live.reserve(1)?;
+        self.bare.reserve(1)?;
         self.drivers.push(device)?;
+        unmark(&self.live, &mut self.bare, parent);
+        append_mark(&mut self.bare);
         let serial = self.next;
         append(
             &mut self.live,
@@ -119,6 +135,7 @@ impl DevTree {
         if let Some(place) = lookup::place_of(&self.live, serial) {
             let gone = self.live.remove(place);
             self.drivers.remove(place);
+            self.bare.remove(place);
             take_off(&mut self.spots, gone.spot);
             self.rest = self.rest.without_one();
         }
@@ -185,6 +202,14 @@ impl DevTree {
         self.next
     }
 
+    /// Whether a device is known to have no children. One that has none may be told to have some.
+    pub fn is_bare(&self, serial: u64) -> bool
+        ensures there { result ≡ true → IsTrue (world.is_live self.now.live serial) }
+        ensures children { result ≡ true → world.children self.now.live serial ≡ [] }
+    {
+        is_marked(&self.live, &self.bare, serial)
+    }
+
     /// Whether a chain of parents leads from a device to the one above; each device is under itself.
     pub fn is_under(&self, serial: u64, above: u64) -> bool
         ensures { result ≡ world.is_under self.now.live above serial }
@@ -220,6 +245,7 @@ impl DevTree {
         requires { IsTrue (world.is_live self.old.live serial) }
         ensures { self.new ≡ record self.old { live = map (with_condemner self.old.live caller serial) self.old.live } }
     {
-        mark_condemned(&mut self.live, serial, caller);
+        let bare = is_marked(&self.live, &self.bare, serial);
+        mark_condemned(&mut self.live, bare, serial, caller);
     }
 }

@@ -4,3 +4,4 @@ pub mod DueLaws
 pub mod PlanLaws
 pub mod RescanLaws
 pub mod PairLaws
+pub mod AloneLaws

@@ -1,5 +1,5 @@
 -- A search of an indirect bus may go on at the next pair of an open spot and the row that takes it.
-use Rattle.std.proofs.Common.{◌≡◌, ℕ, ◌+◌, ◌<◌, ◌≤◌, Bool, true, false, not, ◌&&◌, List, [], ◌∷◌, length, filter, find, cond, Option, Some, None, slice_get, inl, inr, refl, sym, subst, ap, add-one, ◌∙◌, arith}
+use Rattle.std.proofs.Common.{◌≡◌, ℕ, ◌+◌, ◌<◌, ◌≤◌, Bool, true, false, not, ◌&&◌, List, [], ◌∷◌, length, filter, cond, Option, Some, None, slice_get, inl, inr, refl, sym, subst, ap, add-one, ◌∙◌, arith}
 use Rattle.std.specs.Prelude.{IfSome, option_map}
 use Rattle.std.specs.List.{AllByRecursion, enumerate_from}
 use Rattle.std.proofs.lemmas.Bool.{cases_lt}
@@ -13,7 +13,7 @@ use Rattle.run_rules.specs.declared.world.Position.{Position}
 use Rattle.run_rules.specs.declared.world.Setup.{Setup}
 use Rattle.run_rules.specs.declared.world.Turn.{Turn}
 use Rattle.run_rules.specs.declared.world.Wanted.{Wanted}
-use Rattle.run_rules.specs.Search.{due, is_before, is_child, is_due, style_of, places_of, bus_turns, turns_of, turns, driver_at, attach_at, spot_of}
+use Rattle.run_rules.specs.Search.{due, is_before, is_child, is_due, is_open, style_of, places_of, bus_turns, turns_of, turns, driver_at, attach_at, spot_of}
 use Rattle.scan_engine.specs.Turns.{first_from, past, turns_after}
 use Rattle.scan_engine.proofs.Order.{all_weaken, all_flat}
 use Rattle.scan_engine.proofs.Positions.{by_attr}
@@ -88,12 +88,12 @@ fewer_or_same p p' (x ∷ xs) h = cases (p x) (p' x) (h x) (fewer_or_same p p' x
 -- where all between the position behind a turn and a later one is not due, the search may go on there
 pub gone_on : (s : Setup) (live : List Dev) (absent hidden : List ℕ) (p : ℕ) (only : Option ℕ) (wanted : List Wanted) (from next : Position) (by : Searcher) (t : Turn)
     → by ≡ searcher_of s live p → first_from (turns_by s by only) from ≡ Some t → is_due s live absent hidden p wanted t ≡ false
-    → (t.indirect ≡ false → next ≡ past t.at) → is_before t.at next ≡ true → ((q : Position) → is_before q next ≡ true → q.attr ≤ t.at.attr)
-    → ((r x : ℕ) → t.indirect ≡ true → x < length s.machine.spots → is_child s.machine by.spot t.place x ≡ true → is_before t.at (at_pair t r x).at ≡ true → is_before (at_pair t r x).at next ≡ true
+    → is_before t.at next ≡ true → ((q : Position) → is_before q next ≡ true → q.attr ≤ t.at.attr)
+    → ((r x : ℕ) → x < length s.machine.spots → is_child s.machine by.spot t.place x ≡ true → is_before t.at (at_pair t r x).at ≡ true → is_before (at_pair t r x).at next ≡ true
     → is_due s live absent hidden p wanted (at_pair t r x) ≡ false)
     → due s live absent hidden p only wanted next ≡ due s live absent hidden p only wanted from
 unfolding due
-gone_on s live absent hidden p only wanted from next by t is h k straight behind bus idle =
+gone_on s live absent hidden p only wanted from next by t is h k behind bus idle =
     find_alike (λ u. not (is_before u.at next) && q u) (λ u. not (is_before u.at (past t.at)) && q u) ts
     (all_weaken (IsOf s.tables s.machine by.attach by.spot (places_of s.tables by.driver only)) (λ u. (not (is_before u.at next) && q u) ≡ (not (is_before u.at (past t.at)) && q u)) ts each all)
     ∙ not_due s live absent hidden p only wanted from by t is h k
@@ -110,28 +110,47 @@ gone_on s live absent hidden p only wanted from next by t is h k straight behind
     mine : IsOf s.tables s.machine by.attach by.spot (places_of s.tables by.driver only) t
     mine = all_found (IsOf s.tables s.machine by.attach by.spot (places_of s.tables by.driver only)) (λ u. not (is_before u.at from)) (turns_by s by only) t (all_of s.tables s.machine by.driver by.attach by.spot only) h
 
-    between : (u : Turn) → IsOf s.tables s.machine by.attach by.spot (places_of s.tables by.driver only) u → is_before u.at (past t.at) ≡ false → is_before u.at next ≡ true → t.indirect ≡ true → q u ≡ false
-    between u of late early indirect =
+    between : (u : Turn) → IsOf s.tables s.machine by.attach by.spot (places_of s.tables by.driver only) u → is_before u.at (past t.at) ≡ false → is_before u.at next ≡ true → q u ≡ false
+    between u of late early =
         let after : is_before t.at u.at ≡ true = behind_past u.at t.at late in
         let attr : u.at.attr ≡ t.at.attr = omega (arith, bus u.at early, later_attr t.at u.at after) in
         let pair : u ≡ at_pair t u.at.row u.at.spot = same_bus s.tables s.machine by.attach by.spot (places_of s.tables by.driver only) u t of mine attr in
         let place : u.place ≡ t.place = ap (λ (v : Turn). v.place) pair in
         ap q pair
-        ∙ idle u.at.row u.at.spot indirect of.within (subst (λ (z : Place). is_child s.machine by.spot z u.at.spot ≡ true) place of.child)
+        ∙ idle u.at.row u.at.spot of.within (subst (λ (z : Place). is_child s.machine by.spot z u.at.spot ≡ true) place of.child)
         (subst (λ (v : Turn). is_before t.at v.at ≡ true) pair after) (subst (λ (v : Turn). is_before v.at next ≡ true) pair early)
 
     each : (u : Turn) → IsOf s.tables s.machine by.attach by.spot (places_of s.tables by.driver only) u → (not (is_before u.at next) && q u) ≡ (not (is_before u.at (past t.at)) && q u)
-    each u of = by_style t.indirect refl
+    each u of = by_tests (is_before u.at next) (is_before u.at (past t.at)) refl refl
       where
-        by_tests : t.indirect ≡ true → (b c : Bool) → is_before u.at next ≡ b → is_before u.at (past t.at) ≡ c → (not b && q u) ≡ (not c && q u)
-        by_tests e true true f g = refl
-        by_tests e false false f g = refl
-        by_tests e true false f g = sym (between u of g f e)
-        by_tests e false true f g = absurd (let yes : is_before u.at next ≡ true = before_both u.at t.at next g behind in let no : true ≡ false = sym yes ∙ f in cc)
+        by_tests : (b c : Bool) → is_before u.at next ≡ b → is_before u.at (past t.at) ≡ c → (not b && q u) ≡ (not c && q u)
+        by_tests true true f g = refl
+        by_tests false false f g = refl
+        by_tests true false f g = sym (between u of g f)
+        by_tests false true f g = absurd (let yes : is_before u.at next ≡ true = before_both u.at t.at next g behind in let no : true ≡ false = sym yes ∙ f in cc)
 
-        by_style : (i : Bool) → t.indirect ≡ i → (not (is_before u.at next) && q u) ≡ (not (is_before u.at (past t.at)) && q u)
-        by_style false e = ap (λ (z : Position). not (is_before u.at z) && q u) (straight e)
-        by_style true e = by_tests e (is_before u.at next) (is_before u.at (past t.at)) refl refl
+-- ---- a direct bus
+
+after_spot : (a q b : Position) → b.attr ≡ a.attr → b.row ≡ a.row → is_before a q ≡ true → is_before q b ≡ true → a.spot < q.spot
+unfolding is_before
+after_spot a q b same row h k = grind (arith, nat_tests)
+
+before_spot : (a q b : Position) → b.attr ≡ a.attr → b.row ≡ a.row → is_before a q ≡ true → is_before q b ≡ true → q.spot < b.spot
+unfolding is_before
+before_spot a q b same row h k = grind (arith, nat_tests)
+
+-- where no spot between is open, none of them is due
+pub closed_between : (s : Setup) (live : List Dev) (absent hidden : List ℕ) (p : ℕ) (wanted : List Wanted) (parent : Option ℕ) (t : Turn) (next : Position) → next.attr ≡ t.at.attr → next.row ≡ t.at.row
+    → ((x : ℕ) → t.at.spot < x → x < next.spot → x < length s.machine.spots → is_child s.machine parent t.place x ≡ true → is_open s.machine live absent hidden wanted x ≡ false)
+    → (r x : ℕ) → x < length s.machine.spots → is_child s.machine parent t.place x ≡ true → is_before t.at (at_pair t r x).at ≡ true → is_before (at_pair t r x).at next ≡ true
+    → is_due s live absent hidden p wanted (at_pair t r x) ≡ false
+unfolding is_due
+closed_between s live absent hidden p wanted parent t next attr row closed r x lt child after before =
+    rw (closed x (after_spot t.at (at_pair t r x).at next attr row after before) (before_spot t.at (at_pair t r x).at next attr row after before) lt child) refl
+
+pub further_on : (a b : Position) → b.attr ≡ a.attr → b.row ≡ a.row → a.spot < b.spot → is_before a b ≡ true
+unfolding is_before
+further_on a b same row h = grind (arith, nat_tests)
 
 -- fewer turns are left there
 pub fewer_gone : (s : Setup) (by : Searcher) (only : Option ℕ) (from next : Position) (t : Turn) → first_from (turns_by s by only) from ≡ Some t → is_before t.at next ≡ true

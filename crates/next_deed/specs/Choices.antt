@@ -1,11 +1,12 @@
 -- What follows from an answer that may be a refusal, and which devices pass a test.
-use Rattle.std.specs.Prelude.{ℕ, Bool, List, map, filter}
+use Rattle.std.specs.Prelude.{ℕ, Bool, not, ◌&&◌, ◌||◌, List, map, filter}
 use Rattle.std.specs.declared.result.Result.{Result}
 use Rattle.std.specs.declared.result.Result.TheVariants.{Ok, Err}
 use Rattle.run_rules.specs.declared.deed.Deed.{Deed}
 use Rattle.run_rules.specs.declared.deed.Deed.TheVariants.{Refuse}
 use Rattle.run_rules.specs.declared.deed.Refusal.{Refusal}
 use Rattle.run_rules.specs.declared.world.Dev.{Dev}
+use Rattle.run_rules.specs.World.{World, is_condemned, is_held, is_pinned, policy_of}
 
 -- the deed that follows from an answer, or the refusal
 abbrev pub or_refused : {A : Type 0} → (A → Deed) → Result A Refusal → Deed
@@ -15,3 +16,7 @@ or_refused deed (Err why) = Refuse why
 -- the serials of the devices that pass
 abbrev pub serials_where : (Dev → Bool) → List Dev → List ℕ
 serials_where test live = map (λ d. d.serial) (filter test live)
+
+-- what keeps a device from going: its driver, unless that is forced, a scan, another freeing or a reference of the caller
+abbrev pub keeps : World → ℕ → Bool → Dev → Bool
+keeps w k forced d = (not forced && (policy_of w.setup d.row).nodetach) || is_pinned w d.serial || is_condemned d || is_held w k d.serial

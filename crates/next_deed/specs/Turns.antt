@@ -7,7 +7,7 @@ use Rattle.run_rules.specs.declared.world.Position.{Position}
 use Rattle.run_rules.specs.declared.world.Turn.{Turn}
 use Rattle.run_rules.specs.declared.world.Wanted.{Wanted}
 use Rattle.run_rules.specs.Next.{next_scan}
-use Rattle.run_rules.specs.Search.{driver_at, attach_at, due, is_due, spot_of}
+use Rattle.run_rules.specs.Search.{driver_at, attach_at, due, is_due, is_open, spot_of}
 use Rattle.run_world.specs.declared.parts.Core.{Core}
 use Rattle.run_world.specs.declared.site.Site.{Site}
 use Rattle.run_world.specs.Late.{late_test}
@@ -23,6 +23,10 @@ due_at site c p only filter from = due site.setup c.tree.live c.absent.items c.h
 
 abbrev pub is_due_at : Site → Core → ℕ → List Wanted → Turn → Bool
 is_due_at site c p filter turn = is_due site.setup c.tree.live c.absent.items c.hidden.items p filter turn
+
+-- whether a spot is open to a search there
+abbrev pub is_open_at : Setup → Core → List Wanted → ℕ → Bool
+is_open_at s c filter x = is_open s.machine c.tree.live c.absent.items c.hidden.items filter x
 
 -- what is done next on a scan there
 abbrev pub next_scan_at : Site → Core → ℕ → Option ℕ → List Wanted → Position → Deed

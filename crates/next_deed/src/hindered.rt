@@ -1,5 +1,5 @@
 //! What keeps devices from going, or from being searched: see config_detach(9).
-ghost use Rattle.std.specs.Prelude.{◌≡◌, ◌==◌, ℕ, Bool, IfOk, IsTrue};
+ghost use Rattle.std.specs.Prelude.{◌≡◌, ◌==◌, [], ℕ, Bool, IfOk, IsTrue};
 ghost use Rattle.std.specs.List.{list_any};
 ghost use Rattle.run_rules.specs.Next as next;
 ghost use Rattle.run_rules.specs.World as world;
@@ -7,12 +7,12 @@ ghost use Rattle.run_rules.specs.World.{frame_serial};
 ghost use Rattle.run_rules.specs.declared.world.Setup as from;
 ghost use Rattle.detach_engine.specs.Hindrance.{AreMarksOf};
 ghost use Rattle.run_sound.specs.Kept.{Kept};
-ghost use Rattle.next_deed.specs.Choices.{serials_where};
+ghost use Rattle.next_deed.specs.Choices.{keeps, serials_where};
 ghost use Rattle.run_world.specs.View.{world_of};
 
 use cf_types::{List, Memory};
 use detach_engine::{Marks, hindered};
-use run_rules::Setup;
+use run_rules::{Dev, Setup};
 use run_world::{CallerState, Core, policy_of};
 use std::alloc::Global;
 
@@ -66,6 +66,41 @@ fn marks_of(alloc: Global, setup: &Setup, core: &Core) -> Result<Marks, Memory>
     Ok(Marks::make(pinned, undetachable))
 }
 
+/// Whether a device may not go now: its driver, a scan, another freeing or a reference of the caller keeps it.
+fn is_kept(setup: &Setup, core: &Core, caller: u8, forced: bool, device: &Dev) -> bool
+    ensures { result ≡ keeps (world_of setup.now core.now) caller forced device.now }
+{
+    (!forced && policy_of(setup, device.row).nodetach)
+        || is_pinned(core, device.serial)
+        || device.condemned.is_some()
+        || core.refs.holds(device.serial, caller)
+}
+
+/// Whether a target without children keeps itself from going.
+fn alone_in_the_way(
+    setup: &Setup,
+    core: &Core,
+    caller: u8,
+    target: u64,
+    forced: bool,
+) -> Option<u64>
+    requires live { IsTrue (world.is_live core.now.tree.live target) }
+    requires bare { world.children core.now.tree.live target ≡ [] }
+    ensures { result ≡ world.serial_of (next.hindered (world_of setup.now core.now) target caller forced) }
+{
+    core.tree.stands();
+    match core.tree.get(target) {
+        Some(device) => {
+            if is_kept(setup, core, caller, forced, &device) {
+                Some(target)
+            } else {
+                None
+            }
+        }
+        None => unreachable!(),
+    }
+}
+
 /// The device that keeps the target's subtree from going. See config_detach(9).
 pub fn in_the_way(
     alloc: Global,
@@ -79,6 +114,9 @@ pub fn in_the_way(
     requires live { IsTrue (world.is_live core.now.tree.live target) }
     ensures { IfOk result (λ serial. serial ≡ world.serial_of (next.hindered (world_of setup.now core.now) target caller forced)) }
 {
+    if core.tree.is_bare(target) {
+        return Ok(alone_in_the_way(setup, core, caller, target, forced));
+    }
     let marks = marks_of(alloc, setup, core)?;
     Ok(hindered(&core.tree, &core.refs, &marks, target, caller, forced))
 }

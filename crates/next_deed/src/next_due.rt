@@ -2,15 +2,15 @@
 ghost use Rattle.std.specs.Prelude.{◌≡◌, ◌≤◌, ◌<◌, ℕ, Some, true, false, length, option_map, IfSome};
 ghost use Rattle.run_rules.specs.Search as rule;
 ghost use Rattle.run_rules.specs.declared.world.Position as places;
-ghost use Rattle.scan_engine.specs.Turns.{past};
 ghost use Rattle.run_world.specs.View.{Books};
-ghost use Rattle.next_deed.specs.Pairs.{at_pair};
-ghost use Rattle.next_deed.specs.Turns.{is_due_at};
+ghost use Rattle.next_deed.specs.Pairs.{IsIdle, at_pair};
+ghost use Rattle.next_deed.specs.Turns.{is_due_at, is_open_at};
 
 use crate::due::is_open;
 use crate::search::winner_at;
-use run_rules::{Position, Turn, Wanted};
-use run_world::{Core, Site};
+use cf_types::Place;
+use run_rules::{Position, Setup, Turn, Wanted};
+use run_world::{Core, Site, is_occupied};
 use scan_engine::is_child;
 
 /// Whether a position is before another: by attribute, then row, then spot.
@@ -68,8 +68,97 @@ fn due_position(
     })
 }
 
-/// Where a search goes on behind a turn that is not due. On an indirect bus it is the first pair of an open spot and of the
-/// row that takes it, so that no row is gone through that takes nothing.
+/// Where a search of an indirect bus goes on: at the first pair of an open spot and of the row that takes it, so that no row
+/// is gone through that takes nothing.
+fn next_pair(
+    site: &Site,
+    core: &Core,
+    serial: u64,
+    filter: &[Wanted],
+    parent: Option<u16>,
+    turn: Turn,
+) -> Position
+    requires books { Books site.now.setup core.now }
+    requires few { length site.now.setup.machine.spots ≤ 1024 }
+    requires attr { turn.at.attr < 64 }
+    requires indirect { turn.indirect ≡ true }
+    ensures behind { rule.is_before turn.at result ≡ true }
+    ensures bus { (p : places.Position) → rule.is_before p result ≡ true → p.attr ≤ turn.at.attr }
+    ensures idle { IsIdle site.now core.now serial filter.now parent turn result }
+{
+    let mut next = Position {
+        attr: turn.at.attr + 1,
+        row: 0,
+        spot: 0,
+    };
+    for spot in 0..site.setup.machine.spots.len() as u16 {
+        let found = due_position(site, core, serial, filter, parent, turn, spot);
+        next = sooner(turn.at, next, found);
+    }
+    next
+}
+
+/// Whether a search passes a spot: it is not open, or does not hang on this bus.
+#[tactic(auto, unfolding(run_rules::specs::Search::is_open))]
+fn is_passed(
+    setup: &Setup,
+    core: &Core,
+    filter: &[Wanted],
+    parent: Option<u16>,
+    place: Place,
+    spot: u16,
+) -> bool
+    ensures { result ≡ true → rule.is_child setup.now.machine parent place spot ≡ true → is_open_at setup.now core.now filter.now spot ≡ false }
+{
+    is_occupied(&core.tree, spot)
+        || !is_child(&setup.machine, parent, place, spot)
+        || !is_open(setup, core, filter, spot)
+}
+
+/// The first spot from a number on that a search of this bus does not pass; behind all spots where there is none.
+fn next_open(
+    setup: &Setup,
+    core: &Core,
+    filter: &[Wanted],
+    parent: Option<u16>,
+    place: Place,
+    from: u16,
+) -> u16
+    requires few { length setup.now.machine.spots ≤ 1024 }
+    ensures behind { from ≤ result }
+    ensures passed { (x : ℕ) → from ≤ x → x < result → x < length setup.now.machine.spots → rule.is_child setup.now.machine parent place x ≡ true → is_open_at setup.now core.now filter.now x ≡ false }
+{
+    for spot in from..setup.machine.spots.len() as u16 {
+        if !is_passed(setup, core, filter, parent, place, spot) {
+            return spot;
+        }
+    }
+    from.max(setup.machine.spots.len() as u16)
+}
+
+/// Where a search of a direct bus goes on: at its next open spot.
+fn next_on_bus(
+    setup: &Setup,
+    core: &Core,
+    filter: &[Wanted],
+    parent: Option<u16>,
+    turn: Turn,
+) -> Position
+    requires few { length setup.now.machine.spots ≤ 1024 }
+    requires spot { turn.at.spot < 1024 }
+    ensures here { (result.attr ≡ turn.at.attr) × (result.row ≡ turn.at.row) }
+    ensures behind { turn.at.spot < result.spot }
+    ensures passed { (x : ℕ) → turn.at.spot < x → x < result.spot → x < length setup.now.machine.spots → rule.is_child setup.now.machine parent turn.place x ≡ true → is_open_at setup.now core.now filter.now x ≡ false }
+{
+    let from = turn.at.spot + 1;
+    Position {
+        attr: turn.at.attr,
+        row: turn.at.row,
+        spot: next_open(setup, core, filter, parent, turn.place, from),
+    }
+}
+
+/// Where a search goes on behind a turn that is not due: no turn that is due stands between.
 pub fn next_position(
     site: &Site,
     core: &Core,
@@ -82,26 +171,13 @@ pub fn next_position(
     requires few { length site.now.setup.machine.spots ≤ 1024 }
     requires attr { turn.at.attr < 64 }
     requires spot { turn.at.spot < 1024 }
-    ensures straight { turn.indirect ≡ false → result ≡ past turn.at }
     ensures behind { rule.is_before turn.at result ≡ true }
     ensures bus { (p : places.Position) → rule.is_before p result ≡ true → p.attr ≤ turn.at.attr }
-    ensures idle { (r x : ℕ) → turn.indirect ≡ true → x < length site.now.setup.machine.spots → rule.is_child site.now.setup.machine parent turn.place x ≡ true → rule.is_before turn.at (at_pair turn r x).at ≡ true → rule.is_before (at_pair turn r x).at result ≡ true → is_due_at site.now core.now serial filter.now (at_pair turn r x) ≡ false }
+    ensures idle { IsIdle site.now core.now serial filter.now parent turn result }
 {
-    if !turn.indirect {
-        return Position {
-            attr: turn.at.attr,
-            row: turn.at.row,
-            spot: turn.at.spot + 1,
-        };
+    if turn.indirect {
+        next_pair(site, core, serial, filter, parent, turn)
+    } else {
+        next_on_bus(&site.setup, core, filter, parent, turn)
     }
-    let mut next = Position {
-        attr: turn.at.attr + 1,
-        row: 0,
-        spot: 0,
-    };
-    for spot in 0..site.setup.machine.spots.len() as u16 {
-        let found = due_position(site, core, serial, filter, parent, turn, spot);
-        next = sooner(turn.at, next, found);
-    }
-    next
 }

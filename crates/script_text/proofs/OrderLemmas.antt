@@ -1,10 +1,8 @@
 -- The turns of an order file, word by word and line by line.
 use Rattle.std.proofs.Common.{◌≡◌, ℕ, ◌+◌, ◌<◌, Bool, true, false, cond, not, ◌&&◌, List, [], ◌∷◌, ◌++◌, length, get_or, drop, append_assoc, refl, ap, sym, ◌∙◌, Option, Some, None, ℤ, Result, Ok, Err}
-use Rattle.std.specs.Prelude.{flat_map, is_some, nat_abs, option_map}
+use Rattle.std.specs.Prelude.{filter, flat_map, is_some, nat_abs, nat_lt, option_map, ◌==◌, ◌||◌}
 use Rattle.std.specs.List.{cons_option, list_all}
 use Rattle.std.specs.Option.{option_map_or}
-use Rattle.std.proofs.lemmas.List.{drop_more}
-use Rattle.std.proofs.lemmas.List.Folds.{list_all_at}
 use Rattle.std.proofs.lemmas.List.Elements.{filter_map-append}
 use Rattle.cf_text.specs.Shapes.{number}
 use Rattle.cf_types.specs.declared.code.script.TheConstants.{OUT_OF_RANGE}
@@ -13,6 +11,7 @@ use Rattle.config_rules.specs.Form.{given}
 use Rattle.config_rules.specs.MachineText.{words_of}
 use Rattle.config_rules.specs.ScriptText.{bad_turns, is_caller, is_number, is_turn, natural_within, order_of, turns_code, turns_of, unless_bad, within}
 use Rattle.config_rules.proofs.ScriptLaws.{bad_turns_from}
+use Rattle.machine_text.proofs.TextLemmas.{empty_word, not_empty}
 use Rattle.machine_text.specs.declared.stop.LineStop.{LineStop}
 use Rattle.machine_text.specs.declared.stop.LineStop.TheVariants.{Code, Memory}
 use Rattle.script_text.specs.Left.{AddsTurns, AddsWords, Gives, Leaves, stop_at}
@@ -41,40 +40,67 @@ bad_of : (fits : ℤ → Bool) (o : Option ℤ) (code : ℕ) → is_some o ≡ t
 bad_of fits None code some h = absurd (cc)
 bad_of fits (Some v) code some h = bad_if (fits v) v code h
 
--- ---- the words of a line
+-- ---- the words of a line, part by part
 
-all_at : (p : List ℕ → Bool) (ws : List (List ℕ)) (i : ℕ) (d : List ℕ) (b : Bool) → i < length ws → list_all p ws ≡ true → p (get_or ws i d) ≡ b → b ≡ true
-all_at p ws i d true h all e = refl
-all_at p ws i d false h all e = absurd (let no_one : list_all p ws ≡ false = list_all_at p ws i d h e in cc)
+abbrev some_left : List (List ℕ) → List (List ℕ)
+some_left parts = filter (λ w. nat_lt 0 (length w)) parts
+
+word_here : (word : List ℕ) {parts more : List (List ℕ)} → parts ≡ word ∷ more → nat_lt 0 (length word) ≡ true → some_left parts ≡ word ∷ some_left more
+word_here word {more = more} left h = ap some_left left ∙ ap (λ b. cond b (word ∷ some_left more) (some_left more)) h
+
+pub word_none : (word : List ℕ) {parts more : List (List ℕ)} → parts ≡ word ∷ more → nat_lt 0 (length word) ≡ false → some_left parts ≡ some_left more
+word_none word {more = more} left h = ap some_left left ∙ ap (λ b. cond b (word ∷ some_left more) (some_left more)) h
+
+-- ---- all of them are numbers
+
+pub numbers_left : (word : List ℕ) {parts more : List (List ℕ)} → parts ≡ word ∷ more → (length word == 0 || is_number word) ≡ true → list_all is_number (some_left more) ≡ list_all is_number (some_left parts)
+numbers_left word {parts = parts} {more = more} left fine = cases (length word == 0) refl fine
+  where
+    cases : (b : Bool) → (length word == 0) ≡ b → (b || is_number word) ≡ true → list_all is_number (some_left more) ≡ list_all is_number (some_left parts)
+    cases true e k = ap (list_all is_number) (sym (word_none word left (empty_word word e)))
+    cases false e k = ap (λ b. b && list_all is_number (some_left more)) (sym k) ∙ ap (list_all is_number) (sym (word_here word left (not_empty word e)))
+
+pub no_number : (word : List ℕ) {parts more : List (List ℕ)} → parts ≡ word ∷ more → (length word == 0 || is_number word) ≡ false → list_all is_number (some_left parts) ≡ false
+no_number word {parts = parts} {more = more} left fine = cases (length word == 0) refl fine
+  where
+    cases : (b : Bool) → (length word == 0) ≡ b → (b || is_number word) ≡ false → list_all is_number (some_left parts) ≡ false
+    cases true e k = absurd cc
+    cases false e k = ap (list_all is_number) (word_here word left (not_empty word e)) ∙ ap (λ b. b && list_all is_number (some_left more)) k
+
+-- ---- and each is that of a caller
 
 not_all : (callers : ℕ) (ws : List (List ℕ)) (code : ℕ) → list_all (is_turn callers) ws ≡ false → code ≡ OUT_OF_RANGE → given (not (list_all (is_turn callers) ws)) OUT_OF_RANGE ≡ Some code
 not_all callers ws code all three = ap (λ b. given (not b) OUT_OF_RANGE) all ∙ ap Some (sym three)
 
-word_stops : (callers : ℕ) (ws : List (List ℕ)) (i : ℕ) (d : List ℕ) (code : ℕ) → i < length ws → list_all is_number ws ≡ true → natural_within (is_caller callers) (get_or ws i d) ≡ Err code
-    → given (not (list_all (is_turn callers) ws)) OUT_OF_RANGE ≡ Some code
-word_stops callers ws i d code h numbers e =
-    let bad = bad_of (is_caller callers) (number (get_or ws i d)) code (all_at is_number ws i d (is_number (get_or ws i d)) h numbers refl) e in
-    not_all callers ws code (list_all_at (is_turn callers) ws i d h bad.0) bad.1
+both_true : (a b : Bool) → (a && b) ≡ true → (a ≡ true) × (b ≡ true)
+both_true true b h = (refl, h)
+both_true false b h = absurd cc
+
+-- the words behind one that spells a number are numbers too
+pub numbers_behind : (word : List ℕ) {parts more : List (List ℕ)} → parts ≡ word ∷ more → nat_lt 0 (length word) ≡ true → list_all is_number (some_left parts) ≡ true → (is_number word ≡ true) × (list_all is_number (some_left more) ≡ true)
+numbers_behind word {more = more} left h all = both_true (is_number word) (list_all is_number (some_left more)) (sym (ap (list_all is_number) (word_here word left h)) ∙ all)
 
 -- a word whose number is not that of a caller
-pub words_stop : (callers : ℕ) (ws : List (List ℕ)) (old new : List ℕ) (i : ℕ) (d : List ℕ) (stop : LineStop) → i < length ws → list_all is_number ws ≡ true
-    → Leaves (natural_within (is_caller callers) (get_or ws i d)) (Err stop) → AddsWords callers ws old new (Err stop)
-words_stop callers ws old new i d (Code code) h numbers e = word_stops callers ws i d code h numbers e
-words_stop callers ws old new i d Memory h numbers e = tt
+pub words_stop : (callers : ℕ) (ws : List (List ℕ)) (old new : List ℕ) (word : List ℕ) (stop : LineStop) {parts more : List (List ℕ)} → parts ≡ word ∷ more → nat_lt 0 (length word) ≡ true
+    → list_all is_number (some_left parts) ≡ true → list_all (is_turn callers) (some_left parts) ≡ list_all (is_turn callers) ws
+    → Leaves (natural_within (is_caller callers) word) (Err stop) → AddsWords callers ws old new (Err stop)
+words_stop callers ws old new word (Code code) {more = more} left h numbers same e =
+    let bad = bad_of (is_caller callers) (number word) code (numbers_behind word left h numbers).0 e in
+    not_all callers ws code (sym same ∙ ap (list_all (is_turn callers)) (word_here word left h) ∙ ap (λ b. b && list_all (is_turn callers) (some_left more)) bad.0) bad.1
+words_stop callers ws old new word Memory left h numbers same e = tt
 
 -- one more word with the number of a caller
-pub all_more : (callers : ℕ) (ws : List (List ℕ)) (i : ℕ) (d : List ℕ) (n : ℕ) → i < length ws → natural_within (is_caller callers) (get_or ws i d) ≡ Ok n
-    → list_all (is_turn callers) (drop (i + 1) ws) ≡ list_all (is_turn callers) (drop i ws)
-all_more callers ws i d n h e =
-    ap (λ b. b && list_all (is_turn callers) (drop (i + 1) ws)) (sym (turn_of (is_caller callers) (number (get_or ws i d)) n e).0)
-    ∙ ap (list_all (is_turn callers)) (sym (drop_more ws i d h))
+pub all_more : (callers : ℕ) (word : List ℕ) (n : ℕ) {parts more : List (List ℕ)} → parts ≡ word ∷ more → nat_lt 0 (length word) ≡ true → natural_within (is_caller callers) word ≡ Ok n
+    → list_all (is_turn callers) (some_left more) ≡ list_all (is_turn callers) (some_left parts)
+all_more callers word n {more = more} left h e =
+    ap (λ b. b && list_all (is_turn callers) (some_left more)) (sym (turn_of (is_caller callers) (number word) n e).0) ∙ ap (list_all (is_turn callers)) (sym (word_here word left h))
 
-pub turns_more : (callers : ℕ) (ws : List (List ℕ)) (i : ℕ) (d : List ℕ) (n : ℕ) (front : List ℕ) → i < length ws → natural_within (is_caller callers) (get_or ws i d) ≡ Ok n
-    → (front ++ n ∷ []) ++ turns_of (drop (i + 1) ws) ≡ front ++ turns_of (drop i ws)
-turns_more callers ws i d n front h e =
-    append_assoc front (n ∷ []) (turns_of (drop (i + 1) ws))
-    ∙ ap (λ (o : Option ℕ). front ++ cons_option o (turns_of (drop (i + 1) ws))) (sym (turn_of (is_caller callers) (number (get_or ws i d)) n e).1)
-    ∙ ap (λ ws. front ++ turns_of ws) (sym (drop_more ws i d h))
+pub turns_more : (callers : ℕ) (word : List ℕ) (n : ℕ) (front : List ℕ) {parts more : List (List ℕ)} → parts ≡ word ∷ more → nat_lt 0 (length word) ≡ true → natural_within (is_caller callers) word ≡ Ok n
+    → (front ++ n ∷ []) ++ turns_of (some_left more) ≡ front ++ turns_of (some_left parts)
+turns_more callers word n front {more = more} left h e =
+    append_assoc front (n ∷ []) (turns_of (some_left more))
+    ∙ ap (λ (o : Option ℕ). front ++ cons_option o (turns_of (some_left more))) (sym (turn_of (is_caller callers) (number word) n e).1)
+    ∙ ap (λ ws. front ++ turns_of ws) (sym (word_here word left h))
 
 -- ---- the lines of a file
 

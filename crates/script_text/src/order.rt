@@ -1,44 +1,76 @@
-ghost use Rattle.std.specs.Prelude.{◌≡◌, ◌≤◌, All, IfOk, length, true};
+ghost use Rattle.std.specs.Prelude.{◌≡◌, ◌≤◌, ◌==◌, ◌||◌, All, IfOk, length, not, take_while, true};
 ghost use Rattle.std.specs.List.{list_all};
+ghost use Rattle.config_rules.specs.MachineText.{uncommented};
 ghost use Rattle.config_rules.specs.ScriptText.{is_number, order_of};
+ghost use Rattle.machine_text.specs.Records.{parted};
 ghost use Rattle.script_text.specs.Left.{AddsTurns, AddsWords, Gives};
 
 use crate::operand::{caller_number, is_number};
 use crate::stop::ScriptStop;
+use cf_text::is_space;
+use cf_types::List;
 use cf_types::code::script as code;
-use cf_types::{List, Text};
-use machine_text::{LineStop, has_bad_byte, words_of};
+use machine_text::{LineStop, has_bad_byte};
 use std::alloc::Global;
 
-fn are_numbers(words: &[Text]) -> bool
-    ensures { result ≡ list_all is_number words.now }
+/// How many bytes stand before the first `#`; all of them where there is none.
+fn comment_start(line: &[u8]) -> usize
+    ensures { result ≡ length (take_while (λ c. not (c == 35)) line.now) }
 {
-    words.iter().all(|word| is_number(word.items()))
+    line.iter().take_while(|&&byte| byte != b'#').count()
 }
 
-/// Adds the callers of these words.
-fn add_words(turns: &mut List<u8>, callers: u8, words: &[Text]) -> Result<(), LineStop>
-    requires { list_all is_number words.now ≡ true }
-    ensures { AddsWords callers words.now turns.old turns.new result }
+/// What stands before the first `#`.
+fn uncommented(line: &[u8]) -> &[u8]
+    ensures { result.now ≡ uncommented line.now }
 {
-    for word in words {
-        turns.push(caller_number(callers, word.items())?)?;
+    line.split_at(comment_start(line)).0
+}
+
+/// Whether a part between spaces is nothing, or spells a number.
+fn is_fine(part: &[u8]) -> bool
+    ensures { result ≡ (length part.now == 0 || is_number part.now) }
+{
+    part.is_empty() || is_number(part)
+}
+
+/// Whether each word between spaces and tabs spells a number.
+fn are_numbers(bytes: &[u8]) -> bool
+    ensures { result ≡ list_all is_number (parted bytes.now) }
+{
+    for part in bytes.split(|&byte| is_space(byte)) {
+        if !is_fine(part) {
+            return false;
+        }
+    }
+    true
+}
+
+/// Adds the callers of the words between spaces and tabs.
+fn add_words(turns: &mut List<u8>, callers: u8, bytes: &[u8]) -> Result<(), LineStop>
+    requires { list_all is_number (parted bytes.now) ≡ true }
+    ensures { AddsWords callers (parted bytes.now) turns.old turns.new result }
+{
+    for part in bytes.split(|&byte| is_space(byte)) {
+        if !part.is_empty() {
+            turns.push(caller_number(callers, part)?)?;
+        }
     }
     Ok(())
 }
 
 /// Adds the turns of a line.
-fn add_line(alloc: Global, turns: &mut List<u8>, callers: u8, line: &[u8]) -> Result<(), LineStop>
+fn add_line(turns: &mut List<u8>, callers: u8, line: &[u8]) -> Result<(), LineStop>
     ensures { AddsTurns callers line.now turns.old turns.new result }
 {
     if has_bad_byte(line) {
         return Err(LineStop::Code(code::WRONG_WORDS));
     }
-    let words = words_of(alloc, line)?;
-    if !are_numbers(words.items()) {
+    let bytes = uncommented(line);
+    if !are_numbers(bytes) {
         return Err(LineStop::Code(code::WRONG_WORDS));
     }
-    add_words(turns, callers, words.items())
+    add_words(turns, callers, bytes)
 }
 
 /// Reads an order file of at most 1,048,576 bytes for so many callers: the callers of the turns, each from 1 to
@@ -52,7 +84,7 @@ pub fn read_order(alloc: Global, text: &[u8], callers: u8) -> Result<List<u8>, S
     let mut turns = List::make(alloc);
     let mut number = 1;
     for line in text.split(|&byte| byte == b'\n') {
-        if let Err(stop) = add_line(alloc, &mut turns, callers, line) {
+        if let Err(stop) = add_line(&mut turns, callers, line) {
             return Err(ScriptStop::at(number, stop));
         }
         number += 1;

@@ -1,4 +1,4 @@
-use Rattle.std.proofs.Common.{◌≡◌, ◌<◌, ◌∙◌, ap, ◌++◌, List, length, take, false, None, arith}
+use Rattle.std.proofs.Common.{◌<◌, ◌∙◌, ap, ◌++◌, List, length, take, false, None}
 use Rattle.run_rules.specs.declared.world.Dev.{Dev}
 use Rattle.run_rules.specs.declared.event.DepthName.{DepthName}
 use Rattle.run_rules.specs.Run.{depth_name}

@@ -26,6 +26,6 @@ pub loop-turn-preserved : goal.loop-turn-preserved
 loop-turn-preserved c =
     let core = c.args.core.now in
     gone_on c.args.site.now.setup core.tree.live core.absent.items core.hidden.items c.args.serial c.args.only c.args.filter.now c.loop-turn.position c.next_position-position.result c.who_searches-by.result
-    c.in_ok-turn.turn c.who_searches-by.ensures c.in_ok-turn.ensures.next (c.is_due.ensures ∙ c.if-is_due.false) c.next_position-position.ensures.straight c.next_position-position.ensures.behind c.next_position-position.ensures.bus
+    c.in_ok-turn.turn c.who_searches-by.ensures c.in_ok-turn.ensures.next (c.is_due.ensures ∙ c.if-is_due.false) c.next_position-position.ensures.behind c.next_position-position.ensures.bus
     c.next_position-position.ensures.idle
     ∙ c.loop-turn.invariant

@@ -1,29 +1,20 @@
-use Rattle.std.proofs.Common.{arith}
-use Rattle.scan_engine.specs.Turns.{past}
-use Rattle.scan_engine.proofs.Positions.{before_past}
-use Rattle.next_deed.proofs.PairLaws.{later_attr, none_yet, one_spot_more}
+use Rattle.next_deed.proofs.PairLaws.{closed_between, further_on, later_attr}
 use Rattle.next_deed.proofs.next_due.next_position.Goals as goal
 
-pub returns-then-not-turn-clause-behind : goal.returns-then-not-turn-clause-behind
-returns-then-not-turn-clause-behind c = before_past c.args.turn.at
+pub returns-then-turn : goal.returns-then-turn
+returns-then-turn c = record {
+  behind = c.next_pair.ensures.behind;
+  bus = c.next_pair.ensures.bus;
+  idle = c.next_pair.ensures.idle;
+}
 
-pub returns-then-not-turn-clause-bus : goal.returns-then-not-turn-clause-bus
-returns-then-not-turn-clause-bus c = λ p h. later_attr p (past c.args.turn.at) h
+pub returns-else-turn-clause-behind : goal.returns-else-turn-clause-behind
+returns-else-turn-clause-behind c = further_on c.args.turn.at c.next_on_bus.result c.next_on_bus.ensures.here.0 c.next_on_bus.ensures.here.1 c.next_on_bus.ensures.behind
 
-pub loop-spot-init : goal.loop-spot-init
-loop-spot-init c =
-    none_yet c.args.site.now.setup c.args.core.now.tree.live c.args.core.now.absent.items c.args.core.now.hidden.items c.args.serial c.args.filter.now c.args.parent c.args.turn
+pub returns-else-turn-clause-bus : goal.returns-else-turn-clause-bus
+returns-else-turn-clause-bus c = λ p h. rw (← c.next_on_bus.ensures.here.0) (later_attr p c.next_on_bus.result h)
 
-pub loop-spot-preserved : goal.loop-spot-preserved
-loop-spot-preserved c =
-    one_spot_more c.args.site.now.setup c.args.core.now.tree.live c.args.core.now.absent.items c.args.core.now.hidden.items c.args.serial c.args.filter.now c.args.parent c.args.turn c.loop-spot.spot c.loop-spot.next
-    c.sooner-next.result c.due_position-found.result c.due_position-found.ensures.place c.due_position-found.ensures.due c.sooner-next.ensures.behind c.sooner-next.ensures.sooner c.sooner-next.ensures.found c.loop-spot.invariant
-
-pub returns-clause-behind : goal.returns-clause-behind
-returns-clause-behind c = c.loop-spot.invariant.behind
-
-pub returns-clause-bus : goal.returns-clause-bus
-returns-clause-bus c = c.loop-spot.invariant.bus
-
-pub returns-clause-idle : goal.returns-clause-idle
-returns-clause-idle c = λ r x i lt child after before. c.loop-spot.invariant.idle r x i (omega (arith, lt, c.loop-spot-test.false, c.len-spot-end.ensures)) child after before
+pub returns-else-turn-clause-idle : goal.returns-else-turn-clause-idle
+returns-else-turn-clause-idle c =
+    closed_between c.args.site.now.setup c.args.core.now.tree.live c.args.core.now.absent.items c.args.core.now.hidden.items c.args.serial c.args.filter.now c.args.parent c.args.turn c.next_on_bus.result
+    c.next_on_bus.ensures.here.0 c.next_on_bus.ensures.here.1 c.next_on_bus.ensures.passed

@@ -1,28 +1,50 @@
-use Rattle.std.proofs.Common.{◌≡◌, ◌∙◌, ◌+◌, ◌++◌, ℕ, List, ap, sym, drop, get_or, subst, Err, Ok}
+use Rattle.std.proofs.Common.{rules, tests, ◌∙◌, ◌++◌, ℕ, List, ap, sym, append-nil, length}
+use Rattle.std.specs.Prelude.{filter, nat_lt}
+use Rattle.std.specs.List.{list_all}
 use Rattle.std.proofs.lemmas.Result.{err_from_is_err_and}
-use Rattle.config_rules.specs.ScriptText.{is_caller, natural_within, turns_of}
-use Rattle.script_text.specs.Left.{AddsWords, Leaves}
+use Rattle.std.proofs.lemmas.Iterator.Splits.{YieldsList-from_slice_split}
+use Rattle.config_rules.specs.Cut.{is_space}
+use Rattle.config_rules.specs.ScriptText.{is_number, is_turn, turns_of}
+use Rattle.machine_text.proofs.TextLemmas.{empty_word, left_at, left_none, not_empty}
+use Rattle.machine_text.specs.Records.{parted}
+use Rattle.script_text.specs.Left.{AddsWords}
 use Rattle.script_text.proofs.LeftLemmas.{ends_with}
-use Rattle.script_text.proofs.OrderLemmas.{all_more, turns_more, words_stop}
+use Rattle.script_text.proofs.OrderLemmas.{all_more, numbers_behind, turns_more, word_none, words_stop}
 use Rattle.script_text.proofs.order.add_words.Goals as goal
 
 pub returns-in_err-caller_number : goal.returns-in_err-caller_number
 returns-in_err-caller_number c =
-    let words : List (List ℕ) = c.args.words.now in
-    let P : List ℕ → Type 0 = λ word. Leaves (natural_within (is_caller c.args.callers) word) (Err c.in_err-caller_number.field-0.0) in
-    ends_with (λ r. AddsWords c.args.callers words c.args.turns.now c.loop-word.turns r) _ _ (err_from_is_err_and _ c.from_residual.ensures.1)
-    (words_stop c.args.callers words c.args.turns.now c.loop-word.turns c.loop-word.word-index c.word-item.result c.in_err-caller_number.field-0.0 c.loop-word-test.true c.requires
-    (subst P (c.items.ensures ∙ c.word-item.is) c.in_err-caller_number.ensures))
+    let left = left_at (YieldsList-from_slice_split _ is_space c.args.bytes.now (cc) (cc) (cc) (λ x r q k. search (rules, tests))) c.loop-part.yielded _ c.loop-part.yielded_by _ _ c.in-Some.part c.in-Some.is c.next.ensures.steps in
+    ends_with (λ r. AddsWords c.args.callers (parted c.args.bytes.now) c.args.turns.now c.loop-part.turns r) _ _ (err_from_is_err_and _ c.from_residual.ensures.1)
+    (words_stop c.args.callers (parted c.args.bytes.now) c.args.turns.now c.loop-part.turns c.in-Some.part.now c.in_err-caller_number.field-0.0 left
+    (not_empty c.in-Some.part.now (sym c.is_empty.ensures ∙ c.if-not-is_empty.true)) c.loop-part.invariant.numbers c.loop-part.invariant.callers c.in_err-caller_number.ensures)
 
-pub loop-word-preserved : goal.loop-word-preserved
-loop-word-preserved c =
-    let words : List (List ℕ) = c.args.words.now in
-    let i = c.loop-word.word-index in
+pub loop-part-preserved-in_ok-push : goal.loop-part-preserved-in_ok-push
+loop-part-preserved-in_ok-push c =
+    let left = left_at (YieldsList-from_slice_split _ is_space c.args.bytes.now (cc) (cc) (cc) (λ x r q k. search (rules, tests))) c.loop-part.yielded _ c.loop-part.yielded_by _ _ c.in-Some.part c.in-Some.is c.next.ensures.steps in
+    let some = not_empty c.in-Some.part.now (sym c.is_empty.ensures ∙ c.if-not-is_empty.true) in
     let n = c.in_ok-caller_number.field-0 in
-    let here : natural_within (is_caller c.args.callers) (get_or words i c.word-item.result) ≡ Ok n = ap (natural_within (is_caller c.args.callers)) (sym (c.items.ensures ∙ c.word-item.is)) ∙ c.in_ok-caller_number.ensures in
     record {
-      callers = all_more c.args.callers words i c.word-item.result n c.loop-word-test.true here ∙ c.loop-word.invariant.callers;
-      so_far = ap (λ (ns : List ℕ). ns ++ turns_of (drop (i + 1) words)) c.in_ok-push.ensures.ok
-          ∙ turns_more c.args.callers words i c.word-item.result n c.loop-word.turns c.loop-word-test.true here
-          ∙ c.loop-word.invariant.so_far;
+      iterator = search rules;
+      numbers = (numbers_behind c.in-Some.part.now left some c.loop-part.invariant.numbers).1;
+      callers = all_more c.args.callers c.in-Some.part.now n left some c.in_ok-caller_number.ensures ∙ c.loop-part.invariant.callers;
+      so_far = rw c.in_ok-push.ensures.ok (turns_more c.args.callers c.in-Some.part.now n c.loop-part.turns left some c.in_ok-caller_number.ensures ∙ c.loop-part.invariant.so_far);
     }
+
+pub loop-part-preserved : goal.loop-part-preserved
+loop-part-preserved c =
+    let left = left_at (YieldsList-from_slice_split _ is_space c.args.bytes.now (cc) (cc) (cc) (λ x r q k. search (rules, tests))) c.loop-part.yielded _ c.loop-part.yielded_by _ _ c.in-Some.part c.in-Some.is c.next.ensures.steps in
+    let same = word_none c.in-Some.part.now left (empty_word c.in-Some.part.now (sym c.is_empty.ensures ∙ c.if-not-is_empty.false)) in
+    record {
+      iterator = search rules;
+      numbers = ap (list_all is_number) (sym same) ∙ c.loop-part.invariant.numbers;
+      callers = ap (list_all (is_turn c.args.callers)) (sym same) ∙ c.loop-part.invariant.callers;
+      so_far = ap (λ (ws : List (List ℕ)). c.loop-part.turns ++ turns_of ws) (sym same) ∙ c.loop-part.invariant.so_far;
+    }
+
+pub returns : goal.returns
+returns c =
+    let none = left_none (YieldsList-from_slice_split _ is_space c.args.bytes.now (cc) (cc) (cc) (λ x r q k. search (rules, tests))) c.loop-part.yielded _ c.loop-part.yielded_by _ _ c.in-None.is c.next.ensures.steps in (
+      sym c.loop-part.invariant.callers ∙ ap (λ (ps : List (List ℕ)). list_all (is_turn c.args.callers) (filter (λ w. nat_lt 0 (length w)) ps)) none,
+      sym (append-nil c.loop-part.turns) ∙ ap (λ (ps : List (List ℕ)). c.loop-part.turns ++ turns_of (filter (λ w. nat_lt 0 (length w)) ps)) (sym none) ∙ c.loop-part.invariant.so_far,
+    )

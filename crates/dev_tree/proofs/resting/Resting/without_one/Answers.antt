@@ -1,4 +1,4 @@
-use Rattle.std.proofs.Common.{refl, arith}
+use Rattle.std.proofs.Common.{refl}
 use Rattle.dev_tree.proofs.RestLaws.{rest_less}
 use Rattle.dev_tree.proofs.resting.Resting.without_one.Goals as goal
 

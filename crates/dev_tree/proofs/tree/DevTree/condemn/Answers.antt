@@ -1,6 +1,7 @@
 use Rattle.std.proofs.Common.{◌≡◌, ◌++◌, length, take, drop, map, ap, ◌∙◌}
 use Rattle.run_rules.specs.After.{with_condemner}
 use Rattle.dev_tree.proofs.Alike.{map_alike, condemner_plain}
+use Rattle.dev_tree.proofs.BareLaws.{bare_alike}
 use Rattle.dev_tree.proofs.Halves.{given_back}
 use Rattle.dev_tree.proofs.Kept.{sound_marked}
 use Rattle.dev_tree.proofs.OnSpots.{on_alike}
@@ -17,5 +18,5 @@ invariant_of-self c =
     let same = map_alike marked (condemner_plain old c.args.caller c.args.serial) old in
     rw back (
       sound_marked old (map marked old) c.self.inside.drivers.items c.self.inside.next same c.self.invariant.0,
-      (λ x. c.self.invariant.1.0 x ∙ on_alike old (map marked old) x same, rest_mapped marked (condemner_rest old c.args.caller c.args.serial) old c.self.inside.rest c.self.invariant.1.1),
+      (λ x. c.self.invariant.1.0 x ∙ on_alike old (map marked old) x same, (rest_mapped marked (condemner_rest old c.args.caller c.args.serial) old c.self.inside.rest c.self.invariant.1.1.0, bare_alike old (map marked old) c.self.inside.bare.items same c.self.invariant.1.1.1)),
     )

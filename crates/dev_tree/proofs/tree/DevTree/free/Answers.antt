@@ -2,6 +2,7 @@ use Rattle.std.proofs.Common.{◌≡◌, ◌<◌, ◌∙◌, ℕ, ◌==◌, cond
 use Rattle.run_rules.specs.declared.world.Dev.{Dev}
 use Rattle.run_rules.specs.World.{children, device_on, serial_of}
 use Rattle.dev_tree.specs.Tree.{Devices, AreSound, without_device}
+use Rattle.dev_tree.proofs.BareLaws.{bare_less}
 use Rattle.dev_tree.proofs.Gone.{rest_is}
 use Rattle.dev_tree.proofs.Kept.{sound_without}
 use Rattle.dev_tree.proofs.OnSpots.{on_removed}
@@ -22,7 +23,10 @@ invariant_of-self c =
             c.take_off.ensures x ∙ ap (λ (o : Option ℕ). cond (c.remove-gone.result.spot == x) None o) (c.self.invariant.1.0 x)
             ∙ ap (λ (d : Dev). cond (d.spot == x) None (serial_of (device_on old.live x))) c.remove-gone.ensures.value
             ∙ sym (ap (λ ds. serial_of (device_on ds x)) c.remove-gone.ensures.items ∙ on_removed old.live c.in-Some.place x c.remove-gone.result c.self.invariant.0.spots within),
-        subst (λ (ds : List Dev). AreResting ds c.without_one-self-inside.result) (sym c.remove-gone.ensures.items) (c.without_one-self-inside.ensures old.live c.in-Some.place within c.self.invariant.1.1),
+        (
+          subst (λ (ds : List Dev). AreResting ds c.without_one-self-inside.result) (sym c.remove-gone.ensures.items) (c.without_one-self-inside.ensures old.live c.in-Some.place within c.self.invariant.1.1.0),
+          rw (c.remove-gone.ensures.items, c.remove-in-Some.ensures.items) (bare_less old.live c.in-Some.place c.self.inside.bare.items within c.self.invariant.1.1.1),
+        ),
       ),
     )
 

@@ -1,6 +1,7 @@
 use Rattle.std.proofs.Common.{◌≡◌, ◌++◌, length, take, drop, map, ap, ◌∙◌}
 use Rattle.run_rules.specs.After.{with_sleep}
 use Rattle.dev_tree.proofs.Alike.{map_alike, sleep_plain}
+use Rattle.dev_tree.proofs.BareLaws.{bare_alike}
 use Rattle.dev_tree.proofs.Halves.{given_back}
 use Rattle.dev_tree.proofs.Kept.{sound_marked}
 use Rattle.dev_tree.proofs.OnSpots.{on_alike}
@@ -18,5 +19,5 @@ invariant_of-self c =
     let same = map_alike (with_sleep c.args.serial c.args.asleep) (sleep_plain c.args.serial c.args.asleep) old in
     rw back (
       sound_marked old (map (with_sleep c.args.serial c.args.asleep) old) c.self.inside.drivers.items c.self.inside.next same c.self.invariant.0,
-      (λ x. c.self.invariant.1.0 x ∙ on_alike old (map (with_sleep c.args.serial c.args.asleep) old) x same, subst (λ (ds : List Dev). AreResting (map (with_sleep c.args.serial c.args.asleep) ds) c.marked-self-inside.result) c.deref.ensures.value (c.marked-self-inside.ensures (subst (λ (ds : List Dev). AreResting ds c.self.inside.rest) (sym c.deref.ensures.value) c.self.invariant.1.1))),
+      (λ x. c.self.invariant.1.0 x ∙ on_alike old (map (with_sleep c.args.serial c.args.asleep) old) x same, (subst (λ (ds : List Dev). AreResting (map (with_sleep c.args.serial c.args.asleep) ds) c.marked-self-inside.result) c.deref.ensures.value (c.marked-self-inside.ensures (subst (λ (ds : List Dev). AreResting ds c.self.inside.rest) (sym c.deref.ensures.value) c.self.invariant.1.1.0)), bare_alike old (map (with_sleep c.args.serial c.args.asleep) old) c.self.inside.bare.items same c.self.invariant.1.1.1)),
     )

@@ -4,8 +4,8 @@ use Rattle.run_rules.specs.declared.world.Dev.{Dev}
 use Rattle.run_rules.specs.After.{with_condemner}
 use Rattle.dev_tree.proofs.Alike.{Alike, SamePlain, condemner_plain, half_alike, order_alike, under_alike}
 use Rattle.dev_tree.proofs.Halves.{half_set, half_kept, half_all}
-use Rattle.dev_tree.proofs.mark.mark_condemned.Goals as goal
-use Rattle.dev_tree.proofs.mark.mark_condemned.Goals.{then-is_under, else-is_under}
+use Rattle.dev_tree.proofs.mark.condemn_each.Goals as goal
+use Rattle.dev_tree.proofs.mark.condemn_each.Goals.{then-is_under, else-is_under}
 
 -- what stands past the end
 abbrev blank : Dev

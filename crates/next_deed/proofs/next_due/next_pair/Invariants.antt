@@ -1,5 +1,5 @@
 use Rattle.next_deed.proofs.PairLaws.{NothingBefore}
-use Rattle.next_deed.proofs.next_due.next_position.Given as goal
+use Rattle.next_deed.proofs.next_due.next_pair.Given as goal
 
 abbrev pub invariant-loop-spot : goal.invariant-loop-spot
 invariant-loop-spot l = NothingBefore l.site.setup l.core.tree.live l.core.absent.items l.core.hidden.items l.serial l.filter l.parent l.turn l.spot l.next
