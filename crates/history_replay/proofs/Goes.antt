@@ -23,7 +23,7 @@ going_on s p q k d may going chosen same = record {
 }
 
 -- at most one serial is given in a step
-next_grows : (s : Setup) (p q : Plain) (k : ℕ) (d : Deed) → world_of s q ≡ after (world_of s p) k d → q.next ≤ p.next + 1
+next_grows : (s : Setup) (p q : Plain) (k : ℕ) (d : Deed) → world_of s q ≡ after (world_of s p) k d → q.live.next ≤ p.live.next + 1
 next_grows s p q k d same = omega (arith, ap (λ (w : World). w.next) same, (after_serials (world_of s p) k d).1)
 
 pub goes_on : (s : Setup) (p : Plain) (k : ℕ) (d : Deed) (q : Plain) → MayRun s → IsGoing s p → IsDue s p k d → world_of s q ≡ after (world_of s p) k d → GoesOn s p k d q
@@ -36,7 +36,7 @@ opening_next : (s : Setup) → (opening s).next ≡ 1
 unfolding opening
 opening_next s = refl
 
-pub next_first : (s : Setup) (p : Plain) → world_of s p ≡ opening s → p.next ≤ 1
+pub next_first : (s : Setup) (p : Plain) → world_of s p ≡ opening s → p.live.next ≤ 1
 next_first s p same = omega (arith, ap (λ (w : World). w.next) same, opening_next s)
 
 pub no_more : (n : ℕ) → n ≤ n + 1

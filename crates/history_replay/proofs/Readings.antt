@@ -58,12 +58,12 @@ pub told_none : (s : Setup) (f : Format) (p : Plain) (k : ℕ) (line : List ℕ)
 told_none s f p k line d going told = record {
   told = no_test (bytes_eq (line_in f (event_of (world_of s p) k d)) line) (event_of (world_of s p) k d) (after (world_of s p) k d) told;
   going = going;
-  next = no_more p.next;
+  next = no_more p.live.next;
 }
 
 -- of a caller that does nothing
 pub idle_tells : (s : Setup) (f : Format) (p : Plain) (k : ℕ) (line : List ℕ) → IsGoing s p → ((d : Deed) → next (world_of s p) k ≡ Does d → ⊥) → TellsNext s f p k line p None
-idle_tells s f p k line going never = record { told = idle_told f (world_of s p) k line (next (world_of s p) k) never; going = going; next = no_more p.next }
+idle_tells s f p k line going never = record { told = idle_told f (world_of s p) k line (next (world_of s p) k) never; going = going; next = no_more p.live.next }
 
 -- of one that does this
 pub due_tells : (s : Setup) (f : Format) (p : Plain) (k : ℕ) (line : List ℕ) (d : Deed) (q : Plain) (e : Option Event) → next (world_of s p) k ≡ Does d → TellsDeed s f p k line d q e
@@ -125,7 +125,7 @@ no_head w n = refl
 -- the lines up to the next line `tree`, of which these events were read
 pub record HasRead (s : Setup) (f : Format) (start : World) (first : ℕ) (text : List ℕ) (events : List Event) (p : Plain) (number : ℕ) (left : List ℕ) : Type 0 where
   pub going : IsGoing s p
-  pub next : p.next ≤ number
+  pub next : p.live.next ≤ number
   pub few : number + length left < 2 ^ 64 - 1
   pub read : reread_lines f start first (lines_of text) ≡ behind events (reread_lines f (world_of s p) number (lines_of left))
 
@@ -170,7 +170,7 @@ lines_gone s f start first text events p number left h none =
 
 pub one_more : (s : Setup) (f : Format) (start : World) (first : ℕ) (text : List ℕ) (events : List Event) (p : Plain) (number : ℕ) (left line rest : List ℕ) (e : Event) (q : Plain) (more : List Event)
     → HasRead s f start first text events p number left → IsCut left line rest → bytes_eq line (codes "tree") ≡ false → step_by f (world_of s p) line ≡ Some (e, world_of s q)
-    → IsGoing s q → q.next ≤ p.next + 1 → more ≡ events ++ e ∷ [] → HasRead s f start first text more q (number + 1) rest
+    → IsGoing s q → q.live.next ≤ p.live.next + 1 → more ≡ events ++ e ∷ [] → HasRead s f start first text more q (number + 1) rest
 one_more s f start first text events p number left line rest e q more h cut other took going grows is = record {
   going = going;
   next = omega (arith, h.next, grows);
@@ -182,7 +182,7 @@ one_more s f start first text events p number left line rest e q more h cut othe
       ∙ ap (λ (es : List Event). behind es (reread_lines f (world_of s q) (number + 1) (lines_of rest))) (sym is);
 }
 
-pub none_read : (s : Setup) (f : Format) (p : Plain) (first : ℕ) (text : List ℕ) → IsGoing s p → p.next ≤ first → first + length text < 2 ^ 64 - 1 → HasRead s f (world_of s p) first text [] p first text
+pub none_read : (s : Setup) (f : Format) (p : Plain) (first : ℕ) (text : List ℕ) → IsGoing s p → p.live.next ≤ first → first + length text < 2 ^ 64 - 1 → HasRead s f (world_of s p) first text [] p first text
 none_read s f p first text going next few = record { going = going; next = next; few = few; read = none_before (reread_lines f (world_of s p) first (lines_of text)) }
 
 -- ---- a turn before the head
@@ -210,7 +210,7 @@ pub step_tells : (s : Setup) (f : Format) (p : Plain) (k : ℕ) (line : List ℕ
 step_tells s f p k line q e is tells = record { told = step_of f (world_of s p) k line is ∙ tells.told; going = tells.going; next = tells.next }
 
 pub nobody_tells : (s : Setup) (f : Format) (p : Plain) (line : List ℕ) → IsGoing s p → caller_of line ≡ None → TellsStep s f p line p None
-nobody_tells s f p line going none = record { told = no_step f (world_of s p) line none; going = going; next = no_more p.next }
+nobody_tells s f p line going none = record { told = no_step f (world_of s p) line none; going = going; next = no_more p.live.next }
 
 -- the same of an answer, where there is one
 pub ok_more : {A E : Type 0} {P Q : A → Type 0} (r : Result A E) → IfOk r P → ((a : A) → P a → Q a) → IfOk r Q

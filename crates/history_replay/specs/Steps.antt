@@ -28,7 +28,7 @@ event_in f w k d line = given (bytes_eq (line_in f (event_of w k d)) line) (even
 pub record IsTold (s : Setup) (p q : Plain) (r : Option (Event × World)) (e : Option Event) : Type 0 where
   pub told : r ≡ option_map (λ e. (e, world_of s q)) e
   pub going : IsGoing s q
-  pub next : q.next ≤ p.next + 1
+  pub next : q.live.next ≤ p.live.next + 1
 
 -- of a caller that does this
 abbrev pub TellsDeed : Setup → Format → Plain → ℕ → List ℕ → Deed → Plain → Option Event → Type 0

@@ -108,7 +108,7 @@ fn reread_by(
 ) -> Result<Replayed, ReplayStop>
     requires fit { AreFit rules.now }
     requires going { IsGoing (setup_by rules.now) plain }
-    requires next { plain.next ≤ 1 }
+    requires next { plain.live.next ≤ 1 }
     ensures { IsReplay (rule.reread (world_of (setup_by rules.now) plain) text.now) result }
 {
     let mut plain = plain;

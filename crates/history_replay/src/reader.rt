@@ -92,7 +92,7 @@ fn perform(
 ) -> Result<(), Memory>
     requires fit { AreFit rules.now }
     requires going { IsGoing (setup_by rules.now) plain.old }
-    requires next { plain.old.next < 2 ^ 64 - 1 }
+    requires next { plain.old.live.next < 2 ^ 64 - 1 }
     requires due { IsDue (setup_by rules.now) plain.old caller deed }
     ensures { OnOk result (GoesOn (setup_by rules.now) plain.old caller deed plain.new) }
 {
@@ -111,7 +111,7 @@ fn take(
 ) -> Result<Option<Event>, Memory>
     requires fit { AreFit rules.now }
     requires going { IsGoing (setup_by rules.now) plain.old }
-    requires next { plain.old.next < 2 ^ 64 - 1 }
+    requires next { plain.old.live.next < 2 ^ 64 - 1 }
     requires due { IsDue (setup_by rules.now) plain.old caller deed }
     ensures { IfOk result (TellsDeed (setup_by rules.now) format plain.old caller line.now deed plain.new) }
 {
@@ -139,7 +139,7 @@ fn told_by(
 ) -> Result<Option<Event>, Memory>
     requires fit { AreFit rules.now }
     requires going { IsGoing (setup_by rules.now) plain.old }
-    requires next { plain.old.next < 2 ^ 64 - 1 }
+    requires next { plain.old.live.next < 2 ^ 64 - 1 }
     ensures { IfOk result (TellsNext (setup_by rules.now) format plain.old caller line.now plain.new) }
 {
     match next(alloc, rules, plain, caller) {
@@ -159,7 +159,7 @@ fn step(
 ) -> Result<Option<Event>, Memory>
     requires fit { AreFit rules.now }
     requires going { IsGoing (setup_by rules.now) plain.old }
-    requires next { plain.old.next < 2 ^ 64 - 1 }
+    requires next { plain.old.live.next < 2 ^ 64 - 1 }
     ensures { IfOk result (TellsStep (setup_by rules.now) format plain.old line.now plain.new) }
 {
     match read_caller(line) {
@@ -180,7 +180,7 @@ fn read_lines(
 ) -> Result<List<Event>, ReplayStop>
     requires fit { AreFit rules.now }
     requires going { IsGoing (setup_by rules.now) plain.old }
-    requires next { plain.old.next ≤ first }
+    requires next { plain.old.live.next ≤ first }
     requires few { first + length text.now < 2 ^ 64 - 1 }
     ensures read { ReadsLines (setup_by rules.now) format plain.old first text.now result plain.new }
     ensures going { OnOk result (IsGoing (setup_by rules.now) plain.new) }
@@ -216,7 +216,7 @@ pub fn read_history(
 ) -> Result<List<Event>, ReplayStop>
     requires fit { AreFit rules.now }
     requires going { IsGoing (setup_by rules.now) plain.old }
-    requires next { plain.old.next ≤ 1 }
+    requires next { plain.old.live.next ≤ 1 }
     ensures read { ReadsHistory (setup_by rules.now) plain.old text.now result plain.new }
     ensures going { OnOk result (IsGoing (setup_by rules.now) plain.new) }
 {

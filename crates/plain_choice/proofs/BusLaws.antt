@@ -1,6 +1,7 @@
 -- The turns of a bus, and those of later places.
-use Rattle.std.proofs.Common.{◌≡◌, ◌+◌, ◌<◌, ◌∙◌, ℕ, Bool, true, false, List, [], ◌∷◌, length, map, drop, Option, Some, None, get_or, refl, sym, ap, drop-cons, add-one}
-use Rattle.std.specs.Prelude.{find, flat_map}
+use Rattle.std.proofs.Common.{◌≡◌, ◌+◌, ◌<◌, ◌∙◌, ℕ, Bool, true, false, List, [], ◌∷◌, length, map, drop, Option, Some, None, get_or, refl, sym, ap, drop-cons, add-one, ◌&&◌, ◌||◌, ◌==◌, eq-eqb, arith}
+use Rattle.std.specs.Prelude.{find, flat_map, nat_lt}
+use Rattle.std.proofs.lemmas.Bool.Decides.{nat_tests}
 use Rattle.std.specs.List.{enumerate_from}
 use Rattle.cf_types.specs.declared.tables.Place.{Place}
 use Rattle.cf_types.specs.declared.tables.Place.TheVariants.{Root, At}
@@ -9,11 +10,14 @@ use Rattle.std.proofs.lemmas.List.{append-nil}
 use Rattle.run_rules.specs.declared.world.Dev.{Dev}
 use Rattle.run_rules.specs.declared.world.Setup.{Setup}
 use Rattle.run_rules.specs.declared.world.Turn.{Turn}
-use Rattle.run_rules.specs.Search.{attach_at, bus_turns, child_spots, driver_at, places_of, spot_of, turns, turns_at, turns_of}
+use Rattle.run_rules.specs.declared.world.Position.{Position}
+use Rattle.run_rules.specs.Search.{is_before, attach_at, bus_turns, child_spots, driver_at, places_of, spot_of, turns, turns_at, turns_of}
 use Rattle.run_rules.proofs.Turns.{find_first, find_later}
 use Rattle.plain_world.specs.declared.rules.Rules.{Rules}
+use Rattle.plain_world.specs.declared.world.Plain.{Plain}
+use Rattle.plain_choice.specs.declared.turns.Going.{Going}
 use Rattle.plain_choice.specs.declared.turns.Bus.{Bus}
-use Rattle.plain_choice.specs.Buses.{row_turns, turn_on, turns_on}
+use Rattle.plain_choice.specs.Buses.{row_turns, takes, turn_on, turns_on}
 
 pub indirect_is : (r : Rules) (parent : Option ℕ) (b : Bus) → b.indirect ≡ true → turns_on r parent b ≡ row_turns r parent b
 unfolding bus_turns
@@ -22,6 +26,33 @@ indirect_is r parent b on = rw on refl
 pub direct_is : (r : Rules) (parent : Option ℕ) (b : Bus) → b.indirect ≡ false → turns_on r parent b ≡ map (turn_on b 0) (child_spots r.machine.now parent b.place)
 unfolding bus_turns
 direct_is r parent b off = rw off refl
+
+-- ---- spots
+
+earlier : (a r x y : ℕ) → x < y → (nat_lt a a || (a == a && (nat_lt r r || (r == r && nat_lt x y)))) ≡ true
+earlier a r x y lt =
+    let attr : (a == a) ≡ true = eq-eqb a a refl in
+    let row : (r == r) ≡ true = eq-eqb r r refl in
+    let spot : nat_lt x y ≡ true = grind (arith, nat_tests) in
+    rw (attr, row, spot) (or_true (nat_lt a a) (nat_lt r r))
+  where
+    or_true : (b c : Bool) → (b || (true && (c || (true && true)))) ≡ true
+    or_true true c = refl
+    or_true false true = refl
+    or_true false false = refl
+
+-- a turn of the position's bus and row at an earlier spot is before it
+pub spot_before : (b : Bus) (row x : ℕ) (from : Position) → b.attr ≡ from.attr → row ≡ from.row → x < from.spot → is_before (turn_on b row x).at from ≡ true
+unfolding is_before
+spot_before b row x from attr same lt = rw (attr, same) (earlier from.attr from.row x from.spot lt)
+
+-- what is before the position is not taken
+pub passed_by : (r : Rules) (p : Plain) (g : Going) (t : Turn) (child : Bool) → is_before t.at g.from ≡ true → (child && takes r p g t) ≡ false
+passed_by r p g t child before = rw before (and_false child)
+  where
+    and_false : (b : Bool) → (b && false) ≡ false
+    and_false true = refl
+    and_false false = refl
 
 -- ---- places
 

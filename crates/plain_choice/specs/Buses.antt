@@ -13,7 +13,7 @@ use Rattle.plain_world.specs.Rules.{setup_by}
 
 -- a scan takes a turn that is due and not before its position
 abbrev pub takes : Rules → Plain → Going → Turn → Bool
-takes r p g t = not (is_before t.at g.from) && is_due (setup_by r) p.live.items p.absent.items p.hidden.items g.serial g.filter.now t
+takes r p g t = not (is_before t.at g.from) && is_due (setup_by r) p.live.devices p.absent.items p.hidden.items g.serial g.filter.now t
 
 -- the turn of a bus at a row and a spot
 abbrev pub turn_on : Bus → ℕ → ℕ → Turn
@@ -29,4 +29,4 @@ turns_on r parent b = bus_turns r.machine.now (length r.tables.now.rows) b.indir
 
 -- those of these attributes, of which the first has this number
 abbrev pub turns_among : Rules → Plain → ℕ → ℕ → List ℕ → List Turn
-turns_among r p serial n attrs = flat_map (turns_at (setup_by r) p.live.items serial) (enumerate_from n (map At attrs))
+turns_among r p serial n attrs = flat_map (turns_at (setup_by r) p.live.devices serial) (enumerate_from n (map At attrs))

@@ -20,7 +20,7 @@ use std::alloc::Global;
 #[tactic(auto, unfolding(run_rules::specs::Next::next_boot))]
 fn next_boot(rules: &Rules, plain: &Plain) -> Choice
     requires fit { AreFit rules.now }
-    requires few { length plain.now.live.items ≤ 1024 }
+    requires few { length plain.now.live.devices ≤ 1024 }
     ensures { next.next_boot (world_of (setup_by rules.now) plain.now) ≡ result }
 {
     if !plain.interrupts_on {
@@ -125,7 +125,7 @@ fn next_command(
 /// What a frame on top leads to.
 fn next_frame(rules: &Rules, plain: &Plain, frame: &Frame) -> Deed
     requires fit { AreFit rules.now }
-    requires few { length plain.now.live.items ≤ 1024 }
+    requires few { length plain.now.live.devices ≤ 1024 }
     ensures { (k : ℕ) (rest : List frames.Frame) → next.on_top (world_of (setup_by rules.now) plain.now) k (frame.now ∷ rest) ≡ Does result }
 {
     match frame {

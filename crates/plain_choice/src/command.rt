@@ -7,7 +7,6 @@ ghost use Rattle.run_rules.specs.World as world;
 ghost use Rattle.run_rules.specs.declared.deed.Deed.TheVariants as deeds;
 ghost use Rattle.run_rules.specs.declared.deed.Refusal.TheVariants as refusal;
 ghost use Rattle.plain_choice.specs.Commands.{if_held, on_found};
-ghost use Rattle.plain_world.specs.Devices.{AreNumbered};
 ghost use Rattle.plain_world.specs.Plain.{world_of};
 ghost use Rattle.plain_world.specs.Rules.{AreFit, setup_by};
 
@@ -22,7 +21,7 @@ use std::alloc::Global;
 
 /// The live device that a command names.
 fn named(alloc: Global, rules: &Rules, plain: &Plain, name: &Name) -> Result<Option<Dev>, Memory>
-    ensures { IfOk result (λ found. world.device_named (setup_by rules.now) plain.now.live.items name.now ≡ found) }
+    ensures { IfOk result (λ found. world.device_named (setup_by rules.now) plain.now.live.devices name.now ≡ found) }
 {
     device_named(alloc, rules, &plain.live, name.bytes())
 }
@@ -127,7 +126,6 @@ fn is_hindrance(
     forced: bool,
     device: Dev,
 ) -> bool
-    requires { AreNumbered plain.now.live.items }
     ensures { result ≡ next.is_hindrance (world_of (setup_by rules.now) plain.now) target caller forced device }
 {
     is_under(&plain.live, target, device.serial)
@@ -140,10 +138,9 @@ fn is_hindrance(
 /// The first device that keeps the target's subtree from going. See config_detach(9).
 #[tactic(auto, unfolding(run_rules::specs::Next::hindered))]
 fn hindered(rules: &Rules, plain: &Plain, target: u64, caller: u8, forced: bool) -> Option<Dev>
-    requires { AreNumbered plain.now.live.items }
     ensures { result ≡ next.hindered (world_of (setup_by rules.now) plain.now) target caller forced }
 {
-    plain.live.iter().copied().find(|device| is_hindrance(
+    plain.live.devices().iter().copied().find(|device| is_hindrance(
         rules, plain, target, caller, forced, *device,
     ))
 }
@@ -157,7 +154,6 @@ fn unless_hindered(
     forced: bool,
     deed: Deed,
 ) -> Deed
-    requires { AreNumbered plain.now.live.items }
     ensures { next.unless_hindered (world_of (setup_by rules.now) plain.now) caller target forced deed ≡ result }
 {
     match hindered(rules, plain, target, caller, forced) {
@@ -168,7 +164,6 @@ fn unless_hindered(
 
 /// A device is to go with all that is below it.
 fn detach(rules: &Rules, plain: &Plain, caller: u8, found: Option<Dev>) -> Deed
-    requires { AreNumbered plain.now.live.items }
     ensures { let w = world_of (setup_by rules.now) plain.now in on_found found (λ d. next.unless_hindered w caller d.serial false (deeds.Detach d.serial)) ≡ result }
 {
     let Some(device) = found else {
@@ -245,7 +240,6 @@ fn plug(rules: &Rules, plain: &Plain, name: &Name) -> Deed
 
 /// Hardware goes from a spot, with what stands on it.
 fn unplugging(rules: &Rules, plain: &Plain, caller: u8, spot: u16) -> Deed
-    requires { AreNumbered plain.now.live.items }
     ensures { next.unplugging (world_of (setup_by rules.now) plain.now) caller spot ≡ result }
 {
     let Some(device) = device_on(&plain.live, spot) else {
@@ -261,7 +255,6 @@ fn unplugging(rules: &Rules, plain: &Plain, caller: u8, spot: u16) -> Deed
 /// Hardware goes from the spot of a name.
 fn unplug(rules: &Rules, plain: &Plain, caller: u8, name: &Name) -> Deed
     requires fit { AreFit rules.now }
-    requires numbered { AreNumbered plain.now.live.items }
     ensures { let w = world_of (setup_by rules.now) plain.now in option_map_or (next.unplugging w caller) (next.spot_named w name.now) (deeds.Refuse refusal.NoSpot) ≡ result }
 {
     match spot_named(rules, name.bytes()) {
@@ -281,7 +274,6 @@ pub fn command_deed(
     said: &Command,
 ) -> Result<Deed, Memory>
     requires fit { AreFit rules.now }
-    requires numbered { AreNumbered plain.now.live.items }
     ensures { IfOk result (λ does. next.command_deed (world_of (setup_by rules.now) plain.now) caller number said.now ≡ does) }
 {
     match said {

@@ -76,7 +76,7 @@ fn shown_by(rules: &Rules, plain: &Plain, serial: u64) -> Option<u16>
 #[tactic(auto, unfolding(run_rules::specs::Next::finalise))]
 pub fn finalise(rules: &Rules, plain: &Plain, serial: u64, listed: Option<u64>, anew: bool) -> Deed
     requires fit { AreFit rules.now }
-    requires few { length plain.now.live.items ≤ 1024 }
+    requires few { length plain.now.live.devices ≤ 1024 }
     ensures { next.finalise (world_of (setup_by rules.now) plain.now) serial listed anew ≡ result }
 {
     match shown_by(rules, plain, serial) {

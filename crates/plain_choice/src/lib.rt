@@ -8,5 +8,6 @@ mod matches;
 mod power;
 mod rescan;
 mod turns;
+mod units;
 
 pub use choose::next;

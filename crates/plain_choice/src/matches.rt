@@ -8,12 +8,13 @@ ghost use Rattle.run_rules.specs.Search as rule;
 ghost use Rattle.run_rules.specs.World as world;
 ghost use Rattle.plain_world.specs.Rules.{AreFit, setup_by};
 
+use crate::units::free_from;
 use cf_types::{Locs, MatchLine, ParentSpec, Place, Row};
 use locator_rules::submatch;
 use plain_world::{
-    Rules, attach_of, device_at, driver_of, has, is_number, offered, row_at, same_place,
+    Live, Rules, attach_of, device_at, driver_of, has, is_number, offered, row_at, same_place,
 };
-use run_rules::{Arrival, Dev, ParentRef};
+use run_rules::{Arrival, ParentRef};
 
 /// The last line for an attachment and a spot.
 fn last_for(lines: &[MatchLine], attach: u32, spot: u16) -> Option<MatchLine>
@@ -59,8 +60,8 @@ fn value_of(rules: &Rules, row: u32, spot: u16) -> u32
 }
 
 /// The parent of a search.
-fn parent_ref(rules: &Rules, live: &[Dev], serial: u64) -> ParentRef
-    ensures { result ≡ rule.parent_ref (setup_by rules.now) live.now serial }
+fn parent_ref(rules: &Rules, live: &Live, serial: u64) -> ParentRef
+    ensures { result ≡ rule.parent_ref (setup_by rules.now) live.now.devices serial }
 {
     match device_at(live, serial) {
         Some(device) => ParentRef::Dev {
@@ -132,15 +133,16 @@ fn passes(rules: &Rules, place: Place, row: &Row, spot: u16) -> bool
 }
 
 /// Whether a live device has this driver and unit.
-fn is_taken(rules: &Rules, live: &[Dev], driver: u32, unit: u32) -> bool
-    ensures { result ≡ rule.is_taken (setup_by rules.now) live.now driver unit }
+fn is_taken(rules: &Rules, live: &Live, driver: u32, unit: u32) -> bool
+    ensures { result ≡ rule.is_taken (setup_by rules.now) live.now.devices driver unit }
 {
-    live.iter().any(|device| driver_of(rules, device.row) == driver && device.unit == unit)
+    live.devices().iter().any(|device| driver_of(rules, device.row) == driver
+        && device.unit == unit)
 }
 
 /// Whether a row may still give a device.
-fn is_live_row(rules: &Rules, live: &[Dev], row: &Row) -> bool
-    ensures { result ≡ rule.is_live_row (setup_by rules.now) live.now row.now }
+fn is_live_row(rules: &Rules, live: &Live, row: &Row) -> bool
+    ensures { result ≡ rule.is_live_row (setup_by rules.now) live.now.devices row.now }
 {
     row.star || !is_taken(rules, live, row.device, row.unit)
 }
@@ -149,14 +151,14 @@ fn is_live_row(rules: &Rules, live: &[Dev], row: &Row) -> bool
 #[tactic(auto, unfolding(run_rules::specs::Search::is_candidate))]
 fn is_candidate(
     rules: &Rules,
-    live: &[Dev],
+    live: &Live,
     parent: ParentRef,
     place: Place,
     spot: u16,
     row: u32,
 ) -> bool
     requires { AreFit rules.now }
-    ensures { result ≡ rule.is_candidate (setup_by rules.now) live.now parent place spot row }
+    ensures { result ≡ rule.is_candidate (setup_by rules.now) live.now.devices parent place spot row }
 {
     match rules.tables.rows.items().get(row as usize) {
         Some(row) => {
@@ -180,9 +182,9 @@ fn is_above(rules: &Rules, row: u32, best: Option<u32>, spot: u16) -> bool
 }
 
 /// The row that takes a spot below a parent: of the candidates the one of greatest match value, the earliest among equals.
-fn winner(rules: &Rules, live: &[Dev], parent: ParentRef, place: Place, spot: u16) -> Option<u32>
+fn winner(rules: &Rules, live: &Live, parent: ParentRef, place: Place, spot: u16) -> Option<u32>
     requires { AreFit rules.now }
-    ensures { rule.winner (setup_by rules.now) live.now parent place spot ≡ result }
+    ensures { rule.winner (setup_by rules.now) live.now.devices parent place spot ≡ result }
 {
     let mut best = None;
     for row in 0..rules.tables.rows.len() as u32 {
@@ -194,33 +196,19 @@ fn winner(rules: &Rules, live: &[Dev], parent: ParentRef, place: Place, spot: u1
 }
 
 /// The row that takes a spot below the device of a serial, or below the root.
-pub fn winner_at(rules: &Rules, live: &[Dev], parent: u64, place: Place, spot: u16) -> Option<u32>
+pub fn winner_at(rules: &Rules, live: &Live, parent: u64, place: Place, spot: u16) -> Option<u32>
     requires { AreFit rules.now }
-    ensures { rule.winner_at (setup_by rules.now) live.now parent place spot ≡ result }
+    ensures { rule.winner_at (setup_by rules.now) live.now.devices parent place spot ≡ result }
 {
     winner(rules, live, parent_ref(rules, live, parent), place, spot)
 }
 
-/// The least unit of a driver that is not below the first one and that no live device has.
-fn free_from(rules: &Rules, live: &[Dev], driver: u32, first: u32) -> u32
-    requires first { first ≤ 65536 }
-    requires few { length live.now ≤ 1024 }
-    ensures { result ≡ first + rule.free_after (setup_by rules.now) live.now driver first }
-{
-    for tried in 0..live.len() as u32 + 1 {
-        if !is_taken(rules, live, driver, first + tried) {
-            return first + tried;
-        }
-    }
-    first
-}
-
 /// The unit that a row gives: its own, or, where it is starred, the least free one from its first unit on.
 #[tactic(auto, unfolding(run_rules::specs::Search::unit_of))]
-fn unit_of(rules: &Rules, live: &[Dev], row: u32) -> u32
+fn unit_of(rules: &Rules, live: &Live, row: u32) -> u32
     requires fit { AreFit rules.now }
-    requires few { length live.now ≤ 1024 }
-    ensures { result ≡ rule.unit_of (setup_by rules.now) live.now row }
+    requires few { length live.now.devices ≤ 1024 }
+    ensures { result ≡ rule.unit_of (setup_by rules.now) live.now.devices row }
 {
     match row_at(rules, row) {
         Some(row) => {
@@ -236,10 +224,10 @@ fn unit_of(rules: &Rules, live: &[Dev], row: u32) -> u32
 
 /// The device that comes to a spot below a parent, if a row takes it.
 #[tactic(auto, unfolding(run_rules::specs::Next::arrival))]
-pub fn arrival(rules: &Rules, live: &[Dev], parent: u64, place: Place, spot: u16) -> Option<Arrival>
+pub fn arrival(rules: &Rules, live: &Live, parent: u64, place: Place, spot: u16) -> Option<Arrival>
     requires fit { AreFit rules.now }
-    requires few { length live.now ≤ 1024 }
-    ensures { next.arrival (setup_by rules.now) live.now parent place spot ≡ result }
+    requires few { length live.now.devices ≤ 1024 }
+    ensures { next.arrival (setup_by rules.now) live.now.devices parent place spot ≡ result }
 {
     match winner_at(rules, live, parent, place, spot) {
         Some(row) => Some(Arrival {

@@ -4,12 +4,11 @@ ghost use Rattle.run_rules.specs.Next as next;
 ghost use Rattle.run_rules.specs.World as world;
 ghost use Rattle.run_rules.specs.declared.world.Activity.TheVariants as activity;
 ghost use Rattle.run_rules.specs.declared.world.Setup.{Setup};
-ghost use Rattle.plain_world.specs.Devices.{AreNumbered};
 ghost use Rattle.plain_world.specs.Plain.{world_of};
 ghost use Rattle.plain_choice.specs.Power.{sleeping};
 ghost use Rattle.plain_world.specs.Rules.{setup_by};
 
-use plain_world::{Plain, Rules, holds, is_live, is_pinned, is_under, policy_of, refers};
+use plain_world::{Live, Plain, Rules, holds, is_live, is_pinned, is_under, policy_of, refers};
 use run_rules::{Choice, Deed, Dev, PowerEnd, PowerKind, Ref, Wait};
 
 /// Whether a caller condemned a device.
@@ -39,7 +38,7 @@ fn next_free(live: &[Dev], caller: u8) -> Option<u64>
 pub fn freeing(plain: &Plain, caller: u8) -> Choice
     ensures { (s : Setup) → next.freeing (world_of s plain.now) caller ≡ result }
 {
-    match next_free(&plain.live, caller) {
+    match next_free(plain.live.devices(), caller) {
         Some(serial) => {
             if refers(&plain.refs, serial) {
                 Choice::Waits(Wait::Refs(serial))
@@ -52,29 +51,27 @@ pub fn freeing(plain: &Plain, caller: u8) -> Choice
 }
 
 /// Whether a suspension of the target is still to put a device to sleep.
-fn is_to_sleep(live: &[Dev], device: Dev, target: u64) -> bool
-    requires { AreNumbered live.now }
-    ensures { result ≡ (not device.asleep && world.is_under live.now target device.serial) }
+fn is_to_sleep(live: &Live, device: Dev, target: u64) -> bool
+    ensures { result ≡ (not device.asleep && world.is_under live.now.devices target device.serial) }
 {
     !device.asleep && is_under(live, target, device.serial)
 }
 
 /// The device that a suspension of the target puts to sleep next: of those awake in its subtree the last one.
 #[tactic(auto, unfolding(run_rules::specs::Next::next_sleep))]
-fn next_sleep(live: &[Dev], target: u64) -> Option<Dev>
-    requires { AreNumbered live.now }
-    ensures { result ≡ next.next_sleep live.now target }
+fn next_sleep(live: &Live, target: u64) -> Option<Dev>
+    ensures { result ≡ next.next_sleep live.now.devices target }
 {
-    live.iter()
+    live.devices()
+        .iter()
         .rev()
         .copied()
         .find(|device| is_to_sleep(live, *device, target))
 }
 
 /// Whether a resumption of the target is still to wake a device.
-fn is_to_wake(live: &[Dev], device: Dev, target: u64, whole: bool) -> bool
-    requires { AreNumbered live.now }
-    ensures { result ≡ (device.asleep && (world.is_under live.now device.serial target || (whole && world.is_under live.now target device.serial))) }
+fn is_to_wake(live: &Live, device: Dev, target: u64, whole: bool) -> bool
+    ensures { result ≡ (device.asleep && (world.is_under live.now.devices device.serial target || (whole && world.is_under live.now.devices target device.serial))) }
 {
     device.asleep
         && (is_under(live, device.serial, target)
@@ -84,11 +81,11 @@ fn is_to_wake(live: &[Dev], device: Dev, target: u64, whole: bool) -> bool
 /// The device that a resumption of the target wakes next: of the sleeping ones among it and its ancestors, and below it
 /// where that is asked for, the first one.
 #[tactic(auto, unfolding(run_rules::specs::Next::next_wake))]
-fn next_wake(live: &[Dev], target: u64, whole: bool) -> Option<Dev>
-    requires { AreNumbered live.now }
-    ensures { result ≡ next.next_wake live.now target whole }
+fn next_wake(live: &Live, target: u64, whole: bool) -> Option<Dev>
+    ensures { result ≡ next.next_wake live.now.devices target whole }
 {
-    live.iter()
+    live.devices()
+        .iter()
         .copied()
         .find(|device| is_to_wake(live, *device, target, whole))
 }
@@ -113,7 +110,6 @@ fn sleeping(rules: &Rules, plain: &Plain, device: Dev) -> Choice
 /// How a suspension goes on.
 #[tactic(auto, unfolding(run_rules::specs::Next::suspending))]
 fn suspending(rules: &Rules, plain: &Plain, target: u64) -> Choice
-    requires { AreNumbered plain.now.live.items }
     ensures { next.suspending (world_of (setup_by rules.now) plain.now) target ≡ result }
 {
     match next_sleep(&plain.live, target) {
@@ -125,7 +121,6 @@ fn suspending(rules: &Rules, plain: &Plain, target: u64) -> Choice
 /// How a resumption goes on.
 #[tactic(auto, unfolding(run_rules::specs::Next::waking))]
 fn waking(plain: &Plain, target: u64, whole: bool) -> Choice
-    requires { AreNumbered plain.now.live.items }
     ensures { (s : Setup) → next.waking (world_of s plain.now) target whole ≡ result }
 {
     match next_wake(&plain.live, target, whole) {
@@ -136,7 +131,6 @@ fn waking(plain: &Plain, target: u64, whole: bool) -> Choice
 
 /// How a power command goes on with a target that is live.
 fn going(rules: &Rules, plain: &Plain, kind: PowerKind, target: u64) -> Choice
-    requires { AreNumbered plain.now.live.items }
     ensures { next.powering (world_of (setup_by rules.now) plain.now) kind target ≡ result }
 {
     match kind {
@@ -148,7 +142,6 @@ fn going(rules: &Rules, plain: &Plain, kind: PowerKind, target: u64) -> Choice
 
 /// How a power command goes on.
 pub fn powering(rules: &Rules, plain: &Plain, kind: PowerKind, target: u64) -> Choice
-    requires { AreNumbered plain.now.live.items }
     ensures { (k : ℕ) → next.by_activity (world_of (setup_by rules.now) plain.now) k (activity.Power kind target) ≡ result }
 {
     if is_live(&plain.live, target) {
@@ -171,7 +164,7 @@ fn first_held(live: &[Dev], references: &[Ref], caller: u8) -> Option<Dev>
 pub fn closing(plain: &Plain, caller: u8) -> Choice
     ensures { (s : Setup) → next.closing (world_of s plain.now) caller ≡ result }
 {
-    match first_held(&plain.live, &plain.refs, caller) {
+    match first_held(plain.live.devices(), &plain.refs, caller) {
         Some(device) => Choice::Does(Deed::Drop { of: device.serial }),
         None => Choice::Does(Deed::EndCaller),
     }

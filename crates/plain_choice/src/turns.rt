@@ -1,5 +1,5 @@
 //! The due turn of a scan, by a search through all turns. See autoconf(9).
-ghost use Rattle.std.specs.Prelude.{◌≡◌, ◌≤◌, ◌<◌, ◌==◌, ◌&&◌, false, find, map, reverse, length, slice_get};
+ghost use Rattle.std.specs.Prelude.{◌≡◌, ◌≤◌, ◌<◌, ◌==◌, ◌&&◌, ℕ, false, true, find, map, reverse, length, slice_get};
 ghost use Rattle.cf_types.specs.declared.tables.Place.TheVariants.{At};
 ghost use Rattle.std.specs.Option.{option_map_or};
 ghost use Rattle.std.specs.Ordering.{int_eq};
@@ -37,7 +37,7 @@ fn passes_filter(found: &[i64], filter: &[Wanted]) -> bool
 /// Whether a spot is open to search: present, not hidden, free, and with the locator values that are wanted.
 #[tactic(auto, unfolding(run_rules::specs::Search::is_open))]
 fn is_open(rules: &Rules, plain: &Plain, filter: &[Wanted], spot: u16) -> bool
-    ensures { result ≡ rule.is_open rules.now.machine.now plain.now.live.items plain.now.absent.items plain.now.hidden.items filter.now spot }
+    ensures { result ≡ rule.is_open rules.now.machine.now plain.now.live.devices plain.now.absent.items plain.now.hidden.items filter.now spot }
 {
     let absent = has_spot(&plain.absent, spot);
     let hidden = has_spot(&plain.hidden, spot);
@@ -58,7 +58,7 @@ fn is_row(winner: Option<u32>, row: u32) -> bool
 /// Whether a turn's row is the winner at its spot.
 fn wins(rules: &Rules, plain: &Plain, serial: u64, turn: Turn) -> bool
     requires { AreFit rules.now }
-    ensures { result ≡ world.is_number (rule.winner_at (setup_by rules.now) plain.now.live.items serial turn.place turn.at.spot) turn.at.row }
+    ensures { result ≡ world.is_number (rule.winner_at (setup_by rules.now) plain.now.live.devices serial turn.place turn.at.spot) turn.at.row }
 {
     is_row(
         winner_at(rules, &plain.live, serial, turn.place, turn.at.spot),
@@ -70,7 +70,7 @@ fn wins(rules: &Rules, plain: &Plain, serial: u64, turn: Turn) -> bool
 #[tactic(auto, unfolding(run_rules::specs::Search::is_due))]
 fn is_due(rules: &Rules, plain: &Plain, serial: u64, filter: &[Wanted], turn: Turn) -> bool
     requires { AreFit rules.now }
-    ensures { result ≡ rule.is_due (setup_by rules.now) plain.now.live.items plain.now.absent.items plain.now.hidden.items serial filter.now turn }
+    ensures { result ≡ rule.is_due (setup_by rules.now) plain.now.live.devices plain.now.absent.items plain.now.hidden.items serial filter.now turn }
 {
     is_open(rules, plain, filter, turn.at.spot)
         && (!turn.indirect || wins(rules, plain, serial, turn))
@@ -133,6 +133,21 @@ fn turn_on(bus: Bus, row: u32, spot: u16) -> Turn
     }
 }
 
+/// The spot from which the turns of a row are looked at: those of all spots before it are before the scan's position.
+#[tactic(auto, using(crate::proofs::BusLaws::spot_before))]
+fn first_spot(scan: &Going, bus: Bus, row: u32) -> u16
+    ensures { (x : ℕ) → x < result → rule.is_before (turn_on bus row x).at scan.now.from ≡ true }
+{
+    if bus.attr != scan.from.attr {
+        return 0;
+    }
+    if row == scan.from.row {
+        scan.from.spot
+    } else {
+        0
+    }
+}
+
 /// The turn that a scan takes among those of a row.
 fn row_turn(
     rules: &Rules,
@@ -145,7 +160,7 @@ fn row_turn(
     requires { AreFit rules.now }
     ensures { find (takes rules.now plain.now scan.now) (map (turn_on bus row) (rule.child_spots rules.now.machine.now parent bus.place)) ≡ result }
 {
-    for spot in 0..rules.machine.spots.len() as u16 {
+    for spot in first_spot(scan, bus, row)..rules.machine.spots.len() as u16 {
         let turn = turn_on(bus, row, spot);
         if is_child(rules, parent, bus.place, spot) && is_next(rules, plain, scan, turn) {
             return Some(turn);
@@ -226,7 +241,7 @@ fn is_indirect(rules: &Rules, attach: Option<u32>, place: Place) -> bool
 /// The turn that a scan takes at a place of this number.
 fn place_turn(rules: &Rules, plain: &Plain, scan: &Going, attr: u16, place: Place) -> Option<Turn>
     requires { AreFit rules.now }
-    ensures { find (takes rules.now plain.now scan.now) (rule.turns_at (setup_by rules.now) plain.now.live.items scan.now.serial (attr, place)) ≡ result }
+    ensures { find (takes rules.now plain.now scan.now) (rule.turns_at (setup_by rules.now) plain.now.live.devices scan.now.serial (attr, place)) ≡ result }
 {
     let attach = attach_at(rules, &plain.live, scan.serial);
     let bus = Bus {
@@ -256,7 +271,7 @@ fn turn_among(rules: &Rules, plain: &Plain, scan: &Going, attrs: &[u32]) -> Opti
 /// The turn that a scan takes at all places that its device offers, or at the root.
 fn turn_of_all(rules: &Rules, plain: &Plain, scan: &Going) -> Option<Turn>
     requires { AreFit rules.now }
-    ensures { find (takes rules.now plain.now scan.now) (rule.turns (setup_by rules.now) plain.now.live.items scan.now.serial None) ≡ result }
+    ensures { find (takes rules.now plain.now scan.now) (rule.turns (setup_by rules.now) plain.now.live.devices scan.now.serial None) ≡ result }
 {
     match driver_at(rules, &plain.live, scan.serial) {
         Some(driver) => turn_among(rules, plain, scan, offered(rules, driver)),
@@ -268,7 +283,7 @@ fn turn_of_all(rules: &Rules, plain: &Plain, scan: &Going) -> Option<Turn>
 #[tactic(auto, unfolding(run_rules::specs::Search::due))]
 fn due_turn(rules: &Rules, plain: &Plain, scan: &Going, only: Option<u32>) -> Option<Turn>
     requires { AreFit rules.now }
-    ensures { rule.due (setup_by rules.now) plain.now.live.items plain.now.absent.items plain.now.hidden.items scan.now.serial only scan.now.filter.now scan.now.from ≡ result }
+    ensures { rule.due (setup_by rules.now) plain.now.live.devices plain.now.absent.items plain.now.hidden.items scan.now.serial only scan.now.filter.now scan.now.from ≡ result }
 {
     match only {
         Some(attr) => turn_among(rules, plain, scan, &[attr]),
@@ -308,8 +323,8 @@ pub fn next_scan(
     from: Position,
 ) -> Deed
     requires fit { AreFit rules.now }
-    requires few { length plain.now.live.items ≤ 1024 }
-    ensures { next.next_scan (setup_by rules.now) plain.now.live.items plain.now.absent.items plain.now.hidden.items serial only filter.now from ≡ result }
+    requires few { length plain.now.live.devices ≤ 1024 }
+    ensures { next.next_scan (setup_by rules.now) plain.now.live.devices plain.now.absent.items plain.now.hidden.items serial only filter.now from ≡ result }
 {
     let scan = Going {
         serial,

@@ -15,28 +15,26 @@ pub quiet_is_left : (d : Deed)
     → ((s : ℕ) (sole : Bool) → d ≢ Open s sole)
     → ((s : ℕ) → d ≢ Detach s)
     → ((s : ℕ) (only : Option ℕ) → d ≢ Rescan s only)
-    → ((s : ℕ) → d ≢ Sleep s)
-    → ((s : ℕ) → d ≢ Wake s)
     → ((x : ℕ) (of : Option ℕ) → d ≢ Unplug x of)
     → is_quiet d ≡ true
-quiet_is_left (Search p spot to got) a b c e f g h i j l = absurd (a p spot to got refl)
-quiet_is_left (EndScan p) a b c e f g h i j l = absurd (b p refl)
-quiet_is_left BeginInterrupts a b c e f g h i j l = absurd (c refl)
-quiet_is_left (Finalise s shown got listed anew) a b c e f g h i j l = absurd (e s shown got listed anew refl)
-quiet_is_left (Open s sole) a b c e f g h i j l = absurd (f s sole refl)
-quiet_is_left (Detach s) a b c e f g h i j l = absurd (g s refl)
-quiet_is_left (Rescan s only) a b c e f g h i j l = absurd (h s only refl)
-quiet_is_left (Sleep s) a b c e f g h i j l = absurd (i s refl)
-quiet_is_left (Wake s) a b c e f g h i j l = absurd (j s refl)
-quiet_is_left (Unplug x of) a b c e f g h i j l = absurd (l x of refl)
-quiet_is_left EndCaller a b c e f g h i j l = refl
-quiet_is_left (Drop s) a b c e f g h i j l = refl
-quiet_is_left (Refuse why) a b c e f g h i j l = refl
-quiet_is_left (Close s) a b c e f g h i j l = refl
-quiet_is_left (Start ticket) a b c e f g h i j l = refl
-quiet_is_left (Done ticket) a b c e f g h i j l = refl
-quiet_is_left (Free s) a b c e f g h i j l = refl
-quiet_is_left (BeginPower kind s) a b c e f g h i j l = refl
-quiet_is_left (EndPower end) a b c e f g h i j l = refl
-quiet_is_left (Plug x) a b c e f g h i j l = refl
-quiet_is_left Tell a b c e f g h i j l = refl
+quiet_is_left (Search p spot to got) a b c e f g h l = absurd (a p spot to got refl)
+quiet_is_left (EndScan p) a b c e f g h l = absurd (b p refl)
+quiet_is_left BeginInterrupts a b c e f g h l = absurd (c refl)
+quiet_is_left (Finalise s shown got listed anew) a b c e f g h l = absurd (e s shown got listed anew refl)
+quiet_is_left (Open s sole) a b c e f g h l = absurd (f s sole refl)
+quiet_is_left (Detach s) a b c e f g h l = absurd (g s refl)
+quiet_is_left (Rescan s only) a b c e f g h l = absurd (h s only refl)
+quiet_is_left (Unplug x of) a b c e f g h l = absurd (l x of refl)
+quiet_is_left EndCaller a b c e f g h l = refl
+quiet_is_left (Drop s) a b c e f g h l = refl
+quiet_is_left (Refuse why) a b c e f g h l = refl
+quiet_is_left (Close s) a b c e f g h l = refl
+quiet_is_left (Start ticket) a b c e f g h l = refl
+quiet_is_left (Done ticket) a b c e f g h l = refl
+quiet_is_left (Free s) a b c e f g h l = refl
+quiet_is_left (BeginPower kind s) a b c e f g h l = refl
+quiet_is_left (Sleep s) a b c e f g h l = refl
+quiet_is_left (Wake s) a b c e f g h l = refl
+quiet_is_left (EndPower end) a b c e f g h l = refl
+quiet_is_left (Plug x) a b c e f g h l = refl
+quiet_is_left Tell a b c e f g h l = refl

@@ -1,7 +1,7 @@
 -- Which deeds take no memory, and what place a deed has in the boot's list.
 use Rattle.std.specs.Prelude.{◌<◌, ◌-◌, ◌^◌, ⊤, Bool, true, false, IfSome}
 use Rattle.run_rules.specs.declared.deed.Deed.{Deed}
-use Rattle.run_rules.specs.declared.deed.Deed.TheVariants.{Finalise, EndCaller, Drop, Refuse, Close, Start, Done, Free, BeginPower, EndPower, Plug, Tell}
+use Rattle.run_rules.specs.declared.deed.Deed.TheVariants.{Finalise, EndCaller, Drop, Refuse, Close, Start, Done, Free, BeginPower, Sleep, Wake, EndPower, Plug, Tell}
 
 -- the deeds that take no memory
 abbrev pub is_quiet : Deed → Bool
@@ -13,6 +13,8 @@ is_quiet (Start ticket) = true
 is_quiet (Done ticket) = true
 is_quiet (Free of) = true
 is_quiet (BeginPower kind of) = true
+is_quiet (Sleep of) = true
+is_quiet (Wake of) = true
 is_quiet (EndPower end) = true
 is_quiet (Plug spot) = true
 is_quiet Tell = true

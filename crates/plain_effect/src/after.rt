@@ -11,7 +11,7 @@ use cf_types::{Memory, Policy};
 use plain_world::{
     Plain, Rules, driver_of, has_ended, is_nothing, new_scan, offered, policy_of, same_key,
 };
-use run_rules::{Activity, Arrival, Deferred, Dev, Frame, Key, Placing, Position};
+use run_rules::{Activity, Arrival, Deferred, Frame, Key, Placing, Position};
 use std::alloc::Global;
 
 /// The command of a caller is over.
@@ -82,7 +82,7 @@ fn advance(plain: &mut Plain, caller: u8, to: Position)
     requires { HasCaller plain.old caller 500 }
     ensures world { (s : Setup) → world_of s plain.new ≡ after.with_stack (world_of s plain.old) caller (after.moved_top to (state_at plain.old.callers.items caller).stack) }
     ensures caller { HasCaller plain.new caller 501 }
-    ensures next { plain.new.next ≡ plain.old.next }
+    ensures next { plain.new.live.next ≡ plain.old.live.next }
 {
     plain.callers[caller as usize].advance(to);
 }
@@ -98,21 +98,11 @@ fn leave(plain: &mut Plain, caller: u8)
 /// A device is listed, with the next serial.
 #[tactic(auto, unfolding(run_rules::specs::After::listed))]
 fn list(plain: &mut Plain, arrival: Arrival) -> Result<(), Memory>
-    requires { plain.old.next < 2 ^ 64 - 1 }
+    requires { plain.old.live.next < 2 ^ 64 - 1 }
     ensures world { (s : Setup) → OnOk result (world_of s plain.new ≡ after.listed (world_of s plain.old) arrival) }
     ensures callers { plain.new.callers.items ≡ plain.old.callers.items }
 {
-    plain.live.push(Dev {
-        serial: plain.next,
-        row: arrival.row,
-        unit: arrival.unit,
-        parent: arrival.parent,
-        spot: arrival.spot,
-        asleep: false,
-        condemned: None,
-    })?;
-    plain.next += 1;
-    Ok(())
+    plain.live.push(arrival)
 }
 
 /// Where the finaliser of a new device goes.
@@ -242,11 +232,11 @@ fn attach(
 ) -> Result<(), Memory>
     requires fit { AreFit rules.now }
     requires caller { HasCaller plain.old caller 501 }
-    requires next { plain.old.next < 2 ^ 64 - 1 }
+    requires next { plain.old.live.next < 2 ^ 64 - 1 }
     ensures world { OnOk result (world_of (setup_by rules.now) plain.new ≡ after.attached (world_of (setup_by rules.now) plain.old) caller arrival may_defer) }
     ensures caller { OnOk result (HasCaller plain.new caller 503) }
 {
-    let serial = plain.next;
+    let serial = plain.live.next();
     list(plain, arrival)?;
     place_finaliser(plain, policy_of(rules, arrival.row), caller, serial)?;
     place_scan(alloc, rules, plain, caller, serial, arrival, may_defer)
@@ -263,7 +253,7 @@ fn arrive(
 ) -> Result<(), Memory>
     requires fit { AreFit rules.now }
     requires caller { HasCaller plain.old caller 501 }
-    requires next { plain.old.next < 2 ^ 64 - 1 }
+    requires next { plain.old.live.next < 2 ^ 64 - 1 }
     ensures world { OnOk result (world_of (setup_by rules.now) plain.new ≡ after.arrived (world_of (setup_by rules.now) plain.old) caller got may_defer) }
     ensures caller { OnOk result (HasCaller plain.new caller 503) }
 {
@@ -285,7 +275,7 @@ pub fn search(
 ) -> Result<(), Memory>
     requires fit { AreFit rules.now }
     requires caller { HasCaller plain.old caller 500 }
-    requires next { plain.old.next < 2 ^ 64 - 1 }
+    requires next { plain.old.live.next < 2 ^ 64 - 1 }
     ensures { (parent spot : ℕ) → OnOk result (world_of (setup_by rules.now) plain.new ≡ after.after (world_of (setup_by rules.now) plain.old) caller (deeds.Search parent spot moved got)) }
 {
     advance(plain, caller, moved);
@@ -303,7 +293,7 @@ pub fn remove_spot(spots: &mut Vec<u16>, spot: u16)
 fn show(plain: &mut Plain, spot: Option<u16>)
     ensures world { (s : Setup) → world_of s plain.new ≡ after.show_spot (world_of s plain.old) spot }
     ensures callers { plain.new.callers.items ≡ plain.old.callers.items }
-    ensures next { plain.new.next ≡ plain.old.next }
+    ensures next { plain.new.live.next ≡ plain.old.live.next }
 {
     if let Some(spot) = spot {
         remove_spot(&mut plain.hidden, spot);
@@ -352,7 +342,7 @@ pub fn finalise(
 ) -> Result<(), Memory>
     requires fit { AreFit rules.now }
     requires caller { HasCaller plain.old caller 500 }
-    requires next { plain.old.next < 2 ^ 64 - 1 }
+    requires next { plain.old.live.next < 2 ^ 64 - 1 }
     requires place { IfSome listed (λ place. place < 2 ^ 64 - 1) }
     ensures { (of : ℕ) → OnOk result (world_of (setup_by rules.now) plain.new ≡ after.after (world_of (setup_by rules.now) plain.old) caller (deeds.Finalise of shown got listed anew)) }
 {

@@ -6,7 +6,6 @@ ghost use Rattle.run_rules.specs.References.{given_back, is_of, shared_again};
 ghost use Rattle.run_rules.specs.declared.deed.Deed.TheVariants as deeds;
 ghost use Rattle.run_rules.specs.declared.world.Activity.TheVariants as activity;
 ghost use Rattle.run_rules.specs.declared.world.Setup.{Setup};
-ghost use Rattle.plain_world.specs.Devices.{AreNumbered};
 ghost use Rattle.plain_effect.specs.Effects.{HasPlace, is_quiet};
 ghost use Rattle.plain_world.specs.Plain.{HasCaller, state_at, world_of};
 ghost use Rattle.plain_world.specs.Rules.{AreFit, setup_by};
@@ -15,8 +14,8 @@ use crate::after::{
     begin, begin_interrupts, end_scan, finalise, finish, push, remove_spot, search,
 };
 use cf_types::{Command, Given, Memory};
-use plain_world::{Caller, Plain, Rules, command_of, is_under, wanted_by};
-use run_rules::{Activity, Deed, Dev, Frame, Position, Ref};
+use plain_world::{Caller, Plain, Rules, command_of, wanted_by};
+use run_rules::{Activity, Deed, Frame, Position, Ref};
 use std::alloc::Global;
 
 /// A caller has one reference more to a device, which may be the only one.
@@ -64,71 +63,19 @@ fn give_back(plain: &mut Plain, caller: u8, of: u64)
     share_again(&mut plain.sole, of);
 }
 
-/// A device, condemned where it is the one above or below it.
-fn condemned(live: &[Dev], caller: u8, above: u64, device: Dev) -> Dev
-    requires { AreNumbered live.now }
-    ensures { result ≡ after.with_condemner live.now caller above device }
-{
-    if is_under(live, above, device.serial) {
-        Dev {
-            condemned: Some(caller),
-            ..device
-        }
-    } else {
-        device
-    }
-}
-
-/// The devices with a subtree condemned.
-fn all_condemned(alloc: Global, live: &[Dev], caller: u8, above: u64) -> Result<Vec<Dev>, Memory>
-    requires { AreNumbered live.now }
-    ensures { IfOk result (λ devices. devices.items ≡ map (after.with_condemner live.now caller above) live.now) }
-{
-    let mut devices = Vec::new(alloc);
-    for device in live {
-        devices.push(condemned(live, caller, above, *device))?;
-    }
-    Ok(devices)
-}
-
 /// A device and all that is below it are condemned.
 fn condemn(alloc: Global, plain: &mut Plain, caller: u8, above: u64) -> Result<(), Memory>
-    requires { AreNumbered plain.old.live.items }
     ensures world { (s : Setup) → OnOk result (world_of s plain.new ≡ after.condemned (world_of s plain.old) caller above) }
     ensures callers { plain.new.callers.items ≡ plain.old.callers.items }
 {
-    plain.live = all_condemned(alloc, &plain.live, caller, above)?;
-    Ok(())
-}
-
-/// A device, asleep or awake where it has the serial.
-fn rested(serial: u64, asleep: bool, device: Dev) -> Dev
-    ensures { result ≡ after.with_sleep serial asleep device }
-{
-    if device.serial == serial {
-        Dev { asleep, ..device }
-    } else {
-        device
-    }
-}
-
-/// The devices, of which one is asleep or awake.
-fn all_rested(alloc: Global, live: &[Dev], serial: u64, asleep: bool) -> Result<Vec<Dev>, Memory>
-    ensures { IfOk result (λ devices. devices.items ≡ map (after.with_sleep serial asleep) live.now) }
-{
-    let mut devices = Vec::new(alloc);
-    for device in live {
-        devices.push(rested(serial, asleep, *device))?;
-    }
-    Ok(devices)
+    plain.live.condemn(alloc, caller, above)
 }
 
 /// A device goes to sleep, or wakes.
-fn rest(alloc: Global, plain: &mut Plain, of: u64, asleep: bool) -> Result<(), Memory>
-    ensures { (s : Setup) → OnOk result (world_of s plain.new ≡ after.marked (world_of s plain.old) of asleep) }
+fn rest(plain: &mut Plain, of: u64, asleep: bool)
+    ensures { (s : Setup) → world_of s plain.new ≡ after.marked (world_of s plain.old) of asleep }
 {
-    plain.live = all_rested(alloc, &plain.live, of, asleep)?;
-    Ok(())
+    plain.live.rest(of, asleep);
 }
 
 /// Whether a caller is over with what it frees, once this device is gone.
@@ -151,13 +98,6 @@ fn doing_of(callers: &[Caller], caller: u8) -> Activity
     }
 }
 
-/// Takes a device out of the live ones.
-fn remove(live: &mut Vec<Dev>, serial: u64)
-    ensures { live.new.items ≡ filter (λ d. not (d.serial == serial)) live.old.items }
-{
-    live.retain(|device| device.serial != serial);
-}
-
 /// A condemned device goes; where it is the target of its caller's command, that is over.
 #[tactic(auto, unfolding(run_rules::specs::After::after))]
 fn free(plain: &mut Plain, caller: u8, of: u64)
@@ -165,7 +105,7 @@ fn free(plain: &mut Plain, caller: u8, of: u64)
     ensures { (s : Setup) → world_of s plain.new ≡ after.after (world_of s plain.old) caller (deeds.Free of) }
 {
     let is_over = is_target(doing_of(&plain.callers, caller), of);
-    remove(&mut plain.live, of);
+    plain.live.remove(of);
     if is_over {
         finish(plain, caller);
     }
@@ -246,7 +186,6 @@ fn pull(absent: &mut Vec<u16>, spot: u16) -> Result<(), Memory>
 
 /// A device and all that is below it are condemned: the caller frees them from now on.
 fn detach(alloc: Global, plain: &mut Plain, caller: u8, of: u64) -> Result<(), Memory>
-    requires numbered { AreNumbered plain.old.live.items }
     requires caller { HasCaller plain.old caller 500 }
     ensures { (s : Setup) → OnOk result (world_of s plain.new ≡ after.doing (after.condemned (world_of s plain.old) caller of) caller (activity.Frees of)) }
 {
@@ -264,7 +203,6 @@ fn unplug(
     spot: u16,
     of: Option<u64>,
 ) -> Result<(), Memory>
-    requires numbered { AreNumbered plain.old.live.items }
     requires caller { HasCaller plain.old caller 500 }
     ensures { (s : Setup) → OnOk result (world_of s plain.new ≡ after.after (world_of s plain.old) caller (deeds.Unplug spot of)) }
 {
@@ -320,6 +258,8 @@ fn do_quietly(plain: &mut Plain, caller: u8, deed: Deed)
             plain.power_owner = None;
             finish(plain, caller);
         }
+        Deed::Sleep { of } => rest(plain, of, true),
+        Deed::Wake { of } => rest(plain, of, false),
         Deed::Plug { spot } => {
             remove_spot(&mut plain.absent, spot);
             finish(plain, caller);
@@ -330,8 +270,6 @@ fn do_quietly(plain: &mut Plain, caller: u8, deed: Deed)
         Deed::Open { .. } => unreachable!(),
         Deed::Detach { .. } => unreachable!(),
         Deed::Rescan { .. } => unreachable!(),
-        Deed::Sleep { .. } => unreachable!(),
-        Deed::Wake { .. } => unreachable!(),
         Deed::Unplug { .. } => unreachable!(),
         Deed::Search { .. } => unreachable!(),
         Deed::EndScan { .. } => unreachable!(),
@@ -351,8 +289,7 @@ pub fn apply(
 ) -> Result<(), Memory>
     requires fit { AreFit rules.now }
     requires caller { HasCaller plain.old caller 500 }
-    requires numbered { AreNumbered plain.old.live.items }
-    requires next { plain.old.next < 2 ^ 64 - 1 }
+    requires next { plain.old.live.next < 2 ^ 64 - 1 }
     requires place { HasPlace deed }
     ensures { OnOk result (world_of (setup_by rules.now) plain.new ≡ after.after (world_of (setup_by rules.now) plain.old) caller deed) }
 {
@@ -370,8 +307,6 @@ pub fn apply(
         Deed::Open { of, sole } => open(plain, caller, of, sole),
         Deed::Detach { of } => detach(alloc, plain, caller, of),
         Deed::Rescan { of, only } => rescan(alloc, rules, plain, caller, of, only),
-        Deed::Sleep { of } => rest(alloc, plain, of, true),
-        Deed::Wake { of } => rest(alloc, plain, of, false),
         Deed::Unplug { spot, of } => unplug(alloc, plain, caller, spot, of),
         _ => {
             do_quietly(plain, caller, deed);

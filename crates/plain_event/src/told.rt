@@ -146,7 +146,7 @@ fn list_act(alloc: Global, rules: &Rules, plain: &Plain, name: &Option<Name>) ->
 /// A tree with its names.
 fn tree_act(alloc: Global, rules: &Rules, plain: &Plain, name: &Option<Name>) -> Result<Act, Memory>
     requires fit { AreFit rules.now }
-    requires few { length plain.now.live.items ≤ 1024 }
+    requires few { length plain.now.live.devices ≤ 1024 }
     ensures { IfOk result (λ a. a ≡ act.TreeDev name.now (run.tree_names (world_of (setup_by rules.now) plain.now) name.now)) }
 {
     let device = name_or_none(name)?;
@@ -163,7 +163,7 @@ fn command_act(
     refused: Option<Refusal>,
 ) -> Result<Act, Memory>
     requires fit { AreFit rules.now }
-    requires few { length plain.now.live.items ≤ 1024 }
+    requires few { length plain.now.live.devices ≤ 1024 }
     requires live { AnswersLive (world_of (setup_by rules.now) plain.now) refused }
     ensures { IfOk result (λ a. a ≡ run.told (world_of (setup_by rules.now) plain.now) said.now (answer_by (world_of (setup_by rules.now) plain.now) refused)) }
 {
@@ -237,7 +237,7 @@ fn answered_act(
     refused: Option<Refusal>,
 ) -> Result<Act, Memory>
     requires fit { AreFit rules.now }
-    requires few { length plain.now.live.items ≤ 1024 }
+    requires few { length plain.now.live.devices ≤ 1024 }
     requires there { caller < length plain.now.callers.items }
     requires live { AnswersLive (world_of (setup_by rules.now) plain.now) refused }
     ensures { IfOk result (λ a. a ≡ run.answered (world_of (setup_by rules.now) plain.now) caller (answer_by (world_of (setup_by rules.now) plain.now) refused)) }
@@ -295,7 +295,7 @@ fn act_of(
     deed: Deed,
 ) -> Result<Act, Memory>
     requires fit { AreFit rules.now }
-    requires few { length plain.now.live.items ≤ 1024 }
+    requires few { length plain.now.live.devices ≤ 1024 }
     requires there { caller < length plain.now.callers.items }
     requires may { MayBeTold (world_of (setup_by rules.now) plain.now) caller deed }
     ensures { IfOk result (λ a. a ≡ run.printed (world_of (setup_by rules.now) plain.now) caller deed) }
@@ -375,7 +375,7 @@ pub fn event_of(
     deed: Deed,
 ) -> Result<Event, Memory>
     requires fit { AreFit rules.now }
-    requires few { length plain.now.live.items ≤ 1024 }
+    requires few { length plain.now.live.devices ≤ 1024 }
     requires caller { HasCaller plain.now caller 500 }
     requires may { MayBeTold (world_of (setup_by rules.now) plain.now) caller deed }
     ensures { IfOk result (λ e. e ≡ run.event_of (world_of (setup_by rules.now) plain.now) caller deed) }

@@ -1,5 +1,5 @@
 pub mod Rules
 pub mod Plain
-pub mod Devices
+pub mod Standing
 pub mod Names
 pub mod Wanted

@@ -1,6 +1,6 @@
 -- The world that a plain world is.
 use Rattle.std.specs.Prelude.{ℕ, ◌<◌, ◌≤◌, List, filter, length, map}
-use Rattle.std.specs.List.{AllByRecursion, slice_index_or}
+use Rattle.std.specs.List.{slice_index_or}
 use Rattle.run_rules.specs.declared.world.Deferred.{Deferred}
 use Rattle.run_rules.specs.declared.world.Frame.{Frame}
 use Rattle.run_rules.specs.declared.world.Frame.TheVariants.{Scan, Finaliser}
@@ -14,8 +14,8 @@ use Rattle.plain_world.specs.declared.world.Plain.{Plain}
 abbrev pub world_of : Setup → Plain → World
 world_of s p = record {
   setup = s;
-  live = p.live.items;
-  next = p.next;
+  live = p.live.devices;
+  next = p.live.next;
   refs = p.refs.items;
   sole = p.sole.items;
   absent = p.absent.items;
@@ -46,10 +46,9 @@ abbrev pub moved : Position → Frame → Frame
 moved to (Scan s only wanted from) = Scan s only wanted to
 moved to (Finaliser s) = Finaliser s
 
--- no device has the serial of the root, there are few devices, and few commands of each caller are over
+-- there are few devices, and few commands of each caller are over
 pub record IsReady (p : Plain) : Type 0 where
-  pub numbered : AllByRecursion (λ d. 0 < d.serial) p.live.items
-  pub few : length p.live.items ≤ 1024
+  pub few : length p.live.devices ≤ 1024
   pub low : (k : ℕ) → (state_at p.callers.items k).over ≤ 500
 
 -- there is such a caller, and no more than so many of its commands are over

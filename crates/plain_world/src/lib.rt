@@ -2,15 +2,18 @@
 #![tactic(auto)]
 
 mod caller;
+mod live;
 mod look;
 mod names;
 mod rules;
 mod script;
+mod spots;
 mod tree;
 mod wanted;
 mod world;
 
 pub use caller::{Caller, new_scan, same_key};
+pub use live::Live;
 pub use look::{
     attach_at, count, device_at, device_on, driver_at, holds, is_live, is_occupied, is_pinned,
     is_sole, is_under, refers, spot_of,

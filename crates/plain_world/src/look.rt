@@ -5,46 +5,49 @@ ghost use Rattle.run_rules.specs.declared.world.Setup.{Setup};
 ghost use Rattle.run_rules.specs.References as refs;
 ghost use Rattle.run_rules.specs.Search as rule;
 ghost use Rattle.run_rules.specs.World as world;
-ghost use Rattle.plain_world.specs.Devices.{AreNumbered};
 ghost use Rattle.plain_world.specs.Plain.{world_of};
 ghost use Rattle.plain_world.specs.Rules.{setup_by};
 
 use crate::caller::Caller;
+use crate::live::Live;
 use crate::rules::{Rules, attach_of, driver_of};
 use crate::world::Plain;
 use run_rules::{Deferred, Dev, Frame, Ref};
 
 /// The live device of a serial.
-pub fn device_at(live: &[Dev], serial: u64) -> Option<Dev>
-    ensures { result ≡ world.device_at live.now serial }
+pub fn device_at(live: &Live, serial: u64) -> Option<Dev>
+    ensures { result ≡ world.device_at live.now.devices serial }
 {
-    live.iter().copied().find(|device| device.serial == serial)
+    live.get(serial)
 }
 
 /// The live device on a spot.
-pub fn device_on(live: &[Dev], spot: u16) -> Option<Dev>
-    ensures { result ≡ world.device_on live.now spot }
+pub fn device_on(live: &Live, spot: u16) -> Option<Dev>
+    ensures { result ≡ world.device_on live.now.devices spot }
 {
-    live.iter().copied().find(|device| device.spot == spot)
+    live.devices()
+        .iter()
+        .copied()
+        .find(|device| device.spot == spot)
 }
 
 /// Whether a device is live.
-pub fn is_live(live: &[Dev], serial: u64) -> bool
-    ensures { result ≡ world.is_live live.now serial }
+pub fn is_live(live: &Live, serial: u64) -> bool
+    ensures { result ≡ world.is_live live.now.devices serial }
 {
-    live.iter().any(|device| device.serial == serial)
+    live.has(serial)
 }
 
 /// Whether a live device stands on a spot.
-pub fn is_occupied(live: &[Dev], spot: u16) -> bool
-    ensures { result ≡ rule.is_occupied live.now spot }
+pub fn is_occupied(live: &Live, spot: u16) -> bool
+    ensures { result ≡ rule.is_occupied live.now.devices spot }
 {
-    live.iter().any(|device| device.spot == spot)
+    live.is_on(spot)
 }
 
 /// The parent of a device; 0 for the root, and where no such device is live.
-pub fn parent_of(live: &[Dev], serial: u64) -> u64
-    ensures { result ≡ world.parent_of live.now serial }
+pub fn parent_of(live: &Live, serial: u64) -> u64
+    ensures { result ≡ world.parent_of live.now.devices serial }
 {
     match device_at(live, serial) {
         Some(device) => device.parent,
@@ -133,8 +136,8 @@ pub fn is_pinned(plain: &Plain, serial: u64) -> bool
 }
 
 /// The driver of the live device of a serial; none for the root.
-pub fn driver_at(rules: &Rules, live: &[Dev], serial: u64) -> Option<u32>
-    ensures { result ≡ rule.driver_at (setup_by rules.now) live.now serial }
+pub fn driver_at(rules: &Rules, live: &Live, serial: u64) -> Option<u32>
+    ensures { result ≡ rule.driver_at (setup_by rules.now) live.now.devices serial }
 {
     match device_at(live, serial) {
         Some(device) => Some(driver_of(rules, device.row)),
@@ -143,8 +146,8 @@ pub fn driver_at(rules: &Rules, live: &[Dev], serial: u64) -> Option<u32>
 }
 
 /// The attachment of the live device of a serial; none for the root.
-pub fn attach_at(rules: &Rules, live: &[Dev], serial: u64) -> Option<u32>
-    ensures { result ≡ rule.attach_at (setup_by rules.now) live.now serial }
+pub fn attach_at(rules: &Rules, live: &Live, serial: u64) -> Option<u32>
+    ensures { result ≡ rule.attach_at (setup_by rules.now) live.now.devices serial }
 {
     match device_at(live, serial) {
         Some(device) => Some(attach_of(rules, device.row)),
@@ -153,8 +156,8 @@ pub fn attach_at(rules: &Rules, live: &[Dev], serial: u64) -> Option<u32>
 }
 
 /// The spot of the live device of a serial; none for the root.
-pub fn spot_of(live: &[Dev], serial: u64) -> Option<u16>
-    ensures { result ≡ rule.spot_of live.now serial }
+pub fn spot_of(live: &Live, serial: u64) -> Option<u16>
+    ensures { result ≡ rule.spot_of live.now.devices serial }
 {
     match device_at(live, serial) {
         Some(device) => Some(device.spot),
@@ -163,12 +166,12 @@ pub fn spot_of(live: &[Dev], serial: u64) -> Option<u16>
 }
 
 /// Whether a chain of parents leads from a device to the one above it.
-pub fn is_under(live: &[Dev], above: u64, serial: u64) -> bool
-    requires { AreNumbered live.now }
-    ensures { result ≡ world.is_under live.now above serial }
+pub fn is_under(live: &Live, above: u64, serial: u64) -> bool
+    ensures { result ≡ world.is_under live.now.devices above serial }
 {
+    live.stands();
     let mut current = serial;
-    for _level in 0..live.len() {
+    for _level in 0..live.count() {
         if current == above {
             return true;
         }

@@ -5,11 +5,16 @@ ghost use Rattle.run_rules.specs.World as world;
 ghost use Rattle.plain_world.specs.Names.{name_live};
 ghost use Rattle.plain_world.specs.Rules.{AreFit, setup_by};
 
+use crate::live::Live;
 use crate::look::device_at;
 use crate::rules::{Rules, driver_of};
-use cf_types::{Memory, Name, put_bytes, put_decimal};
+use cf_types::{Memory, Name, put_bytes};
+use itoa::Buffer;
 use run_rules::{Arrival, Dev, Got, Shown};
 use std::alloc::Global;
+
+/// How many bytes serve for most names.
+const USUAL: usize = 24;
 
 /// The name of a driver.
 fn driver_name<'a>(rules: &'a Rules, driver: u32) -> &'a [u8]
@@ -27,7 +32,8 @@ fn put_unit_name(out: &mut Vec<u8>, rules: &Rules, row: u32, unit: u32) -> Resul
     ensures { OnOk result (out.new.items ≡ out.old.items ++ world.unit_name (setup_by rules.now) row unit) }
 {
     put_bytes(out, driver_name(rules, driver_of(rules, row)))?;
-    put_decimal(out, i64::from(unit))
+    let mut digits = Buffer::new();
+    put_bytes(out, digits.format(unit).as_bytes())
 }
 
 /// The name of a row's driver and a unit.
@@ -35,16 +41,16 @@ pub fn unit_name(alloc: Global, rules: &Rules, row: u32, unit: u32) -> Result<Na
     requires { AreFit rules.now }
     ensures { IfOk result (λ n. n ≡ world.unit_name (setup_by rules.now) row unit) }
 {
-    let mut text = Vec::new(alloc);
+    let mut text = Vec::with_capacity(alloc, USUAL)?;
     put_unit_name(&mut text, rules, row, unit)?;
     Name::make(alloc, &text)
 }
 
 /// The name of a parent, which may be the root.
 #[tactic(auto, unfolding(run_rules::specs::World::parent_name, run_rules::specs::World::root_name))]
-pub fn parent_name(alloc: Global, rules: &Rules, live: &[Dev], serial: u64) -> Result<Name, Memory>
+pub fn parent_name(alloc: Global, rules: &Rules, live: &Live, serial: u64) -> Result<Name, Memory>
     requires { AreFit rules.now }
-    ensures { IfOk result (λ n. n ≡ world.parent_name (setup_by rules.now) live.now serial) }
+    ensures { IfOk result (λ n. n ≡ world.parent_name (setup_by rules.now) live.now.devices serial) }
 {
     match device_at(live, serial) {
         Some(device) => unit_name(alloc, rules, device.row, device.unit),
@@ -53,10 +59,10 @@ pub fn parent_name(alloc: Global, rules: &Rules, live: &[Dev], serial: u64) -> R
 }
 
 /// The name of a live device.
-pub fn live_name(alloc: Global, rules: &Rules, live: &[Dev], serial: u64) -> Result<Name, Memory>
+pub fn live_name(alloc: Global, rules: &Rules, live: &Live, serial: u64) -> Result<Name, Memory>
     requires fit { AreFit rules.now }
-    requires live { world.is_live live.now serial ≡ true }
-    ensures { IfOk result (λ n. n ≡ name_live (setup_by rules.now) live.now serial) }
+    requires live { world.is_live live.now.devices serial ≡ true }
+    ensures { IfOk result (λ n. n ≡ name_live (setup_by rules.now) live.now.devices serial) }
 {
     match device_at(live, serial) {
         Some(device) => unit_name(alloc, rules, device.row, device.unit),
@@ -122,20 +128,32 @@ fn is_called(text: &mut Vec<u8>, rules: &Rules, device: &Dev, name: &[u8]) -> Re
     Ok(text.as_slice() == name)
 }
 
-/// The live device of a name.
-pub fn device_named(
+/// The first device of a name among these.
+fn first_called(
     alloc: Global,
     rules: &Rules,
-    live: &[Dev],
+    devices: &[Dev],
     name: &[u8],
 ) -> Result<Option<Dev>, Memory>
-    ensures { IfOk result (λ found. world.device_named (setup_by rules.now) live.now name.now ≡ found) }
+    ensures { IfOk result (λ found. world.device_named (setup_by rules.now) devices.now name.now ≡ found) }
 {
     let mut text = Vec::new(alloc);
-    for device in live {
+    for device in devices {
         if is_called(&mut text, rules, device, name)? {
             return Ok(Some(*device));
         }
     }
     Ok(None)
+}
+
+/// The live device of a name.
+pub fn device_named(
+    alloc: Global,
+    rules: &Rules,
+    live: &Live,
+    name: &[u8],
+) -> Result<Option<Dev>, Memory>
+    ensures { IfOk result (λ found. world.device_named (setup_by rules.now) live.now.devices name.now ≡ found) }
+{
+    first_called(alloc, rules, live.devices(), name)
 }

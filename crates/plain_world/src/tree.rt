@@ -49,13 +49,13 @@ pub fn list_names(
     match name {
         Some(name) => match device_named(alloc, rules, &plain.live, name.bytes())? {
             Some(device) => {
-                let names = child_names(alloc, rules, &plain.live, device.serial)?;
+                let names = child_names(alloc, rules, plain.live.devices(), device.serial)?;
                 Ok(Some(names))
             }
             None => Ok(None),
         },
         None => {
-            let names = child_names(alloc, rules, &plain.live, 0)?;
+            let names = child_names(alloc, rules, plain.live.devices(), 0)?;
             Ok(Some(names))
         }
     }
@@ -167,19 +167,19 @@ pub fn tree_names(
     name: &Option<Name>,
 ) -> Result<Option<List<DepthName>>, Memory>
     requires fit { AreFit rules.now }
-    requires few { length plain.now.live.items ≤ 1024 }
+    requires few { length plain.now.live.devices ≤ 1024 }
     ensures { IfOk result (λ names. names ≡ run.tree_names (world_of (setup_by rules.now) plain.now) name.now) }
 {
     match name {
         Some(name) => match device_named(alloc, rules, &plain.live, name.bytes())? {
             Some(device) => {
-                let names = names_from(alloc, rules, &plain.live, device)?;
+                let names = names_from(alloc, rules, plain.live.devices(), device)?;
                 Ok(Some(names))
             }
             None => Ok(None),
         },
         None => {
-            let names = names_of_all(alloc, rules, &plain.live)?;
+            let names = names_of_all(alloc, rules, plain.live.devices())?;
             Ok(Some(names))
         }
     }
@@ -241,11 +241,11 @@ fn line_of(
 #[tactic(auto, unfolding(run_rules::specs::Tree::tree_lines))]
 pub fn tree_lines(alloc: Global, rules: &Rules, plain: &Plain) -> Result<List<DevLine>, Memory>
     requires fit { AreFit rules.now }
-    requires few { length plain.now.live.items ≤ 1024 }
+    requires few { length plain.now.live.devices ≤ 1024 }
     requires counted { (k s : ℕ) → refs.count_in plain.now.refs.items k s ≤ 15 }
     ensures { IfOk result (λ lines. lines ≡ rule.tree_lines (world_of (setup_by rules.now) plain.now)) }
 {
-    let placed = all_below(alloc, &plain.live, 0, 0)?;
+    let placed = all_below(alloc, plain.live.devices(), 0, 0)?;
     let mut lines = List::make(alloc);
     for (depth, device) in &placed {
         let line = line_of(alloc, rules, plain, *depth, device)?;

@@ -6,17 +6,17 @@ ghost use Rattle.plain_world.specs.Plain.{world_of};
 ghost use Rattle.plain_world.specs.Rules.{setup_by, AreFit};
 
 use crate::caller::Caller;
+use crate::live::Live;
 use crate::rules::Rules;
 use cf_types::Memory;
-use run_rules::{Deferred, Dev, Ref};
+use run_rules::{Deferred, Ref};
 use std::alloc::Global;
 
 /// What a run has come to.
 #[derive(Drop)]
 pub struct Plain {
     /// The live devices in the order in which they were attached, and the serial of the next one.
-    pub live: Vec<Dev>,
-    pub next: u64,
+    pub live: Live,
     /// The references, and the devices that are held solely.
     pub refs: Vec<Ref>,
     pub sole: Vec<u64>,
@@ -108,8 +108,7 @@ pub fn opening(alloc: Global, rules: &Rules) -> Result<Plain, Memory>
     let hidden = late_spots(alloc, rules)?;
     let callers = beginning(alloc, rules)?;
     Ok(Plain {
-        live: Vec::new(alloc),
-        next: 1,
+        live: Live::make(alloc),
         refs: Vec::new(alloc),
         sole: Vec::new(alloc),
         absent,

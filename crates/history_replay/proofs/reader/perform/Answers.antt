@@ -1,6 +1,6 @@
 use Rattle.plain_world.specs.Plain.{world_of}
 use Rattle.plain_world.specs.Rules.{setup_by}
-use Rattle.plain_world.proofs.Ready.{has_caller, numbered}
+use Rattle.plain_world.proofs.Ready.{has_caller}
 use Rattle.plain_effect.proofs.Places.{has_place}
 use Rattle.plain_effect.proofs.CallerLaws.{ok_more}
 use Rattle.history_replay.proofs.Goes.{few_called, goes_on}
@@ -10,7 +10,6 @@ pub apply-requires : goal.apply-requires
 apply-requires c = record {
   fit = c.requires.fit;
   caller = has_caller (setup_by c.args.rules.now) c.args.plain.now c.args.caller c.args.deed c.requires.fit.may c.requires.going.kept c.requires.due.chosen;
-  numbered = numbered (setup_by c.args.rules.now) c.args.plain.now c.requires.going.kept;
   next = c.requires.next;
   place = has_place (world_of (setup_by c.args.rules.now) c.args.plain.now) c.args.caller c.args.deed (few_called c.args.plain.now) c.requires.due.chosen;
 }

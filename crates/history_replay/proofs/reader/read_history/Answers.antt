@@ -15,7 +15,7 @@ pub read_lines-requires-clause-going : goal.read_lines-requires-clause-going
 read_lines-requires-clause-going c = subst (IsGoing (setup_by c.args.rules.now)) (sym c.loop-line.invariant.same) c.requires.going
 
 pub read_lines-requires-clause-next : goal.read_lines-requires-clause-next
-read_lines-requires-clause-next c = omega (arith, c.requires.next, c.loop-line.invariant.passed.counted, ap (λ (p : Plain). p.next) c.loop-line.invariant.same)
+read_lines-requires-clause-next c = omega (arith, c.requires.next, c.loop-line.invariant.passed.counted, ap (λ (p : Plain). p.live.next) c.loop-line.invariant.same)
 
 pub returns-in-Some-format_of-clause-read : goal.returns-in-Some-format_of-clause-read
 returns-in-Some-format_of-clause-read c =

@@ -4,7 +4,11 @@ use Rattle.run_rules.proofs.Below.{find-is, find-none}
 use Rattle.run_rules.proofs.Turns.{find_children}
 use Rattle.plain_choice.specs.Buses.{takes, turn_on}
 use Rattle.plain_choice.proofs.Both.{both_true}
+use Rattle.plain_choice.proofs.BusLaws.{passed_by}
 use Rattle.plain_choice.proofs.turns.row_turn.Goals as goal
+
+pub loop-spot-init : goal.loop-spot-init
+loop-spot-init c = λ x lt. passed_by c.args.rules.now c.args.plain.now c.args.scan.now (turn_on c.args.bus c.args.row x) _ (c.first_spot-spot.ensures x lt)
 
 pub returns-then-is_next : goal.returns-then-is_next
 returns-then-is_next c =

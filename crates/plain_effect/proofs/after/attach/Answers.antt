@@ -1,4 +1,4 @@
-use Rattle.std.proofs.Common.{◌∙◌, ap, arith}
+use Rattle.std.proofs.Common.{◌∙◌, ℕ, ap, arith}
 use Rattle.cf_types.specs.declared.machine.Policy.{Policy}
 use Rattle.run_rules.specs.World.{World, offered_by, policy_of}
 use Rattle.run_rules.specs.After.{attached, finaliser_placed, listed, scan_placed}
@@ -17,8 +17,10 @@ returns-clause-world c =
     let k = c.args.caller in
     let a = c.args.arrival in
     let w : World = world_of s c.args.plain.now in
+    let serial = c.next-serial.result in
     ok_more c.place_scan.result (c.place_scan.ensures.world s) (λ e.
     e
-    ∙ ap (λ (v : World). scan_placed (policy_of s a.row) (offered_by s a.row) v k a.parent w.next c.args.may_defer)
-    (c.in_ok-place_finaliser.ensures.world s ∙ ap (λ (v : World). finaliser_placed c.policy_of.result v k w.next) (c.in_ok-list.ensures.world s)
-    ∙ ap (λ (p : Policy). finaliser_placed p (listed w a) k w.next) c.policy_of.ensures))
+    ∙ ap (λ (v : World). scan_placed (policy_of s a.row) (offered_by s a.row) v k a.parent serial c.args.may_defer)
+    (c.in_ok-place_finaliser.ensures.world s ∙ ap (λ (v : World). finaliser_placed c.policy_of.result v k serial) (c.in_ok-list.ensures.world s)
+    ∙ ap (λ (p : Policy). finaliser_placed p (listed w a) k serial) c.policy_of.ensures)
+    ∙ ap (λ (n : ℕ). scan_placed (policy_of s a.row) (offered_by s a.row) (finaliser_placed (policy_of s a.row) (listed w a) k n) k a.parent n c.args.may_defer) c.next-serial.ensures)

@@ -23,6 +23,14 @@ pub returns-in-BeginPower : goal.returns-in-BeginPower
 unfolding after
 returns-in-BeginPower c = λ s. c.begin-in-BeginPower.ensures.world s ∙ ap (after (world_of s c.args.plain.now) c.args.caller) (sym c.in-BeginPower.is)
 
+pub returns-in-Sleep : goal.returns-in-Sleep
+unfolding after
+returns-in-Sleep c = λ s. c.rest.ensures s ∙ ap (after (world_of s c.args.plain.now) c.args.caller) (sym c.in-Sleep.is)
+
+pub returns-in-Wake : goal.returns-in-Wake
+unfolding after
+returns-in-Wake c = λ s. c.rest-in-Wake.ensures s ∙ ap (after (world_of s c.args.plain.now) c.args.caller) (sym c.in-Wake.is)
+
 pub returns-in-EndPower : goal.returns-in-EndPower
 unfolding after
 returns-in-EndPower c = λ s. c.finish.ensures s ∙ ap (after (world_of s c.args.plain.now) c.args.caller) (sym c.in-EndPower.is)

@@ -1,0 +1,10 @@
+use Rattle.std.proofs.Common.{rules}
+use Rattle.std.proofs.lemmas.List.Sorted.{answers_always}
+use Rattle.plain_world.proofs.Order.{searched}
+use Rattle.plain_world.proofs.live.place_of.Goals as goal
+
+pub returns : goal.returns
+returns c =
+    let facts = c.binary_search_by_key.ensures in
+    let by_key = facts.position (λ device. device.serial) (answers_always _ _ _ (λ f a r g called. search rules)) in
+    rw c.ok.ensures.value (searched c.args.devices.now c.args.serial _ c.requires facts.bound by_key)
