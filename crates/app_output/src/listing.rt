@@ -9,7 +9,7 @@ use crate::stop::OutputStop;
 use attr_graph::{Graph, graph_of};
 use cf_io::Sink;
 use cf_types::{Memory, Tables};
-use ioconf_text::put_line_with;
+use ioconf_text::put_line_at_once;
 use std::alloc::Global;
 
 /// The lines of the listing of tables, with their graph.
@@ -27,7 +27,7 @@ impl<'a> Lines for Listing<'a> {
 
     fn put_line(&self, place: u64, line: &mut Vec<u8>) -> Result<bool, Memory> {
         match u32::try_from(place) {
-            Ok(place) => put_line_with(self.tables, self.graph, place, line),
+            Ok(place) => put_line_at_once(self.tables, self.graph, place, line),
             Err(_) => Err(Memory),
         }
     }

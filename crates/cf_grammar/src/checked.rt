@@ -3,7 +3,7 @@ ghost use Rattle.config_rules.specs.Form.{alone, are_chunks, are_values, checked
 ghost use Rattle.cf_words.specs.Words.{piece_of};
 
 use crate::keyword::spelling;
-use cf_types::{Keyword, List, Memory, Name, Piece, Stmt, Text};
+use cf_types::{Keyword, Memory, Name, Pieces, Stmt};
 use cf_words::{Word, count_of, is_name_word, is_path_word, name_of, value_of};
 use std::alloc::Global;
 
@@ -153,24 +153,23 @@ pub fn config(alloc: Global, words: &[Word]) -> Result<Option<Stmt>, Memory>
     checked(alloc, Keyword::Config, is_config(words))
 }
 
-fn piece(alloc: Global, word: Word) -> Result<Piece, Memory>
-    ensures { IfOk result (λ piece. piece ≡ piece_of word.entry) }
-{
-    let text = Text::copied(alloc, word.text)?;
-    Ok(Piece {
-        kind: word.kind,
-        text,
-    })
+/// How many bytes these words have.
+fn byte_count(words: &[Word]) -> usize {
+    let mut count: usize = 0;
+    for word in words {
+        count = count.saturating_add(word.text.len());
+    }
+    count
 }
 
-fn pieces(alloc: Global, words: &[Word]) -> Result<List<Piece>, Memory>
+fn pieces(alloc: Global, words: &[Word]) -> Result<Pieces, Memory>
     ensures { IfOk result (λ pieces. pieces ≡ map piece_of words.now) }
 {
-    let mut pieces = Vec::with_capacity(alloc, words.len())?;
-    for &word in words {
-        pieces.push(piece(alloc, word)?)?;
+    let mut pieces = Pieces::with_room(alloc, words.len(), byte_count(words))?;
+    for word in words {
+        pieces.push(word.kind, word.text)?;
     }
-    Ok(List::from_vec(pieces))
+    Ok(pieces)
 }
 
 /// A statement that may have any words, one at least.

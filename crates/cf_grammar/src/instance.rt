@@ -1,9 +1,9 @@
-ghost use Rattle.std.specs.Prelude.{◌≡◌, IfOk, map, option_and_then, option_map, ◌==◌};
+ghost use Rattle.std.specs.Prelude.{◌≡◌, ◌∷◌, IfOk, map, option_and_then, option_map, ◌==◌};
 ghost use Rattle.config_rules.specs.Form.{given, given_value, inst_stmt, pair_of, pairs_of, value_of};
 ghost use Rattle.cf_words.specs.Words.{piece_of};
 ghost use Rattle.cf_grammar.specs.Pairs.{parts_of};
 
-use cf_types::{GivenLoc, List, Memory, Stmt};
+use cf_types::{AtSpec, GivenLoc, List, Memory, Name, Stmt, UnitMark};
 use cf_words::{MarkedUnit, Word, name_of, place_of, unit_chunk, value_of};
 use std::alloc::Global;
 
@@ -76,23 +76,18 @@ fn pairs_of(alloc: Global, sized: bool, words: &[Word]) -> Result<Option<Pairs>,
     }
 }
 
-/// A device instance: a unit, `at`, what it attaches to, and values of locators.
-pub fn instance(alloc: Global, sized: bool, words: &[Word]) -> Result<Option<Stmt>, Memory>
-    ensures { IfOk result (λ s. s ≡ inst_stmt sized (map piece_of words.now)) }
+/// The instance of a unit, what it attaches to, and its pairs.
+fn with_pairs(
+    alloc: Global,
+    sized: bool,
+    base: Name,
+    mark: UnitMark,
+    at: AtSpec,
+    words: &[Word],
+) -> Result<Option<Stmt>, Memory>
+    ensures { IfOk result (λ s. s ≡ option_map (λ rest. Stmt.Inst base mark at rest.0 rest.1) (pairs_of sized (map piece_of words.now))) }
 {
-    let [unit, at, place, rest @ ..] = words else {
-        return Ok(None);
-    };
-    if !at.is_word(b"at") {
-        return Ok(None);
-    }
-    let Some(MarkedUnit { base, mark }) = unit_chunk(alloc, sized, *unit)? else {
-        return Ok(None);
-    };
-    let Some(at) = place_of(alloc, sized, *place)? else {
-        return Ok(None);
-    };
-    match pairs_of(alloc, sized, rest)? {
+    match pairs_of(alloc, sized, words)? {
         Some(Pairs { pairs, flags }) => Ok(Some(Stmt::Inst {
             base,
             mark,
@@ -101,5 +96,38 @@ pub fn instance(alloc: Global, sized: bool, words: &[Word]) -> Result<Option<Stm
             flags,
         })),
         None => Ok(None),
+    }
+}
+
+/// The instance of three words and its pairs.
+fn instance_of(
+    alloc: Global,
+    sized: bool,
+    unit: Word,
+    at: Word,
+    place: Word,
+    words: &[Word],
+) -> Result<Option<Stmt>, Memory>
+    ensures { IfOk result (λ s. s ≡ inst_stmt sized (piece_of unit.entry ∷ piece_of at.entry ∷ piece_of place.entry ∷ map piece_of words.now)) }
+{
+    if !at.is_word(b"at") {
+        return Ok(None);
+    }
+    let Some(MarkedUnit { base, mark }) = unit_chunk(alloc, sized, unit)? else {
+        return Ok(None);
+    };
+    let Some(at) = place_of(alloc, sized, place)? else {
+        return Ok(None);
+    };
+    with_pairs(alloc, sized, base, mark, at, words)
+}
+
+/// A device instance: a unit, `at`, what it attaches to, and values of locators.
+pub fn instance(alloc: Global, sized: bool, words: &[Word]) -> Result<Option<Stmt>, Memory>
+    ensures { IfOk result (λ s. s ≡ inst_stmt sized (map piece_of words.now)) }
+{
+    match words {
+        [unit, at, place, rest @ ..] => instance_of(alloc, sized, *unit, *at, *place, rest),
+        _ => Ok(None),
     }
 }

@@ -1,5 +1,6 @@
 pub mod KeyLemmas
 pub mod ListLemmas
 pub mod OfferLemmas
+pub mod PieceLemmas
 pub mod PlaceLemmas
 pub mod TestLemmas

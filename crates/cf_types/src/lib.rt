@@ -11,6 +11,7 @@ mod locs;
 mod machine;
 mod memory;
 mod name;
+mod pieces;
 mod put;
 mod stmt;
 mod tables;
@@ -24,6 +25,7 @@ pub use locs::Locs;
 pub use machine::{Command, Given, Machine, MatchLine, Policy, Script, Spot, StyleLine, Ticket};
 pub use memory::Memory;
 pub use name::Name;
+pub use pieces::{PieceSpan, Pieces};
 pub use put::{put_bytes, put_decimal};
 pub use stmt::{
     AtSpec, CondWord, Expanded, GivenLoc, Item, ItemKind, Piece, Placed, Stmt, Token, TokenKind,

@@ -1,27 +1,97 @@
 ghost use Rattle.std.specs.Prelude.{◌≡◌, ◌≤◌, length, IfOk};
-ghost use Rattle.std.specs.Arc.{arc_slice_items};
+ghost use Rattle.cf_types.specs.Names.{bytes_of};
 
 use crate::Memory;
 use std::alloc::{AllocError, Global};
 use std::marker::Model;
-use std::sync::ArcSlice;
+use std::sync::Arc;
+
+/// How many bytes lie in the block of memory that the owners of a name share; more of them have a block of their own.
+const SHORT: usize = 23;
+
+/// At most 23 bytes. Contracts see them alone.
+#[derive(Debug, Drop)]
+struct ShortBytes {
+    len: u8,
+    bytes: [u8; SHORT],
+}
+
+impl Model for ShortBytes {
+    ghost use Rattle.std.specs.Prelude.{List, ℕ, ◌≤◌, take};
+
+    ghost Value = { List ℕ };
+
+    ghost view = { λ it. take it.len it.bytes };
+
+    ghost invariant = { λ it. it.len ≤ 23 };
+}
+
+impl ShortBytes {
+    fn make(bytes: &[u8]) -> ShortBytes
+        requires { length bytes.now ≤ 23 }
+        ensures { result ≡ bytes.now }
+    {
+        let mut room = [0; SHORT];
+        room[..bytes.len()].copy_from_slice(bytes);
+        ShortBytes {
+            len: bytes.len() as u8,
+            bytes: room,
+        }
+    }
+
+    fn bytes(&self) -> &[u8]
+        ensures { result.now ≡ self.now }
+    {
+        &self.bytes[..self.len as usize]
+    }
+}
+
+/// The bytes of a name.
+#[derive(Debug, Drop)]
+enum NameBytes {
+    Short(ShortBytes),
+    Long(Vec<u8>),
+}
+
+impl NameBytes {
+    #[tactic(auto, unfolding(crate::specs::Names::bytes_of))]
+    fn make(alloc: Global, bytes: &[u8]) -> Result<NameBytes, Memory>
+        ensures { IfOk result (λ made. bytes_of made ≡ bytes.now) }
+    {
+        if bytes.len() <= SHORT {
+            return Ok(NameBytes::Short(ShortBytes::make(bytes)));
+        }
+        Ok(NameBytes::Long(Vec::from_slice(alloc, bytes)?))
+    }
+
+    #[tactic(auto, unfolding(crate::specs::Names::bytes_of))]
+    fn bytes(&self) -> &[u8]
+        ensures { result.now ≡ bytes_of self.now }
+    {
+        match self {
+            NameBytes::Short(short) => short.bytes(),
+            NameBytes::Long(long) => long,
+        }
+    }
+}
 
 /// A name of 1 to 80 bytes, as that of a device, an attribute or a spot. Contracts see its bytes.
 /// It is shared: a clone is a further owner of the same bytes and takes no memory.
 #[derive(Debug, Drop)]
 pub struct Name {
-    bytes: ArcSlice<u8>,
+    bytes: Arc<NameBytes>,
 }
 
 impl Model for Name {
     ghost use Rattle.std.specs.Prelude.{List, ℕ, ◌≤◌, length};
-    ghost use Rattle.std.specs.Arc.{arc_slice_items};
+    ghost use Rattle.std.specs.Arc.{arc_value};
+    ghost use Rattle.cf_types.specs.Names.{bytes_of};
 
     ghost Value = { List ℕ };
 
-    ghost view = { λ name. arc_slice_items name.bytes };
+    ghost view = { λ name. bytes_of (arc_value name.bytes) };
 
-    ghost invariant = { λ name. (1 ≤ length (arc_slice_items name.bytes)) × (length (arc_slice_items name.bytes) ≤ 80) };
+    ghost invariant = { λ name. (1 ≤ length (bytes_of (arc_value name.bytes))) × (length (bytes_of (arc_value name.bytes)) ≤ 80) };
 }
 
 impl Name {
@@ -31,8 +101,9 @@ impl Name {
         requires not_long { length bytes.now ≤ 80 }
         ensures { IfOk result (λ name. name ≡ bytes.now) }
     {
+        let bytes = NameBytes::make(alloc, bytes)?;
         Ok(Name {
-            bytes: ArcSlice::from_slice(alloc, bytes)?,
+            bytes: Arc::new(alloc, bytes)?,
         })
     }
 
@@ -42,7 +113,7 @@ impl Name {
         ensures not_empty { 1 ≤ length self.now }
         ensures not_long { length self.now ≤ 80 }
     {
-        self.bytes.as_slice()
+        self.bytes.bytes()
     }
 }
 

@@ -1,4 +1,4 @@
-use crate::{List, Locator, Name, Refusal, Text};
+use crate::{List, Locator, Name, Pieces, Refusal, Text};
 
 /// What a token of a configuration file is.
 #[derive(Clone, Copy, Debug, PartialEq, Eq)]
@@ -171,7 +171,7 @@ pub enum Stmt {
     /// A statement that may have any tokens, as `file`.
     Free {
         word: Name,
-        rest: List<Piece>,
+        rest: Pieces,
     },
 }
 

@@ -35,7 +35,7 @@ pub struct Device {
 }
 
 /// Where a device attaches: at the root, or at an interface attribute.
-#[derive(Clone, Copy, Debug, PartialEq, Eq)]
+#[derive(Clone, Copy, Debug, PartialEq, Eq, Hash)]
 pub enum Place {
     Root,
     At(u32),

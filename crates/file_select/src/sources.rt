@@ -95,7 +95,10 @@ fn take(
     ensures { IfOk result (λ code. TakesOptional (has_name names.now) (file_pieces stmt.now) selection.old code selection.new) }
 {
     match file_pieces(stmt) {
-        Some(pieces) => take_pieces(alloc, names, selection, pieces),
+        Some(pieces) => {
+            let pieces = pieces.copied(alloc)?;
+            take_pieces(alloc, names, selection, pieces.items())
+        }
         None => Ok(None),
     }
 }

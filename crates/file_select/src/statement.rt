@@ -11,7 +11,7 @@ use crate::condition::{Verdict, judge};
 use crate::symbol::word_of;
 use crate::texts::TextSet;
 use cf_types::code::configuration as code;
-use cf_types::{Memory, Piece, Stmt};
+use cf_types::{Memory, Piece, Pieces, Stmt};
 use cf_words::is_path_word;
 use std::alloc::Global;
 
@@ -25,11 +25,11 @@ pub enum Finding {
 }
 
 /// What stands behind the word of a statement, if it is a `file` statement.
-pub fn file_pieces(stmt: &Stmt) -> Option<&[Piece]>
+pub fn file_pieces(stmt: &Stmt) -> Option<&Pieces>
     ensures { option_copied result ≡ file_pieces stmt.now }
 {
     match stmt {
-        Stmt::Free { word, rest } if word.bytes() == b"file".as_slice() => Some(rest.items()),
+        Stmt::Free { word, rest } if word.bytes() == b"file".as_slice() => Some(rest),
         _ => None,
     }
 }

@@ -219,7 +219,14 @@ fn seek_line(
     seek_tail(out, tables, n)
 }
 
-fn put_entry(out: &mut Vec<u8>, tables: &Tables, graph: &Graph, n: u32) -> Result<bool, Memory>
+/// Appends line `n` of the listing of the tables, as `put_line_with` does, without a buffer of its own: where memory runs
+/// out, a part of the line may stand there.
+pub fn put_line_at_once(
+    tables: &Tables,
+    graph: &Graph,
+    n: u32,
+    out: &mut Vec<u8>,
+) -> Result<bool, Memory>
     requires { IsGraphOf (declared_by tables.now) graph.now }
     ensures { IfOk result (λ more. PutsLine (slice_get (lines tables.now) n) more out.old.items out.new.items) }
 {
@@ -247,7 +254,7 @@ pub fn put_line_with(
     ensures err { OnErr result (out.new.items ≡ out.old.items) }
 {
     let mut line = Vec::with_capacity(*out.allocator(), LINE_ROOM)?;
-    let more = put_entry(&mut line, tables, graph, n)?;
+    let more = put_line_at_once(tables, graph, n, &mut line)?;
     out.extend_from_slice(&line)?;
     Ok(more)
 }

@@ -7,4 +7,4 @@ mod item;
 mod row;
 mod word;
 
-pub use entry::{put_line, put_line_with};
+pub use entry::{put_line, put_line_at_once, put_line_with};
