@@ -5,6 +5,6 @@ mod line;
 mod stop;
 mod text;
 
-pub use line::{Line, MachineStop, has_bad_byte, words_of};
+pub use line::{Line, MachineStop, has_bad_byte, uncommented, words_of};
 pub use stop::LineStop;
 pub use text::records;

@@ -60,8 +60,8 @@ fn comment_start(line: &[u8]) -> usize
     line.iter().take_while(|&&byte| byte != b'#').count()
 }
 
-/// What stands before the first `#`.
-fn uncommented(line: &[u8]) -> &[u8]
+/// What stands before the first `#`: a line without its comment.
+pub fn uncommented(line: &[u8]) -> &[u8]
     ensures { result.now ≡ uncommented line.now }
 {
     line.split_at(comment_start(line)).0

@@ -1,6 +1,5 @@
-ghost use Rattle.std.specs.Prelude.{◌≡◌, ◌≤◌, ◌==◌, ◌||◌, All, IfOk, length, not, take_while, true};
+ghost use Rattle.std.specs.Prelude.{◌≡◌, ◌≤◌, ◌==◌, ◌||◌, All, IfOk, length, true};
 ghost use Rattle.std.specs.List.{list_all};
-ghost use Rattle.config_rules.specs.MachineText.{uncommented};
 ghost use Rattle.config_rules.specs.ScriptText.{is_number, order_of};
 ghost use Rattle.machine_text.specs.Records.{parted};
 ghost use Rattle.script_text.specs.Left.{AddsTurns, AddsWords, Gives};
@@ -10,22 +9,8 @@ use crate::stop::ScriptStop;
 use cf_text::is_space;
 use cf_types::List;
 use cf_types::code::script as code;
-use machine_text::{LineStop, has_bad_byte};
+use machine_text::{LineStop, has_bad_byte, uncommented};
 use std::alloc::Global;
-
-/// How many bytes stand before the first `#`; all of them where there is none.
-fn comment_start(line: &[u8]) -> usize
-    ensures { result ≡ length (take_while (λ c. not (c == 35)) line.now) }
-{
-    line.iter().take_while(|&&byte| byte != b'#').count()
-}
-
-/// What stands before the first `#`.
-fn uncommented(line: &[u8]) -> &[u8]
-    ensures { result.now ≡ uncommented line.now }
-{
-    line.split_at(comment_start(line)).0
-}
 
 /// Whether a part between spaces is nothing, or spells a number.
 fn is_fine(part: &[u8]) -> bool
