@@ -3,3 +3,4 @@ pub mod WordLemmas
 pub mod SpotLemmas
 pub mod DriverLemmas
 pub mod MachineLemmas
+pub mod SeenLemmas

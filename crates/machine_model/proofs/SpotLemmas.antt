@@ -37,13 +37,18 @@ pub none : (b : Bool) (code : ℕ) → b ≡ false → None ≡ given b code
 none true code h = absurd (cc)
 none false code h = refl
 
+-- codes in two parts
+pub in_parts : (a b c rest : Option ℕ) → (a or (b or (c or rest))) ≡ ((a or (b or c)) or rest)
+in_parts (Some x) b c rest = refl
+in_parts None (Some y) c rest = refl
+in_parts None None c rest = refl
+
 -- what is left of the values that were found, by the first of them and by whether there is a locator of its name
-pub found_next : (locs : List Locator) (found : List FoundValue) (i : ℕ) (value : FoundValue) {name : List ℕ} {known : Bool} → i < length found → value ≡ get_or found i value → name ≡ value.name
-    → known ≡ list_any (λ l. bytes_eq l.name name) locs
+pub found_next : (locs : List Locator) (found : List FoundValue) (i : ℕ) (value : FoundValue) {known : Bool} → i < length found → value ≡ get_or found i value
+    → known ≡ list_any (λ l. bytes_eq l.name value.name.now) locs
     → (given (not known) UNKNOWN_LOCATOR or (given (is_none value.value) OUT_OF_RANGE or found_fault locs (map given_of (drop (i + 1) found)))) ≡ found_fault locs (map given_of (drop i found))
-found_next locs found i value h is same there =
-    ap (λ b. given (not b) UNKNOWN_LOCATOR or (given (is_none value.value) OUT_OF_RANGE or found_fault locs (map given_of (drop (i + 1) found))))
-    (there ∙ ap (λ n. list_any (λ (l : Locator). bytes_eq l.name n) locs) same)
+found_next locs found i value h is there =
+    ap (λ b. given (not b) UNKNOWN_LOCATOR or (given (is_none value.value) OUT_OF_RANGE or found_fault locs (map given_of (drop (i + 1) found)))) there
     ∙ ap (λ vs. found_fault locs (map given_of vs)) (ap (λ v. v ∷ drop (i + 1) found) is ∙ sym (drop_more found i value h))
 
 -- ---- depths

@@ -1,5 +1,5 @@
 -- The numbers of words, and words that differ.
-use Rattle.std.proofs.Common.{◌≡◌, ℕ, ◌≤◌, length, map, Bool, true, false, not, cond, ◌&&◌, Option, Some, None, List, [], ◌∷◌, refl, ap, sym, ◌∙◌, arith, ℤ, pos, negsuc}
+use Rattle.std.proofs.Common.{◌≡◌, ℕ, ◌<◌, ◌≤◌, length, map, Bool, true, false, not, cond, ◌&&◌, Option, Some, None, List, [], ◌∷◌, refl, ap, sym, ◌∙◌, arith, ℤ, pos, negsuc}
 use Rattle.std.specs.Prelude.{nat_abs, nat_le, option_and_then, option_map}
 use Rattle.std.proofs.lemmas.Bool.Decides.{nat_tests}
 use Rattle.cf_text.specs.declared.number.NumberRead.{NumberRead}
@@ -65,4 +65,13 @@ none_differ (w ∷ ws) h = absurd (omega arith)
 
 pub names_given : (found : List FoundValue) → map (λ g. g.name) (map given_of found) ≡ names_of found
 names_given [] = refl
-names_given (v ∷ vs) = ap (λ names. v.name ∷ names) (names_given vs)
+names_given (v ∷ vs) = ap (λ names. v.name.now ∷ names) (names_given vs)
+
+pub few_differ : (found : List FoundValue) → length found < 2 → differ (map (λ g. g.name) (map given_of found)) ≡ true
+few_differ [] h = refl
+few_differ (v ∷ []) h = refl
+few_differ (v ∷ w ∷ vs) h = absurd (omega arith)
+
+-- what stands for a value where there is none
+abbrev pub no_value : FoundValue
+no_value = record { name = record { ref_ptr = (0, 0); now = [] }; value = None }

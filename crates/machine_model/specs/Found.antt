@@ -4,7 +4,7 @@ use Rattle.config_rules.specs.MachineText.{GivenValue}
 use Rattle.machine_model.specs.declared.locator.FoundValue.{FoundValue}
 
 abbrev pub given_of : FoundValue → GivenValue
-given_of v = record { name = v.name; value = v.value }
+given_of v = record { name = v.name.now; value = v.value }
 
 abbrev pub names_of : List FoundValue → List (List ℕ)
-names_of found = map (λ v. v.name) found
+names_of found = map (λ v. v.name.now) found

@@ -1,9 +1,9 @@
-use cf_names::Numbers;
+use crate::numbers::Numbers;
 use cf_types::Machine;
 
 /// A machine that is read, with the numbers of its spots' names.
 #[derive(Drop)]
-pub struct Draft {
+pub struct Draft<'t> {
     pub machine: Machine,
-    pub numbers: Numbers,
+    pub numbers: Numbers<'t>,
 }

@@ -1,13 +1,14 @@
 ghost use Rattle.std.specs.Prelude.{◌≡◌, ◌==◌, if◌then◌else◌, map};
 ghost use Rattle.std.specs.List.{enumerate_from};
 ghost use Rattle.config_rules.specs.MachineText.{with_policies};
+ghost use Rattle.machine_text.specs.Records.{seen};
 
 use crate::word::is_one;
-use cf_types::{Policy, Text};
+use cf_types::Policy;
 
 /// A policy with those of the words added.
-fn with_policies(words: &[Text], policy: Policy) -> Policy
-    ensures { result ≡ with_policies words.now policy }
+fn with_policies(words: &[&[u8]], policy: Policy) -> Policy
+    ensures { result ≡ with_policies (seen words.now) policy }
 {
     Policy {
         nodetach: policy.nodetach || is_one(words, b"nodetach"),
@@ -21,8 +22,8 @@ fn with_policies(words: &[Text], policy: Policy) -> Policy
 }
 
 /// Adds the policies of the words to those of an attachment.
-pub fn add_policies(policies: &mut Vec<Policy>, attach: usize, words: &[Text])
-    ensures { policies.new.items ≡ map (λ e. if e.0 == attach then with_policies words.now e.1 else e.1) (enumerate_from 0 policies.old.items) }
+pub fn add_policies(policies: &mut Vec<Policy>, attach: usize, words: &[&[u8]])
+    ensures { policies.new.items ≡ map (λ e. if e.0 == attach then with_policies (seen words.now) e.1 else e.1) (enumerate_from 0 policies.old.items) }
 {
     if attach < policies.len() {
         policies[attach] = with_policies(words, policies[attach]);

@@ -3,18 +3,20 @@ ghost use Rattle.std.specs.List.{list_all};
 ghost use Rattle.config_rules.specs.MachineText.{after_line, driver_form, driver_line, is_spot, is_one, line_form, match_form, match_line, policy_words, spot_form, spot_line, spot_number, style_form, style_line};
 ghost use Rattle.machine_model.specs.Found.{given_of};
 ghost use Rattle.machine_model.specs.Indexed.{IsDraft, IsIndex, with_spot};
-ghost use Rattle.machine_model.specs.Left.{Leaves};
+ghost use Rattle.machine_model.specs.Left.{Leaves, after_words};
+ghost use Rattle.machine_model.specs.Numbers.{IsPlaceOf, number_in};
+ghost use Rattle.machine_text.specs.Records.{seen};
 
 use crate::draft::Draft;
 use crate::driver::add_policies;
 use crate::index::Index;
 use crate::locator::{FoundValue, count_located, given_values, names_differ};
 use crate::lookup::{attach_number, interface_number, spot_number};
-use crate::spot::{make_spot, spot_fault};
+use crate::numbers::insert;
+use crate::spot::{fitting_site, make_spot};
 use crate::word::{are_marks, are_policies, differ, is_free_name, match_value, spells};
-use cf_names::{NameHash, add_name};
 use cf_types::code::machine as code;
-use cf_types::{List, MatchLine, Memory, Spot, StyleLine, Text};
+use cf_types::{List, MatchLine, Memory, Spot, StyleLine};
 use machine_text::LineStop;
 use std::alloc::Global;
 use std::mem;
@@ -22,44 +24,50 @@ use std::mem;
 /// Whether the name is free, and no locator or mark stands twice.
 fn is_spot(
     alloc: Global,
-    hash: NameHash,
     name: &[u8],
     found: &[FoundValue],
-    marks: &[Text],
+    marks: &[&[u8]],
 ) -> Result<bool, Memory>
-    ensures value { IfOk result (λ fits. fits ≡ is_spot name.now (map given_of found.now) marks.now) }
+    ensures value { IfOk result (λ fits. fits ≡ is_spot name.now (map given_of found.now) (seen marks.now)) }
     ensures not_empty { IfOk result (λ fits. IsTrue fits → 1 ≤ length name.now) }
     ensures not_long { IfOk result (λ fits. IsTrue fits → length name.now ≤ 63) }
 {
-    let apart = names_differ(alloc, hash, found)?;
+    let apart = names_differ(alloc, found)?;
     Ok(is_free_name(name) && apart && are_marks(marks) && differ(marks))
 }
 
-/// Adds a spot with this name.
-fn add_spot_named(alloc: Global, draft: &mut Draft, name: &[u8], spot: Spot) -> Result<(), Memory>
+/// Adds a spot with this name, which is new, at its place among the names.
+fn add_spot_named<'t>(
+    draft: &mut Draft<'t>,
+    place: usize,
+    name: &'t [u8],
+    spot: Spot,
+) -> Result<(), Memory>
     requires name { spot.name ≡ name.now }
     requires room { length draft.old.machine.spots < 1024 }
+    requires new { number_in draft.old.numbers.items name.now ≡ None }
+    requires place { IsPlaceOf name.now draft.old.numbers.items place }
     ensures machine { OnOk result (draft.new.machine ≡ with_spot draft.old.machine spot) }
     ensures draft { OnOk result (IsDraft draft.old → IsDraft draft.new) }
 {
-    add_name(alloc, &mut draft.numbers, name, draft.machine.spots.len())?;
+    insert(&mut draft.numbers, place, name, draft.machine.spots.len())?;
     draft.machine.spots.push(spot)?;
     Ok(())
 }
 
 /// Adds `spot NAME PARENT ATTR`, with its locators and marks.
-fn add_spot(
+fn add_spot<'t>(
     alloc: Global,
     index: &Index,
-    draft: &mut Draft,
-    name: &[u8],
+    draft: &mut Draft<'t>,
+    name: &'t [u8],
     parent: &[u8],
     attr: &[u8],
-    rest: &[Text],
+    rest: &[&'t [u8]],
 ) -> Result<(), LineStop>
     requires index { IsIndex index.now }
     requires draft { IsDraft draft.old }
-    ensures left { Leaves (after_line index.now.tables.now draft.old.machine (spot_form name.now parent.now attr.now rest.now)) result draft.new.machine }
+    ensures left { Leaves (after_line index.now.tables.now draft.old.machine (spot_form name.now parent.now attr.now (seen rest.now))) result draft.new.machine }
     ensures draft { OnOk result (IsDraft draft.new) }
 {
     let (located, marks) = rest.split_at(count_located(rest));
@@ -67,23 +75,15 @@ fn add_spot(
         Some(found) => found,
         None => return Err(LineStop::Code(code::BAD_LINE)),
     };
-    if !is_spot(alloc, index.hash, name, found.items(), marks)? {
+    if !is_spot(alloc, name, found.items(), marks)? {
         return Err(LineStop::Code(code::BAD_LINE));
     }
-    if let Some(code) = spot_fault(index, draft, name, parent, attr, found.items()) {
-        return Err(LineStop::Code(code));
-    }
-    let spot = make_spot(
-        alloc,
-        index,
-        draft,
-        name,
-        parent,
-        attr,
-        found.items(),
-        marks,
-    )?;
-    add_spot_named(alloc, draft, name, spot)?;
+    let site = match fitting_site(index, draft, name, parent, attr, found.items()) {
+        Ok(site) => site,
+        Err(code) => return Err(LineStop::Code(code)),
+    };
+    let spot = make_spot(alloc, &site, name, found.items(), marks)?;
+    add_spot_named(draft, site.at, name, spot)?;
     Ok(())
 }
 
@@ -179,8 +179,8 @@ fn add_style(
 }
 
 /// Whether there are one or more words, all of them policies.
-fn is_driver(words: &[Text]) -> bool
-    ensures { result ≡ (nat_lt 0 (length words.now) && list_all (is_one policy_words) words.now) }
+fn is_driver(words: &[&[u8]]) -> bool
+    ensures { result ≡ (nat_lt 0 (length (seen words.now)) && list_all (is_one policy_words) (seen words.now)) }
 {
     words.len() > 0 && are_policies(words)
 }
@@ -191,11 +191,11 @@ fn add_driver(
     index: &Index,
     draft: &mut Draft,
     attach: &[u8],
-    policies: &[Text],
+    policies: &[&[u8]],
 ) -> Result<(), LineStop>
     requires index { IsIndex index.now }
     requires draft { IsDraft draft.old }
-    ensures left { Leaves (after_line index.now.tables.now draft.old.machine (driver_form attach.now policies.now)) result draft.new.machine }
+    ensures left { Leaves (after_line index.now.tables.now draft.old.machine (driver_form attach.now (seen policies.now))) result draft.new.machine }
     ensures draft { OnOk result (IsDraft draft.new) }
 {
     if !is_driver(policies) {
@@ -212,57 +212,47 @@ fn add_driver(
 }
 
 /// Adds what stands behind `spot`.
-fn add_spot_line(
+fn add_spot_line<'t>(
     alloc: Global,
     index: &Index,
-    draft: &mut Draft,
-    words: &[Text],
+    draft: &mut Draft<'t>,
+    words: &[&'t [u8]],
 ) -> Result<(), LineStop>
     requires index { IsIndex index.now }
     requires draft { IsDraft draft.old }
-    ensures left { Leaves (after_line index.now.tables.now draft.old.machine (spot_line words.now)) result draft.new.machine }
+    ensures left { Leaves (after_line index.now.tables.now draft.old.machine (spot_line (seen words.now))) result draft.new.machine }
     ensures draft { OnOk result (IsDraft draft.new) }
 {
     match words {
         [name, parent, attr, rest @ ..] => add_spot(
-            alloc,
-            index,
-            draft,
-            name.items(),
-            parent.items(),
-            attr.items(),
-            rest,
+            alloc, index, draft, *name, *parent, *attr, rest,
         ),
         _ => Err(LineStop::Code(code::BAD_LINE)),
     }
 }
 
 /// Adds what stands behind `match`.
-fn add_match_line(index: &Index, draft: &mut Draft, words: &[Text]) -> Result<(), LineStop>
+fn add_match_line(index: &Index, draft: &mut Draft, words: &[&[u8]]) -> Result<(), LineStop>
     requires index { IsIndex index.now }
     requires draft { IsDraft draft.old }
-    ensures left { Leaves (after_line index.now.tables.now draft.old.machine (match_line words.now)) result draft.new.machine }
+    ensures left { Leaves (after_line index.now.tables.now draft.old.machine (match_line (seen words.now))) result draft.new.machine }
     ensures draft { OnOk result (IsDraft draft.new) }
 {
     match words {
-        [attach, spot, value] => {
-            add_match(index, draft, attach.items(), spot.items(), value.items())
-        }
+        [attach, spot, value] => { add_match(index, draft, *attach, *spot, *value) }
         _ => Err(LineStop::Code(code::BAD_LINE)),
     }
 }
 
 /// Adds what stands behind `style`.
-fn add_style_line(index: &Index, draft: &mut Draft, words: &[Text]) -> Result<(), LineStop>
+fn add_style_line(index: &Index, draft: &mut Draft, words: &[&[u8]]) -> Result<(), LineStop>
     requires index { IsIndex index.now }
     requires draft { IsDraft draft.old }
-    ensures left { Leaves (after_line index.now.tables.now draft.old.machine (style_line words.now)) result draft.new.machine }
+    ensures left { Leaves (after_line index.now.tables.now draft.old.machine (style_line (seen words.now))) result draft.new.machine }
     ensures draft { OnOk result (IsDraft draft.new) }
 {
     match words {
-        [attach, attr, style] => {
-            add_style(index, draft, attach.items(), attr.items(), style.items())
-        }
+        [attach, attr, style] => { add_style(index, draft, *attach, *attr, *style) }
         _ => Err(LineStop::Code(code::BAD_LINE)),
     }
 }
@@ -272,30 +262,30 @@ fn add_driver_line(
     alloc: Global,
     index: &Index,
     draft: &mut Draft,
-    words: &[Text],
+    words: &[&[u8]],
 ) -> Result<(), LineStop>
     requires index { IsIndex index.now }
     requires draft { IsDraft draft.old }
-    ensures left { Leaves (after_line index.now.tables.now draft.old.machine (driver_line words.now)) result draft.new.machine }
+    ensures left { Leaves (after_line index.now.tables.now draft.old.machine (driver_line (seen words.now))) result draft.new.machine }
     ensures draft { OnOk result (IsDraft draft.new) }
 {
     match words.split_first() {
-        Some((attach, policies)) => { add_driver(alloc, index, draft, attach.items(), policies) }
+        Some((attach, policies)) => { add_driver(alloc, index, draft, *attach, policies) }
         None => Err(LineStop::Code(code::BAD_LINE)),
     }
 }
 
 /// Adds what stands behind the first word of a line.
-fn add_rest(
+fn add_rest<'t>(
     alloc: Global,
     index: &Index,
-    draft: &mut Draft,
+    draft: &mut Draft<'t>,
     word: &[u8],
-    rest: &[Text],
+    rest: &[&'t [u8]],
 ) -> Result<(), LineStop>
     requires index { IsIndex index.now }
     requires draft { IsDraft draft.old }
-    ensures left { Leaves (after_line index.now.tables.now draft.old.machine (line_form (word.now ∷ rest.now))) result draft.new.machine }
+    ensures left { Leaves (after_line index.now.tables.now draft.old.machine (line_form (word.now ∷ seen rest.now))) result draft.new.machine }
     ensures draft { OnOk result (IsDraft draft.new) }
 {
     if spells(word, b"spot") {
@@ -313,20 +303,20 @@ fn add_rest(
     Err(LineStop::Code(code::BAD_LINE))
 }
 
-/// Adds what a line of these words says.
-pub fn add_line(
+/// Adds what a line of these words says; nothing where there are none.
+pub fn add_words<'t>(
     alloc: Global,
     index: &Index,
-    draft: &mut Draft,
-    words: &[Text],
+    draft: &mut Draft<'t>,
+    words: &[&'t [u8]],
 ) -> Result<(), LineStop>
     requires index { IsIndex index.now }
     requires draft { IsDraft draft.old }
-    ensures left { Leaves (after_line index.now.tables.now draft.old.machine (line_form words.now)) result draft.new.machine }
+    ensures left { Leaves (after_words index.now.tables.now draft.old.machine (seen words.now)) result draft.new.machine }
     ensures draft { OnOk result (IsDraft draft.new) }
 {
     match words.split_first() {
-        Some((word, rest)) => add_rest(alloc, index, draft, word.items(), rest),
-        None => Err(LineStop::Code(code::BAD_LINE)),
+        Some((word, rest)) => add_rest(alloc, index, draft, *word, rest),
+        None => Ok(()),
     }
 }

@@ -1,18 +1,22 @@
-ghost use Rattle.std.specs.Prelude.{◌≡◌, ◌==◌, IfOk, length, map, not, option_map, take_while};
+ghost use Rattle.std.specs.Prelude.{◌≡◌, ◌==◌, IfOk, false, length, map, not, option_map, take_while};
 ghost use Rattle.std.specs.List.{after_first, before_first, list_any};
+ghost use Rattle.std.specs.Option.{option_map_or};
 ghost use Rattle.config_rules.specs.Form.{each};
 ghost use Rattle.config_rules.specs.MachineText.{differ, located_value, is_located, located};
 ghost use Rattle.machine_model.specs.Found.{given_of, names_of};
+ghost use Rattle.machine_model.specs.Numbers.{AreNumbers};
+ghost use Rattle.machine_model.specs.Numbers as numbered;
+ghost use Rattle.machine_text.specs.Records.{seen};
 
+use crate::numbers::{Numbers, number_in, push, put_in_order};
 use crate::word::ranged;
-use cf_names::{NameHash, add_name, no_numbers, number_in};
-use cf_types::{List, Memory, Text};
+use cf_types::{List, Memory};
 use std::alloc::Global;
 
 /// A value that a spot gives for a locator, `None` where the number is out of its range.
 #[derive(Drop)]
-pub struct FoundValue {
-    pub name: Text,
+pub struct FoundValue<'t> {
+    pub name: &'t [u8],
     pub value: Option<i64>,
 }
 
@@ -52,28 +56,31 @@ fn is_located(word: &[u8]) -> bool
 }
 
 /// Reads `loc=V`.
-fn located_value(alloc: Global, word: &[u8]) -> Result<Option<FoundValue>, Memory>
-    ensures { IfOk result (λ v. option_map given_of v ≡ located_value word.now) }
+fn located_value(word: &[u8]) -> Option<FoundValue>
+    ensures { option_map given_of result ≡ located_value word.now }
 {
     if !is_located(word) {
-        return Ok(None);
+        return None;
     }
     match ranged(value_part(word)) {
-        Some(value) => {
-            let name = Text::copied(alloc, name_part(word))?;
-            Ok(Some(FoundValue { name, value }))
-        }
-        None => Ok(None),
+        Some(value) => Some(FoundValue {
+            name: name_part(word),
+            value,
+        }),
+        None => None,
     }
 }
 
 /// Reads locators and their values; `None` where a word is not `loc=V`.
-pub fn given_values(alloc: Global, words: &[Text]) -> Result<Option<List<FoundValue>>, Memory>
-    ensures { IfOk result (λ found. option_map (map given_of) found ≡ each located_value words.now) }
+pub fn given_values<'t>(
+    alloc: Global,
+    words: &[&'t [u8]],
+) -> Result<Option<List<FoundValue<'t>>>, Memory>
+    ensures { IfOk result (λ found. option_map (map given_of) found ≡ each located_value (seen words.now)) }
 {
     let mut found = List::make(alloc);
     for word in words {
-        match located_value(alloc, word.items())? {
+        match located_value(*word) {
             Some(value) => found.push(value)?,
             None => return Ok(None),
         }
@@ -82,32 +89,61 @@ pub fn given_values(alloc: Global, words: &[Text]) -> Result<Option<List<FoundVa
 }
 
 /// How many words at the front are locators.
-pub fn count_located(words: &[Text]) -> usize
-    ensures { result ≡ length (located words.now) }
+pub fn count_located(words: &[&[u8]]) -> usize
+    ensures { result ≡ length (located (seen words.now)) }
 {
-    words
-        .iter()
-        .take_while(|word| has_equals(word.items()))
-        .count()
+    let mut count = 0;
+    for word in words {
+        if !has_equals(*word) {
+            return count;
+        }
+        count += 1;
+    }
+    count
 }
 
-/// Whether no name stands twice.
-fn differ_by_name(alloc: Global, hash: NameHash, found: &[FoundValue]) -> Result<bool, Memory>
-    ensures { IfOk result (λ apart. apart ≡ differ (names_of found.now)) }
+/// The numbers of the names of these values.
+fn name_numbers<'t>(alloc: Global, found: &[FoundValue<'t>]) -> Result<Numbers<'t>, Memory>
+    ensures { IfOk result (λ numbers. AreNumbers numbers.items (names_of found.now)) }
 {
-    let mut seen = no_numbers(alloc, hash);
+    let mut numbers = Vec::with_capacity(alloc, found.len())?;
     for (i, value) in found.iter().enumerate() {
-        if number_in(&seen, value.name.items()).is_some() {
-            return Ok(false);
-        }
-        add_name(alloc, &mut seen, value.name.items(), i)?;
+        push(&mut numbers, value.name, i)?;
     }
-    Ok(true)
+    put_in_order(&mut numbers)?;
+    Ok(numbers)
+}
+
+fn has_number(numbers: &Numbers, name: &[u8], number: usize) -> bool
+    requires { numbered.AreInOrder numbers.now.items }
+    ensures { result ≡ option_map_or (λ n. n == number) (numbered.number_in numbers.now.items name.now) false }
+{
+    match number_in(numbers, name) {
+        Some(first) => first == number,
+        None => false,
+    }
+}
+
+/// Whether no name stands twice, by the numbers of the names.
+fn differ_by_number(numbers: &Numbers, found: &[FoundValue]) -> bool
+    requires { AreNumbers numbers.now.items (names_of found.now) }
+    ensures { result ≡ differ (names_of found.now) }
+{
+    for (i, value) in found.iter().enumerate() {
+        if !has_number(numbers, value.name, i) {
+            return false;
+        }
+    }
+    true
 }
 
 /// Whether no locator stands twice.
-pub fn names_differ(alloc: Global, hash: NameHash, found: &[FoundValue]) -> Result<bool, Memory>
+pub fn names_differ(alloc: Global, found: &[FoundValue]) -> Result<bool, Memory>
     ensures { IfOk result (λ apart. apart ≡ differ (map (λ g. g.name) (map given_of found.now))) }
 {
-    differ_by_name(alloc, hash, found)
+    if found.len() < 2 {
+        return Ok(true);
+    }
+    let numbers = name_numbers(alloc, found)?;
+    Ok(differ_by_number(&numbers, found))
 }

@@ -1,13 +1,12 @@
 ghost use Rattle.std.specs.Prelude.{◌≡◌};
-ghost use Rattle.config_rules.specs.MachineText.{attach_number, attr_number, interface_number, spot_above, spot_locators, spot_number, spot_place};
+ghost use Rattle.config_rules.specs.MachineText.{attach_number, attr_number, interface_number, spot_above, spot_number, spot_place};
 ghost use Rattle.machine_model.specs.Indexed.{IsDraft, IsIndex};
 
 use crate::draft::Draft;
 use crate::index::Index;
+use crate::numbers::number_in;
 use crate::word::spells;
-use cf_names::number_in;
-use cf_types::{Locator, Place};
-use locator_rules::locators_at;
+use cf_types::Place;
 
 fn attr_number(index: &Index, name: &[u8]) -> Option<u32>
     requires { IsIndex index.now }
@@ -80,15 +79,4 @@ pub fn spot_place(index: &Index, parent: &[u8], attr: &[u8]) -> Option<Place>
         return None;
     }
     Some(Place::At(interface_number(index, attr)?))
-}
-
-/// The locators of a spot's place, at most 16.
-pub fn spot_locators<'t>(index: &Index<'t>, parent: &[u8], attr: &[u8]) -> &'t [Locator]
-    requires { IsIndex index.now }
-    ensures { result.now ≡ spot_locators index.now.tables.now parent.now attr.now }
-{
-    match spot_place(index, parent, attr) {
-        Some(place) => locators_at(index.tables, place),
-        None => &[],
-    }
 }

@@ -1,18 +1,16 @@
 ghost use Rattle.std.specs.Prelude.{◌≡◌, ◌≤◌, IfOk, length, map};
 ghost use Rattle.config_rules.specs.Formed.{CountedTables, FittingMachine};
-ghost use Rattle.config_rules.specs.MachineText.{after_lines, machine_of, no_machine};
+ghost use Rattle.config_rules.specs.MachineText.{after_lines, machine_of, no_machine, word_lines};
 ghost use Rattle.cf_types.specs.Policies.{no_policy};
-ghost use Rattle.machine_text.specs.Records.{word_line};
 ghost use Rattle.machine_model.specs.Indexed.{IsIndex};
 ghost use Rattle.machine_model.specs.Left.{Gives};
 
 use crate::draft::Draft;
 use crate::index::{Index, index_of};
-use crate::line::add_line;
-use crate::names::name_hash;
-use cf_names::{NameHash, no_numbers};
+use crate::line::add_words;
+use cf_types::code::machine as code;
 use cf_types::{Attach, List, Machine, Memory, Policy, Tables};
-use machine_text::{Line, LineStop, MachineStop, records};
+use machine_text::{LineStop, MachineStop, bad_line, cut_words};
 use std::alloc::Global;
 
 /// One policy for each attachment.
@@ -37,45 +35,30 @@ fn no_machine(alloc: Global, tables: &Tables) -> Result<Machine, Memory>
     })
 }
 
-/// The machine that these lines describe.
-fn read_with(alloc: Global, index: &Index, lines: &[Line]) -> Result<Machine, MachineStop>
-    requires { IsIndex index.now }
-    ensures gives { Gives (after_lines index.now.tables.now (map word_line lines.now) (no_machine index.now.tables.now)) result }
+/// The machine that the lines of a text describe.
+fn read_with(alloc: Global, index: &Index, text: &[u8]) -> Result<Machine, MachineStop>
+    requires index { IsIndex index.now }
+    requires short { length text.now ≤ 1048576 }
+    ensures gives { Gives (after_lines index.now.tables.now (word_lines text.now) (no_machine index.now.tables.now)) result }
     ensures few_spots { IfOk result (λ m. length m.spots ≤ 1024) }
 {
     let mut draft = Draft {
         machine: no_machine(alloc, index.tables)?,
-        numbers: no_numbers(alloc, index.hash),
+        numbers: Vec::new(alloc),
     };
-    for line in lines {
-        match add_line(alloc, index, &mut draft, line.words.items()) {
+    let mut words = Vec::new(alloc);
+    let mut number = 1;
+    for line in text.split(|&byte| byte == b'\n') {
+        cut_words(&mut words, line)?;
+        match add_words(alloc, index, &mut draft, &words) {
             Ok(()) => {}
-            Err(LineStop::Code(code)) => {
-                return Err(MachineStop::Fault {
-                    line: line.number,
-                    code,
-                });
-            }
+            Err(LineStop::Code(code)) => return Err(MachineStop::Fault { line: number, code }),
             Err(LineStop::Memory) => return Err(MachineStop::Memory),
         }
+        number += 1;
     }
     let Draft { machine, .. } = draft;
     Ok(machine)
-}
-
-/// The machine that these lines describe, by the names of the tables.
-fn read_lines(
-    alloc: Global,
-    hash: NameHash,
-    tables: &Tables,
-    lines: &[Line],
-) -> Result<Machine, MachineStop>
-    requires { CountedTables tables.now }
-    ensures gives { Gives (after_lines tables.now (map word_line lines.now) (no_machine tables.now)) result }
-    ensures few_spots { IfOk result (λ m. length m.spots ≤ 1024) }
-{
-    let index = index_of(alloc, hash, tables)?;
-    read_with(alloc, &index, lines)
 }
 
 /// Reads a machine file of at most 1,048,576 bytes, for tables of at most 65,536 attributes and attachments and 16
@@ -88,8 +71,14 @@ pub fn read_machine(alloc: Global, text: &[u8], tables: &Tables) -> Result<Machi
     ensures fits { IfOk result (λ m. FittingMachine tables.now m) }
     ensures few_spots { IfOk result (λ m. length m.spots ≤ 1024) }
 {
-    match records(alloc, text) {
-        Ok(lines) => read_lines(alloc, name_hash(tables, text), tables, lines.items()),
-        Err(stop) => Err(stop),
+    match bad_line(text) {
+        Some(line) => Err(MachineStop::Fault {
+            line,
+            code: code::BAD_LINE,
+        }),
+        None => {
+            let index = index_of(alloc, tables)?;
+            read_with(alloc, &index, text)
+        }
     }
 }

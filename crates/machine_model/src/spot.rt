@@ -1,16 +1,20 @@
-ghost use Rattle.std.specs.Prelude.{◌≡◌, ◌≤◌, ◌<◌, ◌&&◌, IfOk, bytes_eq, codes, find, is_none, length, map, not, option_and_then, slice_get};
+ghost use Rattle.std.specs.Prelude.{◌≡◌, ◌≤◌, ◌<◌, ◌&&◌, IfErr, IfOk, None, Some, bytes_eq, codes, find, is_none, length, map, not, option_and_then, slice_get};
 ghost use Rattle.std.specs.List.{list_any};
-ghost use Rattle.config_rules.specs.MachineText.{depth_of, found_fault, found_value, spot_above, spot_fault, spot_locators, spot_of};
+ghost use Rattle.config_rules.specs.MachineText.{depth_of, found_fault, found_value, spot_fault};
 ghost use Rattle.machine_model.specs.Found.{given_of};
 ghost use Rattle.machine_model.specs.Indexed.{IsDraft, IsIndex};
+ghost use Rattle.machine_model.specs.Sites.{IsSite, found_fault_at, site_fault, spot_at};
+ghost use Rattle.machine_text.specs.Records.{seen};
 
 use crate::draft::Draft;
 use crate::index::Index;
 use crate::locator::FoundValue;
-use crate::lookup::{spot_above, spot_locators, spot_number, spot_place};
+use crate::lookup::{spot_above, spot_place};
+use crate::numbers::find;
 use crate::word::{is_one, spells};
 use cf_types::code::machine as code;
-use cf_types::{Locator, Locs, Memory, Name, Place, Spot, Text};
+use cf_types::{Locator, Locs, Memory, Name, Place, Spot};
+use locator_rules::locators_at;
 use std::alloc::Global;
 
 /// The most spots of a machine.
@@ -43,7 +47,7 @@ fn found_fault(locs: &[Locator], found: &[FoundValue]) -> Option<u8>
     ensures { result ≡ found_fault locs.now (map given_of found.now) }
 {
     for value in found {
-        if !has_locator(locs, value.name.items()) {
+        if !has_locator(locs, value.name) {
             return Some(code::UNKNOWN_LOCATOR);
         }
         if is_far(value.value) {
@@ -58,7 +62,7 @@ fn given_for(found: &[FoundValue], name: &[u8]) -> Option<i64>
     ensures { result ≡ option_and_then (λ g. g.value) (find (λ g. bytes_eq g.name name.now) (map given_of found.now)) }
 {
     for value in found {
-        if spells(value.name.items(), name) {
+        if spells(value.name, name) {
             return value.value;
         }
     }
@@ -117,76 +121,114 @@ fn depth_below(spots: &[Spot], above: Option<u16>) -> usize
     depth
 }
 
-/// Whether a parent was given by no earlier line.
-fn is_orphan(draft: &Draft, parent: &[u8]) -> bool
-    requires { IsDraft draft.now }
-    ensures { result ≡ (not (bytes_eq parent.now (codes "root")) && is_none (spot_above draft.now.machine.spots parent.now)) }
-{
-    !spells(parent, b"root") && spot_above(draft, parent).is_none()
+/// Where a spot hangs, and the place of its name among those of the spots.
+#[derive(Drop)]
+pub struct Site<'t> {
+    pub at: usize,
+    above: Option<u16>,
+    place: Place,
+    locators: &'t [Locator],
 }
 
-/// The first code of a spot after these.
-pub fn spot_fault(
-    index: &Index,
+/// Whether a parent was given by no earlier line, where this is the spot above.
+fn is_orphan(parent: &[u8], above: Option<u16>) -> bool
+    ensures { result ≡ (not (bytes_eq parent.now (codes "root")) && is_none above) }
+{
+    !spells(parent, b"root") && above.is_none()
+}
+
+/// The site of a new spot, or the first code of its name, its parent and its attribute.
+fn site_of<'t>(
+    index: &Index<'t>,
     draft: &Draft,
     name: &[u8],
     parent: &[u8],
     attr: &[u8],
-    found: &[FoundValue],
-) -> Option<u8>
+) -> Result<Site<'t>, u8>
     requires index { IsIndex index.now }
     requires draft { IsDraft draft.now }
-    ensures code { result ≡ spot_fault index.now.tables.now draft.now.machine.spots name.now parent.now attr.now (map given_of found.now) }
+    ensures fault { IfErr result (λ code. site_fault index.now.tables.now draft.now.machine.spots name.now parent.now attr.now ≡ Some code) }
+    ensures none { IfOk result (λ site. site_fault index.now.tables.now draft.now.machine.spots name.now parent.now attr.now ≡ None) }
+    ensures site { IfOk result (IsSite index.now.tables.now draft.now name.now parent.now attr.now) }
+{
+    let at = match find(&draft.numbers, name) {
+        Ok(_) => return Err(code::SPOT_TWICE),
+        Err(at) => at,
+    };
+    let above = spot_above(draft, parent);
+    if is_orphan(parent, above) {
+        return Err(code::UNKNOWN_SPOT);
+    }
+    match spot_place(index, parent, attr) {
+        Some(place) => Ok(Site {
+            at,
+            above,
+            place,
+            locators: locators_at(index.tables, place),
+        }),
+        None => Err(code::NO_INTERFACE),
+    }
+}
+
+/// The first code of the values that are found at a site, and of its depth.
+fn found_fault_at(draft: &Draft, site: &Site, found: &[FoundValue]) -> Option<u8>
+    ensures code { result ≡ found_fault_at draft.now.machine.spots site.now.above site.now.locators.now (map given_of found.now) }
     ensures not_full { result ≡ None → length draft.now.machine.spots < 1024 }
 {
-    if spot_number(draft, name).is_some() {
-        return Some(code::SPOT_TWICE);
-    }
-    if is_orphan(draft, parent) {
-        return Some(code::UNKNOWN_SPOT);
-    }
-    if spot_place(index, parent, attr).is_none() {
-        return Some(code::NO_INTERFACE);
-    }
-    if let Some(code) = found_fault(spot_locators(index, parent, attr), found) {
+    if let Some(code) = found_fault(site.locators, found) {
         return Some(code);
     }
     let spots = draft.machine.spots.items();
     if MAX_SPOTS <= spots.len() {
         return Some(code::TOO_MANY_SPOTS);
     }
-    if MAX_DEPTH < depth_below(spots, spot_above(draft, parent)) {
+    if MAX_DEPTH < depth_below(spots, site.above) {
         return Some(code::TOO_DEEP);
     }
     None
 }
 
-/// The spot of a line after these.
-pub fn make_spot(
-    alloc: Global,
-    index: &Index,
+/// The site of a new spot, or the first code of the spot.
+pub fn fitting_site<'t>(
+    index: &Index<'t>,
     draft: &Draft,
     name: &[u8],
     parent: &[u8],
     attr: &[u8],
     found: &[FoundValue],
-    marks: &[Text],
-) -> Result<Spot, Memory>
+) -> Result<Site<'t>, u8>
     requires index { IsIndex index.now }
     requires draft { IsDraft draft.now }
+    ensures fault { IfErr result (λ code. spot_fault index.now.tables.now draft.now.machine.spots name.now parent.now attr.now (map given_of found.now) ≡ Some code) }
+    ensures none { IfOk result (λ site. spot_fault index.now.tables.now draft.now.machine.spots name.now parent.now attr.now (map given_of found.now) ≡ None) }
+    ensures site { IfOk result (IsSite index.now.tables.now draft.now name.now parent.now attr.now) }
+    ensures not_full { IfOk result (λ site. length draft.now.machine.spots < 1024) }
+{
+    let site = site_of(index, draft, name, parent, attr)?;
+    match found_fault_at(draft, &site, found) {
+        Some(code) => Err(code),
+        None => Ok(site),
+    }
+}
+
+/// The spot of a line at its site.
+pub fn make_spot(
+    alloc: Global,
+    site: &Site,
+    name: &[u8],
+    found: &[FoundValue],
+    marks: &[&[u8]],
+) -> Result<Spot, Memory>
     requires not_empty { 1 ≤ length name.now }
     requires not_long { length name.now ≤ 63 }
-    ensures { IfOk result (λ s. s ≡ spot_of index.now.tables.now draft.now.machine.spots name.now parent.now attr.now (map given_of found.now) marks.now) }
+    requires few { length site.now.locators.now ≤ 16 }
+    ensures { IfOk result (λ s. s ≡ spot_at site.now name.now (map given_of found.now) (seen marks.now)) }
 {
-    let place = match spot_place(index, parent, attr) {
-        Some(place) => place,
-        None => Place::Root,
-    };
     Ok(Spot {
         name: Name::make(alloc, name)?,
-        parent: spot_above(draft, parent),
-        place,
-        found: found_values(found, spot_locators(index, parent, attr)),
+        parent: site.above,
+        place: site.place,
+        found: found_values(found, site.locators),
         late: is_one(marks, b"late"),
         absent: is_one(marks, b"absent"),
         bad: is_one(marks, b"bad"),

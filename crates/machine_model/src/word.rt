@@ -2,9 +2,9 @@ ghost use Rattle.std.specs.Prelude.{◌≡◌, ◌≤◌, IsTrue, bytes_eq, leng
 ghost use Rattle.std.specs.List.{list_all};
 ghost use Rattle.config_rules.specs.Form.{given};
 ghost use Rattle.config_rules.specs.MachineText.{differ, in_match_range, is_free_name, is_one, mark_words, match_value, policy_words, ranged};
+ghost use Rattle.machine_text.specs.Records.{seen};
 
 use cf_text::{NumberRead, is_name, read_number};
-use cf_types::Text;
 
 /// The greatest length of a written name.
 const MAX_WRITTEN: usize = 63;
@@ -35,10 +35,10 @@ fn is_mark(word: &[u8]) -> bool
 }
 
 /// Whether all are marks of a spot.
-pub fn are_marks(words: &[Text]) -> bool
-    ensures { result ≡ list_all (is_one mark_words) words.now }
+pub fn are_marks(words: &[&[u8]]) -> bool
+    ensures { result ≡ list_all (is_one mark_words) (seen words.now) }
 {
-    words.iter().all(|word| is_mark(word.items()))
+    words.iter().all(|word| is_mark(*word))
 }
 
 fn is_policy(word: &[u8]) -> bool
@@ -54,29 +54,27 @@ fn is_policy(word: &[u8]) -> bool
 }
 
 /// Whether all are policies of a driver.
-pub fn are_policies(words: &[Text]) -> bool
-    ensures { result ≡ list_all (is_one policy_words) words.now }
+pub fn are_policies(words: &[&[u8]]) -> bool
+    ensures { result ≡ list_all (is_one policy_words) (seen words.now) }
 {
-    words.iter().all(|word| is_policy(word.items()))
+    words.iter().all(|word| is_policy(*word))
 }
 
 /// Whether one of these is the word.
-pub fn is_one(words: &[Text], word: &[u8]) -> bool
-    ensures { result ≡ is_one words.now word.now }
+pub fn is_one(words: &[&[u8]], word: &[u8]) -> bool
+    ensures { result ≡ is_one (seen words.now) word.now }
 {
-    words.iter().any(|other| word == other.items())
+    words.iter().any(|other| word == *other)
 }
 
 /// Whether no word stands twice.
-pub fn differ(words: &[Text]) -> bool
-    ensures { result ≡ differ words.now }
+pub fn differ(words: &[&[u8]]) -> bool
+    ensures { result ≡ differ (seen words.now) }
 {
-    let mut rest = words;
-    while let Some((first, more)) = rest.split_first() {
-        if is_one(more, first.items()) {
+    for (i, word) in words.iter().enumerate() {
+        if is_one(&words[i + 1..], *word) {
             return false;
         }
-        rest = more;
     }
     true
 }

@@ -1,8 +1,8 @@
 -- One more line of a machine file, and one more word of a line.
-use Rattle.std.proofs.Common.{◌≡◌, ℕ, ◌+◌, ◌≤◌, Bool, true, false, cond, List, [], ◌∷◌, ◌++◌, length, drop, map, refl, ap, sym, ◌∙◌, arith, Option, Some, None, append_assoc}
+use Rattle.std.proofs.Common.{◌≡◌, ℕ, ◌+◌, ◌≤◌, Bool, true, false, cond, List, [], ◌∷◌, ◌++◌, length, drop, ap, sym, ◌∙◌, arith, Option, Some, None, append_assoc}
 use Rattle.std.specs.Prelude.{filter, find, nat_lt, option_map, ◌==◌}
 use Rattle.std.specs.List.{enumerate_from}
-use Rattle.std.proofs.lemmas.List.{drop_all, drop_more, length_push, map-append}
+use Rattle.std.proofs.lemmas.List.{drop_all, drop_more, length_push}
 use Rattle.std.proofs.lemmas.Iterator.{YieldsList}
 use Rattle.std.proofs.lemmas.Iterator.Consumers.{YieldsList-turn, YieldsList-end}
 use Rattle.std.specs.Iterator.{Yields}
@@ -10,9 +10,7 @@ use Rattle.std.proofs.lemmas.Bool.Decides.{nat_tests}
 use Rattle.std.proofs.lemmas.List.Splits.{length-slice_split}
 use Rattle.std.proofs.lemmas.List.Sums.{count_by-le-length}
 use Rattle.config_rules.specs.Cut.{lines_of}
-use Rattle.config_rules.specs.MachineText.{WordLine, has_bad_byte, words_of}
-use Rattle.machine_text.specs.declared.line.Line.{Line}
-use Rattle.machine_text.specs.Records.{with_line, word_line}
+use Rattle.config_rules.specs.MachineText.{has_bad_byte}
 
 -- ---- what is left in a loop over a list, at its next value and at its end
 
@@ -43,42 +41,6 @@ bad_here n line is h = ap (bad_from n) is ∙ bad_if true n line _ h
 
 pub bad_later : (n : ℕ) (line : List ℕ) {lines more : List (List ℕ)} → lines ≡ line ∷ more → has_bad_byte line ≡ false → bad_from (n + 1) more ≡ bad_from n lines
 bad_later n line is h = sym (ap (bad_from n) is ∙ bad_if false n line _ h)
-
--- ---- the lines that have words
-
-abbrev pub words_from : ℕ → List (List ℕ) → List WordLine
-words_from n lines = filter (λ l. nat_lt 0 (length l.words)) (map (λ e. record { number = e.0; words = words_of e.1 }) (enumerate_from n lines))
-
-words_if : (b : Bool) (n : ℕ) (line : List ℕ) (more : List WordLine) → nat_lt 0 (length (words_of line)) ≡ b
-    → cond (nat_lt 0 (length (words_of line))) (record { number = n; words = words_of line } ∷ more) more ≡ cond b (record { number = n; words = words_of line } ∷ more) more
-words_if b n line more h = let with_it : WordLine = record { number = n; words = words_of line } in ap (λ t. cond t (with_it ∷ more) more) h
-
-words_here : (n : ℕ) (words : List (List ℕ)) (line : List ℕ) (lines : List (List ℕ)) (front : List Line) → nat_lt 0 (length words) ≡ true → words ≡ words_of line
-    → map word_line (front ++ record { number = n; words = words } ∷ []) ++ words_from (n + 1) lines ≡ map word_line front ++ words_from n (line ∷ lines)
-words_here n words line lines front h e =
-    let this : Line = record { number = n; words = words } in
-    let make : List (List ℕ) → WordLine = λ ws. record { number = n; words = ws } in
-    let some : nat_lt 0 (length (words_of line)) ≡ true = ap (λ ws. nat_lt 0 (length ws)) (sym e) ∙ h in
-    ap (λ ls. ls ++ words_from (n + 1) lines) (map-append word_line front (this ∷ []))
-    ∙ append_assoc (map word_line front) (word_line this ∷ []) (words_from (n + 1) lines)
-    ∙ ap (λ ws. map word_line front ++ make ws ∷ words_from (n + 1) lines) e
-    ∙ ap (λ ls. map word_line front ++ ls) (sym (words_if true n line (words_from (n + 1) lines) some))
-
-words_later : (n : ℕ) (words : List (List ℕ)) (line : List ℕ) (lines : List (List ℕ)) → nat_lt 0 (length words) ≡ false → words ≡ words_of line → words_from (n + 1) lines ≡ words_from n (line ∷ lines)
-words_later n words line lines h e =
-    sym (words_if false n line (words_from (n + 1) lines) (ap (λ ws. nat_lt 0 (length ws)) (sym e) ∙ h))
-
-line_if : (b : Bool) (n : ℕ) (words : List (List ℕ)) (line : List ℕ) (lines : List (List ℕ)) (front : List Line) → nat_lt 0 (length words) ≡ b → words ≡ words_of line
-    → map word_line (cond b (front ++ record { number = n; words = words } ∷ []) front) ++ words_from (n + 1) lines ≡ map word_line front ++ words_from n (line ∷ lines)
-line_if true n words line lines front h e = words_here n words line lines front h e
-line_if false n words line lines front h e = ap (λ ls. map word_line front ++ ls) (words_later n words line lines h e)
-
--- one more line
-pub line_more : (n : ℕ) (words : List (List ℕ)) (line : List ℕ) {lines more : List (List ℕ)} (front new : List Line) → lines ≡ line ∷ more → new ≡ with_line front n words → words ≡ words_of line
-    → map word_line new ++ words_from (n + 1) more ≡ map word_line front ++ words_from n lines
-line_more n words line {more = more} front new left is e =
-    ap (λ ls. map word_line ls ++ words_from (n + 1) more) is ∙ line_if (nat_lt 0 (length words)) n words line more front refl e
-    ∙ ap (λ ls. map word_line front ++ words_from n ls) (sym left)
 
 -- ---- the words of a line
 

@@ -5,6 +5,6 @@ mod line;
 mod stop;
 mod text;
 
-pub use line::{Line, MachineStop, has_bad_byte, uncommented, words_of};
+pub use line::{MachineStop, cut_words, has_bad_byte, uncommented, words_of};
 pub use stop::LineStop;
-pub use text::records;
+pub use text::bad_line;

@@ -1,18 +1,11 @@
-ghost use Rattle.std.specs.Prelude.{◌≡◌, ◌==◌, IfOk, length, not, take_while};
+ghost use Rattle.std.specs.Prelude.{◌≡◌, ◌==◌, IfOk, OnOk, length, not, take_while};
 ghost use Rattle.config_rules.specs.MachineText.{has_bad_byte, is_allowed, uncommented, words_of};
-ghost use Rattle.machine_text.specs.Records.{parted};
+ghost use Rattle.machine_text.specs.Records.{parted, seen};
 
 use cf_text::is_space;
 use cf_types::{List, Memory as NoMemory, Text};
 use std::alloc::{AllocError, Global};
 use thiserror::Error;
-
-/// A line of a machine file that has words: its number, from 1, and its words, none of them empty.
-#[derive(Drop)]
-pub struct Line {
-    pub number: u32,
-    pub words: List<Text>,
-}
 
 /// Why a machine file can't be read.
 #[derive(Clone, Copy, Debug, PartialEq, Eq, Error)]
@@ -85,6 +78,19 @@ fn parted(alloc: Global, bytes: &[u8]) -> Result<List<Text>, NoMemory>
         }
     }
     Ok(words)
+}
+
+/// Puts the words of a line in the place of others. They are lent, and stand in room that is used again.
+pub fn cut_words<'t>(words: &mut Vec<&'t [u8]>, line: &'t [u8]) -> Result<(), NoMemory>
+    ensures { OnOk result (seen words.new.items ≡ words_of line.now) }
+{
+    words.clear();
+    for word in uncommented(line).split(|&byte| is_space(byte)) {
+        if !word.is_empty() {
+            words.push(word)?;
+        }
+    }
+    Ok(())
 }
 
 /// The words of a line, parted by spaces and tabs.

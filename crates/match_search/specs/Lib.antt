@@ -1,3 +1,4 @@
 pub mod Best
 pub mod Index
 pub use Rattle.run_rules.specs.Search
+pub mod Own

@@ -7,6 +7,7 @@ ghost use Rattle.run_rules.specs.World as world;
 ghost use Rattle.match_search.specs.Index.{AreBestFirst, AreValuesAt, IsIndexOf, candidates};
 
 use crate::fits::{passes, same_place};
+use crate::own::own_lines;
 use crate::values::{set_values, value_of, values_at};
 use cf_types::{Machine, Memory, Place, Row, Tables};
 use std::alloc::Global;
@@ -111,9 +112,10 @@ impl RowIndex {
     {
         let mut everywhere = Vec::new(alloc);
         set_values(&mut everywhere, machine.matches.items(), None)?;
-        let mut lists = Vec::new(alloc);
+        let own = own_lines(alloc, machine.spots.items(), machine.matches.items())?;
+        let mut lists = Vec::with_capacity(alloc, machine.spots.len())?;
         for (number, spot) in machine.spots.items().iter().enumerate() {
-            let values = values_at(&everywhere, machine, number as u16)?;
+            let values = values_at(&everywhere, machine, &own[number], number as u16)?;
             let rows = best_first(tables, machine, &values, spot.place, number as u16)?;
             lists.push(rows)?;
         }

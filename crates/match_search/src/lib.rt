@@ -5,6 +5,7 @@ mod choice;
 mod fits;
 mod index;
 mod live;
+mod own;
 mod value;
 mod values;
 

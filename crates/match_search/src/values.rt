@@ -1,5 +1,5 @@
 //! The match values of all attachments at one spot.
-ghost use Rattle.std.specs.Prelude.{◌≡◌, ◌==◌, ℕ, if◌then◌else◌, OnOk, IfOk, None};
+ghost use Rattle.std.specs.Prelude.{◌≡◌, ◌==◌, ℕ, if◌then◌else◌, OnOk, IfOk, None, Some, filter};
 ghost use Rattle.std.specs.List.{slice_index_or};
 ghost use Rattle.match_search.specs.Index.{AreValuesAt, is_for, last_value};
 
@@ -54,13 +54,19 @@ pub fn set_values(
     Ok(())
 }
 
-/// The match values of attachments at a spot, from those of the lines for all spots.
+/// The match values of attachments at a spot, from those of the lines for all spots and from its own lines.
 #[tactic(auto, unfolding(run_rules::specs::Search::match_value))]
-pub fn values_at(everywhere: &Vec<u32>, machine: &Machine, spot: u16) -> Result<Vec<u32>, Memory>
-    requires { (a : ℕ) → slice_index_or everywhere.now.items a 0 ≡ last_value None machine.now.matches a 0 }
+pub fn values_at(
+    everywhere: &Vec<u32>,
+    machine: &Machine,
+    own: &[MatchLine],
+    spot: u16,
+) -> Result<Vec<u32>, Memory>
+    requires everywhere { (a : ℕ) → slice_index_or everywhere.now.items a 0 ≡ last_value None machine.now.matches a 0 }
+    requires own { own.now ≡ filter (is_for (Some spot)) machine.now.matches }
     ensures { IfOk result (λ values. AreValuesAt machine.now spot values.items) }
 {
-    let mut values = everywhere.clone()?;
-    set_values(&mut values, machine.matches.items(), Some(spot))?;
+    let mut values = Vec::from_slice(*everywhere.allocator(), everywhere)?;
+    set_values(&mut values, own, Some(spot))?;
     Ok(values)
 }

@@ -1,21 +1,15 @@
-use Rattle.std.proofs.Common.{◌∙◌, List, Ok, ap, map, sym}
-use Rattle.machine_text.specs.declared.line.Line.{Line}
-use Rattle.machine_text.specs.Records.{word_line}
+use Rattle.std.proofs.Common.{◌∙◌, sym}
 use Rattle.machine_model.proofs.MachineLemmas.{whole, faulty, fitting}
 use Rattle.machine_model.proofs.machine.read_machine.Goals as goal
 
-pub returns-in-Ok-clause-gives : goal.returns-in-Ok-clause-gives
-returns-in-Ok-clause-gives c =
-    whole c.args.tables.now c.args.text.now (map word_line c.items.result.now) c.read_lines.result
-    (c.in-Ok.ensures ∙ ap (λ (ls : List Line). Ok (map word_line ls)) (sym c.items.ensures))
-    c.read_lines.ensures.gives
+pub returns-in-Some-clause-gives : goal.returns-in-Some-clause-gives
+returns-in-Some-clause-gives c = faulty c.args.tables.now c.args.text.now _ (sym c.bad_line.ensures ∙ c.in-Some.is)
 
-pub returns-in-Ok-clause-fits : goal.returns-in-Ok-clause-fits
-returns-in-Ok-clause-fits c =
-    fitting c.args.tables.now c.args.text.now c.read_lines.result
-    (whole c.args.tables.now c.args.text.now (map word_line c.items.result.now) c.read_lines.result
-    (c.in-Ok.ensures ∙ ap (λ (ls : List Line). Ok (map word_line ls)) (sym c.items.ensures))
-    c.read_lines.ensures.gives)
+pub returns-in_ok-index-in-None-clause-gives : goal.returns-in_ok-index-in-None-clause-gives
+returns-in_ok-index-in-None-clause-gives c =
+    whole c.args.tables.now c.args.text.now c.read_with.result (sym c.bad_line.ensures ∙ c.in-None.is) (rw c.in_ok-index-in-None.ensures.tables at c.read_with.ensures.gives)
 
-pub returns-in-Err-clause-gives : goal.returns-in-Err-clause-gives
-returns-in-Err-clause-gives c = faulty c.args.tables.now c.args.text.now c.in-Err.stop c.in-Err.ensures
+pub returns-in_ok-index-in-None-clause-fits : goal.returns-in_ok-index-in-None-clause-fits
+returns-in_ok-index-in-None-clause-fits c =
+    fitting c.args.tables.now c.args.text.now c.read_with.result
+    (whole c.args.tables.now c.args.text.now c.read_with.result (sym c.bad_line.ensures ∙ c.in-None.is) (rw c.in_ok-index-in-None.ensures.tables at c.read_with.ensures.gives))

@@ -1,11 +1,14 @@
-use Rattle.std.proofs.Common.{◌≡◌, drop, map}
-use Rattle.config_rules.specs.MachineText.{after_lines, no_machine}
-use Rattle.machine_text.specs.Records.{word_line}
+use Rattle.std.proofs.Common.{◌≡◌, ◌+◌, length, drop}
+use Rattle.config_rules.specs.Cut.{lines_of}
+use Rattle.config_rules.specs.MachineText.{after_lines, no_machine, word_lines}
 use Rattle.machine_model.specs.Indexed.{IsDraft}
+use Rattle.machine_model.proofs.MachineLemmas.{words_from}
 use Rattle.machine_model.proofs.machine.read_with.Given as goal
 
 abbrev pub invariant-loop-line : goal.invariant-loop-line
 invariant-loop-line l = record {
-  so_far : after_lines l.index.tables.now (map word_line (drop l.line-index l.lines)) l.draft.machine ≡ after_lines l.index.tables.now (map word_line l.lines) (no_machine l.index.tables.now);
+  iterator : (goal.iterator-loop-line).can_next l.line-iterator × (goal.iterator-loop-line).is_finite l.line-iterator;
+  so_far : after_lines l.index.tables.now (words_from l.number (drop (length l.yielded) (lines_of l.text))) l.draft.machine ≡ after_lines l.index.tables.now (word_lines l.text) (no_machine l.index.tables.now);
   draft : IsDraft l.draft;
+  count : l.number ≡ length l.yielded + 1;
 }

@@ -1,15 +1,24 @@
-use Rattle.std.proofs.Common.{◌∙◌, ap, sym, arith}
-use Rattle.config_rules.specs.MachineText.{differ, is_one}
-use Rattle.machine_model.proofs.WordLemmas.{twice, once, none_differ}
+use Rattle.std.proofs.Common.{◌∙◌, ◌+◌, ap, sym, drop, length, arith, ◌-◌}
+use Rattle.std.proofs.lemmas.List.{drop_all, length-drop, take_all}
+use Rattle.config_rules.specs.MachineText.{differ}
+use Rattle.machine_text.specs.Records.{seen}
+use Rattle.machine_model.proofs.SeenLemmas.{seen_from}
+use Rattle.machine_model.proofs.WordLemmas.{twice, once}
 use Rattle.machine_model.proofs.word.differ.Goals as goal
 
 pub returns-then-is_one : goal.returns-then-is_one
 returns-then-is_one c =
-    sym (twice c.in-Some.first.now c.in-Some.more.now (ap (is_one c.in-Some.more.now) (sym c.items.ensures) ∙ sym c.is_one.ensures ∙ c.if-is_one.true)) ∙ ap differ (sym c.in-Some.ensures.cases.0) ∙ c.loop-first.invariant
+    let i = c.loop-i.i in
+    let words = c.args.words.now in
+    let rest = take_all (length words - (i + 1)) (drop (i + 1) words) (omega (arith, length-drop (i + 1) words, c.loop-i-test.true)) in
+    sym (ap differ (seen_from words i _ c.loop-i-test.true) ∙ twice _ (seen (drop (i + 1) words)) (rw rest at (sym c.is_one.ensures ∙ c.if-is_one.true))) ∙ c.loop-i.invariant
 
-pub loop-first-preserved : goal.loop-first-preserved
-loop-first-preserved c =
-    sym (once c.in-Some.first.now c.in-Some.more.now (ap (is_one c.in-Some.more.now) (sym c.items.ensures) ∙ sym c.is_one.ensures ∙ c.if-is_one.false)) ∙ ap differ (sym c.in-Some.ensures.cases.0) ∙ c.loop-first.invariant
+pub loop-i-preserved : goal.loop-i-preserved
+loop-i-preserved c =
+    let i = c.loop-i.i in
+    let words = c.args.words.now in
+    let rest = take_all (length words - (i + 1)) (drop (i + 1) words) (omega (arith, length-drop (i + 1) words, c.loop-i-test.true)) in
+    sym (ap differ (seen_from words i _ c.loop-i-test.true) ∙ once _ (seen (drop (i + 1) words)) (rw rest at (sym c.is_one.ensures ∙ c.if-is_one.false))) ∙ c.loop-i.invariant
 
 pub returns : goal.returns
-returns c = sym (none_differ c.loop-first.rest.now (omega (arith, c.in_default.ensures.cases))) ∙ c.loop-first.invariant
+returns c = ap (λ ws. differ (seen ws)) (sym (drop_all c.loop-i.i c.args.words.now (omega (arith, c.loop-i-test.false)))) ∙ c.loop-i.invariant

@@ -1,9 +1,7 @@
-use Rattle.std.proofs.Common.{◌≡◌, length}
+use Rattle.std.proofs.Common.{◌≡◌, drop}
 use Rattle.config_rules.specs.MachineText.{differ}
+use Rattle.machine_text.specs.Records.{seen}
 use Rattle.machine_model.proofs.word.differ.Given as goal
 
-abbrev pub invariant-loop-first : goal.invariant-loop-first
-invariant-loop-first l = differ l.rest ≡ differ l.words
-
-abbrev pub decreases-loop-first : goal.decreases-loop-first
-decreases-loop-first l = length l.rest
+abbrev pub invariant-loop-i : goal.invariant-loop-i
+invariant-loop-i l = differ (seen (drop l.i l.words)) ≡ differ (seen l.words)
