@@ -42,6 +42,17 @@ impl<T: Drop> From<AllocFailed<T>> for GraphStop {
     }
 }
 
+/// How much room is made for what the named attributes offer: enough, unless that is more than is allowed.
+fn room_for(attrs: &[AttrEntry], own: Option<u32>, names: &[u32]) -> usize
+    requires { All (λ a. a < length attrs.now) names.now }
+{
+    let mut room = usize::from(own.is_some());
+    for name in names {
+        room = room.saturating_add(attrs[*name as usize].reach.len());
+    }
+    room.min(MAX_INTERFACES)
+}
+
 /// What the named attributes offer, behind an attribute's own number: each once, at its first appearance.
 pub fn gather(
     alloc: Global,
@@ -59,7 +70,7 @@ pub fn gather(
     ensures marked { AreMarks [] marks.new.items }
     ensures size { length marks.new.items ≡ length marks.old.items }
 {
-    let mut list = Vec::new(alloc);
+    let mut list = Vec::with_capacity(alloc, room_for(attrs, own, names))?;
     let added = add_own(&mut list, marks, attrs, own, names);
     unmark(&list, marks);
     added?;

@@ -47,7 +47,7 @@ or_else_if : {A : Type 0} (b : Bool) (x : A) (o p q : Option A) → q ≡ or_els
 or_else_if true x o p q e = refl
 or_else_if false x o p q e = e
 
-find-append : {X : Type 0} (p : X → Bool) (xs ys : List X) → find p (xs ++ ys) ≡ or_else (find p xs) (find p ys)
+pub find-append : {X : Type 0} (p : X → Bool) (xs ys : List X) → find p (xs ++ ys) ≡ or_else (find p xs) (find p ys)
 find-append p [] ys = refl
 find-append p (x ∷ xs) ys = or_else_if (p x) x (find p xs) (find p ys) (find p (xs ++ ys)) (find-append p xs ys)
 

@@ -18,4 +18,5 @@ pub mod OfferFacts
 pub mod SettledLaws
 pub mod SoundFacts
 pub mod SoundLaws
+pub mod SpotLemmas
 pub mod SurvivingLaws

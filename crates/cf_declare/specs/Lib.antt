@@ -1,4 +1,6 @@
+pub mod Additions
 pub mod Declare
+pub mod FirstSpots
 pub mod Graphs
 pub mod Instances
 pub mod Limits

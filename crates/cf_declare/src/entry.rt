@@ -22,11 +22,11 @@ fn copied_locator(locator: &Locator) -> Result<Locator, Memory>
 fn copied_locators(alloc: Global, locators: &[Locator]) -> Result<List<Locator>, Memory>
     ensures { IfOk result (λ copy. copy ≡ locators.now) }
 {
-    let mut copy = List::make(alloc);
+    let mut copy = Vec::with_capacity(alloc, locators.len())?;
     for locator in locators {
         copy.push(copied_locator(locator)?)?;
     }
-    Ok(copy)
+    Ok(List::from_vec(copy))
 }
 
 /// The locators of an attribute, none where no braces are written.
@@ -160,11 +160,11 @@ fn places_named(alloc: Global, declared: &Catalog, names: &[Name]) -> Result<Lis
     requires { length declared.now.attrs ≤ 65536 }
     ensures { IfOk result (λ places. places ≡ map (place_named declared.now) names.now) }
 {
-    let mut places = List::make(alloc);
+    let mut places = Vec::with_capacity(alloc, names.len())?;
     for name in names {
         places.push(place_named(declared, name.bytes()))?;
     }
-    Ok(places)
+    Ok(List::from_vec(places))
 }
 
 fn device_or_zero(declared: &Catalog, name: &[u8]) -> u32

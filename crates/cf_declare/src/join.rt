@@ -1,17 +1,22 @@
-ghost use Rattle.std.specs.Prelude.{◌≡◌, ◌==◌, ◌<◌, ◌≤◌, [], length, find};
+ghost use Rattle.std.specs.Prelude.{◌≡◌, ◌==◌, ◌<◌, ◌≤◌, [], length, find, is_some, All, IfSome};
 ghost use Rattle.std.specs.List.{list_any};
 ghost use Rattle.cf_types.specs.Locators.{locators_at};
 ghost use Rattle.cf_types.specs.Offers.{offers};
 ghost use Rattle.config_rules.specs.Declared.{attr_number};
 ghost use Rattle.config_rules.specs.Joined.{attr_target, target_of, suits, spots_of, fill, join, parent_of};
 ghost use Rattle.attr_graph.specs.Graphs.{IsGraphOf};
+ghost use Rattle.cf_names.specs.Attaches.{attaches_of};
 ghost use Rattle.cf_declare.specs.Graphs.{LocatorsFit, placed_at};
 
+use crate::spot::noted_place;
 use attr_graph::Graph;
 use cf_names::Catalog;
 use cf_types::code::configuration as code;
 use cf_types::{AtSpec, AttachPlace, GivenLoc, Joined, Locs, ParentSpec, Place, Target};
 use locator_rules::fill;
+
+/// How many attachments of a device, and how many places of each, are gone over.
+const MAX_SCANNED: usize = 8;
 
 /// An attribute that an instance attaches to: unknown, no interface attribute, or written with a unit.
 fn attr_target(declared: &Catalog, name: &[u8], unit: Option<u32>) -> Result<Target, u8>
@@ -102,18 +107,34 @@ fn place_of(declared: &Catalog, graph: &Graph, target: Target, number: usize) ->
     })
 }
 
-/// The first attachment of a device, with its first place, that suits.
+/// The numbers of a device's attachments, where it has one.
+fn attachments(declared: &Catalog, device: u32) -> Option<&[usize]>
+    ensures some { is_some result ≡ list_any (λ a. a.device == device) declared.now.attaches }
+    ensures numbers { IfSome result (λ numbers. numbers.now ≡ attaches_of declared.now.attaches device) }
+    ensures within { IfSome result (λ numbers. All (λ n. n < length declared.now.attaches) numbers.now) }
+{
+    let numbers = declared.attaches_of(device);
+    if numbers.is_empty() {
+        return None;
+    }
+    Some(numbers)
+}
+
+/// The first of these attachments of a device, with its first place, that suits, by going over them.
 fn attach_place(
     declared: &Catalog,
     graph: &Graph,
     target: Target,
     device: u32,
+    numbers: &[usize],
 ) -> Option<AttachPlace>
     requires graph { IsGraphOf declared.now graph.now }
     requires few { length declared.now.attaches ≤ 65536 }
+    requires numbers { numbers.now ≡ attaches_of declared.now.attaches device }
+    requires within { All (λ n. n < length declared.now.attaches) numbers.now }
     ensures { result ≡ find (λ s. suits declared.now target s.place) (spots_of declared.now device) }
 {
-    for number in declared.attaches_of(device) {
+    for number in numbers {
         match place_of(declared, graph, target, *number) {
             Some(place) => return Some(place),
             None => {}
@@ -122,11 +143,40 @@ fn attach_place(
     None
 }
 
-/// Whether a device has an attachment.
-fn is_attached(declared: &Catalog, device: u32) -> bool
-    ensures { result ≡ list_any (λ a. a.device == device) declared.now.attaches }
+/// Whether these are few attachments, each with few places.
+fn are_few(declared: &Catalog, numbers: &[usize]) -> bool
+    requires { All (λ n. n < length declared.now.attaches) numbers.now }
 {
-    !declared.attaches_of(device).is_empty()
+    if numbers.len() > MAX_SCANNED {
+        return false;
+    }
+    for number in numbers {
+        if declared.attaches()[*number].places.len() > MAX_SCANNED {
+            return false;
+        }
+    }
+    true
+}
+
+/// The first of these attachments of a device, with its first place, that suits: among few by going over them, and else
+/// by what is noted of each place.
+fn fitting_place(
+    declared: &Catalog,
+    graph: &Graph,
+    target: Target,
+    device: u32,
+    numbers: &[usize],
+) -> Option<AttachPlace>
+    requires graph { IsGraphOf declared.now graph.now }
+    requires few { length declared.now.attaches ≤ 65536 }
+    requires numbers { numbers.now ≡ attaches_of declared.now.attaches device }
+    requires within { All (λ n. n < length declared.now.attaches) numbers.now }
+    ensures { result ≡ find (λ s. suits declared.now target s.place) (spots_of declared.now device) }
+{
+    if are_few(declared, numbers) {
+        return attach_place(declared, graph, target, device, numbers);
+    }
+    noted_place(declared, graph, target, device)
 }
 
 /// The locator values of an instance at a place.
@@ -173,11 +223,11 @@ pub fn join(
         return Err(code::UNKNOWN_DEVICE);
     };
     let device = device as u32;
-    if !is_attached(declared, device) {
+    let Some(numbers) = attachments(declared, device) else {
         return Err(code::NO_ATTACHMENT);
-    }
+    };
     let target = target_of(declared, at)?;
-    let Some(spot) = attach_place(declared, graph, target, device) else {
+    let Some(spot) = fitting_place(declared, graph, target, device, numbers) else {
         return Err(code::NO_FITTING_ATTACHMENT);
     };
     let locs = fill_at(declared, spot.place, pairs)?;

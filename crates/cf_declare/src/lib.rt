@@ -10,6 +10,7 @@ mod join;
 mod judge;
 mod lookup;
 mod names;
+mod spot;
 
 pub use declarations::Declarations;
 pub use grow::declares;

@@ -76,10 +76,10 @@ fn put_words<'a>(
 fn has_form(alloc: Global, words: &[Word]) -> Result<bool, Memory>
     ensures { IfOk result (λ holds. holds ≡ is_some (form_of false (map piece_of words.now))) }
 {
-    match form_of(alloc, false, words)? {
-        Some(_) => Ok(true),
-        None => Ok(false),
-    }
+    let form = form_of(alloc, false, words)?;
+    let holds = form.is_some();
+    drop(form);
+    Ok(holds)
 }
 
 /// The code of words that are no statement with each number in its range.

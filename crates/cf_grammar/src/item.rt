@@ -88,14 +88,14 @@ fn items_of(alloc: Global, form: ItemForm, words: &[Word]) -> Result<Option<List
     ensures { IfOk result (λ items. items ≡ each (item_form form) (parted (map piece_of words.now))) }
 {
     let parts = parted(alloc, words)?;
-    let mut items = List::make(alloc);
+    let mut items = Vec::with_capacity(alloc, parts.len())?;
     for part in &parts {
         match item_of(alloc, form, part)? {
             Some(item) => items.push(item)?,
             None => return Ok(None),
         }
     }
-    Ok(Some(items))
+    Ok(Some(List::from_vec(items)))
 }
 
 /// `options`: options, parted by commas.

@@ -1,2 +1,3 @@
 pub mod AttachLemmas
 pub mod NumberLemmas
+pub mod SpotLemmas

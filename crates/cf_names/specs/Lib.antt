@@ -2,3 +2,4 @@ pub mod Attaches
 pub mod Hash
 pub mod Indexed
 pub mod Numbers
+pub mod Spots

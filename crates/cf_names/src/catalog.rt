@@ -1,10 +1,13 @@
-ghost use Rattle.std.specs.Prelude.{◌≡◌, [], ◌∷◌, ◌++◌, ◌<◌, length, IfOk, IfSome, All};
+ghost use Rattle.std.specs.Prelude.{◌≡◌, [], ◌∷◌, ◌++◌, ◌<◌, length, IfOk, IfSome, OnOk, All, Ok};
 ghost use Rattle.config_rules.specs.Declared.{attr_number, device_number, has_attach};
 ghost use Rattle.cf_names.specs.Attaches.{attaches_of};
+ghost use Rattle.cf_names.specs.Indexed.{IsIndexOf, with_attach, with_attr, with_device};
+ghost use Rattle.cf_names.specs.Spots.{all_spots, first_spot, is_at};
 
 use crate::hash::NameHash;
 use crate::index::{Index, add_number};
 use crate::numbers::{add_name, number_in};
+use crate::spots::{FirstSpot, SpotKey};
 use cf_types::{Attach, Attr, Declared, Device, List, Memory};
 use std::alloc::Global;
 use std::marker::Model;
@@ -26,6 +29,68 @@ impl Model for Catalog {
     ghost view = { λ it. it.lists };
 
     ghost invariant = { λ it. IsIndexOf it.lists it.index };
+}
+
+/// Notes the name of an attribute behind the others.
+fn note_attr(alloc: Global, index: &mut Index, lists: &Declared, attr: &Attr) -> Result<(), Memory>
+    requires { IsIndexOf lists.now index.old }
+    ensures { OnOk result (IsIndexOf (with_attr lists.now attr.now) index.new) }
+{
+    let number = lists.attrs.len();
+    add_name(alloc, &mut index.attrs, attr.name.bytes(), number)?;
+    Ok(())
+}
+
+/// Notes the name of a device behind the others.
+fn note_device(
+    alloc: Global,
+    index: &mut Index,
+    lists: &Declared,
+    device: &Device,
+) -> Result<(), Memory>
+    requires { IsIndexOf lists.now index.old }
+    ensures { OnOk result (IsIndexOf (with_device lists.now device.now) index.new) }
+{
+    let number = lists.devices.len();
+    add_name(alloc, &mut index.devices, device.name.bytes(), number)?;
+    Ok(())
+}
+
+/// Notes the name, the device and the spots of an attachment behind the others.
+fn note_attach(
+    alloc: Global,
+    index: &mut Index,
+    lists: &Declared,
+    attach: &Attach,
+) -> Result<(), Memory>
+    requires { IsIndexOf lists.now index.old }
+    ensures { OnOk result (IsIndexOf (with_attach lists.now attach.now) index.new) }
+{
+    let number = lists.attaches.len();
+    add_name(alloc, &mut index.attaches, attach.name.bytes(), number)?;
+    add_number(alloc, &mut index.of_devices, attach.device, number)?;
+    let Ok(short) = u32::try_from(number) else {
+        return Err(Memory);
+    };
+    index
+        .spots
+        .add(attach.device, attach.places.items(), short)?;
+    Ok(())
+}
+
+/// The catalog of these parts, unless memory ran out.
+fn whole(lists: Declared, index: Index, added: Result<(), Memory>) -> Result<Catalog, Memory>
+    requires { OnOk added (IsIndexOf lists index) }
+    ensures { IfOk result (λ whole. (added ≡ Ok tt) × (whole ≡ lists)) }
+{
+    match added {
+        Ok(()) => Ok(Catalog { lists, index }),
+        Err(stop) => {
+            drop(lists);
+            drop(index);
+            Err(stop)
+        }
+    }
 }
 
 impl Catalog {
@@ -98,6 +163,13 @@ impl Catalog {
         }
     }
 
+    /// The first spot of a device at a place, in the order of attachments, then of places.
+    pub fn first_spot(&self, key: SpotKey) -> Option<FirstSpot>
+        ensures { result ≡ first_spot (is_at key) (all_spots self.now.attaches) }
+    {
+        self.index.spots.first.get(&key).copied()
+    }
+
     /// Adds an attribute. Where memory runs out, all is dropped.
     pub fn with_attr(self, alloc: Global, attr: Attr) -> Result<Catalog, Memory>
         ensures { IfOk result (λ d. d ≡ record self { attrs = self.attrs ++ attr ∷ [] }) }
@@ -106,14 +178,16 @@ impl Catalog {
             mut lists,
             mut index,
         } = self;
-        add_name(
-            alloc,
-            &mut index.attrs,
-            attr.name.bytes(),
-            lists.attrs.len(),
-        )?;
-        lists.attrs.push(attr)?;
-        Ok(Catalog { lists, index })
+        match note_attr(alloc, &mut index, &lists, &attr) {
+            Ok(()) => {
+                let added = lists.attrs.push(attr);
+                whole(lists, index, added)
+            }
+            Err(stop) => {
+                drop(attr);
+                whole(lists, index, Err(stop))
+            }
+        }
     }
 
     /// Adds a device. Where memory runs out, all is dropped.
@@ -124,14 +198,16 @@ impl Catalog {
             mut lists,
             mut index,
         } = self;
-        add_name(
-            alloc,
-            &mut index.devices,
-            device.name.bytes(),
-            lists.devices.len(),
-        )?;
-        lists.devices.push(device)?;
-        Ok(Catalog { lists, index })
+        match note_device(alloc, &mut index, &lists, &device) {
+            Ok(()) => {
+                let added = lists.devices.push(device);
+                whole(lists, index, added)
+            }
+            Err(stop) => {
+                drop(device);
+                whole(lists, index, Err(stop))
+            }
+        }
     }
 
     /// Adds an attachment. Where memory runs out, all is dropped.
@@ -142,11 +218,16 @@ impl Catalog {
             mut lists,
             mut index,
         } = self;
-        let number = lists.attaches.len();
-        add_name(alloc, &mut index.attaches, attach.name.bytes(), number)?;
-        add_number(alloc, &mut index.of_devices, attach.device, number)?;
-        lists.attaches.push(attach)?;
-        Ok(Catalog { lists, index })
+        match note_attach(alloc, &mut index, &lists, &attach) {
+            Ok(()) => {
+                let added = lists.attaches.push(attach);
+                whole(lists, index, added)
+            }
+            Err(stop) => {
+                drop(attach);
+                whole(lists, index, Err(stop))
+            }
+        }
     }
 
     /// The lists alone.

@@ -1,9 +1,11 @@
 ghost use Rattle.std.specs.Prelude.{◌≡◌, ◌==◌, ℕ, [], ◌∷◌, ◌++◌, OnOk, if◌then◌else◌};
 ghost use Rattle.cf_names.specs.Attaches.{numbers_at};
 ghost use Rattle.cf_names.specs.Numbers.{AreNumbers};
+ghost use Rattle.cf_names.specs.Spots.{AreSpots};
 
 use crate::hash::NameHash;
 use crate::numbers::{Numbers, no_numbers};
+use crate::spots::Spots;
 use cf_types::{List, Memory};
 use std::alloc::Global;
 use std::collections::BTreeMap;
@@ -11,13 +13,15 @@ use std::collections::BTreeMap;
 /// Of each device the numbers of its attachments, in order.
 pub type OfDevices = BTreeMap<u32, List<usize>>;
 
-/// The numbers of attributes, devices and attachments by name, and those of the attachments by device.
+/// The numbers of attributes, devices and attachments by name, and those of the attachments by device; and of each device
+/// the first spot at each place.
 #[derive(Drop)]
 pub struct Index {
     pub attrs: Numbers,
     pub devices: Numbers,
     pub attaches: Numbers,
     pub of_devices: OfDevices,
+    pub spots: Spots,
 }
 
 impl Index {
@@ -27,12 +31,14 @@ impl Index {
         ensures devices { AreNumbers result.devices [] }
         ensures attaches { AreNumbers result.attaches [] }
         ensures of_devices { result.of_devices.entries ≡ [] }
+        ensures spots { AreSpots result.spots [] }
     {
         Index {
             attrs: no_numbers(alloc, hash),
             devices: no_numbers(alloc, hash),
             attaches: no_numbers(alloc, hash),
             of_devices: BTreeMap::new(alloc),
+            spots: Spots::make(alloc),
         }
     }
 }

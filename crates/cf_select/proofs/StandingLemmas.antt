@@ -1,5 +1,5 @@
 -- What stands after one more statement.
-use Rattle.std.proofs.Common.{◌≡◌, ℕ, ◌+◌, ◌<◌, ◌≤◌, ◌||◌, ◌&&◌, not, Bool, true, false, cond, suc, List, [], ◌∷◌, ◌++◌, length, get_or, take, drop, drop-cons, add-one, refl, ap, sym, ◌∙◌, append_assoc, arith}
+use Rattle.std.proofs.Common.{◌≡◌, ℕ, ◌+◌, ◌<◌, ◌≤◌, ◌||◌, ◌&&◌, not, Bool, true, false, cond, suc, List, [], ◌∷◌, ◌++◌, length, get_or, map, take, drop, drop-cons, add-one, refl, ap, sym, ◌∙◌, append_assoc, arith}
 use Rattle.std.specs.List.{list_any}
 use Rattle.std.proofs.lemmas.List.{drop_all, append-nil, length-map, take_all, length-take-le}
 use Rattle.std.proofs.lemmas.List.Folds.{list_any-append}
@@ -163,3 +163,35 @@ free_all placed i marks h e = e ∙ ap (λ ps. free (stmts_of ps)) (take_all i p
 
 pub kept_all : (placed : List Placed) (marks : List Bool) → marks ≡ free (stmts_of placed) → instances (stmts_of placed) marks ≡ kept (stmts_of placed)
 kept_all placed marks e = ap (instances (stmts_of placed)) e ∙ kept_free (stmts_of placed)
+
+-- ---- statements without a negation of instances
+
+neither : (a b : Bool) → (a || b) ≡ false → (a ≡ false) × (b ≡ false)
+neither false false h = (refl, refl)
+neither true b h = absurd (cc)
+neither false true h = absurd (cc)
+
+not_named : (placed : List Placed) (s : Stmt) → list_any (λ p. is_negation p.stmt) placed ≡ false → list_any (λ n. names n s) (stmts_of placed) ≡ false
+not_named [] s h = refl
+not_named (p ∷ placed) s h =
+    let parts = neither (is_negation p.stmt) (list_any (λ q. is_negation q.stmt) placed) h in
+    ap (λ b. b || list_any (λ n. names n s) (stmts_of placed)) (names_none p.stmt s parts.0) ∙ not_named placed s parts.1
+
+-- all instances survive
+pub all_survive : (placed : List Placed) → list_any (λ p. is_negation p.stmt) placed ≡ false → map (λ p. is_instance p.stmt) placed ≡ kept (stmts_of placed)
+unfolding kept
+all_survive [] h = refl
+all_survive (p ∷ placed) h =
+    let rest = (neither (is_negation p.stmt) (list_any (λ q. is_negation q.stmt) placed) h).1 in
+    ap (λ bs. is_instance p.stmt ∷ bs) (all_survive placed rest)
+    ∙ ap (λ b. b ∷ kept (stmts_of placed)) (sym (stays (is_instance p.stmt) (list_any (λ n. names n p.stmt) (stmts_of placed)) (not_named placed p.stmt rest)))
+
+-- and nothing is idle
+pub none_idle : (placed : List Placed) (before : List Stmt) → list_any (λ p. is_negation p.stmt) placed ≡ false → idle_insts before (stmts_of placed) ≡ []
+unfolding idle_insts
+none_idle [] before h = refl
+none_idle (p ∷ placed) before h =
+    let parts = neither (is_negation p.stmt) (list_any (λ q. is_negation q.stmt) placed) h in
+    ap (λ b. cond b (length before ∷ []) [] ++ idle_insts (before ++ p.stmt ∷ []) (stmts_of placed))
+    (idle_free p.stmt before ∙ ap (λ b. b && not (names_one p.stmt before (free before))) parts.0)
+    ∙ none_idle placed (before ++ p.stmt ∷ []) parts.1

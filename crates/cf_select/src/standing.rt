@@ -1,4 +1,4 @@
-ghost use Rattle.std.specs.Prelude.{◌≡◌, ℕ, Bool, List as Items, ◌<◌, ◌≤◌, ◌&&◌, not, true, false, [], ◌∷◌, ◌++◌, if◌then◌else◌, length, All, IfOk, OnOk};
+ghost use Rattle.std.specs.Prelude.{◌≡◌, ℕ, Bool, List as Items, ◌<◌, ◌≤◌, ◌&&◌, not, true, false, [], ◌∷◌, ◌++◌, if◌then◌else◌, length, map, All, IfOk, OnOk};
 ghost use Rattle.std.specs.List.{list_any, slice_index_or};
 ghost use Rattle.cf_types.specs.Gather.{is_in};
 ghost use Rattle.cf_types.specs.declared.stmt.Stmt.{Stmt as Statement};
@@ -110,6 +110,26 @@ fn instances(alloc: Global, placed: &[Placed], free: &[bool]) -> Result<List<boo
     Ok(kept)
 }
 
+/// Whether one of these statements is a negation of instances.
+fn negate_instances(placed: &[Placed]) -> bool
+    ensures { result ≡ list_any (λ p. is_negation p.stmt) placed.now }
+{
+    placed.iter().any(|statement| {
+        matches!(statement.stmt, Stmt::NoInst { .. } | Stmt::NoDevice { .. })
+    })
+}
+
+/// The marks of all instances.
+fn all_instances(alloc: Global, placed: &[Placed]) -> Result<List<bool>, Memory>
+    ensures { IfOk result (λ kept. kept ≡ map (λ p. is_instance p.stmt) placed.now) }
+{
+    let mut kept = Vec::with_capacity(alloc, placed.len())?;
+    for statement in placed {
+        kept.push(is_instance(&statement.stmt))?;
+    }
+    Ok(List::from_vec(kept))
+}
+
 /// Which of at most 65,536 placed statements are instances that survive, and which negations of instances take back
 /// nothing. The only error is want of memory. See config(5).
 pub fn survivors(alloc: Global, placed: &[Placed]) -> Result<Kept, Memory>
@@ -117,6 +137,12 @@ pub fn survivors(alloc: Global, placed: &[Placed]) -> Result<Kept, Memory>
     ensures kept { IfOk result (λ it. it.kept ≡ kept (stmts_of placed.now)) }
     ensures idle { IfOk result (λ it. it.idle ≡ idle_insts [] (stmts_of placed.now)) }
 {
+    if !negate_instances(placed) {
+        return Ok(Kept {
+            kept: all_instances(alloc, placed)?,
+            idle: List::make(alloc),
+        });
+    }
     let mut free = Vec::new(alloc);
     let mut lists = HashMap::new(alloc);
     let mut idle = List::make(alloc);

@@ -83,14 +83,14 @@ fn each_locator(alloc: Global, sized: bool, words: &[Word]) -> Result<Option<Lis
     ensures { IfOk result (λ locs. locs ≡ each (locator_of sized) (parted (map piece_of words.now))) }
 {
     let parts = parted(alloc, words)?;
-    let mut locs = List::make(alloc);
+    let mut locs = Vec::with_capacity(alloc, parts.len())?;
     for part in &parts {
         match locator_of(alloc, sized, part)? {
             Some(loc) => locs.push(loc)?,
             None => return Ok(None),
         }
     }
-    Ok(Some(locs))
+    Ok(Some(List::from_vec(locs)))
 }
 
 /// Reads what stands between braces: nothing, or up to 16 locators, parted by commas.

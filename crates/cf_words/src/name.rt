@@ -44,14 +44,14 @@ pub fn names_of(alloc: Global, words: &[Word]) -> Result<Option<List<Name>>, Mem
     ensures { IfOk result (λ names. names ≡ names_of (map piece_of words.now)) }
 {
     let parts = parted(alloc, words)?;
-    let mut names = List::make(alloc);
+    let mut names = Vec::with_capacity(alloc, parts.len())?;
     for part in &parts {
         match alone_name(alloc, part)? {
             Some(name) => names.push(name)?,
             None => return Ok(None),
         }
     }
-    Ok(Some(names))
+    Ok(Some(List::from_vec(names)))
 }
 
 /// Reads a word as the value of an option: a chunk, or a string, which may be empty.

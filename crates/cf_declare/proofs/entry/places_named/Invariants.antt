@@ -3,4 +3,4 @@ use Rattle.cf_declare.specs.Declare.{place_named}
 use Rattle.cf_declare.proofs.entry.places_named.Given as goal
 
 abbrev pub invariant-loop-name : goal.invariant-loop-name
-invariant-loop-name l = l.places ≡ map (place_named l.declared) (take l.name-index l.names)
+invariant-loop-name l = l.places.items ≡ map (place_named l.declared) (take l.name-index l.names)

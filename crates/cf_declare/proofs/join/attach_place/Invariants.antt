@@ -3,4 +3,4 @@ use Rattle.cf_declare.proofs.JoinLemmas.{first_of}
 use Rattle.cf_declare.proofs.join.attach_place.Given as goal
 
 abbrev pub invariant-loop-number : goal.invariant-loop-number
-invariant-loop-number l = first_of l.declared l.target (drop l.number-index l.number-items) ≡ first_of l.declared l.target l.number-items
+invariant-loop-number l = first_of l.declared l.target (drop l.number-index l.numbers) ≡ first_of l.declared l.target l.numbers

@@ -8,7 +8,7 @@ use Rattle.config_rules.specs.Fault.{stmts_of}
 use Rattle.config_rules.specs.Meaning.{idle_insts}
 use Rattle.cf_select.specs.contracts.named.NamedPartialEq.TheImpl as block
 use Rattle.cf_select.proofs.NamingLemmas.{placed_more, short_more}
-use Rattle.cf_select.proofs.StandingLemmas.{free_none, free_more, idle_more, idle_ends, length_front, free_all, kept_all, length_free}
+use Rattle.cf_select.proofs.StandingLemmas.{free_none, free_more, idle_more, idle_ends, length_front, free_all, kept_all, length_free, all_survive, none_idle}
 use Rattle.cf_select.proofs.standing.survivors.Goals as goal
 
 pub loop-i-init : goal.loop-i-init
@@ -50,3 +50,9 @@ returns-clause-kept c =
 
 pub returns-clause-idle : goal.returns-clause-idle
 returns-clause-idle c = idle_ends c.args.placed.now c.loop-i.i c.loop-i.idle _ c.loop-i-test.false c.loop-i.invariant.places
+
+pub returns-then-not-negate_instances-clause-kept : goal.returns-then-not-negate_instances-clause-kept
+returns-then-not-negate_instances-clause-kept c = c.in_ok-all_instances.ensures ∙ all_survive c.args.placed.now (sym c.if-not-negate_instances.ensures)
+
+pub returns-then-not-negate_instances-clause-idle : goal.returns-then-not-negate_instances-clause-idle
+returns-then-not-negate_instances-clause-idle c = c.make.ensures ∙ sym (none_idle c.args.placed.now [] (sym c.if-not-negate_instances.ensures))

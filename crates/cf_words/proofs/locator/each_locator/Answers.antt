@@ -1,4 +1,4 @@
-use Rattle.std.proofs.Common.{rules, ◌∙◌, sym}
+use Rattle.std.proofs.Common.{rules, ◌∙◌, ap, sym, Some}
 use Rattle.config_rules.specs.Form.{locator_of}
 use Rattle.cf_words.specs.Words.{piece_of}
 use Rattle.cf_words.proofs.ListLemmas.{with_none, part_more, part_none, part_all}
@@ -9,14 +9,15 @@ loop-part-init c = search (rules, with_none)
 
 pub returns-in-None : goal.returns-in-None
 returns-in-None c =
-    part_none (locator_of c.args.sized) piece_of c.deref-part-items.result.now c.loop-part.part-index c.loop-part.locs c.loop-part.invariant _ _ c.deref-part-items.ensures.value c.in_ok-parts.ensures c.loop-part-test.true
+    part_none (locator_of c.args.sized) piece_of c.deref-part-items.result.now c.loop-part.part-index c.loop-part.locs.items c.loop-part.invariant _ _ c.deref-part-items.ensures.value c.in_ok-parts.ensures c.loop-part-test.true
     (sym c.in-None.is ∙ c.in_ok-loc.ensures)
 
 pub loop-part-preserved : goal.loop-part-preserved
 loop-part-preserved c =
-    part_more (locator_of c.args.sized) piece_of c.deref-part-items.result.now c.loop-part.part-index c.loop-part.locs c.loop-part.invariant _ c.in-Some.loc c.in_ok-push-in-Some.ensures.ok c.loop-part-test.true
+    part_more (locator_of c.args.sized) piece_of c.deref-part-items.result.now c.loop-part.part-index c.loop-part.locs.items c.loop-part.invariant _ c.in-Some.loc c.in_ok-push-in-Some.ensures.items c.loop-part-test.true
     (sym c.in-Some.is ∙ c.in_ok-loc.ensures)
 
 pub returns : goal.returns
 returns c =
-    part_all (locator_of c.args.sized) piece_of c.deref-part-items.result.now c.loop-part.part-index c.loop-part.locs c.loop-part.invariant _ _ c.deref-part-items.ensures.value c.in_ok-parts.ensures c.loop-part-test.false
+    ap Some c.from_vec.ensures
+    ∙ part_all (locator_of c.args.sized) piece_of c.deref-part-items.result.now c.loop-part.part-index c.loop-part.locs.items c.loop-part.invariant _ _ c.deref-part-items.ensures.value c.in_ok-parts.ensures c.loop-part-test.false

@@ -4,4 +4,4 @@ use Rattle.cf_words.proofs.ListLemmas.{SoFar}
 use Rattle.cf_words.proofs.locator.each_locator.Given as goal
 
 abbrev pub invariant-loop-part : goal.invariant-loop-part
-invariant-loop-part l = SoFar (locator_of l.fn.sized) piece_of l.locs l.part-index l.part-items
+invariant-loop-part l = SoFar (locator_of l.fn.sized) piece_of l.locs.items l.part-index l.part-items

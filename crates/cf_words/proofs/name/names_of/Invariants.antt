@@ -4,4 +4,4 @@ use Rattle.cf_words.proofs.ListLemmas.{SoFar}
 use Rattle.cf_words.proofs.name.names_of.Given as goal
 
 abbrev pub invariant-loop-part : goal.invariant-loop-part
-invariant-loop-part l = SoFar (alone name_of) piece_of l.names l.part-index l.part-items
+invariant-loop-part l = SoFar (alone name_of) piece_of l.names.items l.part-index l.part-items

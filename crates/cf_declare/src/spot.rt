@@ -1,0 +1,100 @@
+//! The first spot of a device that suits an instance, by the first spots of the device at each place.
+ghost use Rattle.std.specs.Prelude.{◌≡◌, ◌==◌, ◌&&◌, find, option_map};
+ghost use Rattle.attr_graph.specs.Graphs.{IsGraphOf};
+ghost use Rattle.cf_names.specs.Spots.{all_spots, first_spot};
+ghost use Rattle.cf_types.specs.Offers.{interfaces};
+ghost use Rattle.config_rules.specs.Joined.{spots_of, suits};
+ghost use Rattle.cf_declare.specs.FirstSpots.{earlier, offered, place_of};
+
+use attr_graph::Graph;
+use cf_names::{Catalog, FirstSpot, SpotKey};
+use cf_types::{AttachPlace, Place, Target};
+
+/// The one of two spots before which fewer stand.
+fn earlier(spot: Option<FirstSpot>, other: Option<FirstSpot>) -> Option<FirstSpot>
+    ensures { result ≡ earlier spot other }
+{
+    match (spot, other) {
+        (None, other) => other,
+        (Some(spot), None) => Some(spot),
+        (Some(spot), Some(other)) => if other.rank < spot.rank {
+            Some(other)
+        } else {
+            Some(spot)
+        },
+    }
+}
+
+/// The interface list of a device, of none where it is not there.
+fn interfaces_of<'a>(declared: &Catalog, graph: &'a Graph, device: u32) -> &'a [u32]
+    requires { IsGraphOf declared.now graph.now }
+    ensures { result.now ≡ interfaces declared.now.attrs declared.now.devices device }
+{
+    if device as usize >= declared.devices().len() {
+        return &[];
+    }
+    graph.interfaces(device)
+}
+
+/// The first spot of a device at one of these attributes.
+fn first_offered(declared: &Catalog, device: u32, attrs: &[u32]) -> Option<FirstSpot>
+    ensures { result ≡ first_spot (λ s. (s.key.device == device) && offered attrs.now s.key.place) (all_spots declared.now.attaches) }
+{
+    let mut first = None;
+    for &attr in attrs {
+        let key = SpotKey {
+            device,
+            place: Place::At(attr),
+        };
+        first = earlier(first, declared.first_spot(key));
+    }
+    first
+}
+
+/// The first spot of a device that suits.
+fn first_suiting(
+    declared: &Catalog,
+    graph: &Graph,
+    target: Target,
+    device: u32,
+) -> Option<FirstSpot>
+    requires { IsGraphOf declared.now graph.now }
+    ensures { result ≡ first_spot (λ s. (s.key.device == device) && suits declared.now target s.key.place) (all_spots declared.now.attaches) }
+{
+    match target {
+        Target::AtRoot => declared.first_spot(SpotKey {
+            device,
+            place: Place::Root,
+        }),
+        Target::On(attr) => declared.first_spot(SpotKey {
+            device,
+            place: Place::At(attr),
+        }),
+        Target::Below(parent) => {
+            first_offered(
+                declared,
+                device,
+                interfaces_of(declared, graph, parent.device),
+            )
+        }
+    }
+}
+
+/// The first attachment of a device, with its first place, that suits. It goes over what the parent offers alone.
+pub fn noted_place(
+    declared: &Catalog,
+    graph: &Graph,
+    target: Target,
+    device: u32,
+) -> Option<AttachPlace>
+    requires { IsGraphOf declared.now graph.now }
+    ensures { result ≡ find (λ s. suits declared.now target s.place) (spots_of declared.now device) }
+{
+    match first_suiting(declared, graph, target, device) {
+        Some(spot) => Some(AttachPlace {
+            attach: spot.attach,
+            place: spot.place,
+        }),
+        None => None,
+    }
+}
