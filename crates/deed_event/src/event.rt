@@ -156,6 +156,7 @@ fn deed_act(
 
 /// The event of what a caller does next.
 #[tactic(auto, unfolding(run_rules::specs::Run::event_of))]
+#[inline(always)]
 pub fn deed_event(
     alloc: Global,
     setup: &Setup,

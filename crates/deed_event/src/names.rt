@@ -7,8 +7,7 @@ ghost use Rattle.run_world.specs.Input.{Bounded};
 ghost use Rattle.run_world.specs.Events.{HaveRows};
 ghost use Rattle.deed_event.specs.Sayings.{HasRow};
 
-use cf_types::{Memory, Name};
-use itoa::Buffer;
+use cf_types::{Memory, Name, put_decimal};
 use run_rules::{Act, Arrival, Dev, Event, Got, Setup, Shown};
 use run_world::{Core, driver_name, driver_of, is_called};
 use std::alloc::Global;
@@ -20,10 +19,9 @@ fn joined(alloc: Global, name: &[u8], unit: u32) -> Result<Name, Memory>
     requires { IsTrue (is_written name.now) }
     ensures { IfOk result (λ n. n ≡ name.now ++ decimal unit) }
 {
-    let mut digits = Buffer::new();
     let mut bytes = Vec::with_capacity(alloc, LONGEST)?;
     bytes.extend_from_slice(name)?;
-    bytes.extend_from_slice(digits.format(unit).as_bytes())?;
+    put_decimal(&mut bytes, i64::from(unit))?;
     Name::make(alloc, &bytes)
 }
 
@@ -58,6 +56,7 @@ fn last_name(core: &Core, spot: u16) -> Option<&Name> {
 
 /// The name of a device. It is shared with the event that told the device when it came; where that tells another one, the
 /// name is made anew.
+#[inline(always)]
 pub fn device_name(alloc: Global, setup: &Setup, core: &Core, device: &Dev) -> Result<Name, Memory>
     requires bounded { Bounded setup.now }
     requires row { device.now.row < length setup.now.tables.rows }

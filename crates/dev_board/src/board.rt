@@ -18,8 +18,10 @@ ghost use Rattle.dev_board.specs.Agreement.{slots_of};
 ghost use Rattle.run_sound.specs.Kept.{MayRun};
 ghost use Rattle.run_sound.specs.Left.{boot_left};
 ghost use Rattle.attr_graph.specs.Graphs.{FitGraph};
+ghost use Rattle.match_search.specs.Index.{IsIndexOf};
 ghost use Rattle.run_world.specs.Input.{Bounded};
 ghost use Rattle.run_world.specs.Scripted.{FormedScripts};
+ghost use Rattle.scan_engine.specs.Spans.{AreSpansOf};
 ghost use Rattle.dev_board.specs.Posting.{PostIs};
 ghost use Rattle.dev_board.specs.Shown.{began};
 ghost use Rattle.dev_board.specs.Stepping.{StepIs, IsDid, IsOfBoot, DenialsAre};
@@ -37,6 +39,7 @@ use match_search::RowIndex;
 use ref_ledger::Slots;
 use run_rules::{Event, Setup};
 use run_world::{Core, Site, is_occupied, opening_core};
+use scan_engine::ChildSpans;
 use std::alloc::Global;
 use std::marker::Model;
 use std::mem::drop;
@@ -61,6 +64,16 @@ impl Model for Board {
     ghost invariant = { board_kept };
 }
 
+/// What is known of a setup before any event: the rows that suit each spot, and where the spots below each one stand.
+fn known_of(alloc: Global, setup: &Setup) -> Result<(RowIndex, ChildSpans), Memory>
+    requires { Bounded setup.now }
+    ensures { IfOk result (λ known. IsIndexOf setup.now.tables setup.now.machine known.0 × AreSpansOf setup.now.machine known.1) }
+{
+    let index = RowIndex::make(alloc, &setup.tables, &setup.machine)?;
+    let spans = ChildSpans::make(alloc, &setup.machine)?;
+    Ok((index, spans))
+}
+
 /// The site of this setup.
 fn site_of(alloc: Global, setup: Setup) -> Result<Site, Memory>
     requires graph { FitGraph setup.tables }
@@ -71,11 +84,12 @@ fn site_of(alloc: Global, setup: Setup) -> Result<Site, Memory>
         drop(setup);
         return Err(Memory);
     };
-    match RowIndex::make(alloc, &setup.tables, &setup.machine) {
-        Ok(index) => Ok(Site {
+    match known_of(alloc, &setup) {
+        Ok((index, spans)) => Ok(Site {
             setup,
             graph,
             index,
+            spans,
         }),
         Err(_) => {
             drop(graph);

@@ -15,7 +15,7 @@ use Rattle.run_rules.specs.Sound.{EachLater, IsApart}
 use Rattle.run_rules.proofs.Devices.{all_both, all_imp}
 use Rattle.run_sound.specs.Kept.{Kept}
 use Rattle.run_sound.proofs.Members.{contained_live, found_contained, found_from_end}
-use Rattle.dev_tree.proofs.Places.{device_found}
+use Rattle.run_rules.proofs.Order.{device_found}
 use Rattle.ref_ledger.specs.Refs.{IsLeastHeld}
 use Rattle.ref_ledger.proofs.HeldLaws.{first_held_is}
 use Rattle.detach_engine.specs.Hindrance.{AreMarksOf, Marked, hindrance}

@@ -113,6 +113,7 @@ pub fn due_turn(
     ensures spot { IfSome result (λ t. t.at.spot < length site.now.setup.machine.spots) }
 {
     let by = who_searches(&site.setup, &core.tree, serial);
+    let span = site.spans.below(by.spot);
     let mut position = from;
     loop {
         let turn = next_turn(
@@ -124,6 +125,7 @@ pub fn due_turn(
             by.driver,
             by.attach,
             by.spot,
+            span,
         )?;
         if is_due(site, core, serial, filter, turn) {
             return Some(turn);

@@ -106,6 +106,7 @@ fn plan_frame(site: &Site, core: &Core, frame: &Frame) -> Deed
 }
 
 /// What a caller does next that is in no transfer, detachment or power command: its frames go first.
+#[inline(always)]
 fn plan_stack(alloc: Global, site: &Site, core: &Core, caller: u8) -> Result<Choice, Memory>
     requires may { MayRun site.now.setup }
     requires kept { Kept (world_at site.now core.now) }

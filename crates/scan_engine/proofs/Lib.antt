@@ -4,3 +4,4 @@ pub mod Order
 pub mod TurnsOf
 pub mod TurnLaws
 pub mod BusLaws
+pub mod SpanLaws

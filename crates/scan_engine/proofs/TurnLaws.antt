@@ -1,7 +1,6 @@
 -- A search goes on from turn to turn: what the next turn tells of the first turn that passes a test, and that fewer turns are left behind it.
 use Rattle.std.proofs.Common.{◌≡◌, ℕ, ◌<◌, ◌≤◌, ◌⊎◌, inl, inr, Bool, true, false, not, ◌&&◌, List, [], ◌∷◌, length, filter, find, cond, Option, Some, None, refl, sym, subst, ap, ◌∙◌, arith}
 use Rattle.std.specs.Prelude.{IfSome}
-use Rattle.std.specs.List.{AllByRecursion}
 use Rattle.std.proofs.lemmas.Bool.{not-false, not-true}
 use Rattle.run_rules.proofs.Each.{find_alike, all_found}
 use Rattle.cf_types.specs.declared.machine.Machine.{Machine}

@@ -3,8 +3,10 @@ ghost use Rattle.std.specs.Prelude.{◌≡◌, ◌≤◌, map, flat_map, length,
 ghost use Rattle.cf_types.specs.Numbers.{below};
 ghost use Rattle.run_rules.specs.Search.{bus_turns, child_spots};
 ghost use Rattle.scan_engine.specs.Buses.{begin_in, turn_on};
+ghost use Rattle.scan_engine.specs.Spans.{HoldsChildren};
 ghost use Rattle.scan_engine.specs.Turns.{first_from};
 
+use crate::spans::Span;
 use crate::spots::next_child;
 use cf_types::{Machine, Place};
 use run_rules::{Position, Turn};
@@ -35,11 +37,19 @@ impl Bus {
 }
 
 /// The first turn of a row from a spot on.
-fn row_turn(machine: &Machine, parent: Option<u16>, bus: Bus, row: u32, spot: u16) -> Option<Turn>
-    requires { length machine.now.spots ≤ 1024 }
+fn row_turn(
+    machine: &Machine,
+    parent: Option<u16>,
+    span: Span,
+    bus: Bus,
+    row: u32,
+    spot: u16,
+) -> Option<Turn>
+    requires few { length machine.now.spots ≤ 1024 }
+    requires span { HoldsChildren machine.now parent span }
     ensures { first_from (map (turn_on bus row) (child_spots machine.now parent bus.place)) (record { attr = bus.attr; row = row; spot = spot }) ≡ result }
 {
-    let spot = next_child(machine, parent, bus.place, spot)?;
+    let spot = next_child(machine, parent, span, bus.place, spot)?;
     Some(Turn {
         at: Position {
             attr: bus.attr,
@@ -52,15 +62,22 @@ fn row_turn(machine: &Machine, parent: Option<u16>, bus: Bus, row: u32, spot: u1
 }
 
 /// The first turn of a direct bus that is not before a position on it: spot by spot.
-fn direct_turn(machine: &Machine, parent: Option<u16>, bus: Bus, from: Position) -> Option<Turn>
+fn direct_turn(
+    machine: &Machine,
+    parent: Option<u16>,
+    span: Span,
+    bus: Bus,
+    from: Position,
+) -> Option<Turn>
     requires few { length machine.now.spots ≤ 1024 }
+    requires span { HoldsChildren machine.now parent span }
     requires here { from.attr ≡ bus.attr }
     ensures { first_from (map (turn_on bus 0) (child_spots machine.now parent bus.place)) from ≡ result }
 {
     if from.row > 0 {
         return None;
     }
-    row_turn(machine, parent, bus, 0, from.spot)
+    row_turn(machine, parent, span, bus, 0, from.spot)
 }
 
 /// The first turn of an indirect bus that is not before a position on it: row by row, and in each row spot by spot.
@@ -68,10 +85,12 @@ fn indirect_turn(
     machine: &Machine,
     rows: u32,
     parent: Option<u16>,
+    span: Span,
     bus: Bus,
     from: Position,
 ) -> Option<Turn>
     requires few { length machine.now.spots ≤ 1024 }
+    requires span { HoldsChildren machine.now parent span }
     requires few_rows { rows ≤ 8192 }
     requires here { from.attr ≡ bus.attr }
     ensures { first_from (flat_map (λ r. map (turn_on bus r) (child_spots machine.now parent bus.place)) (below rows)) from ≡ result }
@@ -80,11 +99,11 @@ fn indirect_turn(
         return None;
     }
     let next = from.row + 1;
-    match row_turn(machine, parent, bus, from.row, from.spot) {
+    match row_turn(machine, parent, span, bus, from.row, from.spot) {
         Some(turn) => Some(turn),
         None => {
             if next < rows {
-                row_turn(machine, parent, bus, next, 0)
+                row_turn(machine, parent, span, bus, next, 0)
             } else {
                 None
             }
@@ -97,17 +116,19 @@ pub fn bus_turn(
     machine: &Machine,
     rows: u32,
     parent: Option<u16>,
+    span: Span,
     bus: Bus,
     from: Position,
 ) -> Option<Turn>
     requires few { length machine.now.spots ≤ 1024 }
+    requires span { HoldsChildren machine.now parent span }
     requires few_rows { rows ≤ 8192 }
     requires here { from.attr ≡ bus.attr }
     ensures { first_from (bus_turns machine.now rows bus.indirect parent (bus.attr, bus.place)) from ≡ result }
 {
     if bus.indirect {
-        indirect_turn(machine, rows, parent, bus, from)
+        indirect_turn(machine, rows, parent, span, bus, from)
     } else {
-        direct_turn(machine, parent, bus, from)
+        direct_turn(machine, parent, span, bus, from)
     }
 }

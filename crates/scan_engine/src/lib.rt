@@ -3,10 +3,12 @@
 
 mod bus;
 mod scan;
+mod spans;
 mod spots;
 mod stack;
 
 pub use run_rules::{Frame, Position, Turn, Wanted};
 pub use scan::{next_turn, offered};
+pub use spans::{ChildSpans, Span};
 pub use spots::is_child;
 pub use stack::Stack;

@@ -7,9 +7,11 @@ ghost use Rattle.cf_types.specs.Offers as offer;
 ghost use Rattle.run_rules.specs.Search.{is_before, style_of, turns_of};
 ghost use Rattle.attr_graph.specs.Graphs.{IsGraphOf, declared_by};
 ghost use Rattle.scan_engine.specs.Buses.{place_turns};
+ghost use Rattle.scan_engine.specs.Spans.{HoldsChildren};
 ghost use Rattle.scan_engine.specs.Turns.{IsTurn, first_from};
 
 use crate::bus::{Bus, bus_turn};
+use crate::spans::Span;
 use attr_graph::Graph;
 use cf_types::{Machine, Place, StyleLine, Tables};
 use run_rules::{Position, Turn};
@@ -65,12 +67,14 @@ fn place_turn(
     machine: &Machine,
     attach: Option<u32>,
     spot: Option<u16>,
+    span: Span,
     attr: u16,
     place: Place,
     from: Position,
 ) -> Option<Turn>
     requires few_rows { length tables.now.rows ≤ 8192 }
     requires few_spots { length machine.now.spots ≤ 1024 }
+    requires span { HoldsChildren machine.now spot span }
     requires late { from.attr ≤ attr }
     ensures { first_from (place_turns tables.now machine.now attach spot (attr, place)) from ≡ result }
 {
@@ -83,6 +87,7 @@ fn place_turn(
         machine,
         tables.rows.len() as u32,
         spot,
+        span,
         bus,
         bus.begin(from),
     )
@@ -94,17 +99,19 @@ fn turn_among(
     machine: &Machine,
     attach: Option<u32>,
     spot: Option<u16>,
+    span: Span,
     attrs: &[u32],
     from: Position,
 ) -> Option<Turn>
     requires few_rows { length tables.now.rows ≤ 8192 }
     requires few_spots { length machine.now.spots ≤ 1024 }
+    requires span { HoldsChildren machine.now spot span }
     requires few { length attrs.now ≤ 64 }
     ensures { first_from (flat_map (place_turns tables.now machine.now attach spot) (enumerate_from 0 (map At attrs.now))) from ≡ result }
 {
     for attr in from.attr..attrs.len() as u16 {
         let place = Place::At(attrs[attr as usize]);
-        match place_turn(tables, machine, attach, spot, attr, place, from) {
+        match place_turn(tables, machine, attach, spot, span, attr, place, from) {
             Some(turn) => return Some(turn),
             None => {}
         }
@@ -118,16 +125,18 @@ fn root_turn(
     machine: &Machine,
     attach: Option<u32>,
     spot: Option<u16>,
+    span: Span,
     from: Position,
 ) -> Option<Turn>
     requires few_rows { length tables.now.rows ≤ 8192 }
     requires few_spots { length machine.now.spots ≤ 1024 }
+    requires span { HoldsChildren machine.now spot span }
     ensures { first_from (place_turns tables.now machine.now attach spot (0, Root)) from ≡ result }
 {
     if from.attr > 0 {
         return None;
     }
-    place_turn(tables, machine, attach, spot, 0, Place::Root, from)
+    place_turn(tables, machine, attach, spot, span, 0, Place::Root, from)
 }
 
 /// The first turn of a scan that is not before a position.
@@ -140,28 +149,31 @@ fn scan_turn(
     device: Option<u32>,
     attach: Option<u32>,
     spot: Option<u16>,
+    span: Span,
 ) -> Option<Turn>
     requires graph { IsGraphOf (declared_by tables.now) graph.now }
     requires few_rows { length tables.now.rows ≤ 8192 }
     requires few_spots { length machine.now.spots ≤ 1024 }
+    requires span { HoldsChildren machine.now spot span }
     requires few_offered { (d : ℕ) → length (offer.interfaces tables.now.attrs tables.now.devices d) ≤ 64 }
     ensures { first_from (turns_of tables.now machine.now device attach spot only) from ≡ result }
 {
     match only {
-        Some(attr) => turn_among(tables, machine, attach, spot, &[attr], from),
+        Some(attr) => turn_among(tables, machine, attach, spot, span, &[attr], from),
         None => match device {
             Some(device) => {
                 let attrs = offered(graph, tables, device);
-                turn_among(tables, machine, attach, spot, attrs, from)
+                turn_among(tables, machine, attach, spot, span, attrs, from)
             }
-            None => root_turn(tables, machine, attach, spot, from),
+            None => root_turn(tables, machine, attach, spot, span, from),
         },
     }
 }
 
 /// The first turn of a scan, due or not, that is not before a position; none where there is none. The scan is that of a
 /// device by its driver, attachment and spot, or without all three that of the root, and of one attribute alone where one
-/// is given. It takes no memory, and looks at nothing before the position. See autoconf(9).
+/// is given. All spots below its own stand in the span. It takes no memory, and looks at nothing before the position. See
+/// autoconf(9).
 pub fn next_turn(
     tables: &Tables,
     graph: &Graph,
@@ -171,14 +183,18 @@ pub fn next_turn(
     device: Option<u32>,
     attach: Option<u32>,
     spot: Option<u16>,
+    span: Span,
 ) -> Option<Turn>
     requires graph { IsGraphOf (declared_by tables.now) graph.now }
     requires few_rows { length tables.now.rows ≤ 8192 }
     requires few_spots { length machine.now.spots ≤ 1024 }
+    requires span { HoldsChildren machine.now spot span }
     requires few_offered { (d : ℕ) → length (offer.interfaces tables.now.attrs tables.now.devices d) ≤ 64 }
     ensures next { first_from (turns_of tables.now machine.now device attach spot only) from ≡ result }
     ensures turn { IfSome result (IsTurn tables.now machine.now spot) }
     ensures forward { IfSome result (λ t. is_before t.at from ≡ false) }
 {
-    scan_turn(tables, graph, machine, only, from, device, attach, spot)
+    scan_turn(
+        tables, graph, machine, only, from, device, attach, spot, span,
+    )
 }

@@ -2,7 +2,9 @@
 ghost use Rattle.std.specs.Prelude.{◌≡◌, ◌≤◌, ◌&&◌, not, nat_lt, find, length};
 ghost use Rattle.cf_types.specs.Numbers.{below};
 ghost use Rattle.run_rules.specs.Search as rule;
+ghost use Rattle.scan_engine.specs.Spans.{HoldsChildren};
 
+use crate::spans::Span;
 use cf_types::{Machine, Place};
 
 /// Whether a spot hangs below another one, or below the root, at a place.
@@ -15,12 +17,20 @@ pub fn is_child(machine: &Machine, parent: Option<u16>, place: Place, spot: u16)
     }
 }
 
-/// The first such spot from a number on, in file order.
-pub fn next_child(machine: &Machine, parent: Option<u16>, place: Place, from: u16) -> Option<u16>
-    requires { length machine.now.spots ≤ 1024 }
+/// The first such spot from a number on, in file order. All of them stand in the span.
+pub fn next_child(
+    machine: &Machine,
+    parent: Option<u16>,
+    span: Span,
+    place: Place,
+    from: u16,
+) -> Option<u16>
+    requires few { length machine.now.spots ≤ 1024 }
+    requires span { HoldsChildren machine.now parent span }
     ensures { find (λ x. rule.is_child machine.now parent place x && not (nat_lt x from)) (below (length machine.now.spots)) ≡ result }
 {
-    for spot in from..machine.spots.len() as u16 {
+    let end = span.end.min(machine.spots.len() as u16);
+    for spot in from.max(span.first)..end {
         if is_child(machine, parent, place, spot) {
             return Some(spot);
         }

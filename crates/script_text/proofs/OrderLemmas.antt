@@ -1,14 +1,14 @@
 -- The turns of an order file, word by word and line by line.
-use Rattle.std.proofs.Common.{◌≡◌, ℕ, ◌+◌, ◌<◌, Bool, true, false, cond, not, ◌&&◌, List, [], ◌∷◌, ◌++◌, length, get_or, drop, append_assoc, refl, ap, sym, ◌∙◌, Option, Some, None, ℤ, Result, Ok, Err}
+use Rattle.std.proofs.Common.{◌≡◌, ℕ, ◌+◌, Bool, true, false, cond, not, ◌&&◌, List, [], ◌∷◌, ◌++◌, length, append_assoc, refl, ap, sym, ◌∙◌, Option, Some, None, ℤ, Result, Ok, Err}
 use Rattle.std.specs.Prelude.{filter, flat_map, is_some, nat_abs, nat_lt, option_map, ◌==◌, ◌||◌}
 use Rattle.std.specs.List.{cons_option, list_all}
 use Rattle.std.specs.Option.{option_map_or}
 use Rattle.std.proofs.lemmas.List.Elements.{filter_map-append}
 use Rattle.cf_text.specs.Shapes.{number}
-use Rattle.cf_types.specs.declared.code.script.TheConstants.{OUT_OF_RANGE}
+use Rattle.cf_types.specs.declared.code.script.TheConstants.{OUT_OF_RANGE, WRONG_WORDS}
 use Rattle.config_rules.specs.Cut.{lines_of, ◌>>=◌}
-use Rattle.config_rules.specs.Form.{given}
-use Rattle.config_rules.specs.MachineText.{words_of}
+use Rattle.config_rules.specs.Form.{given, ◌or◌}
+use Rattle.config_rules.specs.MachineText.{has_bad_byte, words_of}
 use Rattle.config_rules.specs.ScriptText.{bad_turns, is_caller, is_number, is_turn, natural_within, order_of, turns_code, turns_of, unless_bad, within}
 use Rattle.config_rules.proofs.ScriptLaws.{bad_turns_from}
 use Rattle.machine_text.proofs.TextLemmas.{empty_word, not_empty}
@@ -32,13 +32,13 @@ turn_of : (fits : ℤ → Bool) (o : Option ℤ) (n : ℕ) → natural fits o �
 turn_of fits None n h = absurd (cc)
 turn_of fits (Some v) n h = turn_if (fits v) v n h
 
-bad_if : (b : Bool) (v : ℤ) (code : ℕ) → natural_if b v ≡ Err code → (b ≡ false) × (code ≡ OUT_OF_RANGE)
+bad_if : (b : Bool) (v : ℤ) (code : ℕ) → natural_if b v ≡ Err code → b ≡ false
 bad_if true v code h = absurd (cc)
-bad_if false v code h = (refl, cc)
+bad_if false v code h = refl
 
-bad_of : (fits : ℤ → Bool) (o : Option ℤ) (code : ℕ) → is_some o ≡ true → natural fits o ≡ Err code → (option_map_or fits o false ≡ false) × (code ≡ OUT_OF_RANGE)
-bad_of fits None code some h = absurd (cc)
-bad_of fits (Some v) code some h = bad_if (fits v) v code h
+bad_of : (fits : ℤ → Bool) (o : Option ℤ) (code : ℕ) → natural fits o ≡ Err code → option_map_or fits o false ≡ false
+bad_of fits None code h = refl
+bad_of fits (Some v) code h = bad_if (fits v) v code h
 
 -- ---- the words of a line, part by part
 
@@ -69,25 +69,14 @@ no_number word {parts = parts} {more = more} left fine = cases (length word == 0
 
 -- ---- and each is that of a caller
 
-not_all : (callers : ℕ) (ws : List (List ℕ)) (code : ℕ) → list_all (is_turn callers) ws ≡ false → code ≡ OUT_OF_RANGE → given (not (list_all (is_turn callers) ws)) OUT_OF_RANGE ≡ Some code
-not_all callers ws code all three = ap (λ b. given (not b) OUT_OF_RANGE) all ∙ ap Some (sym three)
-
-both_true : (a b : Bool) → (a && b) ≡ true → (a ≡ true) × (b ≡ true)
-both_true true b h = (refl, h)
-both_true false b h = absurd cc
-
--- the words behind one that spells a number are numbers too
-pub numbers_behind : (word : List ℕ) {parts more : List (List ℕ)} → parts ≡ word ∷ more → nat_lt 0 (length word) ≡ true → list_all is_number (some_left parts) ≡ true → (is_number word ≡ true) × (list_all is_number (some_left more) ≡ true)
-numbers_behind word {more = more} left h all = both_true (is_number word) (list_all is_number (some_left more)) (sym (ap (list_all is_number) (word_here word left h)) ∙ all)
-
 -- a word whose number is not that of a caller
 pub words_stop : (callers : ℕ) (ws : List (List ℕ)) (old new : List ℕ) (word : List ℕ) (stop : LineStop) {parts more : List (List ℕ)} → parts ≡ word ∷ more → nat_lt 0 (length word) ≡ true
-    → list_all is_number (some_left parts) ≡ true → list_all (is_turn callers) (some_left parts) ≡ list_all (is_turn callers) ws
+    → list_all (is_turn callers) (some_left parts) ≡ list_all (is_turn callers) ws
     → Leaves (natural_within (is_caller callers) word) (Err stop) → AddsWords callers ws old new (Err stop)
-words_stop callers ws old new word (Code code) {more = more} left h numbers same e =
-    let bad = bad_of (is_caller callers) (number word) code (numbers_behind word left h numbers).0 e in
-    not_all callers ws code (sym same ∙ ap (list_all (is_turn callers)) (word_here word left h) ∙ ap (λ b. b && list_all (is_turn callers) (some_left more)) bad.0) bad.1
-words_stop callers ws old new word Memory left h numbers same e = tt
+words_stop callers ws old new word (Code code) {more = more} left h same e =
+    sym same ∙ ap (list_all (is_turn callers)) (word_here word left h)
+    ∙ ap (λ b. b && list_all (is_turn callers) (some_left more)) (bad_of (is_caller callers) (number word) code e)
+words_stop callers ws old new word Memory left h same e = tt
 
 -- one more word with the number of a caller
 pub all_more : (callers : ℕ) (word : List ℕ) (n : ℕ) {parts more : List (List ℕ)} → parts ≡ word ∷ more → nat_lt 0 (length word) ≡ true → natural_within (is_caller callers) word ≡ Ok n
@@ -101,6 +90,33 @@ turns_more callers word n front {more = more} left h e =
     append_assoc front (n ∷ []) (turns_of (some_left more))
     ∙ ap (λ (o : Option ℕ). front ++ cons_option o (turns_of (some_left more))) (sym (turn_of (is_caller callers) (number word) n e).1)
     ∙ ap (λ ws. front ++ turns_of ws) (sym (word_here word left h))
+
+-- ---- the code of a line
+
+caller_is_number : (fits : ℤ → Bool) (o : Option ℤ) → option_map_or fits o false ≡ true → is_some o ≡ true
+caller_is_number fits None h = absurd cc
+caller_is_number fits (Some v) h = refl
+
+both_true : (a b : Bool) → (a && b) ≡ true → (a ≡ true) × (b ≡ true)
+both_true true b h = (refl, h)
+both_true false b h = absurd cc
+
+-- callers are spelled by numbers
+callers_are_numbers : (callers : ℕ) (ws : List (List ℕ)) → list_all (is_turn callers) ws ≡ true → list_all is_number ws ≡ true
+callers_are_numbers callers [] h = refl
+callers_are_numbers callers (w ∷ ws) h =
+    let both = both_true (is_turn callers w) (list_all (is_turn callers) ws) h in
+    rw (caller_is_number (is_caller callers) (number w) both.0, callers_are_numbers callers ws both.1) refl
+
+abbrev code_by : Bool → Bool → Bool → Option ℕ
+code_by bad numbers turns = given (bad || not numbers) WRONG_WORDS or given (not turns) OUT_OF_RANGE
+
+-- a line of callers has no code
+pub no_code : (callers : ℕ) (line : List ℕ) → has_bad_byte line ≡ false → list_all (is_turn callers) (words_of line) ≡ true → turns_code callers line ≡ None
+no_code callers line fine all =
+    ap (λ b. code_by b (list_all is_number (words_of line)) (list_all (is_turn callers) (words_of line))) fine
+    ∙ ap (λ b. code_by false b (list_all (is_turn callers) (words_of line))) (callers_are_numbers callers (words_of line) all)
+    ∙ ap (code_by false true) all
 
 -- ---- the lines of a file
 

@@ -1,10 +1,8 @@
 -- What the calls leave.
-use Rattle.std.specs.Prelude.{◌≡◌, ℕ, ◌++◌, true, List, length, Option, Some, None, not, option_and_then, option_to_list, Result, Ok, Err, ⊤}
+use Rattle.std.specs.Prelude.{◌≡◌, ℕ, ◌++◌, true, false, List, length, Option, Some, None, option_and_then, option_to_list, Result, Ok, Err, ⊤}
 use Rattle.std.specs.List.{list_all}
 use Rattle.std.specs.Result.{result_ok}
 use Rattle.cf_types.specs.declared.machine.Command.{Command}
-use Rattle.cf_types.specs.declared.code.script.TheConstants.{OUT_OF_RANGE}
-use Rattle.config_rules.specs.Form.{given}
 use Rattle.config_rules.specs.MachineText.{words_of}
 use Rattle.config_rules.specs.ScriptText.{code_after, is_turn, turns_code, turns_of}
 use Rattle.machine_text.specs.declared.stop.LineStop.{LineStop}
@@ -40,7 +38,7 @@ Adds said old new (Err Memory) = ⊤
 -- the numbers of these words were added to the turns, or one is not that of a caller, or memory ran out
 abbrev pub AddsWords : ℕ → List (List ℕ) → List ℕ → List ℕ → Result ⊤ LineStop → Type 0
 AddsWords callers words old new (Ok done) = (list_all (is_turn callers) words ≡ true) × (new ≡ old ++ turns_of words)
-AddsWords callers words old new (Err (Code code)) = given (not (list_all (is_turn callers) words)) OUT_OF_RANGE ≡ Some code
+AddsWords callers words old new (Err (Code code)) = list_all (is_turn callers) words ≡ false
 AddsWords callers words old new (Err Memory) = ⊤
 
 -- the turns of a line were added, or it has this code, or memory ran out

@@ -1,5 +1,6 @@
-ghost use Rattle.std.specs.Prelude.{◌≡◌, ◌≤◌, ◌==◌, ◌||◌, All, IfOk, length, true};
+ghost use Rattle.std.specs.Prelude.{◌≡◌, ◌≤◌, ◌==◌, ◌||◌, All, IfOk, if◌then◌else◌, length};
 ghost use Rattle.std.specs.List.{list_all};
+ghost use Rattle.cf_types.specs.declared.code.script.TheConstants.{OUT_OF_RANGE, WRONG_WORDS};
 ghost use Rattle.config_rules.specs.ScriptText.{is_number, order_of};
 ghost use Rattle.machine_text.specs.Records.{parted};
 ghost use Rattle.script_text.specs.Left.{AddsTurns, AddsWords, Gives};
@@ -31,9 +32,8 @@ fn are_numbers(bytes: &[u8]) -> bool
     true
 }
 
-/// Adds the callers of the words between spaces and tabs.
+/// Adds the callers of the words between spaces and tabs, up to the first that is none.
 fn add_words(turns: &mut List<u8>, callers: u8, bytes: &[u8]) -> Result<(), LineStop>
-    requires { list_all is_number (parted bytes.now) ≡ true }
     ensures { AddsWords callers (parted bytes.now) turns.old turns.new result }
 {
     for part in bytes.split(|&byte| is_space(byte)) {
@@ -44,7 +44,18 @@ fn add_words(turns: &mut List<u8>, callers: u8, bytes: &[u8]) -> Result<(), Line
     Ok(())
 }
 
-/// Adds the turns of a line.
+/// The code of words of which one is no caller: one may spell no number at all.
+fn code_of(bytes: &[u8]) -> u8
+    ensures { result ≡ (if list_all is_number (parted bytes.now) then OUT_OF_RANGE else WRONG_WORDS) }
+{
+    if are_numbers(bytes) {
+        code::OUT_OF_RANGE
+    } else {
+        code::WRONG_WORDS
+    }
+}
+
+/// Adds the turns of a line. Only where a word is no caller are the words gone through once more, for their code.
 fn add_line(turns: &mut List<u8>, callers: u8, line: &[u8]) -> Result<(), LineStop>
     ensures { AddsTurns callers line.now turns.old turns.new result }
 {
@@ -52,10 +63,11 @@ fn add_line(turns: &mut List<u8>, callers: u8, line: &[u8]) -> Result<(), LineSt
         return Err(LineStop::Code(code::WRONG_WORDS));
     }
     let bytes = uncommented(line);
-    if !are_numbers(bytes) {
-        return Err(LineStop::Code(code::WRONG_WORDS));
+    match add_words(turns, callers, bytes) {
+        Ok(()) => Ok(()),
+        Err(LineStop::Code(_)) => Err(LineStop::Code(code_of(bytes))),
+        Err(LineStop::Memory) => Err(LineStop::Memory),
     }
-    add_words(turns, callers, bytes)
 }
 
 /// Reads an order file of at most 1,048,576 bytes for so many callers: the callers of the turns, each from 1 to

@@ -1,4 +1,5 @@
 use Rattle.std.proofs.Common.{◌∙◌, sym}
+use Rattle.scan_engine.proofs.SpanLaws.{spans_hold}
 use Rattle.next_deed.proofs.DueLaws.{none_due, this_due}
 use Rattle.next_deed.proofs.PairLaws.{fewer_gone, gone_on}
 use Rattle.next_deed.proofs.due.due_turn.Goals as goal
@@ -29,3 +30,7 @@ loop-turn-preserved c =
     c.in_ok-turn.turn c.who_searches-by.ensures c.in_ok-turn.ensures.next (c.is_due.ensures ∙ c.if-is_due.false) c.next_position-position.ensures.behind c.next_position-position.ensures.bus
     c.next_position-position.ensures.idle
     ∙ c.loop-turn.invariant
+
+pub next_turn-requires-clause-span : goal.next_turn-requires-clause-span
+next_turn-requires-clause-span c =
+    rw c.below-span.ensures (spans_hold c.args.site.now.setup.machine c.args.site.now.spans c.who_searches-by.result.spot c.args.site.now.spanned)

@@ -1,15 +1,14 @@
-use Rattle.std.proofs.Common.{◌≡◌, ◌++◌, length, drop, true}
+use Rattle.std.proofs.Common.{◌≡◌, ◌++◌, length, drop}
 use Rattle.std.specs.Prelude.{filter, nat_lt}
 use Rattle.std.specs.List.{list_all, slice_split}
 use Rattle.config_rules.specs.Cut.{is_space}
-use Rattle.config_rules.specs.ScriptText.{is_number, is_turn, turns_of}
+use Rattle.config_rules.specs.ScriptText.{is_turn, turns_of}
 use Rattle.machine_text.specs.Records.{parted}
 use Rattle.script_text.proofs.order.add_words.Given as goal
 
 abbrev pub invariant-loop-part : goal.invariant-loop-part
 invariant-loop-part l = record {
   iterator : (goal.iterator-loop-part).can_next l.part-iterator × (goal.iterator-loop-part).is_finite l.part-iterator;
-  numbers : list_all is_number (filter (λ w. nat_lt 0 (length w)) (drop (length l.yielded) (slice_split is_space l.bytes))) ≡ true;
   callers : list_all (is_turn l.callers) (filter (λ w. nat_lt 0 (length w)) (drop (length l.yielded) (slice_split is_space l.bytes))) ≡ list_all (is_turn l.callers) (parted l.bytes);
   so_far : l.turns ++ turns_of (filter (λ w. nat_lt 0 (length w)) (drop (length l.yielded) (slice_split is_space l.bytes))) ≡ l.fn.turns ++ turns_of (parted l.bytes);
 }

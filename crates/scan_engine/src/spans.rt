@@ -1,0 +1,106 @@
+//! Between which numbers the spots stand that hang below a spot.
+ghost use Rattle.std.specs.Prelude.{◌≡◌, ◌<◌, ◌≤◌, ℕ, Option, IfOk, length};
+ghost use Rattle.scan_engine.specs.Spans.{AreSpansOf, Covers, seat_of, span_at};
+
+use cf_types::{Machine, Memory};
+use std::alloc::Global;
+use std::marker::Model;
+
+/// Numbers of spots: from the first one to before the end.
+#[derive(Clone, Copy)]
+pub struct Span {
+    pub first: u16,
+    pub end: u16,
+}
+
+impl Span {
+    /// No numbers.
+    fn none() -> Span
+        ensures { result ≡ record { first = 0; end = 0 } }
+    {
+        Span { first: 0, end: 0 }
+    }
+
+    /// With one number more, and those between.
+    fn with(self, spot: u16) -> Span
+        requires few { spot < 1024 }
+        ensures here { Covers result spot }
+        ensures rest { (x : ℕ) → Covers self x → Covers result x }
+    {
+        let first = if self.end == 0 {
+            spot
+        } else {
+            self.first.min(spot)
+        };
+        Span {
+            first,
+            end: self.end.max(spot + 1),
+        }
+    }
+}
+
+/// Where the span of a parent stands: that of the root first, and then those of the spots.
+fn seat_of(parent: Option<u16>) -> usize
+    ensures { result ≡ seat_of parent }
+{
+    match parent {
+        None => 0,
+        Some(spot) => spot as usize + 1,
+    }
+}
+
+/// For the root and for each spot the numbers between which the spots below it stand. Contracts see the list of spans.
+#[derive(Drop)]
+pub struct ChildSpans {
+    spans: Vec<Span>,
+}
+
+impl Model for ChildSpans {
+    ghost use Rattle.std.specs.Prelude.{List};
+    ghost use Rattle.scan_engine.specs.declared.spans.Span.{Span};
+
+    ghost Value = { List Span };
+
+    ghost view = { λ it. it.spans.items };
+}
+
+impl ChildSpans {
+    /// Widens the span of a parent to one spot more.
+    fn put(&mut self, parent: Option<u16>, spot: u16)
+        requires few { spot < 1024 }
+        ensures here { Covers (span_at self.new parent) spot }
+        ensures rest { (p : Option ℕ) (x : ℕ) → Covers (span_at self.old p) x → Covers (span_at self.new p) x }
+    {
+        let seat = seat_of(parent);
+        if seat < self.spans.len() {
+            self.spans[seat] = self.spans[seat].with(spot);
+        }
+    }
+
+    /// The spans of the spots of a machine.
+    pub fn make(alloc: Global, machine: &Machine) -> Result<ChildSpans, Memory>
+        requires { length machine.now.spots ≤ 1024 }
+        ensures { IfOk result (AreSpansOf machine.now) }
+    {
+        let mut spans = ChildSpans {
+            spans: vec![in alloc; Span::none(); machine.spots.len() + 1]?,
+        };
+        for (number, spot) in machine.spots.items().iter().enumerate() {
+            spans.put(spot.parent, number as u16);
+        }
+        Ok(spans)
+    }
+
+    /// Between which numbers the spots below a spot, or below the root, stand. It takes no memory.
+    pub fn below(&self, parent: Option<u16>) -> Span
+        ensures { result ≡ span_at self.now parent }
+    {
+        match self.spans.get(seat_of(parent)) {
+            Some(span) => *span,
+            None => Span {
+                first: 0,
+                end: 1024,
+            },
+        }
+    }
+}
