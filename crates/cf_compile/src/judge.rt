@@ -1,7 +1,9 @@
 ghost use Rattle.std.specs.Prelude.{◌≡◌, ◌<◌, ◌≤◌, ◌++◌, ◌∷◌, ◌+◌, [], ℕ, List as Items, None, length, IfOk, OnOk, if◌then◌else◌};
 ghost use Rattle.std.specs.Option.{option_to_list};
 ghost use Rattle.cf_types.specs.declared.stmt.Placed.{Placed};
+ghost use Rattle.cf_declare.specs.Declare.{declare};
 ghost use Rattle.cf_declare.specs.Graphs.{FitsDeclared};
+ghost use Rattle.cf_declare.specs.Limits.{HasFewLocators};
 ghost use Rattle.config_rules.specs.Fault.{code_of, is_instance, refusal, stmts_of};
 ghost use Rattle.config_rules.specs.Select.{kept};
 ghost use Rattle.config_rules.specs.Written.{AreWritten};
@@ -18,6 +20,33 @@ use std::alloc::Global;
 pub struct Standing {
     pub declarations: Declarations,
     pub instances: List<Instance>,
+}
+
+impl Standing {
+    /// Declares what an accepted statement adds. Where memory runs out, all is dropped.
+    fn declare(self, alloc: Global, stmt: &Stmt) -> Result<Standing, Memory>
+        requires accepted { code_of self.declarations 0 stmt.now ≡ None }
+        requires few { HasFewLocators stmt.now }
+        requires attrs { length self.declarations.attrs < 65536 }
+        requires devices { length self.declarations.devices < 65536 }
+        ensures declared { IfOk result (λ s. s.declarations ≡ declare self.declarations stmt.now) }
+        ensures same { IfOk result (λ s. s.instances ≡ self.instances) }
+    {
+        let Standing {
+            declarations,
+            instances,
+        } = self;
+        match declarations.declare(alloc, stmt) {
+            Ok(declarations) => Ok(Standing {
+                declarations,
+                instances,
+            }),
+            Err(stop) => {
+                drop(instances);
+                Err(stop)
+            }
+        }
+    }
 }
 
 /// What the statements of a configuration are judged to be.
@@ -61,17 +90,16 @@ fn push_kept(
 /// it survives.
 fn judge_statement(
     alloc: Global,
-    declarations: &mut Declarations,
-    instances: &mut List<Instance>,
+    standing: &mut Standing,
     count: usize,
     place: u32,
     stmt: &Stmt,
     is_kept: bool,
 ) -> Result<Option<u8>, Memory>
-    requires { FitsDeclared declarations.old }
-    ensures code { IfOk result (λ code. code ≡ code_of declarations.old count stmt.now) }
-    ensures same { declarations.new ≡ declarations.old }
-    ensures kept { IfOk result (λ code. code ≡ None → instances.new ≡ instances.old ++ (if is_kept then option_to_list (instance_at declarations.old place stmt.now) else [])) }
+    requires { FitsDeclared standing.old.declarations }
+    ensures code { IfOk result (λ code. code ≡ code_of standing.old.declarations count stmt.now) }
+    ensures same { standing.new.declarations ≡ standing.old.declarations }
+    ensures kept { IfOk result (λ code. code ≡ None → standing.new.instances ≡ standing.old.instances ++ (if is_kept then option_to_list (instance_at standing.old.declarations place stmt.now) else [])) }
 {
     let Stmt::Inst {
         base,
@@ -81,12 +109,12 @@ fn judge_statement(
         flags,
     } = stmt
     else {
-        return declarations.code_of(alloc, count, stmt);
+        return standing.declarations.code_of(alloc, count, stmt);
     };
     if count >= MAX_INSTANCES {
         return Ok(Some(code::TOO_MANY_INSTANCES));
     }
-    match declarations.join(base.bytes(), at, pairs.items()) {
+    match standing.declarations.join(base.bytes(), at, pairs.items()) {
         Ok(joined) => {
             let instance = Instance {
                 stmt: place,
@@ -94,7 +122,7 @@ fn judge_statement(
                 mark: *mark,
                 flags: *flags,
             };
-            push_kept(instances, instance, is_kept)?;
+            push_kept(&mut standing.instances, instance, is_kept)?;
             Ok(None)
         }
         Err(code) => Ok(Some(code)),
@@ -123,30 +151,36 @@ pub fn judge(
     requires survive { survive.now ≡ kept (stmts_of placed.now) }
     ensures { IfOk result (Judges files.now placed.now) }
 {
-    let mut declarations = Declarations::make(alloc, placed);
-    let mut instances = List::make(alloc);
+    let mut standing = Standing {
+        declarations: Declarations::make(alloc, placed),
+        instances: List::make(alloc),
+    };
     let mut count = 0;
     for (place, statement) in placed.iter().enumerate() {
-        let code = judge_statement(
+        let stmt = &statement.stmt;
+        match judge_statement(
             alloc,
-            &mut declarations,
-            &mut instances,
+            &mut standing,
             count,
             place as u32,
-            &statement.stmt,
+            stmt,
             survive[place],
-        )?;
-        if let Some(code) = code {
-            return Ok(Verdict::Refused(refusal(alloc, files, statement, code)?));
+        ) {
+            Ok(None) => {}
+            Ok(Some(code)) => {
+                drop(standing);
+                return Ok(Verdict::Refused(refusal(alloc, files, statement, code)?));
+            }
+            Err(stop) => {
+                drop(standing);
+                return Err(stop);
+            }
         }
-        count += instance_count(&statement.stmt);
-        if !declares(&statement.stmt) {
+        count += instance_count(stmt);
+        if !declares(stmt) {
             continue;
         }
-        declarations = declarations.declare(alloc, &statement.stmt)?;
+        standing = standing.declare(alloc, stmt)?;
     }
-    Ok(Verdict::Accepted(Standing {
-        declarations,
-        instances,
-    }))
+    Ok(Verdict::Accepted(standing))
 }

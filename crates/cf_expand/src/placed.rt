@@ -1,4 +1,4 @@
-ghost use Rattle.std.specs.Prelude.{◌≡◌, ℕ, ◌<◌, ◌||◌, [], ◌∷◌, ◌++◌, List as Items, OnErr, OnOk, length};
+ghost use Rattle.std.specs.Prelude.{◌≡◌, ℕ, ◌<◌, ◌||◌, [], ◌∷◌, ◌++◌, List as Items, OnErr, OnOk, length, vec_capacity, vec_len};
 ghost use Rattle.std.specs.Option.{option_copied};
 ghost use Rattle.config_rules.specs.Reading.{declares, is_declared};
 ghost use Rattle.config_rules.specs.Written.{AreWritten, IsWritten};
@@ -33,6 +33,21 @@ fn note(alloc: Global, names: &mut BTreeSet<Vec<u8>>, stmt: &Stmt) -> Result<(),
     let key = Vec::from_slice(alloc, name.bytes())?;
     names.insert(key)?;
     Ok(())
+}
+
+/// Makes room for a statement, and adds the name that it declares.
+fn prepare(
+    items: &mut Vec<Placed>,
+    names: &mut BTreeSet<Vec<u8>>,
+    stmt: &Stmt,
+) -> Result<(), Memory>
+    ensures same { items.new.items ≡ items.old.items }
+    ensures room { OnOk result (vec_len items.new < vec_capacity items.new) }
+    ensures ok { OnOk result ((name : Items ℕ) → has names.new name ≡ (has names.old name || declares name stmt.now)) }
+    ensures err { OnErr result (names.new.keys ≡ names.old.keys) }
+{
+    items.reserve(1)?;
+    note(*items.allocator(), names, stmt)
 }
 
 /// The placed statements, which keep the limits of the language, with a set of the names that they declare. Contracts
@@ -80,10 +95,16 @@ impl PlacedList {
         requires written { IsWritten placed.stmt }
         ensures { OnOk result (self.new ≡ self.old ++ placed ∷ []) }
     {
-        self.items.reserve(1)?;
-        note(*self.items.allocator(), &mut self.names, &placed.stmt)?;
-        self.items.push_reserved(placed);
-        Ok(())
+        match prepare(&mut self.items, &mut self.names, &placed.stmt) {
+            Ok(()) => {
+                self.items.push_reserved(placed);
+                Ok(())
+            }
+            Err(stop) => {
+                drop(placed);
+                Err(stop)
+            }
+        }
     }
 
     /// Whether one of the statements declares an attribute or a device of this name.

@@ -40,7 +40,11 @@ fn is_line_of(alloc: Global, format: Format, event: &Event, line: &[u8]) -> Resu
 fn where_so(is: bool, event: Event) -> Option<Event>
     ensures { given is event ≡ result }
 {
-    if is { Some(event) } else { None }
+    if is {
+        return Some(event);
+    }
+    drop(event);
+    None
 }
 
 /// An event, if a line is that of it.

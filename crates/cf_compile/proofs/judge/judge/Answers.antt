@@ -12,44 +12,44 @@ use Rattle.cf_compile.proofs.judge.judge.Goals as goal
 
 pub loop-place-init : goal.loop-place-init
 loop-place-init c =
-    walked_begins c.args.files.now c.args.placed.now c.make-declarations.result c.make-instances.result c.make-declarations.ensures c.make-instances.ensures
+    walked_begins c.args.files.now c.args.placed.now c.make.result c.make-2.result c.make.ensures c.make-2.ensures
 
 pub judge_statement-requires : goal.judge_statement-requires
 judge_statement-requires c =
-    walked_fits c.args.files.now c.args.placed.now c.loop-place.place c.loop-place.declarations c.loop-place.instances c.loop-place.count
+    walked_fits c.args.files.now c.args.placed.now c.loop-place.place c.loop-place.standing.declarations c.loop-place.standing.instances c.loop-place.count
     (omega (arith, c.loop-place-test.true, c.requires.written.few)) c.loop-place.invariant
 
-pub returns-in-Some : goal.returns-in-Some
-returns-in-Some c =
-    walked_stops c.args.files.now c.args.placed.now c.loop-place.place c.loop-place.declarations c.loop-place.instances c.loop-place.count c.index-placed-place.result c.in-Some.code
-    c.loop-place-test.true c.index-placed-place.is c.loop-place.invariant (sym c.in_ok-code.ensures.code ∙ c.in-Some.is)
-    ∙ ap Some (sym c.in_ok-refusal.ensures)
+pub returns-in-Ok-Some : goal.returns-in-Ok-Some
+returns-in-Ok-Some c =
+    walked_stops c.args.files.now c.args.placed.now c.loop-place.place c.loop-place.standing.declarations c.loop-place.standing.instances c.loop-place.count c.index-placed-place.result c.in-Ok-Some.code
+    c.loop-place-test.true c.index-placed-place.is c.loop-place.invariant (sym c.in-Ok-Some.ensures.code ∙ c.in-Ok-Some.field-0-is)
+    ∙ ap Some (sym c.in_ok-refusal-in-Ok-Some.ensures)
 
 pub bounds-survive-place : goal.bounds-survive-place
 bounds-survive-place c = survive_within c.args.placed.now c.args.survive.now c.loop-place.place c.requires.survive c.loop-place-test.true
 
 pub loop-place-preserved : goal.loop-place-preserved
 loop-place-preserved c =
-    let left : c.in_ok-code.code ≡ None = none_left _ c.in_default.not-Some in
-    let none : code_of c.loop-place.declarations c.loop-place.count c.index-placed-place.result.stmt ≡ None = sym c.in_ok-code.ensures.code ∙ left in
-    let own : List Bool → List Instance = λ marks. if slice_index_or marks c.loop-place.place false then option_to_list (instance_at c.loop-place.declarations c.loop-place.place c.index-placed-place.result.stmt) else [] in
-    let more : c.judge_statement.new.instances ≡ c.loop-place.instances ++ own c.args.survive.now = c.in_ok-code.ensures.kept left in
-    walked_goes_on c.args.files.now c.args.placed.now c.loop-place.place c.loop-place.declarations c.in_ok-declarations.declarations c.loop-place.instances c.judge_statement.new.instances c.loop-place.count _ c.instance_count.result c.index-placed-place.result
+    let left : c.in-Ok-None.field-0 ≡ None = c.in-Ok-None.field-0-is in
+    let none : code_of c.loop-place.standing.declarations c.loop-place.count c.index-placed-place.result.stmt ≡ None = sym c.in-Ok-None.ensures.code ∙ left in
+    let own : List Bool → List Instance = λ marks. if slice_index_or marks c.loop-place.place false then option_to_list (instance_at c.loop-place.standing.declarations c.loop-place.place c.index-placed-place.result.stmt) else [] in
+    let more : c.in_ok-standing.standing.instances ≡ c.loop-place.standing.instances ++ own c.args.survive.now = c.in_ok-standing.ensures.same ∙ c.in-Ok-None.ensures.kept left in
+    walked_goes_on c.args.files.now c.args.placed.now c.loop-place.place c.loop-place.standing.declarations c.in_ok-standing.standing.declarations c.loop-place.standing.instances c.in_ok-standing.standing.instances c.loop-place.count _ c.instance_count.result c.index-placed-place.result
     c.loop-place-test.true c.index-placed-place.is c.loop-place.invariant none
-    (more ∙ ap (λ (marks : List Bool). c.loop-place.instances ++ own marks) c.requires.survive)
-    (c.in_ok-declarations.ensures ∙ ap (λ (d : Declared). declare d c.index-placed-place.result.stmt) c.in_ok-code.ensures.same) c.instance_count.ensures refl
+    (more ∙ ap (λ (marks : List Bool). c.loop-place.standing.instances ++ own marks) c.requires.survive)
+    (c.in_ok-standing.ensures.declared ∙ ap (λ (d : Declared). declare d c.index-placed-place.result.stmt) c.in-Ok-None.ensures.same) c.instance_count.ensures refl
 
 pub loop-place-preserved-then-not-declares : goal.loop-place-preserved-then-not-declares
 loop-place-preserved-then-not-declares c =
-    let d = c.loop-place.declarations in
-    let left : c.in_ok-code.code ≡ None = none_left _ c.in_default.not-Some in
-    let none : code_of d c.loop-place.count c.index-placed-place.result.stmt ≡ None = sym c.in_ok-code.ensures.code ∙ left in
+    let d = c.loop-place.standing.declarations in
+    let left : c.in-Ok-None.field-0 ≡ None = c.in-Ok-None.field-0-is in
+    let none : code_of d c.loop-place.count c.index-placed-place.result.stmt ≡ None = sym c.in-Ok-None.ensures.code ∙ left in
     let own : List Bool → List Instance = λ marks. if slice_index_or marks c.loop-place.place false then option_to_list (instance_at d c.loop-place.place c.index-placed-place.result.stmt) else [] in
-    let more : c.judge_statement.new.instances ≡ c.loop-place.instances ++ own c.args.survive.now = c.in_ok-code.ensures.kept left in
-    walked_goes_on c.args.files.now c.args.placed.now c.loop-place.place d c.judge_statement.new.declarations c.loop-place.instances c.judge_statement.new.instances c.loop-place.count _ c.instance_count.result c.index-placed-place.result
+    let more : c.judge_statement.new.standing.instances ≡ c.loop-place.standing.instances ++ own c.args.survive.now = c.in-Ok-None.ensures.kept left in
+    walked_goes_on c.args.files.now c.args.placed.now c.loop-place.place d c.judge_statement.new.standing.declarations c.loop-place.standing.instances c.judge_statement.new.standing.instances c.loop-place.count _ c.instance_count.result c.index-placed-place.result
     c.loop-place-test.true c.index-placed-place.is c.loop-place.invariant none
-    (more ∙ ap (λ (marks : List Bool). c.loop-place.instances ++ own marks) c.requires.survive)
-    (c.in_ok-code.ensures.same ∙ nothing_more d c.index-placed-place.result.stmt c.if-not-declares.ensures) c.instance_count.ensures refl
+    (more ∙ ap (λ (marks : List Bool). c.loop-place.standing.instances ++ own marks) c.requires.survive)
+    (c.in-Ok-None.ensures.same ∙ nothing_more d c.index-placed-place.result.stmt c.if-not-declares.ensures) c.instance_count.ensures refl
 
 pub returns : goal.returns
-returns c = walked_ends c.args.files.now c.args.placed.now c.loop-place.place c.loop-place.declarations c.loop-place.instances c.loop-place.count c.loop-place-test.false c.loop-place.invariant
+returns c = walked_ends c.args.files.now c.args.placed.now c.loop-place.place c.loop-place.standing.declarations c.loop-place.standing.instances c.loop-place.count c.loop-place-test.false c.loop-place.invariant
