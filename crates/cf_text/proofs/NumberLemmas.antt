@@ -1,4 +1,4 @@
-use Rattle.std.proofs.Common.{◌≡◌, ◌∙◌, ℕ, ◌+◌, ◌*◌, ◌<◌, ◌≤◌, inl, inr, true, List, length, get_or, take, min, refl, sym, ap, arith, Option, Some, None, option_map, ℤ, pos, neg_ℤ}
+use Rattle.std.proofs.Common.{◌≡◌, ◌∙◌, ℕ, ◌+◌, ◌*◌, ◌<◌, ◌≤◌, inl, inr, true, false, List, length, get_or, take, min, refl, sym, ap, arith, Option, Some, None, option_map, ℤ, pos, neg_ℤ}
 use Rattle.std.specs.Prelude.{int_le}
 use Rattle.std.proofs.lemmas.Int.{ints}
 use Rattle.std.proofs.Math.Nat.{min-eq_left, min-eq_right}
@@ -10,7 +10,7 @@ use Rattle.std.proofs.lemmas.Nat.{mul-le}
 use Rattle.std.specs.Char.{digit_value, is_digit}
 use Rattle.std.specs.List.{list_all}
 use Rattle.std.specs.Str.Parse.{digits_value}
-use Rattle.cf_text.specs.declared.number.NumberRead.TheVariants.{Value}
+use Rattle.cf_text.specs.declared.number.NumberRead.TheVariants.{OutOfRange, Value}
 use Rattle.cf_text.specs.NumberRead.{read_of}
 
 -- a number that was cut down to a bound is as good as itself, if it is cut down again after one more digit
@@ -54,3 +54,12 @@ negative_read (Some m) n v h is low =
     let above : int_le (neg_ℤ (pos 2147483648)) (neg_ℤ (pos n)) ≡ true = grind (arith, ints) in
     let below : int_le (neg_ℤ (pos n)) (pos 4294967295) ≡ true = grind (arith, ints) in
     rw (same, is, above, below) refl
+
+-- a number behind a `-` that is below its range
+pub negative_over : (o : Option ℕ) (n : ℕ) → Some n ≡ option_map (λ m. min m 4294967296) o → 2147483648 < n → OutOfRange ≡ read_of (option_map (λ m. neg_ℤ (pos m)) o)
+negative_over None n h over = cc
+negative_over (Some m) n h over =
+    let here : n ≡ min m 4294967296 = cc in
+    let far : 2147483648 < m = omega (arith, here) in
+    let below : int_le (neg_ℤ (pos 2147483648)) (neg_ℤ (pos m)) ≡ false = grind (arith, ints) in
+    rw below refl

@@ -9,6 +9,9 @@ pub const MIN_NUMBER: i64 = -2_147_483_648;
 /// The greatest number that may be written.
 pub const MAX_NUMBER: i64 = 4_294_967_295;
 
+/// How far below 0 the least number is.
+const MOST_BELOW: u64 = 2_147_483_648;
+
 /// What stands for all numbers above the greatest.
 const TOO_GREAT: u64 = 4_294_967_296;
 
@@ -68,11 +71,10 @@ fn read_negative(chunk: &[u8]) -> NumberRead
     match read_unsigned(chunk) {
         None => NumberRead::Not,
         Some(value) => {
-            let value = -(value as i64);
-            if value < MIN_NUMBER {
+            if value > MOST_BELOW {
                 NumberRead::OutOfRange
             } else {
-                NumberRead::Value(value)
+                NumberRead::Value(-(value as i64))
             }
         }
     }

@@ -2,6 +2,7 @@ ghost use Rattle.std.specs.Prelude.{◌≡◌, ◌++◌, OnOk, OnErr};
 ghost use Rattle.std.specs.Fmt.{signed_decimal};
 
 use crate::Memory;
+use itoa::Buffer;
 
 /// Appends bytes. Where memory runs out, nothing is appended.
 pub fn put_bytes(out: &mut Vec<u8>, bytes: &[u8]) -> Result<(), Memory>
@@ -12,11 +13,12 @@ pub fn put_bytes(out: &mut Vec<u8>, bytes: &[u8]) -> Result<(), Memory>
     Ok(())
 }
 
-/// Appends a number in decimal, a negative one with `-`. Where memory runs out, nothing is appended.
+/// Appends a number in decimal, a negative one with `-`. It takes no memory of its own. Where memory runs out, nothing is
+/// appended.
 pub fn put_decimal(out: &mut Vec<u8>, value: i64) -> Result<(), Memory>
     ensures ok { OnOk result (out.new.items ≡ out.old.items ++ signed_decimal value) }
     ensures err { OnErr result (out.new.items ≡ out.old.items) }
 {
-    let digits = format!(in *out.allocator(); "{value}")?;
-    put_bytes(out, digits.as_bytes())
+    let mut digits = Buffer::new();
+    put_bytes(out, digits.format(value).as_bytes())
 }

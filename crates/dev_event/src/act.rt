@@ -1,12 +1,11 @@
 ghost use Rattle.std.specs.Prelude.{◌≡◌, ◌++◌, OnOk, codes, decimal};
 ghost use Rattle.run_rules.specs.Lines as text;
 
-use crate::number::put_number;
 use crate::parts::{
     put_answer, put_depth_names, put_got, put_got_1, put_named, put_names, put_of, put_reply,
     put_said, put_shown, put_shown_1, put_started,
 };
-use cf_types::{List, Memory, Name, put_bytes};
+use cf_types::{List, Memory, Name, put_bytes, put_decimal};
 use run_rules::{Act, DepthName, Got, IoAnswer, PowerKind, Reply, Shown};
 
 fn power_word(kind: PowerKind) -> &'static [u8]
@@ -74,7 +73,7 @@ fn put_transfer(out: &mut Vec<u8>, device: &Name, value: u32, reply: &Reply) -> 
 {
     put_named(out, b"io ", device)?;
     put_bytes(out, b" ")?;
-    put_number(out, value)?;
+    put_decimal(out, i64::from(value))?;
     put_bytes(out, b": ")?;
     put_started(out, reply)
 }

@@ -5,7 +5,6 @@ mod act;
 mod cut;
 mod formed;
 mod line;
-mod number;
 mod parts;
 mod read;
 mod read_act;

@@ -2,8 +2,7 @@
 ghost use Rattle.std.specs.Prelude.{◌≡◌, ◌++◌, OnOk, codes, decimal, flat_map};
 ghost use Rattle.run_rules.specs.Lines.{reply_text, started_text, answer_text, got_text, got_text_1, shown_text, shown_text_1, of_text, names_text, depth_names_text};
 
-use crate::number::put_number;
-use cf_types::{List, Memory, Name, put_bytes};
+use cf_types::{List, Memory, Name, put_bytes, put_decimal};
 use run_rules::{DepthName, Got, IoAnswer, Reply, Shown};
 
 /// Appends a word and a name.
@@ -60,7 +59,7 @@ pub fn put_answer(out: &mut Vec<u8>, answer: IoAnswer) -> Result<(), Memory>
     ensures { OnOk result (out.new.items ≡ out.old.items ++ answer_text answer) }
 {
     match answer {
-        IoAnswer::Number(n) => put_number(out, n),
+        IoAnswer::Number(n) => put_decimal(out, i64::from(n)),
         IoAnswer::DeviceError => put_bytes(out, b"error"),
     }
 }
@@ -74,7 +73,7 @@ pub fn put_got(out: &mut Vec<u8>, got: &Option<Got>) -> Result<(), Memory>
         Some(got) => {
             put_bytes(out, got.name.bytes())?;
             put_bytes(out, b" row ")?;
-            put_number(out, got.row)
+            put_decimal(out, i64::from(got.row))
         }
     }
 }
@@ -162,7 +161,7 @@ fn put_each_depth(out: &mut Vec<u8>, names: &[DepthName]) -> Result<(), Memory>
 {
     for one in names {
         put_bytes(out, b" ")?;
-        put_number(out, one.depth)?;
+        put_decimal(out, i64::from(one.depth))?;
         put_named(out, b" ", &one.name)?;
     }
     Ok(())

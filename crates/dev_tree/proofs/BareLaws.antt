@@ -14,7 +14,7 @@ use Rattle.run_rules.specs.World.{children, device_at, has, is_live, is_under, l
 use Rattle.dev_tree.specs.Bare.{AreBare, AreUnmarked, IsBare}
 use Rattle.dev_tree.proofs.Alike.{Alike, SamePlain, all_alike, length_alike}
 use Rattle.dev_tree.proofs.BranchLaws.{apart_at, not_there}
-use Rattle.dev_tree.proofs.Places.{all_at}
+use Rattle.run_rules.proofs.Order.{all_at}
 use Rattle.dev_tree.proofs.RestLaws.{removed_short, snoc_at, snoc_end}
 
 -- ---- no device, one more, one less

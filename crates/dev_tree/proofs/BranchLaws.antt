@@ -10,7 +10,7 @@ use Rattle.run_rules.specs.declared.world.Dev.{Dev}
 use Rattle.run_rules.specs.World.{children, is_live}
 use Rattle.run_rules.specs.Sound.{EachLater, IsPlaced}
 use Rattle.dev_tree.specs.Branching.{Branching, AreBranchesIn}
-use Rattle.dev_tree.proofs.Places.{all_at}
+use Rattle.run_rules.proofs.Order.{all_at}
 
 -- ---- one child more
 

@@ -5,16 +5,8 @@ use Rattle.std.specs.List.{AllByRecursion, zip}
 use Rattle.std.proofs.lemmas.Bool.{ne_eqb}
 use Rattle.run_rules.specs.declared.world.Dev.{Dev}
 use Rattle.run_rules.specs.Sound.{EachLater}
-use Rattle.dev_tree.proofs.Places.{all_at}
+use Rattle.run_rules.proofs.Order.{all_at, live_gone}
 use Rattle.dev_tree.specs.Tree.{Devices, AreSound, without_device}
-
--- where every serial is another one nothing goes
-none_gone : (s : ℕ) (ds : List Dev) → AllByRecursion (λ d. s < d.serial) ds → filter (λ d. not (d.serial == s)) ds ≡ ds
-none_gone s [] h = refl
-none_gone s (d ∷ ds) h =
-    let low : s < d.serial = h.0 in
-    let ne : (d.serial == s) ≡ false = ne_eqb d.serial s (λ e. absurd (omega arith)) in
-    rw ne (ap (λ xs. d ∷ xs) (none_gone s ds h.1))
 
 none_gone_beside : (s : ℕ) (ds : List Dev) (ks : List ℕ) → length ks ≡ length ds → AllByRecursion (λ d. s < d.serial) ds
     → map (λ p. p.1) (filter (λ p. not (p.0.serial == s)) (zip ds ks)) ≡ ks
@@ -25,16 +17,6 @@ none_gone_beside s (d ∷ ds) (k ∷ ks) long h =
     let low : s < d.serial = h.0 in
     let ne : (d.serial == s) ≡ false = ne_eqb d.serial s (λ e. absurd (omega arith)) in
     rw ne (ap (λ xs. k ∷ xs) (none_gone_beside s ds ks (omega arith) h.1))
-
-pub live_gone : (ds : List Dev) (i s : ℕ) (x : Dev) → EachLater (λ d e. d.serial < e.serial) ds → i < length ds → (get_or ds i x).serial ≡ s
-    → remove ds i ≡ filter (λ d. not (d.serial == s)) ds
-live_gone [] i s x h lt is = absurd (omega arith)
-live_gone (d ∷ ds) zero s x h lt is =
-    subst (λ n. ds ≡ filter (λ e. not (e.serial == n)) (d ∷ ds)) is (rw (eq-eqb d.serial d.serial refl) (sym (none_gone d.serial ds h.0)))
-live_gone (d ∷ ds) (suc i) s x h lt is =
-    let low : d.serial < (get_or ds i x).serial = all_at (λ e. d.serial < e.serial) ds i x h.0 (omega arith) in
-    let ne : (d.serial == s) ≡ false = ne_eqb d.serial s (λ e. absurd (omega arith)) in
-    rw ne (ap (λ xs. d ∷ xs) (live_gone ds i s x h.1 (omega arith) is))
 
 pub driver_gone : (ds : List Dev) (ks : List ℕ) (i s : ℕ) (x : Dev) → EachLater (λ d e. d.serial < e.serial) ds → length ks ≡ length ds → i < length ds → (get_or ds i x).serial ≡ s
     → remove ks i ≡ map (λ p. p.1) (filter (λ p. not (p.0.serial == s)) (zip ds ks))

@@ -1,4 +1,3 @@
-pub mod Places
 pub mod Pairs
 pub mod Named
 pub mod Halves
@@ -7,7 +6,6 @@ pub mod Kept
 pub mod Gone
 pub mod DriverLaws
 pub mod OnSpots
-pub mod Slept
 pub mod BranchLaws
 pub mod RestLaws
 pub mod BareLaws

@@ -8,7 +8,7 @@ use Rattle.run_rules.specs.Search.{is_occupied}
 use Rattle.run_rules.specs.Sound.{EachLater}
 use Rattle.run_rules.specs.World.{device_on, serial_of}
 use Rattle.dev_tree.proofs.Alike.{Alike, SamePlain}
-use Rattle.dev_tree.proofs.Places.{all_at}
+use Rattle.run_rules.proofs.Order.{all_at}
 
 pub on_alike : (xs ys : List Dev) (x : ℕ) → Alike SamePlain xs ys → serial_of (device_on xs x) ≡ serial_of (device_on ys x)
 on_alike [] [] x h = refl

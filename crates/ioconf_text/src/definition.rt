@@ -1,8 +1,8 @@
 ghost use Rattle.std.specs.Prelude.{◌≡◌, ◌++◌, [], OnOk, map, codes};
 ghost use Rattle.config_rules.specs.Listing.{spaced, default_text, locator_text, attr_line, attr_name, offers_text, device_text, attach_line, place_name};
 
-use crate::word::{put_attr_name, put_decimal, put_device_name, put_place};
-use cf_types::{Attach, Attr, Device, Locator, Memory, Place, Tables};
+use crate::word::{put_attr_name, put_device_name, put_place};
+use cf_types::{Attach, Attr, Device, Locator, Memory, Place, Tables, put_decimal};
 
 /// A locator with its default.
 fn put_default(out: &mut Vec<u8>, locator: &Locator, default: i64) -> Result<(), Memory>

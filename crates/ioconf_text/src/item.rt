@@ -1,8 +1,7 @@
 ghost use Rattle.std.specs.Prelude.{◌≡◌, ◌++◌, OnOk};
 ghost use Rattle.config_rules.specs.Listing.{pseudo_line, item_value, item_line, file_system_line, warning_line, kind_text};
 
-use crate::word::put_decimal;
-use cf_types::{Item, Memory, Name, Pseudo, WarnKind, Warning};
+use cf_types::{Item, Memory, Name, Pseudo, WarnKind, Warning, put_decimal};
 
 pub fn put_pseudo(out: &mut Vec<u8>, pseudo: &Pseudo) -> Result<(), Memory>
     ensures { OnOk result (out.new.items ≡ out.old.items ++ pseudo_line pseudo.now) }

@@ -3,9 +3,9 @@ ghost use Rattle.std.specs.List.{enumerate_from, slice_index_or};
 ghost use Rattle.config_rules.specs.Listing.{spaced, parent_text, at_text, row_name, row_head, row_tail, row_line, locator_name, value_text, values_text};
 
 use crate::word::{
-    put_attach_name, put_attr_name, put_decimal, put_device_name, put_number, put_place, put_unit,
+    put_attach_name, put_attr_name, put_device_name, put_number, put_place, put_unit,
 };
-use cf_types::{Locator, Memory, ParentSpec, Place, Row, Tables};
+use cf_types::{Locator, Memory, ParentSpec, Place, Row, Tables, put_decimal};
 use locator_rules::locators_at;
 
 fn put_row_name(out: &mut Vec<u8>, tables: &Tables, row: &Row) -> Result<(), Memory>

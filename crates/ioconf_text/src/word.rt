@@ -1,18 +1,8 @@
 ghost use Rattle.std.specs.Prelude.{◌≡◌, ◌++◌, OnOk, decimal};
-ghost use Rattle.std.specs.Fmt.{signed_decimal};
 ghost use Rattle.config_rules.specs.Listing.{attr_name, device_name, attach_name, place_name, unit_text};
 
-use cf_types::{Memory, Place, Tables};
+use cf_types::{Memory, Place, Tables, put_decimal};
 use itoa::Buffer;
-
-/// A number in decimal, a negative one with `-`. It takes no memory of its own.
-pub fn put_decimal(out: &mut Vec<u8>, value: i64) -> Result<(), Memory>
-    ensures { OnOk result (out.new.items ≡ out.old.items ++ signed_decimal value) }
-{
-    let mut digits = Buffer::new();
-    out.extend_from_slice(digits.format(value).as_bytes())?;
-    Ok(())
-}
 
 pub fn put_attr_name(out: &mut Vec<u8>, tables: &Tables, attr: u32) -> Result<(), Memory>
     ensures { OnOk result (out.new.items ≡ out.old.items ++ attr_name tables.now attr) }
@@ -59,6 +49,7 @@ pub fn put_unit(out: &mut Vec<u8>, unit: Option<u32>) -> Result<(), Memory>
     }
 }
 
+/// A number in decimal that counts rows.
 pub fn put_number(out: &mut Vec<u8>, number: usize) -> Result<(), Memory>
     ensures { OnOk result (out.new.items ≡ out.old.items ++ decimal number) }
 {

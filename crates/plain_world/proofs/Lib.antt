@@ -1,6 +1,5 @@
 pub mod NameLaws
 pub mod WantedLaws
 pub mod Ready
-pub mod Order
 pub mod Kept
 pub mod Stands

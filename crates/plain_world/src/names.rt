@@ -8,8 +8,7 @@ ghost use Rattle.plain_world.specs.Rules.{AreFit, setup_by};
 use crate::live::Live;
 use crate::look::device_at;
 use crate::rules::{Rules, driver_of};
-use cf_types::{Memory, Name, put_bytes};
-use itoa::Buffer;
+use cf_types::{Memory, Name, put_bytes, put_decimal};
 use run_rules::{Arrival, Dev, Got, Shown};
 use std::alloc::Global;
 
@@ -32,8 +31,7 @@ fn put_unit_name(out: &mut Vec<u8>, rules: &Rules, row: u32, unit: u32) -> Resul
     ensures { OnOk result (out.new.items ≡ out.old.items ++ world.unit_name (setup_by rules.now) row unit) }
 {
     put_bytes(out, driver_name(rules, driver_of(rules, row)))?;
-    let mut digits = Buffer::new();
-    put_bytes(out, digits.format(unit).as_bytes())
+    put_decimal(out, i64::from(unit))
 }
 
 /// The name of a row's driver and a unit.

@@ -18,3 +18,4 @@ pub mod References
 pub mod Chains
 pub mod Levels
 pub mod Removals
+pub mod Order

@@ -1,8 +1,8 @@
 ghost use Rattle.std.specs.Prelude.{◌≡◌, ◌++◌, OnOk, OnErr};
 ghost use Rattle.run_rules.specs.Tree.{dev_text};
 
-use crate::parts::{put_held, put_indent, put_mark, put_number};
-use cf_types::{DevLine, Memory, put_bytes};
+use crate::parts::{put_held, put_indent, put_mark};
+use cf_types::{DevLine, Memory, put_bytes, put_decimal};
 
 /// How many bytes serve for most lines.
 const USUAL: usize = 96;
@@ -19,7 +19,7 @@ pub fn put_dev(line: &DevLine, out: &mut Vec<u8>) -> Result<(), Memory>
     put_bytes(&mut text, b" at ")?;
     put_bytes(&mut text, line.parent.bytes())?;
     put_bytes(&mut text, b" row ")?;
-    put_number(&mut text, line.row)?;
+    put_decimal(&mut text, i64::from(line.row))?;
     put_mark(&mut text, line.asleep, b" asleep")?;
     put_mark(&mut text, line.condemned, b" condemned")?;
     put_held(&mut text, line.holders.items())?;

@@ -3,16 +3,7 @@ ghost use Rattle.std.specs.Prelude.{◌≡◌, ◌++◌, OnOk, codes, decimal, f
 ghost use Rattle.run_rules.specs.Tree.{marked_by, hold_text, held_text};
 ghost use Rattle.cf_types.specs.Numbers.{below};
 
-use cf_types::{Hold, Memory, put_bytes};
-use itoa::Buffer;
-
-/// Appends a number in decimal. It takes no memory of its own.
-pub fn put_number(out: &mut Vec<u8>, value: u32) -> Result<(), Memory>
-    ensures { OnOk result (out.new.items ≡ out.old.items ++ decimal value) }
-{
-    let mut digits = Buffer::new();
-    put_bytes(out, digits.format(value).as_bytes())
-}
+use cf_types::{Hold, Memory, put_bytes, put_decimal};
 
 /// Appends two spaces for each level.
 pub fn put_indent(out: &mut Vec<u8>, depth: u32) -> Result<(), Memory>
@@ -39,7 +30,7 @@ fn put_count(out: &mut Vec<u8>, count: u8) -> Result<(), Memory>
         return Ok(());
     }
     put_bytes(out, b"*")?;
-    put_number(out, u32::from(count))
+    put_decimal(out, i64::from(count))
 }
 
 /// Appends what a caller holds.
@@ -47,7 +38,7 @@ fn put_hold(out: &mut Vec<u8>, hold: Hold) -> Result<(), Memory>
     ensures { OnOk result (out.new.items ≡ out.old.items ++ hold_text hold) }
 {
     put_bytes(out, b" ")?;
-    put_number(out, u32::from(hold.caller))?;
+    put_decimal(out, i64::from(hold.caller))?;
     put_count(out, hold.count)?;
     put_mark(out, hold.sole, b"!")
 }

@@ -1,5 +1,5 @@
 use Rattle.std.proofs.Common.{sym}
-use Rattle.dev_tree.proofs.Places.{device_found, device_missed}
+use Rattle.run_rules.proofs.Order.{device_found, device_missed}
 use Rattle.dev_tree.proofs.lookup.device_at.Goals as goal
 
 pub returns-in-Some : goal.returns-in-Some

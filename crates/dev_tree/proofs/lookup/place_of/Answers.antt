@@ -1,6 +1,6 @@
 use Rattle.std.proofs.Common.{rules}
 use Rattle.std.proofs.lemmas.List.Sorted.{answers_always}
-use Rattle.dev_tree.proofs.Places.{searched}
+use Rattle.run_rules.proofs.Order.{searched}
 use Rattle.dev_tree.proofs.lookup.place_of.Goals as goal
 
 pub returns : goal.returns

@@ -4,7 +4,7 @@ use Rattle.run_rules.proofs.Marked.{condemned_at, condemned_past}
 use Rattle.run_rules.specs.declared.world.Dev.{Dev}
 use Rattle.run_rules.specs.After.{with_condemner}
 use Rattle.dev_tree.proofs.BareLaws.{alone_under, one_changed}
-use Rattle.dev_tree.proofs.Places.{all_at}
+use Rattle.run_rules.proofs.Order.{all_at}
 use Rattle.dev_tree.proofs.mark.condemn_one.Goals as goal
 
 -- what stands past the end

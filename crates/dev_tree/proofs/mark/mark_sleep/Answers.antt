@@ -1,6 +1,6 @@
 use Rattle.std.proofs.Common.{false, None}
 use Rattle.run_rules.specs.declared.world.Dev.{Dev}
-use Rattle.dev_tree.proofs.Slept.{none_slept, one_slept}
+use Rattle.run_rules.proofs.Order.{none_rested, one_rested}
 use Rattle.dev_tree.proofs.mark.mark_sleep.Goals as goal
 
 -- what stands past the end
@@ -9,7 +9,7 @@ blank = record { serial = 0; row = 0; unit = 0; parent = 0; spot = 0; asleep = f
 
 pub returns-in-Some : goal.returns-in-Some
 returns-in-Some c =
-    one_slept c.args.live.now c.in-Some.place c.args.serial c.args.asleep blank c.requires.later c.in-Some.ensures.0 (c.in-Some.ensures.1 blank)
+    one_rested c.args.live.now c.in-Some.place c.args.serial c.args.asleep blank c.requires.later c.in-Some.ensures.0 (c.in-Some.ensures.1 blank)
 
 pub returns-in-None : goal.returns-in-None
-returns-in-None c = none_slept c.args.live.now c.args.serial c.args.asleep c.in-None.ensures
+returns-in-None c = none_rested c.args.live.now c.args.serial c.args.asleep c.in-None.ensures

@@ -1,5 +1,5 @@
 use Rattle.std.proofs.Common.{sym}
-use Rattle.plain_world.proofs.Order.{device_found, device_missed}
+use Rattle.run_rules.proofs.Order.{device_found, device_missed}
 use Rattle.plain_world.proofs.live.find_at.Goals as goal
 
 pub returns-in-Some : goal.returns-in-Some

@@ -1,6 +1,6 @@
 use Rattle.std.proofs.Common.{false, None, sym}
 use Rattle.run_rules.specs.declared.world.Dev.{Dev}
-use Rattle.plain_world.proofs.Order.{live_found}
+use Rattle.run_rules.proofs.Order.{live_found}
 use Rattle.plain_world.proofs.live.has_at.Goals as goal
 
 -- what stands past the end

@@ -1,6 +1,6 @@
 use Rattle.std.proofs.Common.{◌∙◌, ap, slice_set}
 use Rattle.run_rules.specs.declared.world.Dev.{Dev}
-use Rattle.plain_world.proofs.Order.{none_rested, one_rested}
+use Rattle.run_rules.proofs.Order.{none_rested, one_rested}
 use Rattle.plain_world.proofs.live.rest_at.Goals as goal
 
 pub returns-in-Some : goal.returns-in-Some

@@ -3,7 +3,7 @@ use Rattle.run_rules.specs.After.{with_sleep}
 use Rattle.run_rules.specs.declared.world.Dev.{Dev}
 use Rattle.dev_tree.specs.Rest.{AreResting}
 use Rattle.dev_tree.proofs.RestLaws.{rest_fallen, rest_woken}
-use Rattle.dev_tree.proofs.Slept.{none_slept}
+use Rattle.run_rules.proofs.Order.{none_rested}
 use Rattle.dev_tree.proofs.resting.Resting.marked.Goals as goal
 
 pub returns-then-asleep : goal.returns-then-asleep
@@ -17,4 +17,4 @@ returns-else-asleep c = λ h.
     (rest_woken c.args.live.now c.in-Some.place c.args.serial c.args.self c.woken.result c.requires.later c.in-Some.ensures.0 c.in-Some.ensures.1 c.woken.ensures.before c.woken.ensures.from h)
 
 pub returns-in-None : goal.returns-in-None
-returns-in-None c = λ h. subst (λ (ds : List Dev). AreResting ds c.args.self) (none_slept c.args.live.now c.args.serial c.args.asleep c.in-None.ensures) h
+returns-in-None c = λ h. subst (λ (ds : List Dev). AreResting ds c.args.self) (none_rested c.args.live.now c.args.serial c.args.asleep c.in-None.ensures) h
