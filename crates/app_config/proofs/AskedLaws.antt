@@ -10,14 +10,15 @@ use Rattle.config_rules.specs.Reading.{Files}
 use Rattle.file_select.specs.Answers.{asked_for}
 use Rattle.app_input.specs.Asked.{AsksInputs, Names}
 use Rattle.app_input.specs.Inputs.{Reads}
-use Rattle.app_input.specs.Status.{status_of, status_of_stop}
-use Rattle.app_input.specs.Words.{Form, boot, ioconf, is_compiled, is_from_outside, load, machine_in, scripted, side_by_side, sources}
+use Rattle.app_input.specs.Stop.{status_of_stop}
+use Rattle.app_words.specs.Status.{status_of}
+use Rattle.app_words.specs.Words.{Form, boot, ioconf, is_compiled, is_from_outside, load, machine_in, scripted, side_by_side, sources}
 use Rattle.app_input.specs.declared.inputs.Inputs.{Inputs}
 use Rattle.app_input.specs.declared.inputs.Inputs.TheVariants as input
-use Rattle.app_input.specs.declared.status.Status.{Status}
-use Rattle.app_input.specs.declared.words.Task.{Task}
-use Rattle.app_input.specs.declared.words.Task.TheVariants.{Play, Replay, Upgrade}
-use Rattle.app_input.specs.declared.status.Status.TheVariants.{Ok, ConfigRefused, Usage, MachineRefused, ScriptRefused, HistoryRefused, Absent, TooLong, ReadFault, WriteFault, Memory}
+use Rattle.app_words.specs.declared.status.Status.{Status}
+use Rattle.app_words.specs.declared.words.Task.{Task}
+use Rattle.app_words.specs.declared.words.Task.TheVariants.{Play, Replay, Upgrade}
+use Rattle.app_words.specs.declared.status.Status.TheVariants.{Ok, ConfigRefused, Usage, MachineRefused, ScriptRefused, HistoryRefused, Absent, TooLong, ReadFault, WriteFault, Memory}
 use Rattle.app_input.proofs.AskedLaws.{all_asked, inputs_all, inputs_memory, memory_asked, stopped_asked}
 use Rattle.app_config.specs.FilesAsked.{AsksFiles, AsksSources, AsksThen}
 use Rattle.app_config.specs.declared.found.Found.{Found}

@@ -7,15 +7,15 @@ use Rattle.config_rules.specs.Reading.{Files}
 use Rattle.run_rules.specs.declared.world.Setup.{Setup}
 use Rattle.run_rules.specs.Reread.{reread}
 use Rattle.run_rules.specs.World.{opening, setup_of}
-use Rattle.app_input.specs.Inputs.{Counts, IsDue}
-use Rattle.app_input.specs.Words.{Form}
+use Rattle.app_input.specs.Inputs.{IsDue}
+use Rattle.app_words.specs.Words.{Form}
 use Rattle.app_input.specs.declared.inputs.Inputs.{Inputs}
 use Rattle.app_input.specs.declared.inputs.Inputs.TheVariants as input
-use Rattle.app_input.specs.declared.status.Status.{Status}
-use Rattle.app_input.specs.declared.status.Status.TheVariants.{Ok, ConfigRefused, Usage, MachineRefused, ScriptRefused, HistoryRefused, Absent, TooLong, ReadFault, WriteFault, Memory}
+use Rattle.app_words.specs.declared.status.Status.{Status}
+use Rattle.app_words.specs.declared.status.Status.TheVariants.{Ok, ConfigRefused, Usage, MachineRefused, ScriptRefused, HistoryRefused, Absent, TooLong, ReadFault, WriteFault, Memory}
 use Rattle.app_config.specs.Asked.{IsAskedText}
 use Rattle.app_config.specs.Found.{FindsFor, Unfound, Unselected, Untaken, found_text}
-use Rattle.app_input.specs.Status.{status_of}
+use Rattle.app_words.specs.Status.{Counts, status_of}
 use Rattle.app_config.specs.Run.{IsDueOr, IsInputsStatus, history_status}
 use Rattle.app_config.specs.declared.found.Found.{Found}
 

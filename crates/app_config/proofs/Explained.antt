@@ -1,10 +1,10 @@
 -- What was not found is never so that all was written, nor that writing failed.
 use Rattle.std.proofs.Common.{inl, inr, Option}
 use Rattle.config_rules.specs.Reading.{Files}
-use Rattle.app_input.specs.Words.{Form}
+use Rattle.app_words.specs.Words.{Form}
 use Rattle.app_input.specs.declared.inputs.Inputs.{Inputs}
 use Rattle.app_input.specs.declared.inputs.Inputs.TheVariants as input
-use Rattle.app_input.specs.declared.status.Status.TheVariants.{Ok, WriteFault}
+use Rattle.app_words.specs.declared.status.Status.TheVariants.{Ok, WriteFault}
 use Rattle.app_config.specs.Found.{IsRefused, Unfound}
 
 found_or_not : (told : Option Files) (asked : Inputs) → Unfound told asked Ok → ⊥

@@ -18,13 +18,14 @@ use Rattle.run_rules.specs.declared.world.Setup.{Setup}
 use Rattle.history_replay.specs.declared.history.Replayed.{Replayed}
 use Rattle.run_rules.specs.Lines.{lines}
 use Rattle.run_rules.specs.World.{setup_of}
-use Rattle.app_input.specs.Inputs.{Counts, FormedInputs, Reads}
-use Rattle.app_input.specs.Status.{status_of_stop}
-use Rattle.app_input.specs.Words.{Form}
+use Rattle.app_input.specs.Inputs.{FormedInputs, Reads}
+use Rattle.app_words.specs.Status.{Counts}
+use Rattle.app_input.specs.Stop.{status_of_stop}
+use Rattle.app_words.specs.Words.{Form}
 use Rattle.app_input.specs.declared.inputs.Inputs.{Inputs}
 use Rattle.app_input.specs.declared.inputs.Inputs.TheVariants as input
-use Rattle.app_input.specs.declared.status.Status.{Status}
-use Rattle.app_input.specs.declared.status.Status.TheVariants.{Ok, ConfigRefused, Usage, MachineRefused, ScriptRefused, HistoryRefused, Absent, TooLong, ReadFault, WriteFault, Memory}
+use Rattle.app_words.specs.declared.status.Status.{Status}
+use Rattle.app_words.specs.declared.status.Status.TheVariants.{Ok, ConfigRefused, Usage, MachineRefused, ScriptRefused, HistoryRefused, Absent, TooLong, ReadFault, WriteFault, Memory}
 use Rattle.app_output.proofs.RunLaws.{tree_is}
 use Rattle.app_output.specs.RunText.{run_text, tree_of}
 use Rattle.app_config.specs.Asked.{IsAskedText, IsPlayed}

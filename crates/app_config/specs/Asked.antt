@@ -17,7 +17,7 @@ use Rattle.run_rules.specs.Run as run
 use Rattle.run_rules.specs.Tree.{tree_text}
 use Rattle.run_rules.specs.World.{World, opening, setup_of}
 use Rattle.app_input.specs.Inputs.{FormedInputs, Reads}
-use Rattle.app_input.specs.Words.{Form}
+use Rattle.app_words.specs.Words.{Form}
 use Rattle.app_input.specs.declared.inputs.Inputs.{Inputs}
 use Rattle.app_input.specs.declared.inputs.Inputs.TheVariants as input
 use Rattle.app_output.specs.RunText.{run_text}

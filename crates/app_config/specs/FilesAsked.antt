@@ -3,10 +3,10 @@ use Rattle.std.specs.Prelude.{◌≡◌, ℕ, Option, Some, IfSome, List}
 use Rattle.config_rules.specs.Reading.{Files}
 use Rattle.file_select.specs.Answers.{asked_for}
 use Rattle.app_input.specs.Asked.{AsksInputs, IsAskedFor, Names}
-use Rattle.app_input.specs.Words.{Form, sources}
+use Rattle.app_words.specs.Words.{Form, sources}
 use Rattle.app_input.specs.declared.inputs.Inputs.{Inputs}
 use Rattle.app_input.specs.declared.inputs.Inputs.TheVariants as input
-use Rattle.app_input.specs.declared.status.Status.{Status}
+use Rattle.app_words.specs.declared.status.Status.{Status}
 
 -- what selecting the sources of a configuration asks for, where the files are told
 abbrev pub AsksSources : Option Files → List ℕ → Status → Names → Names → Type 0

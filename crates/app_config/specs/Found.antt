@@ -15,11 +15,11 @@ use Rattle.run_rules.specs.Reread.{reread}
 use Rattle.run_rules.specs.Tree.{tree_lines}
 use Rattle.run_rules.specs.World.{World, opening, setup_of}
 use Rattle.app_input.specs.Inputs.{Reads}
-use Rattle.app_input.specs.Words.{Form}
+use Rattle.app_words.specs.Words.{Form}
 use Rattle.app_input.specs.declared.inputs.Inputs.{Inputs}
 use Rattle.app_input.specs.declared.inputs.Inputs.TheVariants as input
-use Rattle.app_input.specs.declared.status.Status.{Status}
-use Rattle.app_input.specs.declared.status.Status.TheVariants.{ConfigRefused, HistoryRefused, ReadFault, Memory}
+use Rattle.app_words.specs.declared.status.Status.{Status}
+use Rattle.app_words.specs.declared.status.Status.TheVariants.{ConfigRefused, HistoryRefused, ReadFault, Memory}
 use Rattle.app_output.specs.RunText.{run_text, tree_of}
 use Rattle.app_config.specs.Asked.{Asks, IsAskedText}
 use Rattle.app_config.specs.declared.found.Found.{Found}

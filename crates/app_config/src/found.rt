@@ -1,8 +1,8 @@
 //! Does what the inputs ask for. Nothing here sees the output, so a run has ended before anything of it is put.
 ghost use Rattle.std.specs.Prelude.{◌≡◌, IfOk};
-ghost use Rattle.app_input.specs.Inputs.{Counts, FormedInputs, IsInputsOf};
-ghost use Rattle.app_input.specs.declared.inputs.Program.TheVariants as Program;
-ghost use Rattle.app_input.specs.Status.{status_of};
+ghost use Rattle.app_input.specs.Inputs.{FormedInputs, IsInputsOf};
+ghost use Rattle.app_words.specs.declared.program.Program.TheVariants as Program;
+ghost use Rattle.app_words.specs.Status.{Counts, status_of};
 ghost use Rattle.app_output.specs.Output.{Puts};
 ghost use Rattle.app_config.specs.FilesAsked.{AsksThen};
 ghost use Rattle.app_config.specs.Found.{FindsFor, HasGraph, found_text};
@@ -11,8 +11,9 @@ use crate::boot::booted;
 use crate::load::loaded;
 use crate::play::played;
 use crate::replay::retold;
-use app_input::{Inputs, Status};
+use app_input::{Inputs, status_of_stop};
 use app_output::{OutputStop, put_history, put_listing, put_paths, put_piece, put_run, put_tree};
+use app_words::Status;
 use cf_io::{Files, Sink};
 use cf_types::{DevLine, List, Tables, Text};
 use dev_board::Board;
@@ -50,7 +51,10 @@ pub fn found_by<F: Files>(alloc: Global, files: &mut F, inputs: Inputs) -> Resul
     match inputs {
         Inputs::Ioconf { tables } => Ok(Found::Listed(tables)),
         Inputs::Files { name } => {
-            let paths = select(alloc, files, name.items())?;
+            let paths = match select(alloc, files, name.items()) {
+                Ok(paths) => paths,
+                Err(stop) => return Err(status_of_stop(stop)),
+            };
             Ok(Found::Selected(paths))
         }
         Inputs::Boot { tables, machine } => {

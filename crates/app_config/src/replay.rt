@@ -6,7 +6,7 @@ ghost use Rattle.config_rules.specs.ScriptText.{FormedScript};
 ghost use Rattle.run_rules.specs.World.{setup_of};
 ghost use Rattle.app_config.specs.Found.{Retells};
 
-use app_input::Status;
+use app_words::Status;
 use cf_types::{List, Machine, Script, Tables, Text};
 use history_replay::{ReplayStop, Replayed, reread};
 use std::alloc::Global;

@@ -21,12 +21,13 @@ use Rattle.app_input.specs.declared.inputs.Inputs.{Inputs}
 use Rattle.app_input.specs.declared.inputs.Inputs.TheVariants.{Boot}
 use Rattle.app_input.specs.Inputs.{IsMeant, ReadsMachine, ReadsTables, booted, booted_from}
 use Rattle.app_input.specs.declared.scripts.Course.{Course}
-use Rattle.app_input.specs.declared.words.Task.{Task}
+use Rattle.app_words.specs.declared.words.Task.{Task}
 use Rattle.app_input.specs.Scripted.{IsCalledFor, course_of, script_of, scripts_from, scripts_of, unless_refused}
-use Rattle.app_input.specs.Status.{status_of, status_of_stop}
-use Rattle.app_input.specs.Words.{Form, boot, config_of, ioconf, is_from_outside, scripted, side_by_side}
-use Rattle.app_input.specs.declared.status.Status.{Status}
-use Rattle.app_input.specs.declared.status.Status.TheVariants.{Ok, ConfigRefused, Usage, MachineRefused, ScriptRefused, HistoryRefused, Absent, TooLong, ReadFault, WriteFault, Memory}
+use Rattle.app_input.specs.Stop.{status_of_stop}
+use Rattle.app_words.specs.Status.{status_of}
+use Rattle.app_words.specs.Words.{Form, boot, config_of, ioconf, is_from_outside, scripted, side_by_side}
+use Rattle.app_words.specs.declared.status.Status.{Status}
+use Rattle.app_words.specs.declared.status.Status.TheVariants.{Ok, ConfigRefused, Usage, MachineRefused, ScriptRefused, HistoryRefused, Absent, TooLong, ReadFault, WriteFault, Memory}
 use Rattle.app_input.proofs.DueLaws.{long_file, short_file}
 use Rattle.app_input.proofs.ScriptedLaws.{called_at, names_left}
 

@@ -6,9 +6,9 @@ use Rattle.config_rules.specs.MachineText.{machine_of}
 use Rattle.config_rules.specs.ScriptText.{commands, commands_of, order_of}
 use Rattle.config_rules.specs.Reading.{Files}
 use Rattle.app_input.specs.Asked.{files_behind, up_to_refused}
-use Rattle.app_input.specs.Words.{Form, scripted}
-use Rattle.app_input.specs.declared.words.Task.{Task}
-use Rattle.app_input.specs.declared.words.Task.TheVariants.{Play, Replay}
+use Rattle.app_words.specs.Words.{Form, scripted}
+use Rattle.app_words.specs.declared.words.Task.{Task}
+use Rattle.app_words.specs.declared.words.Task.TheVariants.{Play, Replay}
 
 -- files by their names
 abbrev files : List (List ℕ × List ℕ) → Files

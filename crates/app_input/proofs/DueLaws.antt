@@ -17,14 +17,15 @@ use Rattle.config_rules.specs.Reading.{Files}
 use Rattle.app_input.specs.declared.inputs.Inputs.{Inputs}
 use Rattle.app_input.specs.declared.inputs.Inputs.TheVariants.{Ioconf, Boot, Load, Play, Replay, Upgrade, Run}
 use Rattle.app_input.specs.declared.inputs.Inputs.TheVariants as inputs
-use Rattle.app_input.specs.declared.status.Status.{Status}
-use Rattle.app_input.specs.declared.status.Status.TheVariants.{Ok, ConfigRefused, Usage, MachineRefused, ScriptRefused, HistoryRefused, Absent, TooLong, ReadFault, WriteFault, Memory}
+use Rattle.app_words.specs.declared.status.Status.{Status}
+use Rattle.app_words.specs.declared.status.Status.TheVariants.{Ok, ConfigRefused, Usage, MachineRefused, ScriptRefused, HistoryRefused, Absent, TooLong, ReadFault, WriteFault, Memory}
 use Rattle.app_input.specs.declared.scripts.Course.{Course}
 use Rattle.app_input.specs.declared.scripts.Course.TheVariants as courses
-use Rattle.app_input.specs.declared.words.Task.{Task}
-use Rattle.app_input.specs.Inputs.{Counts, IsDue, IsDueAt, IsDueIf, IsRefusedRun, IsRun, Reads, booted, booted_from, files_of, given_by, inputs_at, inputs_by, refused_by, scripted_with, side_by_side_with, told_of}
+use Rattle.app_words.specs.declared.words.Task.{Task}
+use Rattle.app_input.specs.Inputs.{IsDue, IsDueAt, IsDueIf, IsRefusedRun, IsRun, Reads, booted, booted_from, files_of, given_by, inputs_at, inputs_by, refused_by, scripted_with, side_by_side_with, told_of}
+use Rattle.app_words.specs.Status.{Counts}
 use Rattle.app_input.specs.Scripted.{file_gives, scripts_of, task_of}
-use Rattle.app_input.specs.Words.{Form, boot, config_of, ioconf, is_compiled, load, machine_in, scripted, side_by_side, sources}
+use Rattle.app_words.specs.Words.{Form, boot, config_of, ioconf, is_compiled, load, machine_in, scripted, side_by_side, sources}
 
 -- where the files are told, those that a form speaks of are
 at_files : (P : Files → Type 0) (form : Form) (files : Files) → IfSome (told_of form (Some files)) P → P (files_of form files)

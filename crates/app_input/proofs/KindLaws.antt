@@ -7,13 +7,13 @@ use Rattle.config_rules.specs.Form.{given}
 use Rattle.config_rules.specs.Reading.{Files}
 use Rattle.app_input.specs.declared.inputs.Inputs.{Inputs}
 use Rattle.app_input.specs.declared.inputs.Inputs.TheVariants as input
-use Rattle.app_input.specs.declared.inputs.Program.{Program}
-use Rattle.app_input.specs.declared.inputs.Program.TheVariants.{Devconf, Drvrun}
-use Rattle.app_input.specs.declared.status.Status.{Status}
-use Rattle.app_input.specs.declared.words.Task.{Task}
-use Rattle.app_input.specs.declared.words.Task.TheVariants.{Play, Replay, Upgrade}
+use Rattle.app_words.specs.declared.program.Program.{Program}
+use Rattle.app_words.specs.declared.program.Program.TheVariants.{Devconf, Drvrun}
+use Rattle.app_words.specs.declared.status.Status.{Status}
+use Rattle.app_words.specs.declared.words.Task.{Task}
+use Rattle.app_words.specs.declared.words.Task.TheVariants.{Play, Replay, Upgrade}
 use Rattle.app_input.specs.Inputs.{IsInputsOf, Reads}
-use Rattle.app_input.specs.Words.{Form, boot, boot_form, count_of, file_in, form_named, form_of, ioconf, is_operand, is_script_count, load, load_form, scripted, scripted_form, side_by_side, side_by_side_form, sources}
+use Rattle.app_words.specs.Words.{Form, boot, boot_form, count_of, file_in, form_named, form_of, ioconf, is_operand, is_script_count, load, load_form, scripted, scripted_form, side_by_side, side_by_side_form, sources}
 
 -- a form that words of the program may have
 abbrev IsFormOf : Program → Option Form → Type 0

@@ -9,10 +9,11 @@ use Rattle.cf_io.specs.Memory.{file_named}
 use Rattle.config_rules.specs.Reading.{Files}
 use Rattle.app_input.specs.declared.inputs.Inputs.{Inputs}
 use Rattle.app_input.specs.declared.inputs.Inputs.TheVariants.{Load}
-use Rattle.app_input.specs.declared.status.Status.{Status}
-use Rattle.app_input.specs.declared.status.Status.TheVariants.{Ok, ConfigRefused, Usage, MachineRefused, ScriptRefused, HistoryRefused, Absent, TooLong, ReadFault, WriteFault, Memory}
-use Rattle.app_input.specs.Inputs.{Boots, Counts, IsDescribed, IsFirstFault, IsLacking, IsLong, IsMeant, Reads, ReadsMachine, ReadsTables, made_files}
-use Rattle.app_input.specs.Words.{load}
+use Rattle.app_words.specs.declared.status.Status.{Status}
+use Rattle.app_words.specs.declared.status.Status.TheVariants.{Ok, ConfigRefused, Usage, MachineRefused, ScriptRefused, HistoryRefused, Absent, TooLong, ReadFault, WriteFault, Memory}
+use Rattle.app_input.specs.Inputs.{Boots, IsDescribed, IsFirstFault, IsLacking, IsLong, IsMeant, Reads, ReadsMachine, ReadsTables, made_files}
+use Rattle.app_words.specs.Status.{Counts}
+use Rattle.app_words.specs.Words.{load}
 
 never : Rose 0 0 → ⊥
 never (inl less) = omega (arith, less)

@@ -13,10 +13,10 @@ use Rattle.config_rules.specs.Cut.{◌>>=◌}
 use Rattle.config_rules.specs.Formed.{FittingMachine, FormedTables}
 use Rattle.config_rules.specs.Reading.{Files}
 use Rattle.config_rules.specs.ScriptText.{order_of}
-use Rattle.app_input.specs.declared.status.Status.{Status}
-use Rattle.app_input.specs.declared.status.Status.TheVariants.{Ok, ConfigRefused, Usage, MachineRefused, ScriptRefused, HistoryRefused, Absent, TooLong, ReadFault, WriteFault, Memory}
-use Rattle.app_input.specs.declared.words.Task.{Task}
-use Rattle.app_input.specs.declared.words.Task.TheVariants.{Play, Replay, Upgrade}
+use Rattle.app_words.specs.declared.status.Status.{Status}
+use Rattle.app_words.specs.declared.status.Status.TheVariants.{Ok, ConfigRefused, Usage, MachineRefused, ScriptRefused, HistoryRefused, Absent, TooLong, ReadFault, WriteFault, Memory}
+use Rattle.app_words.specs.declared.words.Task.{Task}
+use Rattle.app_words.specs.declared.words.Task.TheVariants.{Play, Replay, Upgrade}
 use Rattle.app_input.specs.declared.scripts.Course.{Course}
 use Rattle.app_input.specs.declared.scripts.Course.TheVariants as courses
 use Rattle.app_input.specs.declared.scripts.Scripted.{Scripted}
@@ -24,7 +24,7 @@ use Rattle.app_input.specs.declared.inputs.Inputs.{Inputs}
 use Rattle.app_input.specs.declared.inputs.Inputs.TheVariants as input
 use Rattle.app_input.specs.Inputs.{AreFormed, FormedInputs, IsDescribed, IsMeant, IsRefusedRun, IsRun, Reads, ReadsFile, inputs_at, inputs_by}
 use Rattle.app_input.specs.Scripted.{FormedRun, IsCalledFor, IsCourseOf, IsOfFile, IsOfScript, IsOfScripted, course_in, course_of, script_of, scripted_of, scripts_from, scripts_of, task_of, unless_bad_line, unless_refused}
-use Rattle.app_input.specs.Words.{Form, is_from_outside, scripted, side_by_side}
+use Rattle.app_words.specs.Words.{Form, is_from_outside, scripted, side_by_side}
 use Rattle.app_input.proofs.DueLaws.{whole_file}
 
 -- ---- the scripts

@@ -6,9 +6,10 @@ use Rattle.cf_compile.specs.Compiles.{Compiles}
 use Rattle.cf_compile.specs.declared.stop.CompileStop.{CompileStop}
 use Rattle.cf_compile.specs.declared.stop.CompileStop.TheVariants as stops
 use Rattle.config_rules.specs.Reading.{Files}
-use Rattle.app_input.specs.Inputs.{Counts, ReadsTables}
-use Rattle.app_input.specs.Status.{status_of_stop}
-use Rattle.app_input.specs.declared.status.Status.{Status}
+use Rattle.app_input.specs.Inputs.{ReadsTables}
+use Rattle.app_words.specs.Status.{Counts}
+use Rattle.app_input.specs.Stop.{status_of_stop}
+use Rattle.app_words.specs.declared.status.Status.{Status}
 
 stopped : (told : Option Files) (name : List ℕ) (before after : ℕ) (stop : CompileStop) → Compiles told name before after (std.Err stop) → ReadsTables told name (std.Err (status_of_stop stop))
 stopped told name before after (stops.Refused refusal) why = why.0

@@ -10,11 +10,11 @@ use Rattle.config_rules.specs.Meaning.{Means}
 use Rattle.config_rules.specs.Reading.{Files, reading}
 use Rattle.app_input.specs.Inputs.{booted_from}
 use Rattle.app_input.specs.Scripted.{course_of, script_of}
-use Rattle.app_input.specs.Words.{Form, ioconf, sources, boot, load, scripted, side_by_side, config_of, is_from_outside}
+use Rattle.app_words.specs.Words.{Form, ioconf, sources, boot, load, scripted, side_by_side, config_of, is_from_outside}
 use Rattle.app_input.specs.declared.inputs.Inputs.TheVariants.{Boot}
-use Rattle.app_input.specs.declared.status.Status.{Status}
-use Rattle.app_input.specs.declared.words.Task.{Task}
-use Rattle.app_input.specs.declared.status.Status.TheVariants.{ConfigRefused, ReadFault, Memory}
+use Rattle.app_words.specs.declared.status.Status.{Status}
+use Rattle.app_words.specs.declared.words.Task.{Task}
+use Rattle.app_words.specs.declared.status.Status.TheVariants.{ConfigRefused, ReadFault, Memory}
 
 -- ---- the files that are due
 

@@ -19,16 +19,16 @@ use Rattle.load_maker.specs.Generated.{conf_text, machine_text}
 use Rattle.app_input.specs.declared.inputs.Inputs.{Inputs}
 use Rattle.app_input.specs.declared.inputs.Inputs.TheVariants.{Ioconf, Boot, Load, Play, Replay, Upgrade, Run}
 use Rattle.app_input.specs.declared.inputs.Inputs.TheVariants as inputs
-use Rattle.app_input.specs.declared.inputs.Program.{Program}
-use Rattle.app_input.specs.declared.inputs.Program.TheVariants.{Devconf, Drvrun}
-use Rattle.app_input.specs.declared.status.Status.{Status}
-use Rattle.app_input.specs.declared.status.Status.TheVariants.{Ok, ConfigRefused, Usage, MachineRefused, ScriptRefused, HistoryRefused, Absent, TooLong, ReadFault, WriteFault, Memory}
+use Rattle.app_words.specs.declared.program.Program.{Program}
+use Rattle.app_words.specs.declared.program.Program.TheVariants.{Devconf, Drvrun}
+use Rattle.app_words.specs.declared.status.Status.{Status}
+use Rattle.app_words.specs.declared.status.Status.TheVariants.{Ok, ConfigRefused, Usage, MachineRefused, ScriptRefused, HistoryRefused, Absent, TooLong, ReadFault, WriteFault, Memory}
 use Rattle.app_input.specs.declared.scripts.Course.{Course}
 use Rattle.app_input.specs.declared.scripts.Course.TheVariants as courses
 use Rattle.app_input.specs.declared.scripts.Scripted.{Scripted}
-use Rattle.app_input.specs.declared.words.Task.{Task}
+use Rattle.app_words.specs.declared.words.Task.{Task}
 use Rattle.app_input.specs.Scripted.{FormedRun, FormedScripts, IsOfScript, IsOfScripted, file_gives, scripted_of, scripts_of, task_of}
-use Rattle.app_input.specs.Words.{Form, ioconf, sources, boot, load, scripted, side_by_side, config_of, is_compiled, is_from_outside, machine_in}
+use Rattle.app_words.specs.Words.{Form, ioconf, sources, boot, load, scripted, side_by_side, config_of, is_compiled, is_from_outside, machine_in}
 
 -- the generated files of a machine with so many spots
 unfoldable pub made_files : ℕ → List MemFile
@@ -194,12 +194,6 @@ Reads form told (std.Err Memory) = ⊤
 Reads form told (std.Err Ok) = ⊥
 Reads form told (std.Err WriteFault) = ⊥
 Reads form told (std.Err (HistoryRefused line)) = ⊥
-
--- the count of faults rose at `ReadFault`, or stands at its last value, and is as before at every other answer
-abbrev pub Counts : {A : Type 0} → ℕ → ℕ → Result A Status → Type 0
-Counts before after (std.Ok inputs) = after ≡ before
-Counts before after (std.Err ReadFault) = (before ≤ after) × Rose before after
-Counts before after (std.Err _) = after ≡ before
 
 -- the tables are formed, the machine fits them, and the scripts and their course are formed
 abbrev pub AreFormed : Tables → Machine → List (List Command) → Course → Type 0

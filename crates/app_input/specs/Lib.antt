@@ -1,9 +1,7 @@
 pub mod Asked
-pub mod Commands
 pub mod Inputs
 pub mod Scripted
-pub mod Status
-pub mod Words
+pub mod Stop
 pub use Rattle.config_rules.specs.Formed
 pub use Rattle.config_rules.specs.MachineText
 pub use Rattle.config_rules.specs.Meaning

@@ -11,10 +11,10 @@ use Rattle.config_rules.specs.ScriptText.{FormedScript, commands_of, order_of}
 use Rattle.app_input.specs.declared.scripts.Course.{Course}
 use Rattle.app_input.specs.declared.scripts.Course.TheVariants as courses
 use Rattle.app_input.specs.declared.scripts.Scripted.{Scripted}
-use Rattle.app_input.specs.declared.status.Status.{Status}
-use Rattle.app_input.specs.declared.status.Status.TheVariants.{ScriptRefused, Absent, TooLong, ReadFault, Memory}
-use Rattle.app_input.specs.declared.words.Task.{Task}
-use Rattle.app_input.specs.declared.words.Task.TheVariants.{Play, Replay, Upgrade}
+use Rattle.app_words.specs.declared.status.Status.{Status}
+use Rattle.app_words.specs.declared.status.Status.TheVariants.{ScriptRefused, Absent, TooLong, ReadFault, Memory}
+use Rattle.app_words.specs.declared.words.Task.{Task}
+use Rattle.app_words.specs.declared.words.Task.TheVariants.{Play, Replay, Upgrade}
 
 -- what a file gives by its text; one that is not there, or has more bytes than a file may have, is refused
 abbrev pub file_gives : {A : Type 0} → (List ℕ → Result A Status) → List ℕ → Option (List ℕ) → Result A Status

@@ -1,9 +1,9 @@
 ghost use Rattle.std.specs.Prelude.{◌≡◌, [], ◌∷◌};
 ghost use Rattle.app_input.specs.Asked.{IsAskedFor};
-ghost use Rattle.app_input.specs.Inputs.{Counts, IsAbsent, IsTooLong, ReadsFile};
-ghost use Rattle.app_input.specs.Status.{status_of};
+ghost use Rattle.app_input.specs.Inputs.{IsAbsent, IsTooLong, ReadsFile};
+ghost use Rattle.app_words.specs.Status.{Counts, status_of};
 
-use crate::status::Status;
+use app_words::Status;
 use cf_io::{Files, Load};
 use cf_types::{List, Text};
 use std::alloc::Global;

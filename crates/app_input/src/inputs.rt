@@ -3,28 +3,19 @@ ghost use Rattle.cf_io.specs.Faults.{Rose};
 ghost use Rattle.config_rules.specs.Formed.{FormedTables};
 ghost use Rattle.config_rules.specs.Reading.{Files as NamedFiles, reading};
 ghost use Rattle.app_input.specs.Asked.{AsksForm, AsksInputs, IsAskedFor};
-ghost use Rattle.app_input.specs.Inputs.{Counts, FormedInputs, IsDue, IsInputsOf, Reads, ReadsTables, inputs_by};
-ghost use Rattle.app_input.specs.Status.{status_of};
-ghost use Rattle.app_input.specs.Words.{boot, form_of, ioconf, load, scripted, side_by_side, sources};
+ghost use Rattle.app_input.specs.Inputs.{FormedInputs, IsDue, IsInputsOf, Reads, ReadsTables, inputs_by};
+ghost use Rattle.app_words.specs.Status.{Counts, status_of};
+ghost use Rattle.app_words.specs.Words.{boot, form_of, ioconf, load, scripted, side_by_side, sources};
 
 use crate::machine_file::load_machine;
 use crate::made::made_files;
 use crate::scripts::{Course, Scripted, load_scripted, load_scripts};
-use crate::status::Status;
-use crate::words::{Task, WordStop, Words, read_words};
+use crate::stop::status_of_stop;
+use app_words::{Program, Status, Task, WordStop, Words, read_words};
 use cf_compile::compile;
 use cf_io::Files;
 use cf_types::{List, Machine, Script, Tables, Text};
 use std::alloc::Global;
-
-/// The program whose words are read.
-#[derive(Clone, Copy)]
-pub enum Program {
-    /// The compiler of configurations, which also boots machines by them.
-    Devconf,
-    /// It boots a machine and runs scripts on it side by side.
-    Drvrun,
-}
 
 /// What the words and the files that they name give.
 #[derive(Drop)]
@@ -90,7 +81,7 @@ fn read_tables<F: Files>(alloc: Global, files: &mut F, file: &[u8]) -> Result<Ta
 {
     match compile(alloc, files, file) {
         Ok(tables) => Ok(tables),
-        Err(stop) => Err(Status::from(stop)),
+        Err(stop) => Err(status_of_stop(stop)),
     }
 }
 
@@ -141,7 +132,10 @@ fn read_boot<F: Files>(
     };
     match load_machine(alloc, files, name, &tables) {
         Ok(machine) => Ok(Inputs::Boot { tables, machine }),
-        Err(status) => Err(status),
+        Err(status) => {
+            drop(tables);
+            Err(status)
+        }
     }
 }
 
@@ -198,11 +192,18 @@ fn read_scripted<F: Files>(
     };
     let machine = match load_machine(alloc, files, name, &tables) {
         Ok(machine) => machine,
-        Err(status) => return Err(status),
+        Err(status) => {
+            drop(tables);
+            return Err(status);
+        }
     };
     match load_scripted(alloc, files, task, scripts, course) {
         Ok(found) => Ok(inputs_by(tables, machine, found)),
-        Err(status) => Err(status),
+        Err(status) => {
+            drop(tables);
+            drop(machine);
+            Err(status)
+        }
     }
 }
 
@@ -229,7 +230,10 @@ fn read_side_by_side<F: Files>(
     };
     let machine = match load_machine(alloc, files, name, &tables) {
         Ok(machine) => machine,
-        Err(status) => return Err(status),
+        Err(status) => {
+            drop(tables);
+            return Err(status);
+        }
     };
     match load_scripts(alloc, files, scripts) {
         Ok(scripts) => Ok(Inputs::Run {
@@ -237,7 +241,11 @@ fn read_side_by_side<F: Files>(
             machine,
             scripts,
         }),
-        Err(status) => Err(status),
+        Err(status) => {
+            drop(tables);
+            drop(machine);
+            Err(status)
+        }
     }
 }
 
@@ -255,15 +263,23 @@ fn read_load(alloc: Global, count: u32) -> Result<Inputs, Status>
     };
     let tables = match read_tables(alloc, &mut files, b"conf") {
         Ok(tables) => tables,
-        Err(status) => return Err(status),
+        Err(status) => {
+            drop(files);
+            return Err(status);
+        }
     };
-    match load_machine(alloc, &mut files, b"mach", &tables) {
+    let machine = load_machine(alloc, &mut files, b"mach", &tables);
+    drop(files);
+    match machine {
         Ok(machine) => Ok(Inputs::Load {
             count,
             tables,
             machine,
         }),
-        Err(status) => Err(status),
+        Err(status) => {
+            drop(tables);
+            Err(status)
+        }
     }
 }
 

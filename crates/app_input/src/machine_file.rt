@@ -3,11 +3,11 @@ ghost use Rattle.cf_io.specs.declared.files.TheConstants.{MAX_FILE};
 ghost use Rattle.config_rules.specs.MachineText.{machine_of};
 ghost use Rattle.config_rules.specs.Formed.{FittingMachine, FormedTables};
 ghost use Rattle.app_input.specs.Asked.{IsAskedFor};
-ghost use Rattle.app_input.specs.Inputs.{Counts, Describes, ReadsMachine};
-ghost use Rattle.app_input.specs.Status.{status_of};
+ghost use Rattle.app_input.specs.Inputs.{Describes, ReadsMachine};
+ghost use Rattle.app_words.specs.Status.{Counts, status_of};
 
 use crate::file::load_file;
-use crate::status::Status;
+use app_words::Status;
 use cf_io::Files;
 use cf_types::{Machine, Tables};
 use machine_model::{MachineStop, read_machine};

@@ -3,13 +3,11 @@ ghost use Rattle.std.specs.Prelude.{◌≡◌, ◌≤◌, [], ◌∷◌, All, If
 ghost use Rattle.cf_io.specs.declared.files.TheConstants.{MAX_FILE};
 ghost use Rattle.config_rules.specs.ScriptText.{FormedScript, commands_of, order_of};
 ghost use Rattle.app_input.specs.Asked.{IsAskedFor, script_files, scripted_files, up_to_refused};
-ghost use Rattle.app_input.specs.Inputs.{Counts};
 ghost use Rattle.app_input.specs.Scripted.{FormedCourse, FormedRun, IsCalledFor, IsCourseOf, IsOfFile, IsOfScript, IsOfScripted, Says, course_of, script_of, scripted_of, scripts_of, task_of};
-ghost use Rattle.app_input.specs.Status.{status_of};
+ghost use Rattle.app_words.specs.Status.{Counts, status_of};
 
 use crate::file::load_file;
-use crate::status::Status;
-use crate::words::Task;
+use app_words::{Status, Task};
 use cf_io::Files;
 use cf_types::{List, Script, Text};
 use script_text::{ScriptStop, read_order, read_script};

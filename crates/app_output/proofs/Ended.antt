@@ -6,9 +6,9 @@ use Rattle.cf_io.specs.Faults.{Rises, Rose}
 use Rattle.cf_io.specs.Told.{Delivers, Grows, Takes, TakesFront, Told}
 use Rattle.cf_io.proofs.GrowsLemmas.{part_flushed, whole_flushed}
 use Rattle.config_rules.specs.Reading.{Files}
-use Rattle.app_input.specs.Inputs.{Counts}
-use Rattle.app_input.specs.declared.status.Status.{Status}
-use Rattle.app_input.specs.declared.status.Status.TheVariants.{Ok, ConfigRefused, Usage, MachineRefused, ScriptRefused, HistoryRefused, Absent, TooLong, ReadFault, WriteFault, Memory}
+use Rattle.app_words.specs.Status.{Counts}
+use Rattle.app_words.specs.declared.status.Status.{Status}
+use Rattle.app_words.specs.declared.status.Status.TheVariants.{Ok, ConfigRefused, Usage, MachineRefused, ScriptRefused, HistoryRefused, Absent, TooLong, ReadFault, WriteFault, Memory}
 use Rattle.app_output.specs.Ended.{Explains, Faults, OrMemory, status_after}
 use Rattle.app_output.specs.Output.{IsFlushed, Stops, Writes}
 use Rattle.app_output.specs.declared.stop.OutputStop.{OutputStop}

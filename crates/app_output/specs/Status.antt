@@ -1,9 +1,9 @@
 -- What a status says on standard error.
 use Rattle.std.specs.Prelude.{ℕ, ◌+◌, List, [], ◌∷◌, ◌++◌, codes, decimal, slice_index_or}
-use Rattle.app_input.specs.declared.inputs.Program.{Program}
-use Rattle.app_input.specs.declared.inputs.Program.TheVariants.{Devconf, Drvrun}
-use Rattle.app_input.specs.declared.status.Status.{Status}
-use Rattle.app_input.specs.declared.status.Status.TheVariants.{Ok, ConfigRefused, Usage, MachineRefused, ScriptRefused, HistoryRefused, Absent, TooLong, ReadFault, WriteFault, Memory}
+use Rattle.app_words.specs.declared.program.Program.{Program}
+use Rattle.app_words.specs.declared.program.Program.TheVariants.{Devconf, Drvrun}
+use Rattle.app_words.specs.declared.status.Status.{Status}
+use Rattle.app_words.specs.declared.status.Status.TheVariants.{Ok, ConfigRefused, Usage, MachineRefused, ScriptRefused, HistoryRefused, Absent, TooLong, ReadFault, WriteFault, Memory}
 
 -- the forms that the words of a program may have
 abbrev pub usage_text : Program → List ℕ

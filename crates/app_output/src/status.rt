@@ -1,10 +1,10 @@
 //! What a status says on standard error.
-ghost use Rattle.std.specs.Prelude.{◌≡◌, [], ◌++◌, ◌⊎◌, OnOk, IfOk, map, slice_index_or, string_bytes};
+ghost use Rattle.std.specs.Prelude.{◌≡◌, [], ◌++◌, ◌∷◌, ◌⊎◌, OnOk, IfOk, map, slice_index_or, string_bytes};
 ghost use Rattle.cf_types.specs.Lines.{ended};
 ghost use Rattle.cf_io.specs.Told.{Takes};
 ghost use Rattle.app_output.specs.Status.{err_text, machine_word, place_text, refused_text, script_word, usage_text};
 
-use app_input::{Program, Status};
+use app_words::{Program, Status};
 use cf_io::{Put, Sink};
 use cf_types::{Memory, put_decimal};
 use std::alloc::Global;
@@ -36,6 +36,7 @@ fn put_place(out: &mut Vec<u8>, kind: &[u8], file: &[u8], line: u32) -> Result<(
     Ok(())
 }
 
+/// Appends the line of a refusal.
 fn put_refused(
     out: &mut Vec<u8>,
     kind: &[u8],
@@ -43,19 +44,22 @@ fn put_refused(
     line: u32,
     code: u8,
 ) -> Result<(), Memory>
-    ensures { OnOk result (out.new.items ≡ out.old.items ++ refused_text kind.now file.now line code) }
+    ensures { OnOk result (out.new.items ≡ out.old.items ++ (refused_text kind.now file.now line code ++ 10 ∷ [])) }
 {
     put_place(out, kind, file, line)?;
     out.extend_from_slice(b": code ")?;
     put_decimal(out, i64::from(code))?;
+    out.push(b'\n')?;
     Ok(())
 }
 
+/// Appends the line that says something of a file.
 fn put_named(out: &mut Vec<u8>, name: &[u8], text: &[u8]) -> Result<(), Memory>
-    ensures { OnOk result (out.new.items ≡ out.old.items ++ (name.now ++ text.now)) }
+    ensures { OnOk result (out.new.items ≡ out.old.items ++ ((name.now ++ text.now) ++ 10 ∷ [])) }
 {
     out.extend_from_slice(name)?;
     out.extend_from_slice(text)?;
+    out.push(b'\n')?;
     Ok(())
 }
 
@@ -105,47 +109,26 @@ fn err_line(
             file,
             line: at,
             code,
-        } => {
-            put_refused(&mut line, b"config", file.items(), *at, *code)?;
-            line.push(b'\n')?;
-        }
+        } => put_refused(&mut line, b"config", file.items(), *at, *code)?,
         Status::Usage => line.extend_from_slice(usage(program))?,
         Status::MachineRefused { line: at, code } => {
-            put_refused(
-                &mut line,
-                b"machine",
-                machine_word(program, words),
-                *at,
-                *code,
-            )?;
-            line.push(b'\n')?;
+            let word = machine_word(program, words);
+            put_refused(&mut line, b"machine", word, *at, *code)?;
         }
         Status::ScriptRefused {
             which,
             line: at,
             code,
         } => {
-            put_refused(
-                &mut line,
-                b"script",
-                script_word(program, words, *which),
-                *at,
-                *code,
-            )?;
-            line.push(b'\n')?;
+            let word = script_word(program, words, *which);
+            put_refused(&mut line, b"script", word, *at, *code)?;
         }
         Status::HistoryRefused { line: at } => {
             put_place(&mut line, b"history", script_word(program, words, 0), *at)?;
             line.extend_from_slice(b": refused\n")?;
         }
-        Status::Absent { name } => {
-            put_named(&mut line, name.items(), b": absent")?;
-            line.push(b'\n')?;
-        }
-        Status::TooLong { name } => {
-            put_named(&mut line, name.items(), b": too long")?;
-            line.push(b'\n')?;
-        }
+        Status::Absent { name } => put_named(&mut line, name.items(), b": absent")?,
+        Status::TooLong { name } => put_named(&mut line, name.items(), b": too long")?,
         Status::ReadFault => line.extend_from_slice(b"read fault\n")?,
         Status::WriteFault => line.extend_from_slice(b"write fault\n")?,
         Status::Memory => line.extend_from_slice(b"out of memory\n")?,

@@ -1,7 +1,7 @@
 ghost use Rattle.std.specs.Prelude.{◌≡◌};
 ghost use Rattle.app_output.specs.Ended.{status_after};
 
-use app_input::Status;
+use app_words::Status;
 
 /// Why a text was not put whole.
 #[derive(Clone, Copy)]

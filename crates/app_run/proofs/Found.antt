@@ -7,14 +7,14 @@ use Rattle.cf_io.specs.Faults.{Rose}
 use Rattle.config_rules.specs.Reading.{Files}
 use Rattle.dev_board.specs.Shown.{Shown}
 use Rattle.run_rules.specs.declared.world.Setup.{Setup}
-use Rattle.app_input.specs.Inputs.{Counts, FormedInputs, IsDue, Reads}
-use Rattle.app_input.specs.Status.{status_of}
-use Rattle.app_input.specs.Words.{Form}
+use Rattle.app_input.specs.Inputs.{FormedInputs, IsDue, Reads}
+use Rattle.app_words.specs.Status.{Counts, status_of}
+use Rattle.app_words.specs.Words.{Form}
 use Rattle.app_input.specs.declared.inputs.Inputs.{Inputs}
 use Rattle.app_input.specs.declared.inputs.Inputs.TheVariants.{Run}
 use Rattle.app_input.specs.declared.inputs.Inputs.TheVariants as input
-use Rattle.app_input.specs.declared.status.Status.{Status}
-use Rattle.app_input.specs.declared.status.Status.TheVariants.{Memory}
+use Rattle.app_words.specs.declared.status.Status.{Status}
+use Rattle.app_words.specs.declared.status.Status.TheVariants.{Memory}
 use Rattle.app_output.specs.RunText.{run_text}
 use Rattle.app_run.specs.Asked.{Asks, FindsRun, HasRun, IsDueOr, RanFor}
 

@@ -10,12 +10,12 @@ use Rattle.dev_board.specs.Shown.{Shown}
 use Rattle.run_rules.specs.declared.event.Event.{Event}
 use Rattle.run_rules.specs.World.{World, setup_of}
 use Rattle.app_input.specs.Inputs.{FormedInputs, IsDue, Reads}
-use Rattle.app_input.specs.Status.{status_of}
-use Rattle.app_input.specs.Words.{Form}
+use Rattle.app_words.specs.Status.{status_of}
+use Rattle.app_words.specs.Words.{Form}
 use Rattle.app_input.specs.declared.inputs.Inputs.{Inputs}
 use Rattle.app_input.specs.declared.inputs.Inputs.TheVariants.{Run}
-use Rattle.app_input.specs.declared.status.Status.{Status}
-use Rattle.app_input.specs.declared.status.Status.TheVariants.{Memory}
+use Rattle.app_words.specs.declared.status.Status.{Status}
+use Rattle.app_words.specs.declared.status.Status.TheVariants.{Memory}
 use Rattle.app_output.specs.Ended.{OrMemory}
 use Rattle.app_output.specs.Ended as ended
 use Rattle.app_output.specs.RunText.{run_text}

@@ -3,7 +3,7 @@
 
 use crate::case::Case;
 use crate::stop::Stop;
-use app_input::Program;
+use app_words::Program;
 use cf_io::MemFile;
 use cf_types::{List, Text};
 use std::alloc::Global;

@@ -1,7 +1,7 @@
 //! A case of a program.
 
 use crate::stop::Stop;
-use app_input::Program;
+use app_words::Program;
 use cf_io::MemFile;
 use cf_types::{List, Text};
 use std::alloc::Global;

@@ -2,11 +2,13 @@
 
 use crate::case::Case;
 use crate::stop::Stop;
-use app_input::{Inputs, Program, read_inputs};
+use app_input::{Inputs, read_inputs};
+use app_words::Program;
 use cf_io::MemFiles;
-use cf_types::{List, Machine, Tables};
+use cf_types::{List, Memory};
 use plain_forms::{Followed, follow};
 use std::alloc::Global;
+use std::mem::drop;
 
 /// Whether the case is a boot or a play that ends well.
 fn has_history(case: &Case) -> bool {
@@ -17,18 +19,15 @@ fn has_history(case: &Case) -> bool {
     boots && case.answer.status == 0
 }
 
-/// The tables and the machine of a boot or a play.
-fn inputs_of(alloc: Global, case: &Case) -> Result<Option<(Tables, Machine)>, Stop> {
-    let mut files = MemFiles::make(case.copied_files(alloc)?, List::make(alloc));
-    match read_inputs(alloc, case.program, &case.words, &mut files) {
-        Ok(Inputs::Boot { tables, machine }) => Ok(Some((tables, machine))),
-        Ok(
-            Inputs::Play {
-                tables,
-                machine,
-                ..
-            },
-        ) => Ok(Some((tables, machine))),
+/// How far plain looks follow a text by the tables and the machine of a boot or a play.
+fn followed_by(alloc: Global, inputs: &Inputs, text: &[u8]) -> Result<Option<Followed>, Memory> {
+    match inputs {
+        Inputs::Boot { tables, machine } => Ok(Some(follow(alloc, tables, machine, text)?)),
+        Inputs::Play {
+            tables,
+            machine,
+            ..
+        } => Ok(Some(follow(alloc, tables, machine, text)?)),
         _ => Ok(None),
     }
 }
@@ -38,11 +37,11 @@ pub fn followed(alloc: Global, case: &Case) -> Result<Option<Followed>, Stop> {
     if !has_history(case) {
         return Ok(None);
     }
-    match inputs_of(alloc, case)? {
-        Some((tables, machine)) => {
-            let followed = follow(alloc, &tables, &machine, &case.answer.output)?;
-            Ok(Some(followed))
-        }
-        None => Ok(None),
-    }
+    let mut files = MemFiles::make(case.copied_files(alloc)?, List::make(alloc));
+    let Ok(inputs) = read_inputs(alloc, case.program, &case.words, &mut files) else {
+        return Ok(None);
+    };
+    let answer = followed_by(alloc, &inputs, &case.answer.output);
+    drop(inputs);
+    Ok(answer?)
 }

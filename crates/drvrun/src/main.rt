@@ -2,8 +2,8 @@
 //! own. See config(1), autoconf(9) and drvctl(8).
 #![tactic(auto)]
 
-use app_input::{Status, words_behind_name};
 use app_run::drvrun_top;
+use app_words::{Status, words_behind_name};
 use cf_io::{Buffered, HostFiles, HostSink, Sink};
 use cf_types::Memory;
 use drv_workers::SoftMedium;

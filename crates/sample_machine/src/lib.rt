@@ -7,7 +7,8 @@ ghost use Rattle.config_rules.specs.Formed.{FittingMachine, FormedTables};
 ghost use Rattle.config_rules.specs.ScriptText.{FormedScript};
 ghost use Rattle.sample_machine.specs.Ready.{IsReady};
 
-use app_input::{Inputs, Program, Status, read_inputs};
+use app_input::{Inputs, read_inputs};
+use app_words::{Program, Status};
 use cf_io::{MemFile, MemFiles};
 use cf_types::{List, Machine, Memory, Script, Tables, Text};
 use dev_board::{Board, booted_board};

@@ -1,27 +1,27 @@
-use Rattle.std.proofs.Common.{refl}
+use Rattle.std.proofs.Common.{refl, Err}
 use Rattle.app_input.specs.declared.inputs.Inputs.TheVariants as input
 use Rattle.app_config.proofs.FoundLaws.{boot_graph, boot_ran, history_retold, listed, load_ran, not_selected, not_selected_counted, play_graph, play_ran, selected, tree_retold}
-use Rattle.app_input.specs.Status.{status_of}
-use Rattle.app_input.specs.declared.status.Status.TheVariants as status
+use Rattle.app_words.specs.Status.{status_of}
+use Rattle.app_words.specs.declared.status.Status.TheVariants as status
 use Rattle.app_config.proofs.AskedLaws.{selected_then, then_by, unselected_then}
 use Rattle.app_config.proofs.found.found_by.Goals as goal
 
 pub returns-in-Ioconf-clause-found : goal.returns-in-Ioconf-clause-found
 returns-in-Ioconf-clause-found g c = listed _ c.args.inputs c.in-Ioconf.tables c.in-Ioconf.is
 
-pub returns-in_ok-paths-in-Files-clause-found : goal.returns-in_ok-paths-in-Files-clause-found
-returns-in_ok-paths-in-Files-clause-found g c =
-    selected (g.F.Files.told c.args.files.now) c.args.inputs c.in-Files.name c.items.result.now c.in_ok-paths-in-Files.paths c.in-Files.is c.items.ensures c.in_ok-paths-in-Files.ensures.selects.0
+pub returns-in-Ok-clause-found : goal.returns-in-Ok-clause-found
+returns-in-Ok-clause-found g c =
+    selected (g.F.Files.told c.args.files.now) c.args.inputs c.in-Files.name c.items.result.now c.in-Ok.paths c.in-Files.is c.items.ensures c.in-Ok.ensures.selects.0
 
-pub returns-in_err-paths-in-Files-clause-found : goal.returns-in_err-paths-in-Files-clause-found
-returns-in_err-paths-in-Files-clause-found g c =
-    not_selected (g.F.Files.told c.args.files.now) c.args.inputs c.in-Files.name c.items.result.now _ _ _ c.from_residual.result
-    c.in-Files.is c.items.ensures c.from_residual.ensures.1 c.in_err-paths-in-Files.ensures.selects
+pub returns-in-Err-clause-found : goal.returns-in-Err-clause-found
+returns-in-Err-clause-found g c =
+    not_selected (g.F.Files.told c.args.files.now) c.args.inputs c.in-Files.name c.items.result.now _ _ c.in-Err.stop (Err c.status_of_stop.result)
+    c.in-Files.is c.items.ensures c.status_of_stop.ensures c.in-Err.ensures.selects
 
-pub returns-in_err-paths-in-Files-clause-counted : goal.returns-in_err-paths-in-Files-clause-counted
-returns-in_err-paths-in-Files-clause-counted g c =
-    not_selected_counted (g.F.Files.told c.args.files.now) c.items.result.now _ _ _ c.from_residual.result
-    c.from_residual.ensures.1 c.in_err-paths-in-Files.ensures.selects
+pub returns-in-Err-clause-counted : goal.returns-in-Err-clause-counted
+returns-in-Err-clause-counted g c =
+    not_selected_counted (g.F.Files.told c.args.files.now) c.items.result.now _ _ c.in-Err.stop (Err c.status_of_stop.result)
+    c.status_of_stop.ensures c.in-Err.ensures.selects
 
 pub returns-in_ok-board-in-Boot-clause-found : goal.returns-in_ok-board-in-Boot-clause-found
 returns-in_ok-board-in-Boot-clause-found g c =
@@ -56,14 +56,14 @@ returns-in_ok-board-in-Play-clause-graphed g c =
 pub returns-in-Ioconf-clause-asked : goal.returns-in-Ioconf-clause-asked
 returns-in-Ioconf-clause-asked g c = then_by (g.F.Files.told c.args.files.now) c.args.inputs (input.Ioconf c.in-Ioconf.tables) status.Ok (g.F.Files.asked c.args.files.now) c.in-Ioconf.is refl
 
-pub returns-in_ok-paths-in-Files-clause-asked : goal.returns-in_ok-paths-in-Files-clause-asked
-returns-in_ok-paths-in-Files-clause-asked g c =
-    selected_then (g.F.Files.told c.args.files.now) c.args.inputs c.in-Files.name c.items.result.now _ _ c.in-Files.is c.items.ensures c.in_ok-paths-in-Files.ensures.asked
+pub returns-in-Ok-clause-asked : goal.returns-in-Ok-clause-asked
+returns-in-Ok-clause-asked g c =
+    selected_then (g.F.Files.told c.args.files.now) c.args.inputs c.in-Files.name c.items.result.now _ _ c.in-Files.is c.items.ensures c.in-Ok.ensures.asked
 
-pub returns-in_err-paths-in-Files-clause-asked : goal.returns-in_err-paths-in-Files-clause-asked
-returns-in_err-paths-in-Files-clause-asked g c =
-    unselected_then (g.F.Files.told c.args.files.now) c.args.inputs c.in-Files.name c.items.result.now _ c.from_residual.result _ _ c.in-Files.is c.items.ensures c.from_residual.ensures.1
-    c.in_err-paths-in-Files.ensures.asked
+pub returns-in-Err-clause-asked : goal.returns-in-Err-clause-asked
+returns-in-Err-clause-asked g c =
+    unselected_then (g.F.Files.told c.args.files.now) c.args.inputs c.in-Files.name c.items.result.now c.in-Err.stop (Err c.status_of_stop.result) _ _ c.in-Files.is c.items.ensures c.status_of_stop.ensures
+    c.in-Err.ensures.asked
 
 pub returns-in_ok-board-in-Boot-clause-asked : goal.returns-in_ok-board-in-Boot-clause-asked
 returns-in_ok-board-in-Boot-clause-asked g c =
@@ -79,7 +79,7 @@ returns-in_ok-board-in-Play-clause-asked g c =
 
 pub returns-in_err-board-in-Boot-clause-asked : goal.returns-in_err-board-in-Boot-clause-asked
 returns-in_err-board-in-Boot-clause-asked g c =
-    then_by (g.F.Files.told c.args.files.now) c.args.inputs (input.Boot c.in-Boot.tables c.in-Boot.machine) (status_of c.from_residual-in_err-board-in-Boot.result) (g.F.Files.asked c.args.files.now) c.in-Boot.is refl
+    then_by (g.F.Files.told c.args.files.now) c.args.inputs (input.Boot c.in-Boot.tables c.in-Boot.machine) (status_of c.from_residual.result) (g.F.Files.asked c.args.files.now) c.in-Boot.is refl
 
 pub returns-in_err-line-in-Load-clause-asked : goal.returns-in_err-line-in-Load-clause-asked
 returns-in_err-line-in-Load-clause-asked g c =

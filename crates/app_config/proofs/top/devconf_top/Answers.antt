@@ -1,5 +1,5 @@
 use Rattle.std.proofs.Common.{map, string_bytes}
-use Rattle.app_input.specs.Words.{devconf_form}
+use Rattle.app_words.specs.Words.{devconf_form}
 use Rattle.app_output.proofs.Ended.{due_told, err_rises, explains_told, faults_told}
 use Rattle.app_config.specs.Asked.{Asks}
 use Rattle.app_config.specs.Found.{IsRefused}

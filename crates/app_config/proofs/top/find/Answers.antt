@@ -1,5 +1,5 @@
 use Rattle.std.proofs.Common.{map, string_bytes}
-use Rattle.app_input.specs.Words.{devconf_form}
+use Rattle.app_words.specs.Words.{devconf_form}
 use Rattle.app_config.proofs.AskedLaws.{found_asked, refused_asked}
 use Rattle.app_config.proofs.Due.{due_by, due_refused}
 use Rattle.app_config.proofs.FoundLaws.{found_read}

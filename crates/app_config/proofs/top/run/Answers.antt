@@ -1,5 +1,5 @@
 use Rattle.std.proofs.Common.{map, string_bytes, subst, sym}
-use Rattle.app_input.specs.Words.{devconf_form}
+use Rattle.app_words.specs.Words.{devconf_form}
 use Rattle.app_output.specs.Ended.{Faults}
 use Rattle.app_output.proofs.Ended.{due_put, due_unfound, explains_refused, explains_written, faults_refused, faults_written}
 use Rattle.app_config.specs.Asked.{Asks}

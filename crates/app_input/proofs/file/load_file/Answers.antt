@@ -1,4 +1,4 @@
-use Rattle.app_input.specs.declared.status.Status.TheVariants.{ReadFault}
+use Rattle.app_words.specs.declared.status.Status.TheVariants.{ReadFault}
 use Rattle.app_input.proofs.AskedLaws.{all_asked, nothing_asked}
 use Rattle.app_input.proofs.file.load_file.Goals as goal
 

@@ -1,5 +1,5 @@
 use Rattle.std.specs.Prelude.{Ok, Err}
-use Rattle.app_input.specs.Words.{boot}
+use Rattle.app_words.specs.Words.{boot}
 use Rattle.app_input.proofs.AskedLaws.{boot_asked, config_stops}
 use Rattle.app_input.proofs.inputs.read_boot.Goals as goal
 

@@ -2,9 +2,9 @@ use Rattle.std.proofs.Common.{rules, ◌≡◌, ◌∙◌, ℕ, List, Option, So
 use Rattle.std.specs.Prelude.{Result}
 use Rattle.config_rules.specs.Reading.{Files}
 use Rattle.app_input.specs.Inputs.{Reads}
-use Rattle.app_input.specs.Words.{Form, form_of, sources}
+use Rattle.app_words.specs.Words.{Form, form_of, sources}
 use Rattle.app_input.specs.declared.inputs.Inputs.{Inputs}
-use Rattle.app_input.specs.declared.status.Status.{Status}
+use Rattle.app_words.specs.declared.status.Status.{Status}
 use Rattle.app_input.proofs.AskedLaws.{boot_words, scripted_words, side_by_side_words}
 use Rattle.app_input.proofs.DueLaws.{due_told}
 use Rattle.app_input.proofs.KindLaws.{kind_read}

@@ -1,4 +1,4 @@
-use Rattle.app_input.specs.Words.{ioconf}
+use Rattle.app_words.specs.Words.{ioconf}
 use Rattle.app_input.proofs.AskedLaws.{config_stops, ioconf_asked}
 use Rattle.app_input.proofs.inputs.read_ioconf.Goals as goal
 

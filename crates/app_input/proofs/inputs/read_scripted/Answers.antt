@@ -3,8 +3,8 @@ use Rattle.config_rules.specs.Reading.{Files}
 use Rattle.app_input.specs.Inputs.{IsDescribed}
 use Rattle.app_input.specs.Scripted.{IsCalledFor, scripted_of}
 use Rattle.app_input.specs.Asked.{scripted_files}
-use Rattle.app_input.specs.Words.{scripted}
-use Rattle.app_input.specs.declared.status.Status.TheVariants as status
+use Rattle.app_words.specs.Words.{scripted}
+use Rattle.app_words.specs.declared.status.Status.TheVariants as status
 use Rattle.app_input.proofs.AskedLaws.{config_stops, run_asked, run_unfit}
 use Rattle.app_input.proofs.ScriptedLaws.{formed_run, run_read, run_refused}
 use Rattle.app_input.proofs.inputs.read_scripted.Goals as goal

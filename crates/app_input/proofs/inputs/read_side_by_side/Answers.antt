@@ -3,8 +3,8 @@ use Rattle.config_rules.specs.Reading.{Files}
 use Rattle.app_input.specs.Asked.{script_files}
 use Rattle.app_input.specs.Inputs.{IsDescribed}
 use Rattle.app_input.specs.Scripted.{IsCalledFor, scripts_of}
-use Rattle.app_input.specs.Words.{side_by_side}
-use Rattle.app_input.specs.declared.status.Status.TheVariants as status
+use Rattle.app_words.specs.Words.{side_by_side}
+use Rattle.app_words.specs.declared.status.Status.TheVariants as status
 use Rattle.app_input.proofs.AskedLaws.{config_stops, run_asked, run_unfit}
 use Rattle.app_input.proofs.ScriptedLaws.{side_by_side_read, side_by_side_refused}
 use Rattle.app_input.proofs.inputs.read_side_by_side.Goals as goal

@@ -1,4 +1,4 @@
-use Rattle.app_input.specs.Status.{status_of}
+use Rattle.app_words.specs.Status.{status_of}
 use Rattle.app_input.proofs.AskedLaws.{all_asked}
 use Rattle.app_input.proofs.machine_file.load_machine.Goals as goal
 

@@ -1,5 +1,5 @@
 use Rattle.std.proofs.Common.{refl}
-use Rattle.app_input.specs.Status.{status_of}
+use Rattle.app_words.specs.Status.{status_of}
 use Rattle.app_input.proofs.AskedLaws.{all_asked}
 use Rattle.app_input.proofs.ScriptedLaws.{course_of_file, course_read, course_task}
 use Rattle.app_input.proofs.scripts.load_course.Goals as goal

@@ -4,7 +4,7 @@ use Rattle.std.proofs.lemmas.List.{length_push}
 use Rattle.std.proofs.lemmas.List.Elements.{All-push}
 use Rattle.cf_types.specs.declared.machine.Command.{Command}
 use Rattle.config_rules.specs.ScriptText.{FormedScript}
-use Rattle.app_input.specs.declared.status.Status.TheVariants.{Memory}
+use Rattle.app_words.specs.declared.status.Status.TheVariants.{Memory}
 use Rattle.app_input.specs.Scripted.{IsOfFile}
 use Rattle.app_input.proofs.AskedLaws.{script_asked, script_stops, scripts_asked, scripts_cut}
 use Rattle.app_input.proofs.ScriptedLaws.{all_scripts, no_more_scripts, of_script, one_more_script}

@@ -1,5 +1,5 @@
 use Rattle.std.proofs.Common.{map, string_bytes}
-use Rattle.app_input.specs.Words.{drvrun_form}
+use Rattle.app_words.specs.Words.{drvrun_form}
 use Rattle.app_input.proofs.AskedLaws.{inputs_told}
 use Rattle.app_output.proofs.Ended.{due_told, err_rises, explains_told, faults_told}
 use Rattle.app_run.specs.Asked.{Asks, IsDueStatus, IsRefused}

@@ -1,6 +1,6 @@
 use Rattle.std.proofs.Common.{map, string_bytes}
-use Rattle.app_input.specs.Words.{drvrun_form}
-use Rattle.app_input.specs.Status.{status_of}
+use Rattle.app_words.specs.Words.{drvrun_form}
+use Rattle.app_words.specs.Status.{status_of}
 use Rattle.app_input.proofs.AskedLaws.{inputs_all}
 use Rattle.app_run.proofs.Found.{counted_by, due_by, due_refused, found_by, graph_by}
 use Rattle.app_run.proofs.top.find.Goals as goal

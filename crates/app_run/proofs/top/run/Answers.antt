@@ -1,5 +1,5 @@
 use Rattle.std.proofs.Common.{map, string_bytes, subst, sym}
-use Rattle.app_input.specs.Words.{drvrun_form}
+use Rattle.app_words.specs.Words.{drvrun_form}
 use Rattle.app_input.proofs.AskedLaws.{inputs_all}
 use Rattle.app_output.specs.Ended.{Faults}
 use Rattle.app_output.specs.RunText.{run_text}

@@ -1,6 +1,6 @@
 ghost use Rattle.std.specs.Prelude.{◌≡◌, ◌≤◌, IfSome, nat_abs};
 ghost use Rattle.config_rules.specs.Form.{given};
-ghost use Rattle.app_input.specs.Words.{count_of, in_count_range};
+ghost use Rattle.app_words.specs.Words.{count_of, in_count_range};
 
 use cf_text::{NumberRead, read_number};
 

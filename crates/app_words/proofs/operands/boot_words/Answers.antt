@@ -1,6 +1,6 @@
 use Rattle.std.proofs.Common.{map, string_bytes}
-use Rattle.app_input.proofs.OperandLemmas.{boot_error, boot_found, given, lacks, stopped}
-use Rattle.app_input.proofs.operands.boot_words.Goals as goal
+use Rattle.app_words.proofs.OperandLemmas.{boot_error, boot_found, given, lacks, stopped}
+use Rattle.app_words.proofs.operands.boot_words.Goals as goal
 
 pub returns-in_err-matches : goal.returns-in_err-matches
 returns-in_err-matches c =

@@ -1,9 +1,9 @@
 use Rattle.std.proofs.Common.{rules, ◌∙◌, ap, SFits, w64, to_z-of_z}
 use Rattle.std.specs.Prelude.{nat_abs}
 use Rattle.config_rules.specs.Form.{given}
-use Rattle.app_input.specs.Words.{in_count_range}
-use Rattle.app_input.proofs.CountLemmas.{count_is, no_count}
-use Rattle.app_input.proofs.count.count_of.Goals as goal
+use Rattle.app_words.specs.Words.{in_count_range}
+use Rattle.app_words.proofs.CountLemmas.{count_is, no_count}
+use Rattle.app_words.proofs.count.count_of.Goals as goal
 
 pub returns-in-Value-clause-count : goal.returns-in-Value-clause-count
 returns-in-Value-clause-count c =

@@ -1,9 +1,9 @@
 ghost use Rattle.std.specs.Prelude.{◌≡◌, IfErr, IfOk, Some, false, true, map, string_bytes};
 ghost use Rattle.std.specs.List.{list_all};
 ghost use Rattle.clap.specs.Words.{app_of, kind_of, rule_of};
-ghost use Rattle.app_input.specs.Commands.{bare_app, boot_app, file_app, required_rule, scripted_app, scripts_rule};
-ghost use Rattle.app_input.specs.Words.{HasForm, IsStopped, boot_form, file_in, is_operand, scripted_form, stop_of};
-ghost use Rattle.app_input.specs.declared.words.WordStop.TheVariants as stops;
+ghost use Rattle.app_words.specs.Commands.{bare_app, boot_app, file_app, required_rule, scripted_app, scripts_rule};
+ghost use Rattle.app_words.specs.Words.{HasForm, IsStopped, boot_form, file_in, is_operand, scripted_form, stop_of};
+ghost use Rattle.app_words.specs.declared.words.WordStop.TheVariants as stops;
 
 use crate::words::{Task, WordStop, Words};
 use clap::error::ErrorKind;

@@ -1,7 +1,7 @@
 use Rattle.std.proofs.Common.{map, string_bytes, None, Some}
-use Rattle.app_input.specs.Words.{file_in}
-use Rattle.app_input.proofs.OperandLemmas.{file_error, file_found, stopped_at}
-use Rattle.app_input.proofs.operands.file_word.Goals as goal
+use Rattle.app_words.specs.Words.{file_in}
+use Rattle.app_words.proofs.OperandLemmas.{file_error, file_found, stopped_at}
+use Rattle.app_words.proofs.operands.file_word.Goals as goal
 
 pub returns-in_err-matches-clause-stop : goal.returns-in_err-matches-clause-stop
 returns-in_err-matches-clause-stop c =

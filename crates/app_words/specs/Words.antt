@@ -5,16 +5,16 @@ use Rattle.std.specs.List.{list_all}
 use Rattle.std.specs.Str.{bytes_eq}
 use Rattle.cf_text.specs.Shapes.{number}
 use Rattle.config_rules.specs.Form.{given}
-use Rattle.app_input.specs.declared.inputs.Program.{Program}
-use Rattle.app_input.specs.declared.inputs.Program.TheVariants.{Devconf, Drvrun}
-use Rattle.app_input.specs.declared.words.Task.{Task}
-use Rattle.app_input.specs.declared.words.Task.TheVariants.{Play, Replay, Upgrade}
-use Rattle.app_input.specs.declared.words.Words.{Words}
-use Rattle.app_input.specs.declared.words.Words.TheVariants as words
-use Rattle.app_input.specs.declared.words.WordStop.{WordStop}
+use Rattle.app_words.specs.declared.program.Program.{Program}
+use Rattle.app_words.specs.declared.program.Program.TheVariants.{Devconf, Drvrun}
+use Rattle.app_words.specs.declared.words.Task.{Task}
+use Rattle.app_words.specs.declared.words.Task.TheVariants.{Play, Replay, Upgrade}
+use Rattle.app_words.specs.declared.words.Words.{Words}
+use Rattle.app_words.specs.declared.words.Words.TheVariants as words
+use Rattle.app_words.specs.declared.words.WordStop.{WordStop}
 use Rattle.clap.specs.declared.error.kind.ErrorKind.{ErrorKind}
 use Rattle.clap.specs.declared.error.kind.ErrorKind.TheVariants as kind
-use Rattle.app_input.specs.declared.words.WordStop.TheVariants.{Usage, Memory}
+use Rattle.app_words.specs.declared.words.WordStop.TheVariants.{Usage, Memory}
 
 -- what words ask for: the listing of a configuration, the sources that it selects, the boot of a machine by a
 -- configuration, the boot of a generated machine with so many spots, or a boot with scripts behind it, whose course a file

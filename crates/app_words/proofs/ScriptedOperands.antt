@@ -19,10 +19,10 @@ use Rattle.clap.specs.declared.parser.matches.ArgMatches.{ArgMatches}
 use Rattle.clap.specs.declared.parser.matches.ValueSource.TheVariants.{CommandLine}
 use Rattle.clap.proofs.OnLiterals.{clap_on_literals}
 use Rattle.config_rules.specs.Form.{given}
-use Rattle.app_input.specs.Commands.{scripted_app}
-use Rattle.app_input.specs.declared.words.Task.{Task}
-use Rattle.app_input.specs.Words.{HasForm, is_operand, is_script_count, scripted, scripted_form, stop_of}
-use Rattle.app_input.proofs.OperandLemmas.{empty, no_short, plain, refused, rest, row_value, unrefused}
+use Rattle.app_words.specs.Commands.{scripted_app}
+use Rattle.app_words.specs.declared.words.Task.{Task}
+use Rattle.app_words.specs.Words.{HasForm, is_operand, is_script_count, scripted, scripted_form, stop_of}
+use Rattle.app_words.proofs.OperandLemmas.{empty, no_short, plain, refused, rest, row_value, unrefused}
 
 pub scripted_is_simple : is_simple scripted_app ≡ true
 unfolding clap_on_literals

@@ -2,8 +2,8 @@ use Rattle.std.proofs.Common.{rules, tests, string_bytes, sym, ◌∙◌}
 use Rattle.std.proofs.lemmas.Iterator.{YieldsList-from_slice}
 use Rattle.std.proofs.lemmas.Iterator.Search.{all_from_yields_List}
 use Rattle.std.proofs.lemmas.List.Folds.{list_all-map}
-use Rattle.app_input.specs.Words.{is_operand}
-use Rattle.app_input.proofs.words.are_operands.Goals as goal
+use Rattle.app_words.specs.Words.{is_operand}
+use Rattle.app_words.proofs.words.are_operands.Goals as goal
 
 pub returns : goal.returns
 returns c =

@@ -1,9 +1,8 @@
 ghost use Rattle.std.specs.Prelude.{◌≡◌};
-ghost use Rattle.app_input.specs.Status.{status_number, status_of_stop};
-ghost use Rattle.app_input.specs.declared.status.Status.TheVariants as statuses;
+ghost use Rattle.app_words.specs.Status.{status_number};
+ghost use Rattle.app_words.specs.declared.status.Status.TheVariants as statuses;
 
-use cf_compile::CompileStop;
-use cf_types::{Memory, Refusal, Text};
+use cf_types::{Memory, Text};
 
 /// How a run of a program ended.
 #[derive(Drop)]
@@ -61,19 +60,5 @@ impl From<Memory> for Status {
 
     fn from(_memory: Memory) -> Status {
         Status::Memory
-    }
-}
-
-impl From<CompileStop> for Status {
-    ghost from_gives = { λ stop status. status ≡ status_of_stop stop };
-
-    fn from(stop: CompileStop) -> Status {
-        match stop {
-            CompileStop::Refused(Refusal { file, line, code }) => {
-                Status::ConfigRefused { file, line, code }
-            }
-            CompileStop::ReadFault => Status::ReadFault,
-            CompileStop::Memory => Status::Memory,
-        }
     }
 }

@@ -7,7 +7,7 @@ use Rattle.cf_text.specs.declared.number.NumberRead.TheVariants.{Not, OutOfRange
 use Rattle.cf_text.specs.NumberRead.{read_of}
 use Rattle.cf_text.specs.Shapes.{in_range, number}
 use Rattle.config_rules.specs.Form.{given}
-use Rattle.app_input.specs.Words.{count_of, in_count_range, load_form}
+use Rattle.app_words.specs.Words.{count_of, in_count_range, load_form}
 
 abbrev pub count_read : NumberRead → Option ℕ
 count_read (Value v) = given (in_count_range v) (nat_abs v)

@@ -1,7 +1,7 @@
 use Rattle.std.proofs.Common.{◌∙◌, map, string_bytes}
-use Rattle.app_input.proofs.OperandLemmas.{lacks, stopped}
-use Rattle.app_input.proofs.ScriptedOperands.{read_of, says_scripted, scripted_error}
-use Rattle.app_input.proofs.operands.scripted_words.Goals as goal
+use Rattle.app_words.proofs.OperandLemmas.{lacks, stopped}
+use Rattle.app_words.proofs.ScriptedOperands.{read_of, says_scripted, scripted_error}
+use Rattle.app_words.proofs.operands.scripted_words.Goals as goal
 
 pub returns-in_err-matches : goal.returns-in_err-matches
 returns-in_err-matches c =

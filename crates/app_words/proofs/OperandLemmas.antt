@@ -12,15 +12,15 @@ use Rattle.clap.specs.Kinds.{HasKind}
 use Rattle.clap.specs.Values.{kind_of}
 use Rattle.clap.specs.declared.error.Error.{Error}
 use Rattle.std.specs.Result.{IsErrAnd}
-use Rattle.app_input.specs.declared.words.Words.{Words}
-use Rattle.app_input.specs.Commands.{boot_app, file_app}
+use Rattle.app_words.specs.declared.words.Words.{Words}
+use Rattle.app_words.specs.Commands.{boot_app, file_app}
 use Rattle.clap.specs.Faults.{fault_of, is_simple_and_free}
 use Rattle.clap.proofs.OnLiterals.{clap_on_literals}
 use Rattle.clap.specs.declared.error.kind.ErrorKind.{ErrorKind}
 use Rattle.clap.specs.declared.error.kind.ErrorKind.TheVariants as kind
-use Rattle.app_input.specs.declared.words.WordStop.{WordStop}
-use Rattle.app_input.specs.declared.words.WordStop.TheVariants.{Usage, Memory}
-use Rattle.app_input.specs.Words.{Form, HasForm, IsStopped, is_operand, file_in, boot_form, boot, stop_of}
+use Rattle.app_words.specs.declared.words.WordStop.{WordStop}
+use Rattle.app_words.specs.declared.words.WordStop.TheVariants.{Usage, Memory}
+use Rattle.app_words.specs.Words.{Form, HasForm, IsStopped, is_operand, file_in, boot_form, boot, stop_of}
 use Rattle.clap.specs.Kinds.{IsAmong, Kinds}
 
 pub file_is_simple : is_simple file_app ≡ true

@@ -1,10 +1,10 @@
 ghost use Rattle.std.specs.Prelude.{◌≡◌, map, option_map, string_bytes, true};
 ghost use Rattle.std.specs.List.{list_all};
-ghost use Rattle.app_input.specs.Words.{HasForm, devconf_form, drvrun_form, file_in, form_of, ioconf, is_operand, load_form, sources};
+ghost use Rattle.app_words.specs.Words.{HasForm, devconf_form, drvrun_form, file_in, form_of, ioconf, is_operand, load_form, sources};
 
 use crate::count::count_of;
-use crate::inputs::Program;
 use crate::operands::{MAX_SCRIPTS, boot_words, file_word, scripted_words};
+use crate::program::Program;
 use std::alloc::Global;
 
 /// What is done with the scripts of a machine, by the file that has their course.

@@ -1,0 +1,14 @@
+//! The words of the programs: what they ask for, and the status that a run ends with. See config(1).
+#![tactic(auto)]
+
+mod called;
+mod count;
+mod operands;
+mod program;
+mod status;
+mod words;
+
+pub use called::words_behind_name;
+pub use program::Program;
+pub use status::Status;
+pub use words::{Task, WordStop, Words, read_words};

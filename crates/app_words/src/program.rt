@@ -1,0 +1,8 @@
+/// The program whose words are read.
+#[derive(Clone, Copy)]
+pub enum Program {
+    /// The compiler of configurations, which also boots machines by them.
+    Devconf,
+    /// It boots a machine and runs scripts on it side by side.
+    Drvrun,
+}
