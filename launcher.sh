@@ -140,19 +140,35 @@ collect() {
     done
 }
 
-# Begins the next crates whose lower ones are all proved.
-begin() {
+# How many crates are at work?
+at_work() {
+    ls "$work" | grep -c '\.at$'
+}
+
+# The crates that can begin: those whose lower ones are all proved.
+ready() {
     while read -r crate; do
-        [ "$(ls "$work" | grep -c '\.at$')" -lt "$places" ] || return 0
         ! grep -qx "$crate" "$work/done" && [ ! -e "$work/$crate.at" ] || continue
         for lower in $(crates_of "$crate"); do
             [ "$lower" = "$crate" ] || grep -qx "$lower" "$work/done" || continue 2
         done
-        jobs=$((places / ($(ls "$work" | grep -c '\.at$') + 1)))
-        [ "$jobs" -ge 2 ] || jobs=$((places < 4 ? 1 : 2))
-        : >"$work/$crate.at"
-        prove "$crate" "$jobs" &
+        echo "$crate"
     done <"$work/todo"
+}
+
+# Begins the next crates. Each has one job where there is a crate for each place: one job after the other costs less than two
+# at once, since each reads what the crate stands on. Where there are fewer crates, they share the places.
+begin() {
+    [ "$(at_work)" -lt "$places" ] || return 0
+    ready >"$work/ready"
+    [ -s "$work/ready" ] || return 0
+    share=$((places / ($(at_work) + $(wc -l <"$work/ready"))))
+    [ "$share" -ge 1 ] || share=1
+    while read -r crate; do
+        [ "$(at_work)" -lt "$places" ] || return 0
+        : >"$work/$crate.at"
+        prove "$crate" "$share" &
+    done <"$work/ready"
 }
 
 # Ends what is at work, and leaves what was proved.
