@@ -1,5 +1,8 @@
 -- One more name in the set of those that are declared.
-use Rattle.std.proofs.Common.{◌≡◌, ℕ, ◌||◌, Bool, true, false, Option, Some, List, [], ◌∷◌, refl, ap, sym, ◌∙◌}
+use Rattle.std.proofs.Common.{◌≡◌, ℕ, ◌-◌, ◌||◌, Bool, true, false, Option, Some, List, [], ◌∷◌, length, take, drop, refl, ap, sym, ◌∙◌, arith, length-drop}
+use Rattle.std.proofs.lemmas.List.{take-append-drop, take_all}
+use Rattle.std.proofs.lemmas.List.Folds.{list_any-append}
+use Rattle.cf_types.specs.declared.stmt.Placed.{Placed}
 use Rattle.std.specs.Option.{option_map_or}
 use Rattle.std.specs.List.{list_any}
 use Rattle.std.specs.Str.{bytes_eq}
@@ -12,8 +15,8 @@ use Rattle.std.proofs.Math.Bool.{or-false}
 use Rattle.cf_types.proofs.KeyLemmas.{Key, is_key, key_cmp, key_is, same_text}
 use Rattle.cf_types.specs.declared.stmt.Stmt.{Stmt}
 use Rattle.cf_types.specs.declared.stmt.Stmt.TheVariants as stmt
-use Rattle.config_rules.specs.Reading.{declares}
-use Rattle.cf_expand.specs.Names.{declared_name, has}
+use Rattle.config_rules.specs.Reading.{declares, is_declared}
+use Rattle.cf_expand.specs.Names.{AreNamesOf, declared_name, has}
 
 moved : (a b : Bool) → (a || b) ≡ (b || a)
 moved true true = refl
@@ -67,3 +70,20 @@ pub name_noted : (old new : BTreeSet Key) (k : Key) (name n : List ℕ) (s : Stm
 name_noted old new k name n s e i d =
     let one : declares name s ≡ bytes_eq n name = declares_by name s ∙ ap (λ (o : Option (List ℕ)). option_map_or (λ m. bytes_eq m name) o false) d in
     ap (list_any (is_key name)) e ∙ key_added name old.keys k ∙ ap (λ b. has old name || b) (key_is name n k i ∙ sym one)
+
+-- the names in the set are those of the first statements: what is not among them is declared by the others, or not at all
+declared_apart : (placed : List Placed) (names : BTreeSet Key) (n : ℕ) (name : List ℕ) → AreNamesOf (take n placed) names → is_declared placed name ≡ (has names name || is_declared (drop n placed) name)
+declared_apart placed names n name all =
+    ap (λ ps. is_declared ps name) (sym (take-append-drop n placed))
+    ∙ list_any-append (λ p. declares name p.stmt) (take n placed) (drop n placed)
+    ∙ ap (λ b. b || is_declared (drop n placed) name) (sym (all name))
+
+pub in_set : (placed : List Placed) (names : BTreeSet Key) (n : ℕ) (name : List ℕ) (found : Bool) → AreNamesOf (take n placed) names → found ≡ has names name → found ≡ true → found ≡ is_declared placed name
+in_set placed names n name found all e t =
+    t ∙ sym (declared_apart placed names n name all ∙ ap (λ b. b || is_declared (drop n placed) name) (sym e ∙ t))
+
+pub past_set : (placed : List Placed) (names : BTreeSet Key) (n : ℕ) (name : List ℕ) (found later : Bool) → AreNamesOf (take n placed) names → found ≡ has names name → found ≡ false
+    → later ≡ is_declared (take (length placed - n) (drop n placed)) name → later ≡ is_declared placed name
+past_set placed names n name found later all e f rest =
+    rest ∙ ap (λ ps. is_declared ps name) (take_all (length placed - n) (drop n placed) (omega (arith, length-drop n placed)))
+    ∙ sym (declared_apart placed names n name all ∙ ap (λ b. b || is_declared (drop n placed) name) (sym e ∙ f))

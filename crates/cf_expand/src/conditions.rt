@@ -7,12 +7,14 @@ use std::alloc::Global;
 use std::collections::VecDeque;
 use std::marker::Model;
 
+#[inline(always)]
 fn opens(word: Option<CondWord>) -> bool
     ensures { result ≡ opens word }
 {
     matches!(word, Some(CondWord::IfDef | CondWord::IfNDef))
 }
 
+#[inline(always)]
 fn branches(word: Option<CondWord>) -> bool
     ensures { result ≡ branches word }
 {
@@ -22,12 +24,14 @@ fn branches(word: Option<CondWord>) -> bool
     )
 }
 
+#[inline(always)]
 fn closes(word: Option<CondWord>) -> bool
     ensures { result ≡ closes word }
 {
     matches!(word, Some(CondWord::EndIf))
 }
 
+#[inline(always)]
 fn is_else(word: Option<CondWord>) -> bool
     ensures { result ≡ is_else word }
 {
@@ -119,6 +123,7 @@ impl Conditions {
         }
     }
 
+    #[inline(always)]
     fn is_live(&self) -> bool
         ensures { result ≡ is_live self.now }
     {
@@ -129,6 +134,7 @@ impl Conditions {
     }
 
     /// Whether a statement that begins with this word is not left out.
+    #[inline(always)]
     pub fn is_placed(&self, word: Option<CondWord>) -> bool
         ensures { result ≡ is_placed word self.now }
     {
@@ -142,6 +148,7 @@ impl Conditions {
         }
     }
 
+    #[inline(always)]
     fn is_behind_else(&self) -> bool
         ensures { result ≡ is_behind_else self.now }
     {
@@ -152,6 +159,7 @@ impl Conditions {
     }
 
     /// Whether a statement with this word may not stand here, where so many conditions may be open.
+    #[inline(always)]
     pub fn is_misplaced(&self, room: usize, word: Option<CondWord>) -> bool
         ensures { result ≡ is_misplaced room word self.now }
     {
@@ -175,6 +183,7 @@ impl Conditions {
     }
 
     /// Goes over a statement with this word on this line, whose condition holds or doesn't.
+    #[inline(always)]
     pub fn follow(&mut self, word: Option<CondWord>, line: u32, holds: bool) -> Result<(), Memory>
         ensures { OnOk result (self.new ≡ levels_after word line holds self.old) }
     {

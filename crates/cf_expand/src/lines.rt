@@ -11,12 +11,14 @@ use cf_grammar::{condition_spelling, word_of};
 use cf_types::{CONDITION_WORDS, CondWord, Token, TokenKind};
 use cf_words::Word;
 
+#[inline(always)]
 fn spells(word: Word, condition: CondWord) -> bool
     ensures { result ≡ is_word (condition_spelling condition) (piece_of word.entry) }
 {
     word.is_word(condition_spelling(condition))
 }
 
+#[inline(always)]
 fn condition_of(word: Word) -> Option<CondWord>
     ensures { result ≡ find (λ condition. is_word (condition_spelling condition) (piece_of word.entry)) CONDITION_WORDS }
 {
@@ -30,6 +32,7 @@ fn condition_of(word: Word) -> Option<CondWord>
 }
 
 /// The condition word with which a statement begins, if it does.
+#[inline(always)]
 pub fn condition_word(text: &[u8], tokens: &[Token]) -> Option<CondWord>
     requires { AreWithin text.now tokens.now }
     ensures { result ≡ condition_of (statement_of text.now tokens.now) }
@@ -41,6 +44,7 @@ pub fn condition_word(text: &[u8], tokens: &[Token]) -> Option<CondWord>
 }
 
 /// The line of a statement: that of its first token.
+#[inline(always)]
 pub fn line_number(tokens: &[Token]) -> u32
     ensures { result ≡ line_at tokens.now }
 {
@@ -50,6 +54,7 @@ pub fn line_number(tokens: &[Token]) -> u32
     }
 }
 
+#[inline(always)]
 fn count_before_stop(tokens: &[Token]) -> usize
     ensures { result ≡ position_or_len is_stop tokens.now }
 {
@@ -60,6 +65,7 @@ fn count_before_stop(tokens: &[Token]) -> usize
 }
 
 /// The tokens of the first statement, and those behind its stop; `None` where there is no token.
+#[inline(always)]
 pub fn first_statement(tokens: &[Token]) -> Option<(&[Token], &[Token])>
     ensures { MatchOption result (tokens.now ≡ []) (λ parts. Parts tokens.now parts.0.now parts.1.now) }
 {

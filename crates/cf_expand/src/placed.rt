@@ -1,4 +1,4 @@
-ghost use Rattle.std.specs.Prelude.{◌≡◌, ℕ, ◌<◌, ◌||◌, [], ◌∷◌, ◌++◌, List as Items, OnErr, OnOk, length, vec_capacity, vec_len};
+ghost use Rattle.std.specs.Prelude.{◌≡◌, ℕ, ◌<◌, ◌||◌, [], ◌∷◌, ◌++◌, List as Items, OnErr, OnOk, length};
 ghost use Rattle.std.specs.Option.{option_copied};
 ghost use Rattle.config_rules.specs.Reading.{declares, is_declared};
 ghost use Rattle.config_rules.specs.Written.{AreWritten, IsWritten};
@@ -10,6 +10,7 @@ use std::collections::BTreeSet;
 use std::marker::Model;
 
 /// The name of the attribute or the device that a statement declares.
+#[inline(always)]
 fn declared_name(stmt: &Stmt) -> Option<&Name>
     ensures { option_copied result ≡ declared_name stmt.now }
 {
@@ -23,6 +24,7 @@ fn declared_name(stmt: &Stmt) -> Option<&Name>
 }
 
 /// Adds the name that a statement declares.
+#[inline(always)]
 fn note(alloc: Global, names: &mut BTreeSet<Vec<u8>>, stmt: &Stmt) -> Result<(), Memory>
     ensures ok { OnOk result ((name : Items ℕ) → has names.new name ≡ (has names.old name || declares name stmt.now)) }
     ensures err { OnErr result (names.new.keys ≡ names.old.keys) }
@@ -35,31 +37,39 @@ fn note(alloc: Global, names: &mut BTreeSet<Vec<u8>>, stmt: &Stmt) -> Result<(),
     Ok(())
 }
 
-/// Makes room for a statement, and adds the name that it declares.
-fn prepare(
-    items: &mut Vec<Placed>,
-    names: &mut BTreeSet<Vec<u8>>,
-    stmt: &Stmt,
-) -> Result<(), Memory>
-    ensures same { items.new.items ≡ items.old.items }
-    ensures room { OnOk result (vec_len items.new < vec_capacity items.new) }
-    ensures ok { OnOk result ((name : Items ℕ) → has names.new name ≡ (has names.old name || declares name stmt.now)) }
-    ensures err { OnErr result (names.new.keys ≡ names.old.keys) }
+/// Whether a statement declares this name.
+fn declares(name: &[u8], stmt: &Stmt) -> bool
+    ensures { result ≡ declares name.now stmt.now }
 {
-    items.reserve(1)?;
-    note(*items.allocator(), names, stmt)
+    match declared_name(stmt) {
+        Some(declared) => declared.bytes() == name,
+        None => false,
+    }
 }
 
-/// The placed statements, which keep the limits of the language, with a set of the names that they declare. Contracts
-/// see the list alone.
+/// Whether one of these statements declares this name.
+fn is_declared(placed: &[Placed], name: &[u8]) -> bool
+    ensures { result ≡ is_declared placed.now name.now }
+{
+    for one in placed {
+        if declares(name, &one.stmt) {
+            return true;
+        }
+    }
+    false
+}
+
+/// The placed statements, which keep the limits of the language, with a set of the names that the first of them declare:
+/// those that stood there when a condition was placed last. Contracts see the list alone.
 #[derive(Drop)]
 pub struct PlacedList {
     items: Vec<Placed>,
+    noted: usize,
     names: BTreeSet<Vec<u8>>,
 }
 
 impl Model for PlacedList {
-    ghost use Rattle.std.specs.Prelude.{List as Items};
+    ghost use Rattle.std.specs.Prelude.{◌≤◌, List as Items, length, take};
     ghost use Rattle.cf_types.specs.declared.stmt.Placed.{Placed};
     ghost use Rattle.config_rules.specs.Written.{AreWritten};
     ghost use Rattle.cf_expand.specs.Names.{AreNamesOf};
@@ -68,7 +78,7 @@ impl Model for PlacedList {
 
     ghost view = { λ it. it.items.items };
 
-    ghost invariant = { λ it. AreNamesOf it.items.items it.names × AreWritten it.items.items };
+    ghost invariant = { λ it. AreNamesOf (take it.noted it.items.items) it.names × (it.noted ≤ length it.items.items) × AreWritten it.items.items };
 }
 
 impl PlacedList {
@@ -78,6 +88,7 @@ impl PlacedList {
     {
         PlacedList {
             items: Vec::new(alloc),
+            noted: 0,
             names: BTreeSet::new(alloc),
         }
     }
@@ -89,29 +100,38 @@ impl PlacedList {
         self.items.len()
     }
 
+    /// Adds the names that are not noted yet.
+    fn note_all(&mut self) -> Result<(), Memory>
+        ensures { self.new ≡ self.old }
+    {
+        let alloc = *self.items.allocator();
+        while self.noted < self.items.len() {
+            note(alloc, &mut self.names, &self.items[self.noted].stmt)?;
+            self.noted += 1;
+        }
+        Ok(())
+    }
+
     /// Appends a statement.
+    #[inline(always)]
     pub fn push(&mut self, placed: Placed) -> Result<(), Memory>
         requires few { length self.old < 65536 }
         requires written { IsWritten placed.stmt }
         ensures { OnOk result (self.new ≡ self.old ++ placed ∷ []) }
     {
-        match prepare(&mut self.items, &mut self.names, &placed.stmt) {
-            Ok(()) => {
-                self.items.push_reserved(placed);
-                Ok(())
-            }
-            Err(stop) => {
-                drop(placed);
-                Err(stop)
-            }
+        let is_condition = matches!(placed.stmt, Stmt::Cond { .. });
+        self.items.push(placed)?;
+        if is_condition {
+            self.note_all()?;
         }
+        Ok(())
     }
 
     /// Whether one of the statements declares an attribute or a device of this name.
     pub fn declare(&self, name: &[u8]) -> bool
         ensures { result ≡ is_declared self.now name.now }
     {
-        self.names.contains(name)
+        self.names.contains(name) || is_declared(&self.items[self.noted..], name)
     }
 
     /// The statements as a list.

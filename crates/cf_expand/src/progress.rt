@@ -45,6 +45,7 @@ impl Progress {
     }
 
     /// How many statements were placed.
+    #[inline(always)]
     pub fn placed_len(&self) -> usize
         ensures { result ≡ length self.now.placed }
     {
@@ -59,6 +60,7 @@ impl Progress {
     }
 
     /// Whether there is a fault.
+    #[inline(always)]
     pub fn has_fault(&self) -> bool
         ensures { result ≡ is_some self.now.fault }
     {
@@ -82,6 +84,7 @@ impl Progress {
     }
 
     /// Appends a statement.
+    #[inline(always)]
     pub fn place(&mut self, file: u32, line: u32, stmt: Stmt) -> Result<(), Memory>
         requires few { length self.old.placed < 65536 }
         requires written { IsWritten stmt }

@@ -29,6 +29,7 @@ fn names_declared(progress: &Progress, text: &[u8], tokens: &[Token]) -> bool
 }
 
 /// Whether the condition that a statement with this word names holds.
+#[inline(always)]
 pub fn holds(progress: &Progress, word: Option<CondWord>, text: &[u8], tokens: &[Token]) -> bool
     requires { AreWithin text.now tokens.now }
     ensures { result ≡ holds word (names_declared progress.now.placed (statement_of text.now tokens.now)) }
@@ -41,6 +42,7 @@ pub fn holds(progress: &Progress, word: Option<CondWord>, text: &[u8], tokens: &
     }
 }
 
+#[inline(always)]
 fn is_placed(source: &Source, conditions: &Conditions, tokens: &[Token]) -> bool
     requires { AreWithin source.now.text tokens.now }
     ensures { result ≡ is_placed (condition_of (statement_of source.now.text tokens.now)) conditions.now }
@@ -48,6 +50,7 @@ fn is_placed(source: &Source, conditions: &Conditions, tokens: &[Token]) -> bool
     conditions.is_placed(condition_word(source.text.items(), tokens))
 }
 
+#[inline(always)]
 fn is_misplaced(source: &Source, conditions: &Conditions, tokens: &[Token]) -> bool
     requires { AreWithin source.now.text tokens.now }
     ensures { (around : ℕ) → source.now.room ≡ 16 - around → result ≡ is_misplaced (16 - around) (condition_of (statement_of source.now.text tokens.now)) conditions.now }
@@ -81,6 +84,7 @@ fn turn_prefix(
 }
 
 /// Reads a statement that has this form.
+#[inline(always)]
 fn treat(
     alloc: Global,
     progress: &mut Progress,
@@ -111,6 +115,7 @@ fn treat(
 }
 
 /// Reads a statement of a part that is not left out.
+#[inline(always)]
 fn read_placed<'a>(
     alloc: Global,
     progress: &mut Progress,
@@ -145,6 +150,7 @@ fn read_placed<'a>(
 
 /// Reads a statement, up to the file that it includes. In a part that is left out only its first word is looked at. The
 /// words are room for those of the statement.
+#[inline(always)]
 pub fn read_statement<'a>(
     alloc: Global,
     progress: &mut Progress,

@@ -8,6 +8,7 @@ use cf_words::{Word, alone_name, name_of, names_of, split_before};
 use std::alloc::Global;
 
 /// Whether a statement's places end with `with` and one word more.
+#[inline(always)]
 fn is_named(words: &[Word]) -> bool
     ensures { result ≡ is_before_last (codes "with") (map piece_of words.now) }
 {
@@ -18,6 +19,7 @@ fn is_named(words: &[Word]) -> bool
 }
 
 /// The places, and the attachment's name behind `with`, where one is written.
+#[inline(always)]
 fn attached(
     alloc: Global,
     device: Name,
@@ -52,6 +54,7 @@ fn attached(
 }
 
 /// `attach`: a device, `at`, one or more places, perhaps `with` and a name, and perhaps attributes behind a colon.
+#[inline(always)]
 pub fn attach(alloc: Global, words: &[Word]) -> Result<Option<Stmt>, Memory>
     ensures { IfOk result (λ s. s ≡ attach_stmt (map piece_of words.now)) }
 {

@@ -154,6 +154,7 @@ pub fn config(alloc: Global, words: &[Word]) -> Result<Option<Stmt>, Memory>
 }
 
 /// How many bytes these words have.
+#[inline(always)]
 fn byte_count(words: &[Word]) -> usize {
     let mut count: usize = 0;
     for word in words {
@@ -162,6 +163,7 @@ fn byte_count(words: &[Word]) -> usize {
     count
 }
 
+#[inline(always)]
 fn pieces(alloc: Global, words: &[Word]) -> Result<Pieces, Memory>
     ensures { IfOk result (λ pieces. pieces ≡ map piece_of words.now) }
 {
@@ -173,6 +175,7 @@ fn pieces(alloc: Global, words: &[Word]) -> Result<Pieces, Memory>
 }
 
 /// A statement that may have any words, one at least.
+#[inline(always)]
 pub fn free(alloc: Global, keyword: Keyword, words: &[Word]) -> Result<Option<Stmt>, Memory>
     ensures { IfOk result (λ s. s ≡ free_form (spelling_of keyword) true (map piece_of words.now)) }
 {

@@ -16,6 +16,7 @@ pub enum Defines {
     Device,
 }
 
+#[inline(always)]
 fn make(defines: Defines, name: Name, locs: Option<List<Locator>>, needs: List<Name>) -> Stmt
     ensures { result ≡ made defines name locs needs }
 {
@@ -27,6 +28,7 @@ fn make(defines: Defines, name: Name, locs: Option<List<Locator>>, needs: List<N
 }
 
 /// The attributes behind a colon, or none.
+#[inline(always)]
 pub fn needs_of(alloc: Global, words: &[Word]) -> Result<Option<List<Name>>, Memory>
     ensures { IfOk result (λ needs. needs ≡ needs_of (map piece_of words.now)) }
 {
@@ -42,6 +44,7 @@ pub fn needs_of(alloc: Global, words: &[Word]) -> Result<Option<List<Name>>, Mem
 }
 
 /// The locators up to the closing brace, and the attributes behind it.
+#[inline(always)]
 fn with_locators(
     alloc: Global,
     sized: bool,
@@ -66,6 +69,7 @@ fn with_locators(
 }
 
 /// The locators in braces, where there are any, and the attributes behind a colon.
+#[inline(always)]
 fn with_body(
     alloc: Global,
     sized: bool,
@@ -104,6 +108,7 @@ pub fn defining(
     }
 }
 
+#[inline(always)]
 fn ends_with_digit(name: &[u8]) -> bool
     ensures { result ≡ ends_with_digit name.now }
 {

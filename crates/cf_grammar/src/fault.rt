@@ -27,6 +27,7 @@ pub const LEFT_OUT: [LeftOut; 6] = [
     LeftOut::BuildPrefix,
 ];
 
+#[inline(always)]
 fn left_out_spelling(left_out: LeftOut) -> &'static [u8]
     ensures { result.now ≡ left_out_spelling left_out }
 {
@@ -40,12 +41,14 @@ fn left_out_spelling(left_out: LeftOut) -> &'static [u8]
     }
 }
 
+#[inline(always)]
 fn spells_left_out(word: Word, left_out: LeftOut) -> bool
     ensures { result ≡ is_word (left_out_spelling left_out) (piece_of word.entry) }
 {
     word.is_word(left_out_spelling(left_out))
 }
 
+#[inline(always)]
 fn is_left_out_word(word: Word) -> bool
     ensures { result ≡ is_left_out_word (piece_of word.entry) }
 {
@@ -58,6 +61,7 @@ fn is_left_out_word(word: Word) -> bool
 }
 
 /// A chunk with the shape of a name, of any length, other than `flags`.
+#[inline(always)]
 fn may_name_locator(word: Word) -> bool
     ensures { result ≡ may_name_locator (piece_of word.entry) }
 {
@@ -65,6 +69,7 @@ fn may_name_locator(word: Word) -> bool
 }
 
 /// Whether the first word is a string.
+#[inline(always)]
 fn begins_text(words: &[Word]) -> bool
     ensures { result ≡ begins_text (map piece_of words.now) }
 {
@@ -75,6 +80,7 @@ fn begins_text(words: &[Word]) -> bool
 }
 
 /// Whether the first word may name a locator and a string follows it.
+#[inline(always)]
 fn begins_named_text(words: &[Word]) -> bool
     ensures { result ≡ begins_named_text (map piece_of words.now) }
 {
@@ -85,6 +91,7 @@ fn begins_named_text(words: &[Word]) -> bool
 }
 
 /// Whether `[` follows, or `=` and a string.
+#[inline(always)]
 fn begins_size_or_text(words: &[Word]) -> bool
     ensures { result ≡ begins_size_or_text (map piece_of words.now) }
 {
@@ -95,6 +102,7 @@ fn begins_size_or_text(words: &[Word]) -> bool
 }
 
 /// Whether the first word may name a locator, and a size or a string is written behind it.
+#[inline(always)]
 fn begins_text_or_size(words: &[Word]) -> bool
     ensures { result ≡ begins_text_or_size (map piece_of words.now) }
 {
@@ -129,6 +137,7 @@ fn has_text_or_size(words: &[Word]) -> bool
 }
 
 /// What stands between the first `{` and the next `}`, or the end.
+#[inline(always)]
 fn braced<'w, 'a>(words: &'w [Word<'a>]) -> &'w [Word<'a>]
     ensures { map piece_of result.now ≡ braced (map piece_of words.now) }
 {
@@ -136,6 +145,7 @@ fn braced<'w, 'a>(words: &'w [Word<'a>]) -> &'w [Word<'a>]
 }
 
 /// Whether a statement with this first word may have a list of locators.
+#[inline(always)]
 fn is_defining(word: Word) -> bool
     ensures { result ≡ is_defining (piece_of word.entry) }
 {
@@ -143,6 +153,7 @@ fn is_defining(word: Word) -> bool
 }
 
 /// Whether a word begins an instance: a chunk that is no keyword.
+#[inline(always)]
 fn begins_instance(word: Word) -> bool
     ensures { result ≡ (is_chunk (piece_of word.entry) && is_none (row_of table (piece_of word.entry))) }
 {
@@ -156,6 +167,7 @@ fn begins_instance(word: Word) -> bool
 }
 
 /// Whether an instance gives a locator a string.
+#[inline(always)]
 fn gives_text(first: Word, rest: &[Word]) -> bool
     ensures { result ≡ gives_text (piece_of first.entry) (map piece_of rest.now) }
 {
@@ -163,12 +175,14 @@ fn gives_text(first: Word, rest: &[Word]) -> bool
 }
 
 /// Whether a definition gives a locator a string or a size.
+#[inline(always)]
 fn defines_text_or_size(first: Word, rest: &[Word]) -> bool
     ensures { result ≡ defines_text_or_size (piece_of first.entry) (map piece_of rest.now) }
 {
     is_defining(first) && has_text_or_size(braced(rest))
 }
 
+#[inline(always)]
 fn behind_two<'w, 'a>(words: &'w [Word<'a>]) -> &'w [Word<'a>]
     ensures { map piece_of result.now ≡ drop 2 (map piece_of words.now) }
 {
@@ -178,6 +192,7 @@ fn behind_two<'w, 'a>(words: &'w [Word<'a>]) -> &'w [Word<'a>]
     }
 }
 
+#[inline(always)]
 fn is_left_out_statement(first: Word, rest: &[Word]) -> bool
     ensures { result ≡ is_left_out_statement (piece_of first.entry) (map piece_of rest.now) }
 {
@@ -185,6 +200,7 @@ fn is_left_out_statement(first: Word, rest: &[Word]) -> bool
 }
 
 /// Whether the words are a statement that is left out: by its first word, or as a locator of it has a string or a size.
+#[inline(always)]
 pub fn is_left_out(words: &[Word]) -> bool
     ensures { result ≡ is_left_out (map piece_of words.now) }
 {

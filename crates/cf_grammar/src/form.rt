@@ -19,6 +19,7 @@ use std::alloc::Global;
 const MAX_TOKEN: usize = 1023;
 
 /// Whether no word is longer than a token may be.
+#[inline(always)]
 fn are_short(words: &[Word]) -> bool
     ensures { result ≡ list_all (λ q. nat_le (length q.text) 1023) (map piece_of words.now) }
 {
@@ -26,6 +27,7 @@ fn are_short(words: &[Word]) -> bool
 }
 
 /// The statement that a keyword and the words behind it are.
+#[inline(always)]
 fn by_keyword(
     alloc: Global,
     sized: bool,

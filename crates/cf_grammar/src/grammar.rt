@@ -45,6 +45,7 @@ impl From<AllocError> for GrammarStop {
 }
 
 /// A token with its bytes.
+#[inline(always)]
 pub fn word_of<'a>(text: &'a [u8], token: Token) -> Word<'a>
     requires { IsWithin text.now token }
     ensures { piece_of result ≡ piece text.now token }
@@ -56,6 +57,7 @@ pub fn word_of<'a>(text: &'a [u8], token: Token) -> Word<'a>
 }
 
 /// Puts the tokens with their bytes in place of what is there.
+#[inline(always)]
 fn put_words<'a>(
     words: &mut Vec<Word<'a>>,
     text: &'a [u8],
@@ -83,6 +85,7 @@ fn has_form(alloc: Global, words: &[Word]) -> Result<bool, Memory>
 }
 
 /// The code of words that are no statement with each number in its range.
+#[cold]
 fn unread_code(alloc: Global, words: &[Word]) -> Result<u8, Memory>
     ensures { IfOk result (λ code. code ≡ unread_code (map piece_of words.now)) }
 {
@@ -94,6 +97,7 @@ fn unread_code(alloc: Global, words: &[Word]) -> Result<u8, Memory>
 }
 
 /// The statement that words are.
+#[inline(always)]
 fn read(alloc: Global, words: &[Word]) -> Result<Stmt, GrammarStop>
     ensures form { IfOk result (λ s. Form (map piece_of words.now) s) }
     ensures fault { IfErr result (λ stop. IsFaultOf (map piece_of words.now) stop) }
@@ -115,6 +119,7 @@ fn read(alloc: Global, words: &[Word]) -> Result<Stmt, GrammarStop>
 /// text, as those that `cut` gives do. The error is the first of the codes `LEFT_OUT`, `NO_FORM` and `OUT_OF_RANGE`
 /// that the tokens have, as the grammar of config(5) is read here, or want of memory. The words stand in place of what was
 /// there; for many statements hand in the same vector.
+#[inline(always)]
 pub fn statement<'a>(
     alloc: Global,
     words: &mut Vec<Word<'a>>,

@@ -15,6 +15,7 @@ pub struct Pairs {
 }
 
 /// The value of a locator: a number, or `None` where `?` is written.
+#[inline(always)]
 fn given_value(sized: bool, word: Word) -> Option<Option<i64>>
     ensures { result ≡ given_value sized (piece_of word.entry) }
 {
@@ -28,6 +29,7 @@ fn given_value(sized: bool, word: Word) -> Option<Option<i64>>
 }
 
 /// A name and its value.
+#[inline(always)]
 fn pair_of(alloc: Global, sized: bool, name: Word, value: Word) -> Result<Option<GivenLoc>, Memory>
     ensures { IfOk result (λ pair. pair ≡ pair_of sized (piece_of name.entry) (piece_of value.entry)) }
 {
@@ -41,6 +43,7 @@ fn pair_of(alloc: Global, sized: bool, name: Word, value: Word) -> Result<Option
 }
 
 /// The value behind `flags`, where this many words follow it: it has to be the last.
+#[inline(always)]
 fn flags_of(sized: bool, value: Word, behind: usize) -> Option<i64>
     ensures { result ≡ option_and_then (λ value. given (behind == 0) value) (value_of sized (piece_of value.entry)) }
 {
@@ -77,6 +80,7 @@ fn pairs_of(alloc: Global, sized: bool, words: &[Word]) -> Result<Option<Pairs>,
 }
 
 /// The instance of a unit, what it attaches to, and its pairs.
+#[inline(always)]
 fn with_pairs(
     alloc: Global,
     sized: bool,
@@ -100,6 +104,7 @@ fn with_pairs(
 }
 
 /// The instance of three words and its pairs.
+#[inline(always)]
 fn instance_of(
     alloc: Global,
     sized: bool,
@@ -123,6 +128,7 @@ fn instance_of(
 }
 
 /// A device instance: a unit, `at`, what it attaches to, and values of locators.
+#[inline(always)]
 pub fn instance(alloc: Global, sized: bool, words: &[Word]) -> Result<Option<Stmt>, Memory>
     ensures { IfOk result (λ s. s ≡ inst_stmt sized (map piece_of words.now)) }
 {

@@ -4,7 +4,7 @@ ghost use Rattle.cf_words.specs.Words.{piece_of};
 ghost use Rattle.cf_grammar.specs.Items.{item_form};
 
 use cf_types::{Item, List, Memory, Stmt};
-use cf_words::{Word, bytes_of, name_of, parted};
+use cf_words::{Word, bytes_of, count_parts, first_part, name_of};
 use std::alloc::Global;
 
 /// An item with a value.
@@ -48,6 +48,7 @@ fn option_item(alloc: Global, words: &[Word]) -> Result<Option<Item>, Memory>
 }
 
 /// Whether a word is `=` or `+=`.
+#[inline(always)]
 fn sets_or_adds(word: Word) -> bool
     ensures { result ≡ (is_mark (codes "=") (piece_of word.entry) || is_mark (codes "+=") (piece_of word.entry)) }
 {
@@ -74,6 +75,7 @@ pub enum ItemForm {
     MakeOptions,
 }
 
+#[inline(always)]
 fn item_of(alloc: Global, form: ItemForm, words: &[Word]) -> Result<Option<Item>, Memory>
     ensures { IfOk result (λ i. i ≡ item_form form (map piece_of words.now)) }
 {
@@ -87,18 +89,21 @@ fn item_of(alloc: Global, form: ItemForm, words: &[Word]) -> Result<Option<Item>
 fn items_of(alloc: Global, form: ItemForm, words: &[Word]) -> Result<Option<List<Item>>, Memory>
     ensures { IfOk result (λ items. items ≡ each (item_form form) (parted (map piece_of words.now))) }
 {
-    let parts = parted(alloc, words)?;
-    let mut items = Vec::with_capacity(alloc, parts.len())?;
-    for part in &parts {
+    let mut items = Vec::with_capacity(alloc, count_parts(words))?;
+    let mut left = Some(words);
+    while let Some(rest) = left {
+        let (part, behind) = first_part(rest);
         match item_of(alloc, form, part)? {
             Some(item) => items.push(item)?,
             None => return Ok(None),
         }
+        left = behind;
     }
     Ok(Some(List::from_vec(items)))
 }
 
 /// `options`: options, parted by commas.
+#[inline(always)]
 pub fn options(alloc: Global, words: &[Word]) -> Result<Option<Stmt>, Memory>
     ensures { IfOk result (λ s. s ≡ option_map Stmt.Options (each option_item (parted (map piece_of words.now)))) }
 {
@@ -109,6 +114,7 @@ pub fn options(alloc: Global, words: &[Word]) -> Result<Option<Stmt>, Memory>
 }
 
 /// `makeoptions`: makeoptions, parted by commas.
+#[inline(always)]
 pub fn make_options(alloc: Global, words: &[Word]) -> Result<Option<Stmt>, Memory>
     ensures { IfOk result (λ s. s ≡ option_map Stmt.MakeOptions (each make_item (parted (map piece_of words.now)))) }
 {

@@ -8,6 +8,7 @@ use cf_types::{CondWord, Keyword};
 use cf_words::Word;
 
 /// How a condition word is written, in at most 80 bytes.
+#[inline]
 pub fn condition_spelling(word: CondWord) -> &'static [u8]
     ensures bytes { result.now ≡ condition_spelling word }
     ensures not_empty { 1 ≤ length result.now }
@@ -24,6 +25,7 @@ pub fn condition_spelling(word: CondWord) -> &'static [u8]
 }
 
 /// How a keyword is written, in at most 80 bytes.
+#[inline]
 pub fn spelling(keyword: Keyword) -> &'static [u8]
     ensures bytes { result.now ≡ spelling_of keyword }
     ensures not_empty { 1 ≤ length result.now }
@@ -59,6 +61,7 @@ pub fn spelling(keyword: Keyword) -> &'static [u8]
     }
 }
 
+#[inline(always)]
 fn spells(word: Word, keyword: Keyword) -> bool
     ensures { result ≡ is_word (spelling_of keyword) (piece_of word.entry) }
 {
@@ -66,6 +69,7 @@ fn spells(word: Word, keyword: Keyword) -> bool
 }
 
 /// The keywords that begin with this byte.
+#[inline(always)]
 fn keywords_by(first: u8) -> &'static [Keyword]
     ensures { result.now ≡ filter (begins_with first) KEYWORDS }
 {
@@ -110,6 +114,7 @@ fn keywords_by(first: u8) -> &'static [Keyword]
 }
 
 /// The first of these keywords that a word is.
+#[inline(always)]
 fn keyword_among(keywords: &[Keyword], word: Word) -> Option<Keyword>
     ensures { result ≡ find (λ keyword. is_word (spelling_of keyword) (piece_of word.entry)) keywords.now }
 {
@@ -120,6 +125,7 @@ fn keyword_among(keywords: &[Keyword], word: Word) -> Option<Keyword>
 }
 
 /// The keyword that a word is.
+#[inline]
 pub fn keyword_of(word: Word) -> Option<Keyword>
     ensures { result ≡ find (λ keyword. is_word (spelling_of keyword) (piece_of word.entry)) KEYWORDS }
 {

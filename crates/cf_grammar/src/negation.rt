@@ -8,6 +8,7 @@ use cf_words::{MarkedUnit, Word, alone_name, names_of, place_of, unit_chunk};
 use std::alloc::Global;
 
 /// `at` and what an instance attaches to.
+#[inline(always)]
 fn at_place(alloc: Global, sized: bool, words: &[Word]) -> Result<Option<AtSpec>, Memory>
     ensures { IfOk result (λ at. at ≡ at_place sized (map piece_of words.now)) }
 {
@@ -21,6 +22,7 @@ fn at_place(alloc: Global, sized: bool, words: &[Word]) -> Result<Option<AtSpec>
 }
 
 /// An instance that is taken back, perhaps with what it attaches to.
+#[inline(always)]
 fn no_instance(
     alloc: Global,
     sized: bool,
@@ -48,6 +50,7 @@ fn no_instance(
 }
 
 /// Items that are taken back by name.
+#[inline(always)]
 fn no_items(alloc: Global, kind: ItemKind, words: &[Word]) -> Result<Option<Stmt>, Memory>
     ensures { IfOk result (λ s. s ≡ option_map (Stmt.NoItems kind) (names_of (map piece_of words.now))) }
 {
@@ -58,6 +61,7 @@ fn no_items(alloc: Global, kind: ItemKind, words: &[Word]) -> Result<Option<Stmt
 }
 
 /// A pseudo-device that is taken back.
+#[inline(always)]
 fn no_pseudo_device(alloc: Global, words: &[Word]) -> Result<Option<Stmt>, Memory>
     ensures { IfOk result (λ s. s ≡ option_map (λ name. Stmt.NoItems ItemKind.PseudoDevice (name ∷ [])) (alone name_of (map piece_of words.now))) }
 {
@@ -73,6 +77,7 @@ fn no_pseudo_device(alloc: Global, words: &[Word]) -> Result<Option<Stmt>, Memor
 }
 
 /// All instances at a place that are taken back.
+#[inline(always)]
 fn no_device(alloc: Global, sized: bool, words: &[Word]) -> Result<Option<Stmt>, Memory>
     ensures { IfOk result (λ s. s ≡ option_map Stmt.NoDevice (at_place sized (map piece_of words.now))) }
 {
@@ -100,6 +105,7 @@ pub const NEGATED: [Negated; 5] = [
     Negated::Device,
 ];
 
+#[inline(always)]
 fn negated_spelling(negated: Negated) -> &'static [u8]
     ensures { result.now ≡ negated_spelling negated }
 {
@@ -112,12 +118,14 @@ fn negated_spelling(negated: Negated) -> &'static [u8]
     }
 }
 
+#[inline(always)]
 fn spells_negated(word: Word, negated: Negated) -> bool
     ensures { result ≡ is_word (negated_spelling negated) (piece_of word.entry) }
 {
     word.is_word(negated_spelling(negated))
 }
 
+#[inline(always)]
 fn negated_of(word: Word) -> Option<Negated>
     ensures { result ≡ negated_of (piece_of word.entry) }
 {
@@ -128,6 +136,7 @@ fn negated_of(word: Word) -> Option<Negated>
 }
 
 /// What is taken back by a word of its own.
+#[inline(always)]
 fn no_by_word(
     alloc: Global,
     sized: bool,
@@ -146,6 +155,7 @@ fn no_by_word(
 }
 
 /// What is taken back by its unit.
+#[inline(always)]
 fn no_by_unit(
     alloc: Global,
     sized: bool,
@@ -161,6 +171,7 @@ fn no_by_unit(
 }
 
 /// `no` and what it takes back: items by name, instances at a place, or an instance.
+#[inline(always)]
 pub fn negation(alloc: Global, sized: bool, words: &[Word]) -> Result<Option<Stmt>, Memory>
     ensures { IfOk result (λ s. s ≡ no_stmt sized (map piece_of words.now)) }
 {

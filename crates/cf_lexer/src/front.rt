@@ -22,18 +22,32 @@ pub struct Front {
     pub token: Option<Span>,
 }
 
+/// Each byte of a chunk stands at its own place, and a comma at every other place.
+static CHUNK_BYTES: [u8; 256] = *b"\
+    ,,,,,,,,,,,,,,,,,,,,,,,,,,,,,,,,\
+    ,,,,$,,,,,*,,-./0123456789,,,,,?\
+    ,ABCDEFGHIJKLMNOPQRSTUVWXYZ,,,,_\
+    ,abcdefghijklmnopqrstuvwxyz,,,,,\
+    ,,,,,,,,,,,,,,,,,,,,,,,,,,,,,,,,\
+    ,,,,,,,,,,,,,,,,,,,,,,,,,,,,,,,,\
+    ,,,,,,,,,,,,,,,,,,,,,,,,,,,,,,,,\
+    ,,,,,,,,,,,,,,,,,,,,,,,,,,,,,,,,";
+
+#[inline(always)]
 fn is_chunk_byte(byte: u8) -> bool
     ensures { result ≡ is_chunk_byte byte }
 {
-    byte.is_ascii_alphanumeric() || matches!(byte, b'_' | b'-' | b'.' | b'/' | b'*' | b'?' | b'$')
+    CHUNK_BYTES[byte as usize] != b','
 }
 
+#[inline(always)]
 fn is_text_byte(byte: u8) -> bool
     ensures { result ≡ is_text_byte byte }
 {
     matches!(byte, b'\t' | b' '..=b'~') && byte != b'"'
 }
 
+#[inline(always)]
 fn is_mark_byte(byte: u8) -> bool
     ensures { result ≡ is_mark_byte byte }
 {
@@ -44,6 +58,7 @@ fn is_mark_byte(byte: u8) -> bool
 }
 
 /// How many bytes of a chunk stand at the front.
+#[inline(always)]
 fn chunk_len(bytes: &[u8]) -> usize
     ensures len { result ≡ prefix_len is_chunk_byte bytes.now }
     ensures within { result ≤ length bytes.now }
@@ -55,6 +70,7 @@ fn chunk_len(bytes: &[u8]) -> usize
 }
 
 /// How many bytes of a string stand at the front.
+#[inline(always)]
 fn text_len(bytes: &[u8]) -> usize
     ensures { result ≡ prefix_len is_text_byte bytes.now }
 {
@@ -62,6 +78,7 @@ fn text_len(bytes: &[u8]) -> usize
 }
 
 /// The string behind its first quote, or the code of the byte in the place of its second.
+#[inline(always)]
 fn quoted(bytes: &[u8]) -> Result<Front, u8>
     ensures front { result ≡ front_result (quoted_part (take_while is_text_byte bytes.now) (drop (prefix_len is_text_byte bytes.now) bytes.now)) }
     ensures within { IfOk result (λ f. IsWithin f (length bytes.now + 1)) }
@@ -82,6 +99,7 @@ fn quoted(bytes: &[u8]) -> Result<Front, u8>
 }
 
 /// A part that is a token as a whole.
+#[inline(always)]
 fn token(kind: TokenKind, len: usize) -> Front
     ensures { result ≡ front len (Some (span kind 0 len)) }
 {
@@ -96,6 +114,7 @@ fn token(kind: TokenKind, len: usize) -> Front
 }
 
 /// Whether these begin with `+=`.
+#[inline(always)]
 fn is_plus_equals(first: u8, more: &[u8]) -> bool
     ensures { result ≡ (first == 43 && slice_index more.now 0 == 61) }
 {
@@ -104,6 +123,7 @@ fn is_plus_equals(first: u8, more: &[u8]) -> bool
 
 /// The part at the front of the rest of a line, by its first byte and the bytes behind it, or the code of that byte.
 #[tactic(auto, using(crate::proofs::FrontLemmas::length_chunk))]
+#[inline(always)]
 pub fn front_part(first: u8, more: &[u8]) -> Result<Front, u8>
     ensures front { result ≡ front_at first more.now }
     ensures within { IfOk result (λ f. IsWithin f (length more.now + 1)) }

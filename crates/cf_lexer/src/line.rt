@@ -30,6 +30,7 @@ impl From<NoMemory> for LexStop {
 }
 
 /// Appends the token of a part that begins at this place of the text, if it has one.
+#[inline(always)]
 fn push_span(
     tokens: &mut List<Token>,
     line: u32,
@@ -51,6 +52,7 @@ fn push_span(
 }
 
 /// Appends the tokens of the line with this number, which begins at this place of the text.
+#[inline]
 pub fn cut_line(
     tokens: &mut List<Token>,
     line: u32,

@@ -1,4 +1,4 @@
-ghost use Rattle.std.specs.Prelude.{◌≡◌, ◌++◌, ◌≤◌, cond, length, IfOk, IfErr, OnOk};
+ghost use Rattle.std.specs.Prelude.{◌≡◌, [], ◌++◌, ◌≤◌, cond, length, IfOk, IfErr, OnOk};
 ghost use Rattle.config_rules.specs.Cut.{Cut, cut_of, stop_behind};
 ghost use Rattle.cf_lexer.specs.Line.{begins, IsFaultOf, Shows};
 
@@ -8,6 +8,7 @@ use cf_types::{List, Memory as NoMemory, Token, TokenKind};
 use std::alloc::Global;
 
 /// Whether a line that is not blank begins a statement: it begins with no space, tab or comment.
+#[inline]
 fn begins(line: &[u8]) -> bool
     ensures { result ≡ begins line.now }
 {
@@ -18,6 +19,7 @@ fn begins(line: &[u8]) -> bool
 }
 
 /// Appends a stop behind the last token, if there is one.
+#[inline]
 fn push_stop(tokens: &mut List<Token>) -> Result<(), NoMemory>
     ensures { OnOk result (tokens.new ≡ tokens.old ++ stop_behind tokens.old) }
 {
@@ -34,6 +36,7 @@ fn push_stop(tokens: &mut List<Token>) -> Result<(), NoMemory>
 }
 
 /// Ends the statement so far where this line begins another.
+#[inline]
 fn end_statement(tokens: &mut List<Token>, line: &[u8]) -> Result<(), NoMemory>
     ensures { OnOk result (tokens.new ≡ cond (begins line.now) (tokens.old ++ stop_behind tokens.old) tokens.old) }
 {
@@ -41,6 +44,14 @@ fn end_statement(tokens: &mut List<Token>, line: &[u8]) -> Result<(), NoMemory>
         push_stop(tokens)?;
     }
     Ok(())
+}
+
+/// No token, with room for those of so many bytes in most files, so that few are moved as their list grows. What no
+/// token comes to lie in is never touched.
+fn room_for(alloc: Global, bytes: usize) -> Result<List<Token>, NoMemory>
+    ensures { IfOk result (λ tokens. tokens ≡ []) }
+{
+    Ok(List::from_vec(Vec::with_capacity(alloc, bytes / 2)?))
 }
 
 /// The tokens of a configuration file of at most 1,048,576 bytes, with a `Stop` behind those of each statement, or the
@@ -51,7 +62,7 @@ pub fn cut(alloc: Global, text: &[u8]) -> Result<List<Token>, LexStop>
     ensures fault { IfErr result (λ stop. IsFaultOf text.now stop) }
     ensures exact { Shows (cut_of text.now) result }
 {
-    let mut tokens = List::make(alloc);
+    let mut tokens = room_for(alloc, text.len())?;
     let mut number = 1;
     let mut at = 0;
     for line in text.split(|&byte| byte == b'\n') {

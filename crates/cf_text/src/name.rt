@@ -2,18 +2,32 @@ ghost use Rattle.std.specs.Prelude.{◌≡◌};
 ghost use Rattle.std.specs.List.{list_all};
 ghost use Rattle.cf_text.specs.Shapes.{begins_name, continues_name, is_name};
 
+/// Each byte of a name stands at its own place, and a comma at every other place.
+static NAME_BYTES: [u8; 256] = *b"\
+    ,,,,,,,,,,,,,,,,,,,,,,,,,,,,,,,,\
+    ,,,,,,,,,,,,,-,,0123456789,,,,,,\
+    ,ABCDEFGHIJKLMNOPQRSTUVWXYZ,,,,_\
+    ,abcdefghijklmnopqrstuvwxyz,,,,,\
+    ,,,,,,,,,,,,,,,,,,,,,,,,,,,,,,,,\
+    ,,,,,,,,,,,,,,,,,,,,,,,,,,,,,,,,\
+    ,,,,,,,,,,,,,,,,,,,,,,,,,,,,,,,,\
+    ,,,,,,,,,,,,,,,,,,,,,,,,,,,,,,,,";
+
+#[inline(always)]
 fn begins_name(byte: u8) -> bool
     ensures { result ≡ begins_name byte }
 {
     byte.is_ascii_alphabetic() || byte == b'_'
 }
 
+#[inline(always)]
 fn continues_name(byte: u8) -> bool
     ensures { result ≡ continues_name byte }
 {
-    byte.is_ascii_alphanumeric() || byte == b'_' || byte == b'-'
+    NAME_BYTES[byte as usize] != b','
 }
 
+#[inline(always)]
 fn all_continue(bytes: &[u8]) -> bool
     ensures { result ≡ list_all continues_name bytes.now }
 {
@@ -23,6 +37,7 @@ fn all_continue(bytes: &[u8]) -> bool
 /// Whether a chunk has the shape of a name: a letter or `_`, followed by letters, digits, `_` and `-`, of any length.
 /// It takes no memory.
 #[tactic(auto, using(crate::proofs::ShapeLemmas::is_name_parts))]
+#[inline]
 pub fn is_name(chunk: &[u8]) -> bool
     ensures { result ≡ is_name chunk.now }
 {

@@ -27,6 +27,7 @@ pub enum NumberRead {
 }
 
 /// The number that one or more digits of this radix spell, or `TOO_GREAT` for all from there on.
+#[inline(always)]
 fn read_digits(bytes: &[u8], radix: u32) -> Option<u64>
     requires low { 2 ≤ radix }
     requires high { radix ≤ 16 }
@@ -44,6 +45,7 @@ fn read_digits(bytes: &[u8], radix: u32) -> Option<u64>
 }
 
 /// The number that decimal digits without a leading zero spell, or `TOO_GREAT` for all from there on.
+#[inline]
 pub fn read_decimal(bytes: &[u8]) -> Option<u64>
     ensures { result ≡ (if is_decimal bytes.now then Some (min (digits_value 10 bytes.now) TOO_GREAT) else None) }
 {

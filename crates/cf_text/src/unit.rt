@@ -24,6 +24,7 @@ pub enum Split {
 }
 
 /// How much of a chunk stands before the digits at its end, from 0 to its length. It takes no memory.
+#[inline]
 pub fn base_len(chunk: &[u8]) -> usize
     ensures len { result ≡ base_len chunk.now }
     ensures within { result ≤ length chunk.now }

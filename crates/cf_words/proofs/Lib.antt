@@ -1,5 +1,4 @@
 pub mod ListLemmas
-pub mod UnitLemmas
 pub mod LocatorLemmas
 pub mod ValueLemmas
 pub mod MarkLemmas

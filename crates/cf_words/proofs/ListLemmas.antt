@@ -1,8 +1,8 @@
 -- Lists in general: lists of which each part gives something. Nothing here speaks of this crate's types.
-use Rattle.std.proofs.Common.{◌≡◌, ℕ, ◌+◌, ◌-◌, ◌<◌, ◌≤◌, ◌||◌, ◌&&◌, Bool, true, false, cond, not, Option, Some, None, List, [], ◌∷◌, ◌++◌, Bor, length, get_or, map, take, drop, refl, ap, sym, ◌∙◌, arith, append_assoc, append-nil}
-use Rattle.std.specs.Prelude.{option_map, option_and_then, take_while, is_some, IfOk, Result, Ok, Err}
-use Rattle.std.specs.List.{slice_split, onto_first, list_all, list_any, prefix_len, position_or_len, before_first}
-use Rattle.std.proofs.lemmas.List.{drop_more, drop_all, drop-map, get_or-map, length-drop, length-map, take-map, take_all}
+use Rattle.std.proofs.Common.{◌≡◌, ℕ, suc, ◌+◌, ◌-◌, ◌<◌, ◌≤◌, ◌||◌, ◌&&◌, Bool, true, false, cond, not, Option, Some, None, List, [], ◌∷◌, ◌++◌, length, get_or, map, take, drop, refl, ap, sym, ◌∙◌, arith, append_assoc, append-nil}
+use Rattle.std.specs.Prelude.{option_map, option_and_then, take_while, is_some}
+use Rattle.std.specs.List.{slice_split, onto_first, list_all, list_any, prefix_len, position_or_len, before_first, after_first}
+use Rattle.std.proofs.lemmas.List.{drop_more, drop-map, length-drop, length-map, take-map, take_all}
 use Rattle.std.proofs.lemmas.List.Folds.{length-prefix_len}
 use Rattle.config_rules.specs.Form.{each}
 
@@ -18,85 +18,47 @@ front_more : {B : Type 0} (front : List B) (y : B) (o : Option (List B)) → wit
 front_more front y None = refl
 front_more front y (Some ys) = ap Some (append_assoc front (y ∷ []) ys)
 
+-- ---- a loop over parts, of which each gives something
+
 -- one more gives something
-pub each_more : {A B : Type 0} (f : A → Option B) (xs : List A) (i : ℕ) (d : A) (front : List B) (y : B) → i < length xs → Some y ≡ f (get_or xs i d)
-    → with_front (front ++ y ∷ []) (each f (drop (i + 1) xs)) ≡ with_front front (each f (drop i xs))
-each_more f xs i d front y h e =
-    front_more front y (each f (drop (i + 1) xs))
-    ∙ ap (λ o. with_front front (option_and_then (λ z. option_map (λ zs. z ∷ zs) (each f (drop (i + 1) xs))) o)) e
-    ∙ sym (ap (λ zs. with_front front (each f zs)) (drop_more xs i d h))
+pub part_more : {A B : Type 0} (f : A → Option B) (front new : List B) (y : B) (part : A) (left more : List A) (whole : Option (List B)) → with_front front (each f left) ≡ whole
+    → left ≡ part ∷ more → Some y ≡ f part → new ≡ front ++ y ∷ [] → with_front new (each f more) ≡ whole
+part_more f front new y part left more whole so_far is e grown =
+    ap (λ ys. with_front ys (each f more)) grown
+    ∙ front_more front y (each f more)
+    ∙ ap (λ o. with_front front (option_and_then (λ z. option_map (λ zs. z ∷ zs) (each f more)) o)) e
+    ∙ ap (λ ps. with_front front (each f ps)) (sym is)
+    ∙ so_far
 
 -- one gives nothing
-pub each_none : {A B : Type 0} (f : A → Option B) (xs : List A) (i : ℕ) (d : A) (front : List B) → i < length xs → None ≡ f (get_or xs i d) → with_front front (each f (drop i xs)) ≡ None
-each_none f xs i d front h e =
-    ap (λ zs. with_front front (each f zs)) (drop_more xs i d h)
-    ∙ ap (λ o. with_front front (option_and_then (λ z. option_map (λ zs. z ∷ zs) (each f (drop (i + 1) xs))) o)) (sym e)
+pub part_none : {A B : Type 0} (f : A → Option B) (front : List B) (part : A) (left more : List A) (whole : Option (List B)) → with_front front (each f left) ≡ whole
+    → left ≡ part ∷ more → None ≡ f part → None ≡ whole
+part_none f front part left more whole so_far is e =
+    ap (λ o. with_front front (option_and_then (λ z. option_map (λ zs. z ∷ zs) (each f more)) o)) e
+    ∙ ap (λ ps. with_front front (each f ps)) (sym is)
+    ∙ so_far
 
 -- all gave something
-pub each_all : {A B : Type 0} (f : A → Option B) (xs : List A) (i : ℕ) (front : List B) → length xs ≤ i → with_front front (each f (drop i xs)) ≡ Some front
-each_all f xs i front h = ap (λ zs. with_front front (each f zs)) (drop_all i xs h) ∙ ap Some (append-nil front)
+pub part_all : {A B : Type 0} (f : A → Option B) (front : List B) (left : List A) (whole : Option (List B)) → with_front front (each f left) ≡ whole → left ≡ [] → Some front ≡ whole
+part_all f front left whole so_far is = ap Some (sym (append-nil front)) ∙ ap (λ ps. with_front front (each f ps)) (sym is) ∙ so_far
 
-map_first : {X Y : Type 0} (f : X → Y) (x : X) (parts : List (List X)) → onto_first (f x) (map (map f) parts) ≡ map (map f) (onto_first x parts)
-map_first f x [] = refl
-map_first f x (part ∷ parts) = refl
-
--- the parts of a list and of what a function makes of it
-pub split_map : {X Y : Type 0} (f : X → Y) (p : Y → Bool) (xs : List X) → slice_split p (map f xs) ≡ map (map f) (slice_split (λ x. p (f x)) xs)
-split_map f p [] = refl
-split_map f p (x ∷ xs) = by_test (p (f x)) (split_map f p xs)
+-- the first part of a list, and the others
+pub split_first : {X : Type 0} (p : X → Bool) (xs : List X) → slice_split p xs ≡ before_first p xs ∷ cond (list_any p xs) (slice_split p (after_first p xs)) []
+split_first p [] = refl
+split_first p (x ∷ xs) = by_test (p x) (position_or_len p xs) (split_first p xs)
   where
-    by_test : (b : Bool) → slice_split p (map f xs) ≡ map (map f) (slice_split (λ x. p (f x)) xs)
-        → cond b ([] ∷ slice_split p (map f xs)) (onto_first (f x) (slice_split p (map f xs))) ≡ map (map f) (cond b ([] ∷ slice_split (λ x. p (f x)) xs) (onto_first x (slice_split (λ x. p (f x)) xs)))
-    by_test true e = ap (λ parts. [] ∷ parts) e
-    by_test false e = ap (onto_first (f x)) e ∙ map_first f x (slice_split (λ x. p (f x)) xs)
-
-map_twice : {X Y : Type 0} (f : X → Y) (vs : List (Bor (List X))) → map (λ part. map f part.now) vs ≡ map (map f) (map (λ part. part.now) vs)
-map_twice f [] = refl
-map_twice f (v ∷ vs) = ap (λ ys. map f v.now ∷ ys) (map_twice f vs)
-
--- what was collected, as what a function makes of it
-pub parts_map : {V X Y E : Type 0} (items : V → List (Bor (List X))) (f : X → Y) (p : Y → Bool) (xs : List X) (r : Result V E) → IfOk r (λ v. map (λ part. part.now) (items v) ≡ slice_split (λ x. p (f x)) xs) → IfOk r (λ v. map (λ part. map f part.now) (items v) ≡ slice_split p (map f xs))
-parts_map items f p xs (Ok v) h = map_twice f (items v) ∙ ap (map (map f)) h ∙ sym (split_map f p xs)
-parts_map items f p xs (Err e) h = tt
-
--- the part that comes next
-part_at : {X Y : Type 0} (f : X → Y) (vs : List (Bor (List X))) (i : ℕ) (d : Bor (List X)) → i < length vs → get_or (map (λ part. map f part.now) vs) i (map f d.now) ≡ map f (get_or vs i d).now
-part_at f vs i d h = get_or-map (λ (part : Bor (List _)). map f part.now) vs i d (map f d.now) h
-
-length_parts : {X Y : Type 0} (g : X → Y) (vs : List (Bor (List X))) → length (map (λ part. map g part.now) vs) ≡ length vs
-length_parts g vs = length-map vs (λ (part : Bor (List _)). map g part.now)
-
--- ---- a loop over the parts of a list, of which each gives something
-
--- the value that stands for a part where there is none
-abbrev no_part : {X : Type 0} → Bor (List X)
-no_part = record { ref_ptr = (0, 0); now = [] }
-
--- what the first i parts gave and what the others give is what all give
-abbrev pub SoFar : {X Y B : Type 0} → (List Y → Option B) → (X → Y) → List B → ℕ → List (Bor (List X)) → Type 0
-SoFar f g front i vs = with_front front (each f (drop i (map (λ part. map g part.now) vs))) ≡ each f (map (λ part. map g part.now) vs)
-
-module _ {X Y B : Type 0} (f : List Y → Option B) (g : X → Y) (vs : List (Bor (List X))) (i : ℕ) (front : List B) (so_far : SoFar f g front i vs) where
-  -- the next part gives something
-  pub part_more : (new : List B) (y : B) → new ≡ front ++ y ∷ [] → i < length vs → Some y ≡ f (map g (get_or vs i no_part).now) → SoFar f g new (i + 1) vs
-  part_more new y is h e =
-      ap (λ ys. with_front ys (each f (drop (i + 1) (map (λ part. map g part.now) vs)))) is
-      ∙ each_more f (map (λ part. map g part.now) vs) i [] front y (omega (arith, length_parts g vs)) (e ∙ ap f (sym (part_at g vs i no_part h)))
-      ∙ so_far
-
-  module _ (us : List (Bor (List X))) (parts : List (List Y)) (same : vs ≡ us) (are : map (λ part. map g part.now) us ≡ parts) where
-    all_give : each f (map (λ part. map g part.now) vs) ≡ each f parts
-    all_give = ap (each f) (ap (map (λ part. map g part.now)) same ∙ are)
-
-    -- it gives nothing
-    pub part_none : i < length vs → None ≡ f (map g (get_or vs i no_part).now) → None ≡ each f parts
-    part_none h e =
-        sym (each_none f (map (λ part. map g part.now) vs) i [] front (omega (arith, length_parts g vs)) (e ∙ ap f (sym (part_at g vs i no_part h))))
-        ∙ so_far ∙ all_give
-
-    -- there is no other
-    pub part_all : length vs ≤ i → Some front ≡ each f parts
-    part_all h = sym (each_all f (map (λ part. map g part.now) vs) i front (omega (arith, length_parts g vs))) ∙ so_far ∙ all_give
+    by_test : (b : Bool) (n : ℕ) → slice_split p xs ≡ take n xs ∷ cond (list_any p xs) (slice_split p (drop (n + 1) xs)) []
+        → cond b ([] ∷ slice_split p xs) (onto_first x (slice_split p xs))
+        ≡ take (cond (not b) (1 + n) 0) (x ∷ xs) ∷ cond (b || list_any p xs) (slice_split p (drop (cond (not b) (1 + n) 0 + 1) (x ∷ xs))) []
+    by_test true n e = refl
+    by_test false n e =
+        let one : 1 + n ≡ suc n = omega arith in
+        let two : 1 + n + 1 ≡ suc (n + 1) = omega arith in
+        let front : take (1 + n) (x ∷ xs) ≡ x ∷ take n xs = ap (λ m. take m (x ∷ xs)) one in
+        let behind : drop (1 + n + 1) (x ∷ xs) ≡ drop (n + 1) xs = ap (λ m. drop m (x ∷ xs)) two in
+        ap (onto_first x) e
+        ∙ sym (ap (λ ys. ys ∷ cond (list_any p xs) (slice_split p (drop (1 + n + 1) (x ∷ xs))) []) front
+        ∙ ap (λ ys. (x ∷ take n xs) ∷ cond (list_any p xs) (slice_split p ys) []) behind)
 
 pub prefix_len-map : {X Y : Type 0} (p : Y → Bool) (f : X → Y) (xs : List X) → prefix_len p (map f xs) ≡ prefix_len (λ x. p (f x)) xs
 prefix_len-map p f [] = refl

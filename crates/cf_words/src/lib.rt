@@ -11,4 +11,4 @@ pub use locator::locators_of;
 pub use name::{alone_name, alone_path, bytes_of, is_name_word, is_path_word, name_of, names_of};
 pub use unit::{MarkedUnit, place_of, unit_chunk};
 pub use value::{count_of, value_of};
-pub use word::{Word, behind_first, parted, parted_at, split_before};
+pub use word::{Word, behind_first, count_parts, first_part, parted_at, split_before};

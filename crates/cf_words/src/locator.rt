@@ -4,7 +4,7 @@ ghost use Rattle.cf_words.specs.Words.{piece_of};
 
 use crate::name::name_of;
 use crate::value::value_of;
-use crate::word::{Word, parted};
+use crate::word::{Word, count_parts, first_part};
 use cf_types::{List, Locator, Memory, Name};
 use std::alloc::Global;
 
@@ -82,13 +82,15 @@ fn locator_of(alloc: Global, sized: bool, words: &[Word]) -> Result<Option<Locat
 fn each_locator(alloc: Global, sized: bool, words: &[Word]) -> Result<Option<List<Locator>>, Memory>
     ensures { IfOk result (λ locs. locs ≡ each (locator_of sized) (parted (map piece_of words.now))) }
 {
-    let parts = parted(alloc, words)?;
-    let mut locs = Vec::with_capacity(alloc, parts.len())?;
-    for part in &parts {
+    let mut locs = Vec::with_capacity(alloc, count_parts(words))?;
+    let mut left = Some(words);
+    while let Some(rest) = left {
+        let (part, behind) = first_part(rest);
         match locator_of(alloc, sized, part)? {
             Some(loc) => locs.push(loc)?,
             None => return Ok(None),
         }
+        left = behind;
     }
     Ok(Some(List::from_vec(locs)))
 }

@@ -3,7 +3,7 @@ ghost use Rattle.cf_text.specs.Shapes.{is_written};
 ghost use Rattle.config_rules.specs.Form.{alone, bytes_of, name_of, names_of, path_of};
 ghost use Rattle.cf_words.specs.Words.{piece_of};
 
-use crate::word::{Word, parted};
+use crate::word::{Word, count_parts, first_part};
 use cf_text::is_name;
 use cf_types::{List, Memory, Name, Text};
 use std::alloc::Global;
@@ -11,6 +11,7 @@ use std::alloc::Global;
 /// The greatest length of a written name.
 const MAX_WRITTEN: usize = 63;
 
+#[inline(always)]
 pub fn is_written(chunk: &[u8]) -> bool
     ensures value { result ≡ is_written chunk.now }
     ensures not_empty { IsTrue result → 1 ≤ length chunk.now }
@@ -20,6 +21,7 @@ pub fn is_written(chunk: &[u8]) -> bool
 }
 
 /// Reads a word as a name: a chunk with the shape of a name, of at most 63 bytes.
+#[inline]
 pub fn name_of(alloc: Global, word: Word) -> Result<Option<Name>, Memory>
     ensures { IfOk result (λ name. name ≡ name_of (piece_of word.entry)) }
 {
@@ -30,6 +32,7 @@ pub fn name_of(alloc: Global, word: Word) -> Result<Option<Name>, Memory>
 }
 
 /// Reads one word alone as a name.
+#[inline(always)]
 pub fn alone_name(alloc: Global, words: &[Word]) -> Result<Option<Name>, Memory>
     ensures { IfOk result (λ name. name ≡ alone name_of (map piece_of words.now)) }
 {
@@ -43,18 +46,21 @@ pub fn alone_name(alloc: Global, words: &[Word]) -> Result<Option<Name>, Memory>
 pub fn names_of(alloc: Global, words: &[Word]) -> Result<Option<List<Name>>, Memory>
     ensures { IfOk result (λ names. names ≡ names_of (map piece_of words.now)) }
 {
-    let parts = parted(alloc, words)?;
-    let mut names = Vec::with_capacity(alloc, parts.len())?;
-    for part in &parts {
+    let mut names = Vec::with_capacity(alloc, count_parts(words))?;
+    let mut left = Some(words);
+    while let Some(rest) = left {
+        let (part, behind) = first_part(rest);
         match alone_name(alloc, part)? {
             Some(name) => names.push(name)?,
             None => return Ok(None),
         }
+        left = behind;
     }
     Ok(Some(List::from_vec(names)))
 }
 
 /// Reads a word as the value of an option: a chunk, or a string, which may be empty.
+#[inline]
 pub fn bytes_of(alloc: Global, word: Word) -> Result<Option<Text>, Memory>
     ensures { IfOk result (λ bytes. bytes ≡ bytes_of (piece_of word.entry)) }
 {
@@ -65,6 +71,7 @@ pub fn bytes_of(alloc: Global, word: Word) -> Result<Option<Text>, Memory>
 }
 
 /// Reads a word as a path: a chunk, or a string that is not empty.
+#[inline(always)]
 fn path_of(alloc: Global, word: Word) -> Result<Option<Text>, Memory>
     ensures { IfOk result (λ path. path ≡ path_of (piece_of word.entry)) }
 {
@@ -75,6 +82,7 @@ fn path_of(alloc: Global, word: Word) -> Result<Option<Text>, Memory>
 }
 
 /// Reads one word alone as a path: a chunk, or a string that is not empty.
+#[inline(always)]
 pub fn alone_path(alloc: Global, words: &[Word]) -> Result<Option<Text>, Memory>
     ensures { IfOk result (λ path. path ≡ alone path_of (map piece_of words.now)) }
 {
@@ -85,6 +93,7 @@ pub fn alone_path(alloc: Global, words: &[Word]) -> Result<Option<Text>, Memory>
 }
 
 /// Whether a word is a name: a chunk with the shape of a name, of at most 63 bytes.
+#[inline(always)]
 pub fn is_name_word(word: Word) -> bool
     ensures { result ≡ is_some (name_of (piece_of word.entry)) }
 {
@@ -92,6 +101,7 @@ pub fn is_name_word(word: Word) -> bool
 }
 
 /// Whether a word is a path: a chunk, or a string that is not empty.
+#[inline(always)]
 pub fn is_path_word(word: Word) -> bool
     ensures { result ≡ is_some (path_of (piece_of word.entry)) }
 {

@@ -6,7 +6,7 @@ ghost use Rattle.cf_words.specs.Units.{fixed_parts, unit_parts};
 
 use crate::name::is_written;
 use crate::word::Word;
-use cf_text::{Split, base_len, split_unit};
+use cf_text::{MAX_UNIT, base_len, read_decimal};
 use cf_types::{AtSpec, Memory, Name, UnitMark};
 use std::alloc::Global;
 
@@ -24,37 +24,44 @@ pub struct MarkedUnit {
     pub mark: UnitMark,
 }
 
-/// The unit of a chunk that is a name and a number; where sizes don't count, 0 for one that is too great.
-fn unit_number(sized: bool, chunk: &[u8]) -> Option<u32>
-    ensures { result ≡ unit_number sized chunk.now }
+/// The unit that decimal digits spell; where sizes don't count, 0 for one that is too great.
+#[inline(always)]
+fn unit_number(sized: bool, digits: &[u8]) -> Option<u32>
+    ensures { result ≡ unit_number sized digits.now }
 {
-    match split_unit(chunk) {
-        Split::Unit { unit, .. } => Some(unit),
-        Split::TooGreat => if sized { None } else { Some(0) },
-        Split::Not | Split::Star { .. } | Split::Any { .. } => None,
+    let unit = read_decimal(digits)?;
+    if unit <= u64::from(MAX_UNIT) {
+        Some(unit as u32)
+    } else if sized {
+        None
+    } else {
+        Some(0)
     }
 }
 
+/// The base and the unit of a word, where it has both.
+#[inline(always)]
 fn fixed_of(alloc: Global, sized: bool, word: Word) -> Result<Option<FixedUnit>, Memory>
     ensures { IfOk result (λ unit. option_map fixed_parts unit ≡ fixed_of sized (piece_of word.entry)) }
 {
     if !word.is_chunk() {
         return Ok(None);
     }
-    let base = &word.text[..base_len(word.text)];
+    let (base, digits) = word.text.split_at(base_len(word.text));
+    let Some(unit) = unit_number(sized, digits) else {
+        return Ok(None);
+    };
     if !is_written(base) {
         return Ok(None);
     }
-    match unit_number(sized, word.text) {
-        Some(unit) => Ok(Some(FixedUnit {
-            base: Name::make(alloc, base)?,
-            unit,
-        })),
-        None => Ok(None),
-    }
+    Ok(Some(FixedUnit {
+        base: Name::make(alloc, base)?,
+        unit,
+    }))
 }
 
 /// What stands before this mark, where a chunk is a name and the mark.
+#[inline(always)]
 fn base_before(chunk: &[u8], mark: u8) -> Option<&[u8]>
     ensures { option_map (λ base. base.now) result ≡ base_before mark chunk.now }
 {
@@ -68,6 +75,7 @@ fn base_before(chunk: &[u8], mark: u8) -> Option<&[u8]>
     }
 }
 
+#[inline(always)]
 fn marked_of(alloc: Global, mark: u8, word: Word) -> Result<Option<Name>, Memory>
     ensures { IfOk result (λ base. base ≡ marked_of mark (piece_of word.entry)) }
 {

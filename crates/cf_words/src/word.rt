@@ -1,10 +1,9 @@
-ghost use Rattle.std.specs.Prelude.{◌≡◌, IfOk, codes, drop, length, map, not, option_map, take_while};
+ghost use Rattle.std.specs.Prelude.{◌≡◌, ◌<◌, ◌∷◌, IfSome, codes, drop, length, map, not, option_map, take_while};
 ghost use Rattle.std.specs.List.{after_first, before_first};
 ghost use Rattle.config_rules.specs.Form.{is_mark, parted, parted_at};
-ghost use Rattle.cf_words.specs.Words.{piece_of};
+ghost use Rattle.cf_words.specs.Words.{parts_left, piece_of};
 
 use cf_types::TokenKind;
-use std::alloc::{AllocError, Global};
 
 /// A token of a statement with its bytes, lent from the text.
 #[derive(Clone, Copy, Debug)]
@@ -17,6 +16,7 @@ impl<'a> Word<'a> {
     ghost use Rattle.config_rules.specs.Form.{is_chunk, is_text, is_word};
 
     /// Whether it is a chunk.
+    #[inline(always)]
     pub fn is_chunk(self) -> bool
         ensures { result ≡ is_chunk (piece_of self.entry) }
     {
@@ -24,6 +24,7 @@ impl<'a> Word<'a> {
     }
 
     /// Whether it is a string.
+    #[inline(always)]
     pub fn is_text(self) -> bool
         ensures { result ≡ is_text (piece_of self.entry) }
     {
@@ -31,6 +32,7 @@ impl<'a> Word<'a> {
     }
 
     /// Whether it is this mark.
+    #[inline(always)]
     pub fn is_mark(self, mark: &[u8]) -> bool
         ensures { result ≡ is_mark mark.now (piece_of self.entry) }
     {
@@ -38,6 +40,7 @@ impl<'a> Word<'a> {
     }
 
     /// Whether it is a chunk with this spelling.
+    #[inline(always)]
     pub fn is_word(self, spelling: &[u8]) -> bool
         ensures { result ≡ is_word spelling.now (piece_of self.entry) }
     {
@@ -45,23 +48,15 @@ impl<'a> Word<'a> {
     }
 }
 
+#[inline(always)]
 fn is_comma(word: Word) -> bool
     ensures { result ≡ is_mark (codes ",") (piece_of word.entry) }
 {
     word.is_mark(b",")
 }
 
-/// The parts between commas; one part more than there are commas.
-pub fn parted<'w, 'a>(
-    alloc: Global,
-    words: &'w [Word<'a>],
-) -> Result<Vec<&'w [Word<'a>]>, AllocError>
-    ensures { IfOk result (λ v. map (λ part. map piece_of part.now) v.items ≡ parted (map piece_of words.now)) }
-{
-    words.split(|&word| is_comma(word)).collect(alloc)
-}
-
 /// How many words stand before the first of these marks; all of them where there is none.
+#[inline(always)]
 fn count_before(words: &[Word], mark: &[u8]) -> usize
     ensures { result ≡ length (take_while (λ word. not (is_mark mark.now (piece_of word))) words.now) }
 {
@@ -69,6 +64,7 @@ fn count_before(words: &[Word], mark: &[u8]) -> usize
 }
 
 /// The words before the first of these marks, and those from it on.
+#[inline(always)]
 pub fn split_before<'w, 'a>(words: &'w [Word<'a>], mark: &[u8]) -> (&'w [Word<'a>], &'w [Word<'a>])
     ensures before { map piece_of result.0.now ≡ before_first (is_mark mark.now) (map piece_of words.now) }
     ensures from { map piece_of result.1.now ≡ drop (length (before_first (is_mark mark.now) (map piece_of words.now))) (map piece_of words.now) }
@@ -77,6 +73,7 @@ pub fn split_before<'w, 'a>(words: &'w [Word<'a>], mark: &[u8]) -> (&'w [Word<'a
 }
 
 /// The words before the first of these marks and those behind it; `None` where there is none.
+#[inline(always)]
 pub fn parted_at<'w, 'a>(
     words: &'w [Word<'a>],
     mark: &[u8],
@@ -91,6 +88,7 @@ pub fn parted_at<'w, 'a>(
 }
 
 /// The words behind the first of these marks; none where there is none.
+#[inline(always)]
 pub fn behind_first<'w, 'a>(words: &'w [Word<'a>], mark: &[u8]) -> &'w [Word<'a>]
     ensures { map piece_of result.now ≡ after_first (is_mark mark.now) (map piece_of words.now) }
 {
@@ -99,4 +97,23 @@ pub fn behind_first<'w, 'a>(words: &'w [Word<'a>], mark: &[u8]) -> &'w [Word<'a>
         [_, behind @ ..] => behind,
         [] => from,
     }
+}
+
+/// The words before the first comma, and those behind it, where there is one.
+#[inline(always)]
+pub fn first_part<'w, 'a>(words: &'w [Word<'a>]) -> (&'w [Word<'a>], Option<&'w [Word<'a>]>)
+    ensures parts { parted (map piece_of words.now) ≡ map piece_of result.0.now ∷ parts_left result.1 }
+    ensures shorter { IfSome result.1 (λ rest. length rest.now < length words.now) }
+{
+    let (part, from) = split_before(words, b",");
+    match from {
+        [_, behind @ ..] => (part, Some(behind)),
+        [] => (part, None),
+    }
+}
+
+/// How many parts there are between commas.
+pub fn count_parts(words: &[Word]) -> usize {
+    let commas = words.iter().filter(|&&word| is_comma(word)).count();
+    commas.saturating_add(1)
 }

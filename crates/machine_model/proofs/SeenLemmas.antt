@@ -3,9 +3,9 @@ use Rattle.std.proofs.Common.{◌≡◌, ℕ, ◌+◌, ◌<◌, ◌≤◌, lengt
 use Rattle.std.specs.Prelude.{take_while}
 use Rattle.std.specs.Borrow.{Bor}
 use Rattle.std.specs.List.{list_all, list_any, prefix_len}
-use Rattle.std.proofs.lemmas.List.{drop_all, drop_more, drop-map, get_or_default, get_or-map, length-map}
+use Rattle.std.proofs.lemmas.List.{drop_all, drop_more, get_or_default}
 use Rattle.std.proofs.lemmas.List.Folds.{length-prefix_len}
-use Rattle.cf_words.proofs.ListLemmas.{each_more, each_none, with_front}
+use Rattle.cf_words.proofs.ListLemmas.{part_more, part_none, with_front}
 use Rattle.config_rules.specs.Form.{each}
 use Rattle.config_rules.specs.MachineText.{GivenValue, located_value}
 use Rattle.machine_text.specs.Records.{seen}
@@ -39,21 +39,15 @@ front_end p words i h = ap (λ ws. length (take_while p (seen ws))) (drop_all i 
 
 -- ---- the values of locators
 
-abbrev now : Bor (List ℕ) → List ℕ
-now word = word.now
-
 pub value_more : (words : List (Bor (List ℕ))) (i : ℕ) (d : Bor (List ℕ)) (front : List GivenValue) (y : GivenValue) → i < length words → Some y ≡ located_value (get_or words i d).now
     → with_front (front ++ y ∷ []) (each located_value (seen (drop (i + 1) words))) ≡ with_front front (each located_value (seen (drop i words)))
 value_more words i d front y lt e =
-    ap (λ ws. with_front (front ++ y ∷ []) (each located_value ws)) (sym (drop-map now (i + 1) words))
-    ∙ each_more located_value (seen words) i d.now front y (omega (arith, length-map words (λ (w : Bor (List ℕ)). w.now), lt)) (e ∙ ap located_value (sym (get_or-map now words i d d.now lt)))
-    ∙ ap (λ ws. with_front front (each located_value ws)) (drop-map now i words)
+    part_more located_value front (front ++ y ∷ []) y (get_or words i d).now (seen (drop i words)) (seen (drop (i + 1) words)) _ refl (seen_from words i d lt) e refl
 
 pub value_none : (words : List (Bor (List ℕ))) (i : ℕ) (d : Bor (List ℕ)) (front : List GivenValue) → i < length words → None ≡ located_value (get_or words i d).now
     → with_front front (each located_value (seen (drop i words))) ≡ None
 value_none words i d front lt e =
-    ap (λ ws. with_front front (each located_value ws)) (sym (drop-map now i words))
-    ∙ each_none located_value (seen words) i d.now front (omega (arith, length-map words (λ (w : Bor (List ℕ)). w.now), lt)) (e ∙ ap located_value (sym (get_or-map now words i d d.now lt)))
+    sym (part_none located_value front (get_or words i d).now (seen (drop i words)) (seen (drop (i + 1) words)) _ refl (seen_from words i d lt) e)
 
 -- ---- an element of a list, whatever stands for one beyond its end
 
