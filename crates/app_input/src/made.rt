@@ -39,6 +39,16 @@ impl Files for MadeFiles {
     }
 }
 
+/// A file of this name that holds these bytes.
+fn made_file(alloc: Global, name: &[u8], bytes: Text) -> Result<MemFile, Memory>
+    ensures { IfOk result (λ file. file ≡ record { name = name.now; bytes = bytes }) }
+{
+    Ok(MemFile {
+        name: Text::copied(alloc, name)?,
+        bytes,
+    })
+}
+
 /// The generated configuration and the generated machine of so many spots, under the names `conf` and `mach`.
 #[tactic(auto, unfolding(crate::specs::Inputs::made_files))]
 pub fn made_files(alloc: Global, count: u32) -> Result<MadeFiles, Memory>
@@ -47,14 +57,8 @@ pub fn made_files(alloc: Global, count: u32) -> Result<MadeFiles, Memory>
     ensures { IfOk result (λ files. files ≡ made_files count) }
 {
     let mut files = List::make(alloc);
-    files.push(MemFile {
-        name: Text::copied(alloc, b"conf")?,
-        bytes: conf_text(alloc)?,
-    })?;
-    files.push(MemFile {
-        name: Text::copied(alloc, b"mach")?,
-        bytes: machine_text(alloc, count)?,
-    })?;
+    files.push(made_file(alloc, b"conf", conf_text(alloc)?)?)?;
+    files.push(made_file(alloc, b"mach", machine_text(alloc, count)?)?)?;
     Ok(MadeFiles {
         files: MemFiles::make(files, List::make(alloc)),
     })

@@ -1,4 +1,4 @@
-ghost use Rattle.std.specs.Prelude.{◌≡◌, ℕ, ◌<◌, ◌≤◌, [], length, flat_map, All, IfOk, OnOk};
+ghost use Rattle.std.specs.Prelude.{◌≡◌, ℕ, ◌+◌, ◌<◌, ◌≤◌, if◌then◌else◌, [], length, flat_map, All, IfOk, IfSome, OnOk};
 ghost use Rattle.std.specs.Option.{option_to_list};
 ghost use Rattle.cf_types.specs.Gather.{with_all};
 ghost use Rattle.attr_graph.specs.Reach.{AreMarks, Gathers, reach_at};
@@ -42,15 +42,21 @@ impl<T: Drop> From<AllocFailed<T>> for GraphStop {
     }
 }
 
-/// How much room is made for what the named attributes offer: enough, unless that is more than is allowed.
-fn room_for(attrs: &[AttrEntry], own: Option<u32>, names: &[u32]) -> usize
+/// How many entries the lists of these attributes have together, with one more where `own` is true; `None` where they are
+/// more than `MAX_INTERFACES`.
+pub fn list_count(attrs: &[AttrEntry], own: bool, names: &[u32]) -> Option<usize>
     requires { All (λ a. a < length attrs.now) names.now }
+    ensures { IfSome result (λ n. (n ≡ (if own then 1 else 0) + length (flat_map (reach_at attrs.now) names.now)) × (n ≤ MAX_INTERFACES)) }
 {
-    let mut room = usize::from(own.is_some());
+    let mut count = usize::from(own);
     for name in names {
-        room = room.saturating_add(attrs[*name as usize].reach.len());
+        let more = attrs[*name as usize].reach.len();
+        if more > MAX_INTERFACES - count {
+            return None;
+        }
+        count += more;
     }
-    room.min(MAX_INTERFACES)
+    Some(count)
 }
 
 /// What the named attributes offer, behind an attribute's own number: each once, at its first appearance.
@@ -70,7 +76,8 @@ pub fn gather(
     ensures marked { AreMarks [] marks.new.items }
     ensures size { length marks.new.items ≡ length marks.old.items }
 {
-    let mut list = Vec::with_capacity(alloc, room_for(attrs, own, names))?;
+    let room = list_count(attrs, own.is_some(), names).unwrap_or(MAX_INTERFACES);
+    let mut list = Vec::with_capacity(alloc, room)?;
     let added = add_own(&mut list, marks, attrs, own, names);
     unmark(&list, marks);
     added?;

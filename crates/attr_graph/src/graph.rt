@@ -6,7 +6,7 @@ ghost use Rattle.cf_types.specs.Offers.{interfaces_of};
 ghost use Rattle.attr_graph.specs.Reach.{AddsAttr, AddsDevice};
 
 use crate::entry::{AttrEntry, DeviceEntry};
-use crate::gather::{GraphStop, MAX_INTERFACES};
+use crate::gather::{GraphStop, MAX_INTERFACES, list_count};
 use crate::prepare::{attr_entry, device_entry, reach_count};
 use cf_types::List;
 use std::alloc::{AllocError, Global};
@@ -108,6 +108,9 @@ impl Graph {
         ensures fits { IfOk result (λ fits. fits ≡ nat_le ((if own then 1 else 0) + length (interfaces_of self.old.attrs names.now)) MAX_INTERFACES) }
         ensures same { self.new ≡ self.old }
     {
+        if list_count(&self.attrs, own, names).is_some() {
+            return Ok(true);
+        }
         let alloc = *self.attrs.allocator();
         let count = reach_count(alloc, &self.attrs, &mut self.marks, names)?;
         Ok(is_few(own, count))

@@ -6,7 +6,7 @@ ghost use Rattle.config_rules.specs.Meaning.{idle_insts, surviving};
 ghost use Rattle.config_rules.specs.Select.{RootedInsts};
 ghost use Rattle.attr_graph.specs.Graphs.{IsGraphOf};
 ghost use Rattle.config_rules.specs.Written.{AreWritten};
-ghost use Rattle.cf_compile.specs.Meant.{IsMeant, inst_of, written_unit};
+ghost use Rattle.cf_compile.specs.Meant.{IsMeant, IsSplit, inst_of, written_unit};
 
 use attr_graph::Graph;
 use cf_options::items;
@@ -57,6 +57,15 @@ fn rooted_marks(alloc: Global, graph: &Graph, instances: &[Instance]) -> Result<
     rooted(alloc, graph, insts.items())
 }
 
+/// The surviving instances that are rooted, and the orphans.
+fn split_by_root(alloc: Global, graph: &Graph, instances: List<Instance>) -> Result<Split, Memory>
+    requires { All (λ x. x.joined.device < length graph.now.devices) instances }
+    ensures { IfOk result (λ parts. (d : Declared) → IsGraphOf d graph.now → IsSplit d instances parts) }
+{
+    let marks = rooted_marks(alloc, graph, instances.items())?;
+    Ok(split_by_marks(alloc, instances, marks.items())?)
+}
+
 /// The tables of statements that were accepted, with what they declare, the surviving instances among them and the places
 /// of the negations of instances that take back nothing.
 pub fn tables_of(
@@ -76,8 +85,7 @@ pub fn tables_of(
     requires idle { idle.now ≡ idle_insts [] (stmts_of placed.now) }
     ensures { IfOk result (IsMeant files.now placed.now) }
 {
-    let marks = rooted_marks(alloc, graph, instances.items())?;
-    let Split { rooted, orphans } = split_by_marks(alloc, instances, marks.items())?;
+    let Split { rooted, orphans } = split_by_root(alloc, graph, instances)?;
     let kept = items(alloc, placed)?;
     let warnings = warnings(
         alloc,

@@ -6,7 +6,7 @@ ghost use Rattle.config_rules.specs.Reading.{reading};
 ghost use Rattle.cf_compile.specs.Compiles.{AsksDue, Compiles};
 ghost use Rattle.cf_compile.specs.Judged.{Judges};
 ghost use Rattle.config_rules.specs.Written.{AreWritten};
-ghost use Rattle.cf_compile.specs.Meant.{Finds, IsMeant, reading_of};
+ghost use Rattle.cf_compile.specs.Meant.{Finds, IsMeant, read_from, reading_of};
 
 use crate::build::tables_of;
 use crate::judge::{Standing, Verdict, judge};
@@ -14,7 +14,7 @@ use crate::stop::CompileStop;
 use cf_expand::expand;
 use cf_io::Files;
 use cf_select::{Kept, survivors};
-use cf_types::{Expanded, Memory, Placed, Tables, Text};
+use cf_types::{Expanded, Memory, Placed, Refusal, Tables, Text};
 use std::alloc::Global;
 
 /// The tables of accepted statements.
@@ -38,6 +38,26 @@ fn tables_of_standing(
     tables_of(alloc, files, placed, idle, declared, &graph, instances)
 }
 
+/// The tables of placed statements, or their first fault, or else this fault of the reading.
+fn compile_placed(
+    alloc: Global,
+    files: &[Text],
+    placed: &[Placed],
+    fault: Option<Refusal>,
+) -> Result<Tables, CompileStop>
+    requires { AreWritten placed.now }
+    ensures { Finds (record (read_from files.now placed.now) { fault = fault }) result }
+{
+    let Kept { kept, idle } = survivors(alloc, placed)?;
+    match judge(alloc, files, placed, kept.items())? {
+        Verdict::Refused(refusal) => Err(CompileStop::Refused(refusal)),
+        Verdict::Accepted(standing) => match fault {
+            Some(fault) => Err(CompileStop::Refused(fault)),
+            None => Ok(tables_of_standing(alloc, files, placed, idle.items(), standing)?),
+        },
+    }
+}
+
 /// The tables of what was read, or its first fault: that of a statement, or else that of the reading.
 fn compile_read(alloc: Global, read: Expanded) -> Result<Tables, CompileStop>
     requires { AreWritten read.placed }
@@ -48,20 +68,10 @@ fn compile_read(alloc: Global, read: Expanded) -> Result<Tables, CompileStop>
         files,
         fault,
     } = read;
-    let Kept { kept, idle } = survivors(alloc, placed.items())?;
-    match judge(alloc, files.items(), placed.items(), kept.items())? {
-        Verdict::Refused(refusal) => Err(CompileStop::Refused(refusal)),
-        Verdict::Accepted(standing) => match fault {
-            Some(fault) => Err(CompileStop::Refused(fault)),
-            None => Ok(tables_of_standing(
-                alloc,
-                files.items(),
-                placed.items(),
-                idle.items(),
-                standing,
-            )?),
-        },
-    }
+    let found = compile_placed(alloc, files.items(), placed.items(), fault);
+    drop(placed);
+    drop(files);
+    found
 }
 
 /// Compiles the named configuration with all that it includes: its tables, or its first fault in reading order with its

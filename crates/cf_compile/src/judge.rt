@@ -1,15 +1,13 @@
 ghost use Rattle.std.specs.Prelude.{◌≡◌, ◌<◌, ◌≤◌, ◌++◌, ◌∷◌, ◌+◌, [], ℕ, List as Items, None, length, IfOk, OnOk, if◌then◌else◌};
 ghost use Rattle.std.specs.Option.{option_to_list};
 ghost use Rattle.cf_types.specs.declared.stmt.Placed.{Placed};
-ghost use Rattle.cf_declare.specs.Declare.{declare};
 ghost use Rattle.cf_declare.specs.Graphs.{FitsDeclared};
-ghost use Rattle.cf_declare.specs.Limits.{HasFewLocators};
 ghost use Rattle.config_rules.specs.Fault.{code_of, is_instance, refusal, stmts_of};
 ghost use Rattle.config_rules.specs.Select.{kept};
 ghost use Rattle.config_rules.specs.Written.{AreWritten};
 ghost use Rattle.cf_compile.specs.Judged.{Judges, instance_at};
 
-use cf_declare::{Declarations, MAX_INSTANCES, declares};
+use cf_declare::{Declarations, MAX_INSTANCES};
 use cf_rows::file_name;
 use cf_types::code::configuration as code;
 use cf_types::{Instance, List, Memory, Placed, Refusal, Stmt, Text};
@@ -20,33 +18,6 @@ use std::alloc::Global;
 pub struct Standing {
     pub declarations: Declarations,
     pub instances: List<Instance>,
-}
-
-impl Standing {
-    /// Declares what an accepted statement adds. Where memory runs out, all is dropped.
-    fn declare(self, alloc: Global, stmt: &Stmt) -> Result<Standing, Memory>
-        requires accepted { code_of self.declarations 0 stmt.now ≡ None }
-        requires few { HasFewLocators stmt.now }
-        requires attrs { length self.declarations.attrs < 65536 }
-        requires devices { length self.declarations.devices < 65536 }
-        ensures declared { IfOk result (λ s. s.declarations ≡ declare self.declarations stmt.now) }
-        ensures same { IfOk result (λ s. s.instances ≡ self.instances) }
-    {
-        let Standing {
-            declarations,
-            instances,
-        } = self;
-        match declarations.declare(alloc, stmt) {
-            Ok(declarations) => Ok(Standing {
-                declarations,
-                instances,
-            }),
-            Err(stop) => {
-                drop(instances);
-                Err(stop)
-            }
-        }
-    }
 }
 
 /// What the statements of a configuration are judged to be.
@@ -177,10 +148,13 @@ pub fn judge(
             }
         }
         count += instance_count(stmt);
-        if !declares(stmt) {
-            continue;
+        match standing.declarations.declare(alloc, stmt) {
+            Ok(()) => {}
+            Err(stop) => {
+                drop(standing);
+                return Err(stop);
+            }
         }
-        standing = standing.declare(alloc, stmt)?;
     }
     Ok(Verdict::Accepted(standing))
 }

@@ -1,4 +1,4 @@
-ghost use Rattle.std.specs.Prelude.{◌≡◌, ◌<◌, ◌≤◌, [], None, length, IfOk};
+ghost use Rattle.std.specs.Prelude.{◌≡◌, ◌<◌, ◌≤◌, [], None, length, IfOk, OnOk};
 ghost use Rattle.config_rules.specs.Fault.{code_of};
 ghost use Rattle.config_rules.specs.Joined.{join};
 ghost use Rattle.cf_declare.specs.Declare.{declare};
@@ -71,20 +71,24 @@ impl Declarations {
         join(&self.lists, &self.graph, base, at, pairs)
     }
 
-    /// Declares what an accepted statement adds. Where memory runs out, all is dropped.
-    pub fn declare(self, alloc: Global, stmt: &Stmt) -> Result<Declarations, Memory>
-        requires accepted { code_of self 0 stmt.now ≡ None }
+    /// Declares what an accepted statement adds. Where memory runs out, nothing is declared any more.
+    pub fn declare(&mut self, alloc: Global, stmt: &Stmt) -> Result<(), Memory>
+        requires accepted { code_of self.old 0 stmt.now ≡ None }
         requires few { HasFewLocators stmt.now }
-        requires attrs { length self.attrs < 65536 }
-        requires devices { length self.devices < 65536 }
-        ensures { IfOk result (λ d. d ≡ declare self stmt.now) }
+        requires attrs { length self.old.attrs < 65536 }
+        requires devices { length self.old.devices < 65536 }
+        ensures { OnOk result (self.new ≡ declare self.old stmt.now) }
     {
         if !declares(stmt) {
-            return Ok(self);
+            return Ok(());
         }
-        let Declarations { lists, mut graph } = self;
-        let lists = grow(alloc, lists, &mut graph, stmt)?;
-        Ok(Declarations { lists, graph })
+        match grow(alloc, &mut self.lists, &mut self.graph, stmt) {
+            Ok(()) => Ok(()),
+            Err(stop) => {
+                *self = Declarations::make(alloc, &[]);
+                Err(stop)
+            }
+        }
     }
 
     /// The lists and the graph of them.

@@ -1,4 +1,4 @@
-ghost use Rattle.std.specs.Prelude.{◌≡◌, None, ◌≤◌, ◌<◌, ◌++◌, ◌∷◌, [], length, All, IfOk, IfSome};
+ghost use Rattle.std.specs.Prelude.{◌≡◌, None, ◌≤◌, ◌<◌, ◌++◌, ◌∷◌, [], length, All, IfOk, IfSome, OnOk};
 ghost use Rattle.std.specs.Option.{option_to_list};
 ghost use Rattle.cf_types.specs.Offers.{named_by};
 ghost use Rattle.config_rules.specs.Fault.{code_of};
@@ -12,101 +12,57 @@ use cf_names::Catalog;
 use cf_types::{Attach, Attr, Device, Memory, Stmt};
 use std::alloc::Global;
 
-/// Adds an attribute. No accepted one offers too many interface attributes.
+/// Adds an attribute, where there is one. No accepted one offers too many interface attributes.
 fn add_attr(
     alloc: Global,
-    declared: Catalog,
-    graph: &mut Graph,
-    attr: Attr,
-) -> Result<Catalog, Memory>
-    requires graph { IsGraphOf declared graph.old }
-    requires known { All (λ a. a < length declared.attrs) attr.needs }
-    requires few { length declared.attrs < 65536 }
-    ensures added { IfOk result (λ d. d ≡ record declared { attrs = declared.attrs ++ attr ∷ [] }) }
-    ensures graph { IfOk result (λ d. IsGraphOf d graph.new) }
-{
-    match graph.add_attr(attr.iface, attr.needs.items()) {
-        Ok(_) => {}
-        Err(_) => {
-            drop(declared);
-            drop(attr);
-            return Err(Memory);
-        }
-    }
-    let whole = declared.with_attr(alloc, attr)?;
-    Ok(whole)
-}
-
-/// Adds a device. No accepted one offers too many interface attributes.
-fn add_device(
-    alloc: Global,
-    declared: Catalog,
-    graph: &mut Graph,
-    device: Device,
-) -> Result<Catalog, Memory>
-    requires graph { IsGraphOf declared graph.old }
-    requires known { All (λ a. a < length declared.attrs) (named_by device) }
-    requires few { length declared.devices < 65536 }
-    ensures added { IfOk result (λ d. d ≡ record declared { devices = declared.devices ++ device ∷ [] }) }
-    ensures graph { IfOk result (λ d. IsGraphOf d graph.new) }
-{
-    match graph.add_device(device.own, device.needs.items()) {
-        Ok(_) => {}
-        Err(_) => {
-            drop(declared);
-            drop(device);
-            return Err(Memory);
-        }
-    }
-    let whole = declared.with_device(alloc, device)?;
-    Ok(whole)
-}
-
-/// Adds an attribute, where there is one.
-fn grow_attr(
-    alloc: Global,
-    declared: Catalog,
+    declared: &mut Catalog,
     graph: &mut Graph,
     attr: Option<Attr>,
-) -> Result<Catalog, Memory>
-    requires graph { IsGraphOf declared graph.old }
-    requires known { IfSome attr (λ a. All (λ b. b < length declared.attrs) a.needs) }
-    requires few { length declared.attrs < 65536 }
-    ensures added { IfOk result (λ d. d ≡ record declared { attrs = declared.attrs ++ option_to_list attr }) }
-    ensures graph { IfOk result (λ d. IsGraphOf d graph.new) }
+) -> Result<(), Memory>
+    requires graph { IsGraphOf declared.old graph.old }
+    requires known { IfSome attr (λ a. All (λ b. b < length declared.old.attrs) a.needs) }
+    requires few { length declared.old.attrs < 65536 }
+    ensures added { OnOk result (declared.new ≡ record declared.old { attrs = declared.old.attrs ++ option_to_list attr }) }
+    ensures graph { OnOk result (IsGraphOf declared.new graph.new) }
 {
-    match attr {
-        Some(attr) => add_attr(alloc, declared, graph, attr),
-        None => Ok(declared),
+    let Some(attr) = attr else {
+        return Ok(());
+    };
+    match graph.add_attr(attr.iface, attr.needs.items()) {
+        Ok(_) => declared.add_attr(alloc, attr),
+        Err(_) => Err(Memory),
     }
 }
 
-/// Adds a device, where there is one.
-fn grow_device(
+/// Adds a device, where there is one. No accepted one offers too many interface attributes.
+fn add_device(
     alloc: Global,
-    declared: Catalog,
+    declared: &mut Catalog,
     graph: &mut Graph,
     device: Option<Device>,
-) -> Result<Catalog, Memory>
-    requires graph { IsGraphOf declared graph.old }
-    requires known { IfSome device (λ x. All (λ b. b < length declared.attrs) (named_by x)) }
-    requires few { length declared.devices < 65536 }
-    ensures added { IfOk result (λ d. d ≡ record declared { devices = declared.devices ++ option_to_list device }) }
-    ensures graph { IfOk result (λ d. IsGraphOf d graph.new) }
+) -> Result<(), Memory>
+    requires graph { IsGraphOf declared.old graph.old }
+    requires known { IfSome device (λ x. All (λ b. b < length declared.old.attrs) (named_by x)) }
+    requires few { length declared.old.devices < 65536 }
+    ensures added { OnOk result (declared.new ≡ record declared.old { devices = declared.old.devices ++ option_to_list device }) }
+    ensures graph { OnOk result (IsGraphOf declared.new graph.new) }
 {
-    match device {
-        Some(device) => add_device(alloc, declared, graph, device),
-        None => Ok(declared),
+    let Some(device) = device else {
+        return Ok(());
+    };
+    match graph.add_device(device.own, device.needs.items()) {
+        Ok(_) => declared.add_device(alloc, device),
+        Err(_) => Err(Memory),
     }
 }
 
 /// Adds an attachment, where there is one.
-fn grow_attach(alloc: Global, declared: Catalog, attach: Option<Attach>) -> Result<Catalog, Memory>
-    ensures { IfOk result (λ d. d ≡ record declared { attaches = declared.attaches ++ option_to_list attach }) }
+fn add_attach(alloc: Global, declared: &mut Catalog, attach: Option<Attach>) -> Result<(), Memory>
+    ensures { OnOk result (declared.new ≡ record declared.old { attaches = declared.old.attaches ++ option_to_list attach }) }
 {
     match attach {
-        Some(attach) => declared.with_attach(alloc, attach),
-        None => Ok(declared),
+        Some(attach) => declared.add_attach(alloc, attach),
+        None => Ok(()),
     }
 }
 
@@ -165,59 +121,37 @@ fn parts_of(alloc: Global, declared: &Catalog, stmt: &Stmt) -> Result<Additions,
 /// Adds what an accepted statement declares.
 fn add(
     alloc: Global,
-    declared: Catalog,
+    declared: &mut Catalog,
     graph: &mut Graph,
     added: Additions,
-) -> Result<Catalog, Memory>
-    requires graph { IsGraphOf declared graph.old }
-    requires attr { IfSome added.attr (λ a. All (λ b. b < length declared.attrs) a.needs) }
-    requires device { IfSome added.device (λ x. All (λ b. b < length (declared.attrs ++ option_to_list added.attr)) (named_by x)) }
-    requires attrs { length declared.attrs < 65536 }
-    requires devices { length declared.devices < 65536 }
-    ensures added { IfOk result (λ d. d ≡ with_additions declared added) }
-    ensures graph { IfOk result (λ d. IsGraphOf d graph.new) }
+) -> Result<(), Memory>
+    requires graph { IsGraphOf declared.old graph.old }
+    requires attr { IfSome added.attr (λ a. All (λ b. b < length declared.old.attrs) a.needs) }
+    requires device { IfSome added.device (λ x. All (λ b. b < length (declared.old.attrs ++ option_to_list added.attr)) (named_by x)) }
+    requires attrs { length declared.old.attrs < 65536 }
+    requires devices { length declared.old.devices < 65536 }
+    ensures added { OnOk result (declared.new ≡ with_additions declared.old added) }
+    ensures graph { OnOk result (IsGraphOf declared.new graph.new) }
 {
-    let Additions {
-        attr,
-        device,
-        attach,
-    } = added;
-    let with_attr = match grow_attr(alloc, declared, graph, attr) {
-        Ok(with_attr) => with_attr,
-        Err(stop) => {
-            drop(device);
-            drop(attach);
-            return Err(stop);
-        }
-    };
-    match grow_device(alloc, with_attr, graph, device) {
-        Ok(with_device) => grow_attach(alloc, with_device, attach),
-        Err(stop) => {
-            drop(attach);
-            Err(stop)
-        }
-    }
+    add_attr(alloc, declared, graph, added.attr)?;
+    add_device(alloc, declared, graph, added.device)?;
+    add_attach(alloc, declared, added.attach)
 }
 
 /// Adds what an accepted statement declares.
 pub fn grow(
     alloc: Global,
-    declared: Catalog,
+    declared: &mut Catalog,
     graph: &mut Graph,
     stmt: &Stmt,
-) -> Result<Catalog, Memory>
-    requires graph { IsGraphOf declared graph.old }
-    requires accepted { code_of declared 0 stmt.now ≡ None }
-    requires attrs { length declared.attrs < 65536 }
-    requires devices { length declared.devices < 65536 }
-    ensures added { IfOk result (λ d. d ≡ declare declared stmt.now) }
-    ensures graph { IfOk result (λ d. IsGraphOf d graph.new) }
+) -> Result<(), Memory>
+    requires graph { IsGraphOf declared.old graph.old }
+    requires accepted { code_of declared.old 0 stmt.now ≡ None }
+    requires attrs { length declared.old.attrs < 65536 }
+    requires devices { length declared.old.devices < 65536 }
+    ensures added { OnOk result (declared.new ≡ declare declared.old stmt.now) }
+    ensures graph { OnOk result (IsGraphOf declared.new graph.new) }
 {
-    match parts_of(alloc, &declared, stmt) {
-        Ok(added) => add(alloc, declared, graph, added),
-        Err(stop) => {
-            drop(declared);
-            Err(stop)
-        }
-    }
+    let added = parts_of(alloc, declared, stmt)?;
+    add(alloc, declared, graph, added)
 }

@@ -1,6 +1,6 @@
 -- The numbers of names, with one more name.
 use Rattle.std.proofs.Common.{◌≡◌, ℕ, ◌+◌, suc, Bool, true, false, cond, Option, Some, None, List, [], ◌∷◌, ◌++◌, length, map, refl, ap, sym, ◌∙◌, subst, arith}
-use Rattle.std.specs.Prelude.{Vec, bytes_eq, is_some, option_map, position}
+use Rattle.std.specs.Prelude.{Vec, bytes_eq, option_map, position, unwrap_or}
 use Rattle.std.specs.Global.{Global}
 use Rattle.std.specs.Map.{lookup}
 use Rattle.std.proofs.lemmas.Bool.{false≢true}
@@ -66,30 +66,12 @@ position_push p (x ∷ xs) y =
     ∙ one_on (p x) (position p xs) (length xs) (p y)
     ∙ ap (λ o. first_or o (cond (p y) (Some (suc (length xs))) None)) (sym (position_cons p x xs))
 
--- a name that stands there already
-known_if : (b : Bool) (o : Option ℕ) (n : ℕ) → (b ≡ true → is_some o ≡ true) → o ≡ first_or o (cond b (Some n) None)
-known_if b (Some k) n h = refl
-known_if true None n h = absurd (false≢true (h refl))
-known_if false None n h = refl
-
--- a name that doesn't
-new_if : (b : Bool) (o : Option ℕ) (n : ℕ) → (b ≡ true → is_some o ≡ false) → cond b (Some n) o ≡ first_or o (cond b (Some n) None)
-new_if true None n h = refl
-new_if false None n h = refl
-new_if false (Some k) n h = refl
-new_if true (Some k) n h = absurd (false≢true (sym (h refl)))
-
-place_is : (numbers : Numbers) (names : List (List ℕ)) (name q : List ℕ) (b : Bool) → AreNumbers numbers names → is_some (number_in numbers name) ≡ b → bytes_eq name q ≡ true → is_some (position (λ n. bytes_eq n q) names) ≡ b
-place_is numbers names name q b are known same =
-    ap is_some (sym (are q)) ∙ ap (λ (n : List ℕ). is_some (number_in numbers n)) (sym ((bytes_eq-Decides name q).0 same)) ∙ known
-
--- a name that stands before changes no number
-pub known_name : (numbers : Numbers) (name : List ℕ) → is_some (number_in numbers name) ≡ true
-    → (names : List (List ℕ)) → AreNumbers numbers names → AreNumbers numbers (names ++ name ∷ [])
-known_name numbers name known names are q =
-    are q
-    ∙ known_if (bytes_eq name q) (position (λ n. bytes_eq n q) names) (length names) (place_is numbers names name q true are known)
-    ∙ sym (position_push (λ n. bytes_eq n q) names name)
+-- the number that stands there already, or else a new one
+set_if : (b : Bool) (o : Option ℕ) (n v : ℕ) → (b ≡ true → v ≡ unwrap_or o n) → cond b (Some v) o ≡ first_or o (cond b (Some n) None)
+set_if true (Some k) n v h = ap Some (h refl)
+set_if true None n v h = ap Some (h refl)
+set_if false (Some k) n v h = refl
+set_if false None n v h = refl
 
 turned : (a b : Bool) → (a ≡ true → b ≡ true) → (b ≡ true → a ≡ true) → a ≡ b
 turned true b f g = sym (f refl)
@@ -105,17 +87,18 @@ eq_sym a b =
 key_is : (q name : List ℕ) (k : Key) → k.items ≡ name → is_key q k ≡ bytes_eq name q
 key_is q name k is = ap (bytes_eq q) is ∙ eq_sym q name
 
--- a new name has the next number
-pub new_name : (old new : Numbers) (k : Key) (name : List ℕ) (number : ℕ) → is_some (number_in old name) ≡ false
-    → new.entries ≡ insert_entry key_eq old.entries k number → k.items ≡ name
-    → (names : List (List ℕ)) → AreNumbers old names → length names ≡ number → AreNumbers new (names ++ name ∷ [])
-new_name old new k name number unknown entries is names are size q =
+-- a name gets the next number, unless one stands there
+pub next_name : (old : Numbers) (new : List (Key × ℕ)) (k : Key) (name : List ℕ) (number v : ℕ) → v ≡ unwrap_or (number_in old name) number
+    → new ≡ insert_entry key_eq old.entries k v → k.items ≡ name
+    → (names : List (List ℕ)) → AreNumbers old names → length names ≡ number → (q : List ℕ) → lookup (is_key q) new ≡ position (λ n. bytes_eq n q) (names ++ name ∷ [])
+next_name old new k name number v value entries is names are size q =
+    let place : Option ℕ = position (λ n. bytes_eq n q) names in
     ap (lookup (is_key q)) entries
-    ∙ key_set q old.entries k number
-    ∙ ap (λ b. cond b (Some number) (number_in old q)) (key_is q name k is)
-    ∙ ap (cond (bytes_eq name q) (Some number)) (are q)
-    ∙ ap (λ (n : ℕ). cond (bytes_eq name q) (Some n) (position (λ m. bytes_eq m q) names)) (sym size)
-    ∙ new_if (bytes_eq name q) (position (λ n. bytes_eq n q) names) (length names) (place_is old names name q false are unknown)
+    ∙ key_set q old.entries k v
+    ∙ ap (λ b. cond b (Some v) (number_in old q)) (key_is q name k is)
+    ∙ ap (cond (bytes_eq name q) (Some v)) (are q)
+    ∙ set_if (bytes_eq name q) place (length names) v
+    (λ h. value ∙ ap (λ (m : List ℕ). unwrap_or (number_in old m) number) ((bytes_eq-Decides name q).0 h) ∙ ap (λ (o : Option ℕ). unwrap_or o number) (are q) ∙ ap (unwrap_or place) (sym size))
     ∙ sym (position_push (λ n. bytes_eq n q) names name)
 
 -- the number of a name in a list of what has names

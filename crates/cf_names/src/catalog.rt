@@ -1,10 +1,10 @@
-ghost use Rattle.std.specs.Prelude.{◌≡◌, [], ◌∷◌, ◌++◌, ◌<◌, length, IfOk, IfSome, OnOk, All, Ok};
+ghost use Rattle.std.specs.Prelude.{◌≡◌, [], ◌∷◌, ◌++◌, ◌<◌, length, IfSome, OnOk, All, Ok};
 ghost use Rattle.config_rules.specs.Declared.{attr_number, device_number, has_attach};
 ghost use Rattle.cf_names.specs.Attaches.{attaches_of};
 ghost use Rattle.cf_names.specs.Indexed.{IsIndexOf, with_attach, with_attr, with_device};
 ghost use Rattle.cf_names.specs.Spots.{all_spots, first_spot, is_at};
 
-use crate::hash::NameHash;
+use crate::hash::{HashKey, NameHash};
 use crate::index::{Index, add_number};
 use crate::numbers::{add_name, number_in};
 use crate::spots::{FirstSpot, SpotKey};
@@ -78,19 +78,52 @@ fn note_attach(
     Ok(())
 }
 
-/// The catalog of these parts, unless memory ran out.
-fn whole(lists: Declared, index: Index, added: Result<(), Memory>) -> Result<Catalog, Memory>
-    requires { OnOk added (IsIndexOf lists index) }
-    ensures { IfOk result (λ whole. (added ≡ Ok tt) × (whole ≡ lists)) }
+/// Appends what is noted already.
+fn push_noted<T: Drop>(
+    list: &mut List<T>,
+    noted: Result<(), Memory>,
+    value: T,
+) -> Result<(), Memory>
+    ensures noted { OnOk result (noted ≡ Ok tt) }
+    ensures pushed { OnOk result (list.new ≡ list.old ++ value ∷ []) }
 {
-    match added {
-        Ok(()) => Ok(Catalog { lists, index }),
+    match noted {
+        Ok(()) => list.push(value),
         Err(stop) => {
-            drop(lists);
-            drop(index);
+            drop(value);
             Err(stop)
         }
     }
+}
+
+/// Nothing is declared.
+fn no_lists(alloc: Global) -> Declared
+    ensures { result ≡ record { attrs = []; devices = []; attaches = [] } }
+{
+    Declared {
+        attrs: List::make(alloc),
+        devices: List::make(alloc),
+        attaches: List::make(alloc),
+    }
+}
+
+/// Drops what is declared, where memory ran out while it grew.
+fn settle(
+    alloc: Global,
+    lists: &mut Declared,
+    index: &mut Index,
+    added: Result<(), Memory>,
+) -> Result<(), Memory>
+    requires { OnOk added (IsIndexOf lists.old index.old) }
+    ensures result { result ≡ added }
+    ensures same { OnOk result (lists.new ≡ lists.old) }
+    ensures index { IsIndexOf lists.new index.new }
+{
+    if added.is_err() {
+        *lists = no_lists(alloc);
+        *index = Index::make(alloc, HashKey::make().hash());
+    }
+    added
 }
 
 impl Catalog {
@@ -99,11 +132,7 @@ impl Catalog {
         ensures { result ≡ record { attrs = []; devices = []; attaches = [] } }
     {
         Catalog {
-            lists: Declared {
-                attrs: List::make(alloc),
-                devices: List::make(alloc),
-                attaches: List::make(alloc),
-            },
+            lists: no_lists(alloc),
             index: Index::make(alloc, hash),
         }
     }
@@ -170,64 +199,31 @@ impl Catalog {
         self.index.spots.first.get(&key).copied()
     }
 
-    /// Adds an attribute. Where memory runs out, all is dropped.
-    pub fn with_attr(self, alloc: Global, attr: Attr) -> Result<Catalog, Memory>
-        ensures { IfOk result (λ d. d ≡ record self { attrs = self.attrs ++ attr ∷ [] }) }
+    /// Adds an attribute. Where memory runs out, nothing is declared any more.
+    pub fn add_attr(&mut self, alloc: Global, attr: Attr) -> Result<(), Memory>
+        ensures { OnOk result (self.new ≡ record self.old { attrs = self.old.attrs ++ attr ∷ [] }) }
     {
-        let Catalog {
-            mut lists,
-            mut index,
-        } = self;
-        match note_attr(alloc, &mut index, &lists, &attr) {
-            Ok(()) => {
-                let added = lists.attrs.push(attr);
-                whole(lists, index, added)
-            }
-            Err(stop) => {
-                drop(attr);
-                whole(lists, index, Err(stop))
-            }
-        }
+        let noted = note_attr(alloc, &mut self.index, &self.lists, &attr);
+        let added = push_noted(&mut self.lists.attrs, noted, attr);
+        settle(alloc, &mut self.lists, &mut self.index, added)
     }
 
-    /// Adds a device. Where memory runs out, all is dropped.
-    pub fn with_device(self, alloc: Global, device: Device) -> Result<Catalog, Memory>
-        ensures { IfOk result (λ d. d ≡ record self { devices = self.devices ++ device ∷ [] }) }
+    /// Adds a device. Where memory runs out, nothing is declared any more.
+    pub fn add_device(&mut self, alloc: Global, device: Device) -> Result<(), Memory>
+        ensures { OnOk result (self.new ≡ record self.old { devices = self.old.devices ++ device ∷ [] }) }
     {
-        let Catalog {
-            mut lists,
-            mut index,
-        } = self;
-        match note_device(alloc, &mut index, &lists, &device) {
-            Ok(()) => {
-                let added = lists.devices.push(device);
-                whole(lists, index, added)
-            }
-            Err(stop) => {
-                drop(device);
-                whole(lists, index, Err(stop))
-            }
-        }
+        let noted = note_device(alloc, &mut self.index, &self.lists, &device);
+        let added = push_noted(&mut self.lists.devices, noted, device);
+        settle(alloc, &mut self.lists, &mut self.index, added)
     }
 
-    /// Adds an attachment. Where memory runs out, all is dropped.
-    pub fn with_attach(self, alloc: Global, attach: Attach) -> Result<Catalog, Memory>
-        ensures { IfOk result (λ d. d ≡ record self { attaches = self.attaches ++ attach ∷ [] }) }
+    /// Adds an attachment. Where memory runs out, nothing is declared any more.
+    pub fn add_attach(&mut self, alloc: Global, attach: Attach) -> Result<(), Memory>
+        ensures { OnOk result (self.new ≡ record self.old { attaches = self.old.attaches ++ attach ∷ [] }) }
     {
-        let Catalog {
-            mut lists,
-            mut index,
-        } = self;
-        match note_attach(alloc, &mut index, &lists, &attach) {
-            Ok(()) => {
-                let added = lists.attaches.push(attach);
-                whole(lists, index, added)
-            }
-            Err(stop) => {
-                drop(attach);
-                whole(lists, index, Err(stop))
-            }
-        }
+        let noted = note_attach(alloc, &mut self.index, &self.lists, &attach);
+        let added = push_noted(&mut self.lists.attaches, noted, attach);
+        settle(alloc, &mut self.lists, &mut self.index, added)
     }
 
     /// The lists alone.

@@ -32,10 +32,7 @@ pub fn add_name(
 ) -> Result<(), Memory>
     ensures { OnOk result ((names : List (List ℕ)) → AreNumbers numbers.old names → length names ≡ number → AreNumbers numbers.new (names ++ name.now ∷ [])) }
 {
-    if number_in(numbers, name).is_some() {
-        return Ok(());
-    }
     let key = Vec::from_slice(alloc, name)?;
-    numbers.insert(key, number)?;
+    numbers.entry(key)?.or_insert(number);
     Ok(())
 }

@@ -121,6 +121,20 @@ fn select_placed(
     Ok(selection.into_paths())
 }
 
+/// The paths that placed statements select by what the tables choose, or the first of them that has a code.
+fn select_chosen(
+    alloc: Global,
+    tables: &Tables,
+    files: &[Text],
+    placed: &[Placed],
+) -> Result<List<Text>, CompileStop>
+    requires { FormedTables tables.now }
+    ensures { SelectsPlaced (is_chosen tables.now) files.now placed.now result }
+{
+    let names = chosen_set(alloc, tables)?;
+    select_placed(alloc, &names, files, placed)
+}
+
 /// The paths that the statements of what was read select by what the tables choose.
 fn select_read(alloc: Global, tables: &Tables, read: Expanded) -> Result<List<Text>, CompileStop>
     requires { FormedTables tables.now }
@@ -131,11 +145,13 @@ fn select_read(alloc: Global, tables: &Tables, read: Expanded) -> Result<List<Te
         files,
         fault,
     } = read;
-    if let Some(fault) = fault {
-        return Err(CompileStop::Refused(fault));
-    }
-    let names = chosen_set(alloc, tables)?;
-    select_placed(alloc, &names, files.items(), placed.items())
+    let found = match fault {
+        Some(fault) => Err(CompileStop::Refused(fault)),
+        None => select_chosen(alloc, tables, files.items(), placed.items()),
+    };
+    drop(placed);
+    drop(files);
+    found
 }
 
 /// The paths of the sources that the named configuration selects by its `file` statements, in reading order, each once:
@@ -152,6 +168,14 @@ pub fn select<F: Files>(
     ensures asked { IfSome (F.told files.old) (λ named. AsksDue (asked_for named name.now) result (F.asked files.old) (F.asked files.new)) }
 {
     let tables = compile(alloc, files, name)?;
-    let read = expand(alloc, files, name)?;
-    select_read(alloc, &tables, read)
+    let read = match expand(alloc, files, name) {
+        Ok(read) => read,
+        Err(stop) => {
+            drop(tables);
+            return Err(CompileStop::from(stop));
+        }
+    };
+    let found = select_read(alloc, &tables, read);
+    drop(tables);
+    found
 }

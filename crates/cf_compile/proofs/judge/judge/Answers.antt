@@ -4,10 +4,9 @@ use Rattle.std.specs.Option.{option_to_list}
 use Rattle.cf_types.specs.declared.instance.Instance.{Instance}
 use Rattle.config_rules.specs.Declared.{Declared}
 use Rattle.config_rules.specs.Fault.{code_of}
-use Rattle.cf_declare.proofs.DeclareLaws.{nothing_more}
 use Rattle.cf_declare.specs.Declare.{declare}
 use Rattle.cf_compile.specs.Judged.{instance_at}
-use Rattle.cf_compile.proofs.WalkLaws.{none_left, survive_within, walked_begins, walked_fits, walked_goes_on, walked_stops, walked_ends}
+use Rattle.cf_compile.proofs.WalkLaws.{survive_within, walked_begins, walked_fits, walked_goes_on, walked_stops, walked_ends}
 use Rattle.cf_compile.proofs.judge.judge.Goals as goal
 
 pub loop-place-init : goal.loop-place-init
@@ -33,23 +32,11 @@ loop-place-preserved c =
     let left : c.in-Ok-None.field-0 ≡ None = c.in-Ok-None.field-0-is in
     let none : code_of c.loop-place.standing.declarations c.loop-place.count c.index-placed-place.result.stmt ≡ None = sym c.in-Ok-None.ensures.code ∙ left in
     let own : List Bool → List Instance = λ marks. if slice_index_or marks c.loop-place.place false then option_to_list (instance_at c.loop-place.standing.declarations c.loop-place.place c.index-placed-place.result.stmt) else [] in
-    let more : c.in_ok-standing.standing.instances ≡ c.loop-place.standing.instances ++ own c.args.survive.now = c.in_ok-standing.ensures.same ∙ c.in-Ok-None.ensures.kept left in
-    walked_goes_on c.args.files.now c.args.placed.now c.loop-place.place c.loop-place.standing.declarations c.in_ok-standing.standing.declarations c.loop-place.standing.instances c.in_ok-standing.standing.instances c.loop-place.count _ c.instance_count.result c.index-placed-place.result
-    c.loop-place-test.true c.index-placed-place.is c.loop-place.invariant none
-    (more ∙ ap (λ (marks : List Bool). c.loop-place.standing.instances ++ own marks) c.requires.survive)
-    (c.in_ok-standing.ensures.declared ∙ ap (λ (d : Declared). declare d c.index-placed-place.result.stmt) c.in-Ok-None.ensures.same) c.instance_count.ensures refl
-
-pub loop-place-preserved-then-not-declares : goal.loop-place-preserved-then-not-declares
-loop-place-preserved-then-not-declares c =
-    let d = c.loop-place.standing.declarations in
-    let left : c.in-Ok-None.field-0 ≡ None = c.in-Ok-None.field-0-is in
-    let none : code_of d c.loop-place.count c.index-placed-place.result.stmt ≡ None = sym c.in-Ok-None.ensures.code ∙ left in
-    let own : List Bool → List Instance = λ marks. if slice_index_or marks c.loop-place.place false then option_to_list (instance_at d c.loop-place.place c.index-placed-place.result.stmt) else [] in
     let more : c.judge_statement.new.standing.instances ≡ c.loop-place.standing.instances ++ own c.args.survive.now = c.in-Ok-None.ensures.kept left in
-    walked_goes_on c.args.files.now c.args.placed.now c.loop-place.place d c.judge_statement.new.standing.declarations c.loop-place.standing.instances c.judge_statement.new.standing.instances c.loop-place.count _ c.instance_count.result c.index-placed-place.result
+    walked_goes_on c.args.files.now c.args.placed.now c.loop-place.place c.loop-place.standing.declarations c.declare.new.self c.loop-place.standing.instances c.judge_statement.new.standing.instances c.loop-place.count _ c.instance_count.result c.index-placed-place.result
     c.loop-place-test.true c.index-placed-place.is c.loop-place.invariant none
     (more ∙ ap (λ (marks : List Bool). c.loop-place.standing.instances ++ own marks) c.requires.survive)
-    (c.in-Ok-None.ensures.same ∙ nothing_more d c.index-placed-place.result.stmt c.if-not-declares.ensures) c.instance_count.ensures refl
+    (c.in-Ok.ensures ∙ ap (λ (d : Declared). declare d c.index-placed-place.result.stmt) c.in-Ok-None.ensures.same) c.instance_count.ensures refl
 
 pub returns : goal.returns
 returns c = walked_ends c.args.files.now c.args.placed.now c.loop-place.place c.loop-place.standing.declarations c.loop-place.standing.instances c.loop-place.count c.loop-place-test.false c.loop-place.invariant

@@ -4,6 +4,6 @@ use Rattle.cf_types.specs.Offers.{named_by}
 use Rattle.config_rules.specs.Declared.{Declared}
 use Rattle.cf_declare.proofs.grow.add.Goals as goal
 
-pub grow_device-requires-clause-known : goal.grow_device-requires-clause-known
-grow_device-requires-clause-known c =
-    subst (λ (d : Declared). IfSome c.args.added.device (λ x. All (λ b. b < length d.attrs) (named_by x))) (sym c.in-Ok.ensures.added) c.requires.device
+pub add_device-requires-clause-known : goal.add_device-requires-clause-known
+add_device-requires-clause-known c =
+    subst (λ (d : Declared). IfSome c.args.added.device (λ x. All (λ b. b < length d.attrs) (named_by x))) (sym c.in_ok-add_attr.ensures.added) c.requires.device
