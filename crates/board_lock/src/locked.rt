@@ -38,6 +38,7 @@ impl<N: Naming> Model for Locked<N> {
 }
 
 // Counts an event of the seat's caller.
+#[inline(always)]
 fn count_event<N: Naming>(books: &mut Books<N>, seat: &mut Seat<N>, event: &Event)
     requires { event.now.caller ≢ 0 }
     ensures books { books.new ≡ more_in_all books.old event.now }
@@ -50,6 +51,7 @@ fn count_event<N: Naming>(books: &mut Books<N>, seat: &mut Seat<N>, event: &Even
 }
 
 // Takes or gives back the lease that a step names.
+#[inline(always)]
 fn settle<N: Naming>(table: &LeaseTable, seat: &mut Seat<N>, step: LeaseStep)
     requires table { table.now ≡ N.table }
     requires slots { spots_of N.opening + 1 ≡ N.table.words }
@@ -79,6 +81,7 @@ impl<N: Naming> Locked<N> {
 
     /// One step of the seat's caller; none where the board waits.
     #[tactic(auto, using(crate::proofs::Opened::kept_same))]
+    #[inline(always)]
     pub fn turn(&mut self, table: &LeaseTable, seat: &mut Seat<N>) -> Option<Turn>
         requires { table.now ≡ N.table }
         ensures { TryIs N.opening seat.old result seat.new }
@@ -145,6 +148,7 @@ impl<N: Naming> Locked<N> {
     }
 
     /// Whether an answer may end the wait of another caller.
+    #[inline(always)]
     pub fn may_end_waits(&self, turn: &Turn) -> bool {
         let Turn::Did(place, _) = turn else {
             return false;

@@ -62,6 +62,7 @@ impl<N: Naming> Model for Done<N> {
 
 impl<N: Naming> Seat<N> {
     /// The caller's number.
+    #[inline(always)]
     pub fn caller(&self) -> u8
         ensures caller { result ≡ self.now.caller }
         ensures range { (1 ≤ result) × (result ≤ scripts_of N.opening) }
@@ -70,6 +71,7 @@ impl<N: Naming> Seat<N> {
     }
 
     /// Whether the caller ended, once.
+    #[inline(always)]
     pub fn has_ended(&self) -> bool
         ensures { result ≡ (self.now.closings == 1) }
     {

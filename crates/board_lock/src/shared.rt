@@ -110,6 +110,7 @@ impl<N: Naming> SharedBoard<N> {
 
     /// One step of the seat's caller. Where the board waits, the call waits for a notice and steps again. At an event the lease
     /// that it names is taken or given back, in the same taking of the lock.
+    #[inline(always)]
     pub fn step<R: Wait>(&self, rt: &R, seat: &mut Seat<N>) -> Turn
         ensures { TurnIs N.opening seat.old result seat.new }
     {

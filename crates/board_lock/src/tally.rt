@@ -41,6 +41,7 @@ impl<N: Naming> Model for Books<N> {
 
 /// Whether an event is the end of its caller.
 #[tactic(auto, unfolding(run_rules::specs::Counts::closes_script))]
+#[inline(always)]
 pub fn ends_caller(event: &Event) -> bool
     requires { event.now.caller ≢ 0 }
     ensures { result ≡ closes_script event.now }
@@ -118,6 +119,7 @@ impl<N: Naming> Books<N> {
     }
 
     /// Counts an event of a script's caller, in the books and in the caller's shares.
+    #[inline(always)]
     pub fn count(&mut self, shares: &mut Shares<N>, event: &Event)
         requires part { 0 < shares.old.parts }
         requires caller { event.now.caller ≢ 0 }

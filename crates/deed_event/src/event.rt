@@ -26,6 +26,7 @@ use run_world::Core;
 use std::alloc::Global;
 
 /// The number of a caller's next event.
+#[inline(always)]
 pub fn number_of(core: &Core, caller: u8) -> u32
     requires caller { caller < length core.now.callers.items }
     requires low { (state_at core.now.callers.items caller).over < 2 ^ 32 - 1 }
@@ -39,6 +40,7 @@ pub fn number_of(core: &Core, caller: u8) -> u32
 }
 
 /// A search of a spot, with what came there.
+#[inline(always)]
 fn found_act(
     alloc: Global,
     setup: &Setup,
@@ -82,11 +84,12 @@ fn final_act(
 
 /// The line of a deed that tells this device alone, which has this name.
 #[tactic(auto, unfolding(run_rules::specs::Run::printed))]
-fn line_with(deed: Deed, of: u64, device: Name) -> Act
-    requires { device_told deed ≡ Some of }
-    ensures { (w : World) (k : ℕ) → device ≡ name_at w of → run.printed w k deed ≡ result }
+#[inline(always)]
+fn line_with(deed: &Deed, of: u64, device: Name) -> Act
+    requires { device_told deed.now ≡ Some of }
+    ensures { (w : World) (k : ℕ) → device ≡ name_at w of → run.printed w k deed.now ≡ result }
 {
-    match deed {
+    match *deed {
         Deed::Drop { .. } => Act::DropRef { device },
         Deed::Done(ticket) => Act::IoDone {
             device,
@@ -100,12 +103,19 @@ fn line_with(deed: Deed, of: u64, device: Name) -> Act
 }
 
 /// What happens by a deed that tells this device alone.
-fn device_act(alloc: Global, setup: &Setup, core: &Core, of: u64, deed: Deed) -> Result<Act, Memory>
+#[inline(always)]
+fn device_act(
+    alloc: Global,
+    setup: &Setup,
+    core: &Core,
+    of: u64,
+    deed: &Deed,
+) -> Result<Act, Memory>
     requires bounded { Bounded setup.now }
     requires rows { HaveRows setup.now core.now.tree.live }
     requires live { IsLive core.now.tree.live of }
-    requires told { device_told deed ≡ Some of }
-    ensures { (k : ℕ) → IfOk result (λ a. a ≡ run.printed (world_of setup.now core.now) k deed) }
+    requires told { device_told deed.now ≡ Some of }
+    ensures { (k : ℕ) → IfOk result (λ a. a ≡ run.printed (world_of setup.now core.now) k deed.now) }
 {
     match live_name(alloc, setup, core, of) {
         Ok(device) => Ok(line_with(deed, of, device)),
@@ -115,21 +125,22 @@ fn device_act(alloc: Global, setup: &Setup, core: &Core, of: u64, deed: Deed) ->
 
 /// What happens by a deed of a scan, of a finaliser or of a device; a deed of a command is told by its command.
 #[tactic(auto, unfolding(run_rules::specs::Run::printed))]
+#[inline(always)]
 fn deed_act(
     alloc: Global,
     setup: &Setup,
     core: &Core,
     caller: u8,
-    deed: Deed,
+    deed: &Deed,
 ) -> Result<Act, Memory>
     requires bounded { Bounded setup.now }
     requires rows { HaveRows setup.now core.now.tree.live }
     requires few { length core.now.tree.live + 1 < 2 ^ 32 }
     requires caller { caller < length core.now.callers.items }
-    requires may { MayBeTold (world_of setup.now core.now) caller deed }
-    ensures { IfOk result (λ a. a ≡ run.printed (world_of setup.now core.now) caller deed) }
+    requires may { MayBeTold (world_of setup.now core.now) caller deed.now }
+    ensures { IfOk result (λ a. a ≡ run.printed (world_of setup.now core.now) caller deed.now) }
 {
-    match deed {
+    match *deed {
         Deed::Search {
             parent,
             spot,
@@ -162,14 +173,14 @@ pub fn deed_event(
     setup: &Setup,
     core: &Core,
     caller: u8,
-    deed: Deed,
+    deed: &Deed,
 ) -> Result<Event, Memory>
     requires kept { Kept (world_of setup.now core.now) }
     requires may { MayRun setup.now }
     requires calls { CallsDevices (world_of setup.now core.now) }
     requires scripts { FormedScripts setup.now }
-    requires chosen { next (world_of setup.now core.now) caller ≡ Does deed }
-    ensures event { IfOk result (λ e. e ≡ event_of (world_of setup.now core.now) caller deed) }
+    requires chosen { next (world_of setup.now core.now) caller ≡ Does deed.now }
+    ensures event { IfOk result (λ e. e ≡ event_of (world_of setup.now core.now) caller deed.now) }
     ensures formed { IfOk result IsFormed }
 {
     let act = deed_act(alloc, setup, core, caller, deed)?;

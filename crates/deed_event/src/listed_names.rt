@@ -16,6 +16,7 @@ use run_world::{Core, device_named};
 use std::alloc::Global;
 
 /// The name of a live device.
+#[inline(always)]
 pub fn live_name(alloc: Global, setup: &Setup, core: &Core, serial: u64) -> Result<Name, Memory>
     requires bounded { Bounded setup.now }
     requires rows { HaveRows setup.now core.now.tree.live }

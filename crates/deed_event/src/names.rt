@@ -36,6 +36,7 @@ pub fn unit_name(alloc: Global, setup: &Setup, row: u32, unit: u32) -> Result<Na
 }
 
 /// The name that an event tells of a device that came.
+#[inline(always)]
 fn told_name(event: &Event) -> Option<&Name> {
     match &event.act {
         Act::Found { got: Some(got), .. } => Some(&got.name),
@@ -48,6 +49,7 @@ fn told_name(event: &Event) -> Option<&Name> {
 }
 
 /// The name that was told when a device came to a spot last. Whoever takes it compares it first.
+#[inline(always)]
 fn last_name(core: &Core, spot: u16) -> Option<&Name> {
     let place = core.came.get(spot as usize)?;
     let event = core.events.get(*place as usize)?;
@@ -88,6 +90,7 @@ pub fn parent_name(alloc: Global, setup: &Setup, core: &Core, serial: u64) -> Re
 }
 
 /// The name of a spot.
+#[inline(always)]
 pub fn spot_name(setup: &Setup, spot: u16) -> Result<Name, Memory>
     requires { spot < length setup.now.machine.spots }
     ensures { IfOk result (λ n. n ≡ run.spot_name setup.now spot) }
@@ -99,6 +102,7 @@ pub fn spot_name(setup: &Setup, spot: u16) -> Result<Name, Memory>
 }
 
 /// The name and the row of what came, if anything did.
+#[inline(always)]
 pub fn got_of(alloc: Global, setup: &Setup, got: Option<Arrival>) -> Result<Option<Got>, Memory>
     requires bounded { Bounded setup.now }
     requires row { HasRow setup.now got }

@@ -147,6 +147,7 @@ fn call_later(finalisers: &mut Vec<u64>, placing: Placing, serial: u64)
 
 /// A device comes by a caller's deed, if one was found.
 #[tactic(auto, unfolding(run_rules::specs::After::attached))]
+#[inline(always)]
 pub fn arrive(
     alloc: Global,
     site: &Site,

@@ -144,6 +144,7 @@ impl Board {
     }
 
     /// One step of a caller: the one event that it does next, or nothing. See autoconf(9) for what a boot does, drvctl(8) for scripts.
+    #[inline(always)]
     pub fn step<S: Slots>(&mut self, caller: u8, slots: &mut S) -> Stepped
         requires caller { caller ≤ length self.old.world.setup.scripts }
         requires agree { S.states slots.old ≡ slots_of self.old.world }
@@ -203,6 +204,7 @@ impl Board {
     }
 
     /// How many events there were.
+    #[inline(always)]
     pub fn events(&self) -> u64
         ensures { result ≡ length self.now.events }
     {
@@ -210,6 +212,7 @@ impl Board {
     }
 
     /// The event at a place, counted from 0.
+    #[inline(always)]
     pub fn event(&self, place: u64) -> &Event
         requires { place < length self.now.events }
         ensures { slice_get self.now.events place ≡ Some result.now }

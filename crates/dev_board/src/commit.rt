@@ -20,6 +20,7 @@ use run_world::{Core, Site};
 use std::alloc::Global;
 
 /// A turn of a scan: the scan moves, and what was found comes.
+#[inline(always)]
 fn search(
     alloc: Global,
     site: &Site,
@@ -50,6 +51,7 @@ fn search(
 }
 
 /// A late spot is seen from now on.
+#[inline(always)]
 fn show(hidden: &mut Vec<u16>, spot: Option<u16>)
     ensures { hidden.new.items ≡ shown_now hidden.old.items spot }
 {
@@ -60,6 +62,7 @@ fn show(hidden: &mut Vec<u16>, spot: Option<u16>)
 }
 
 /// Whether one of this pass answered 1, with this call.
+#[inline(always)]
 fn goes_again(shown: Option<u16>, anew: bool, pass_repeats: bool) -> bool
     ensures { (is_some shown || (not anew && pass_repeats)) ≡ result }
 {
@@ -109,26 +112,27 @@ fn finalise(
 }
 
 /// Does the deed that the caller chose. At `Memory` all is as before.
+#[inline(always)]
 pub fn commit(
     alloc: Global,
     site: &Site,
     core: &mut Core,
     caller: u8,
-    deed: Deed,
+    deed: &Deed,
 ) -> Result<(), Memory>
     requires may { MayRun site.now.setup }
     requires books { Books site.now.setup core.old }
     requires kept { Kept (world_at site.now core.old) }
     requires caller { caller < length core.old.callers.items }
-    requires chosen { next (world_at site.now core.old) caller ≡ Does deed }
+    requires chosen { next (world_at site.now core.old) caller ≡ Does deed.now }
     requires next { core.old.tree.next < 2 ^ 64 - 1 }
-    requires room { HasRoom core.old caller deed }
-    ensures ok { OnOk result (IsAfter site.now core.old caller deed core.new) }
+    requires room { HasRoom core.old caller deed.now }
+    ensures ok { OnOk result (IsAfter site.now core.old caller deed.now core.new) }
     ensures err { OnErr result (world_at site.now core.new ≡ world_at site.now core.old) }
     ensures books { Books site.now.setup core.new }
     ensures aside { SameAside core.old core.new }
 {
-    match deed {
+    match *deed {
         Deed::Search { moved, got, .. } => search(alloc, site, core, caller, moved, got),
         Deed::EndScan { of } => {
             core.callers[caller as usize].end_scan(alloc, &mut core.deferred, Key::Parent(of));

@@ -69,6 +69,7 @@ fn give_back(core: &mut Core, caller: u8, of: u64)
 }
 
 /// A transfer is over.
+#[inline(always)]
 pub fn finish_transfer(core: &mut Core, caller: u8)
     requires caller { caller < length core.old.callers.items }
     requires low { (state_at core.old.callers.items caller).over < 2 ^ 32 - 1 }
@@ -127,6 +128,7 @@ fn detach(core: &mut Core, caller: u8, of: u64)
 }
 
 /// A device goes to sleep, or wakes.
+#[inline(always)]
 fn rest(core: &mut Core, of: u64, asleep: bool)
     requires live { IsTrue (world.is_live core.old.tree.live of) }
     ensures world { (s : from.Setup) → world_of s core.new ≡ rule.marked (world_of s core.old) of asleep }
@@ -158,19 +160,20 @@ fn unplug(core: &mut Core, caller: u8, spot: u16, of: Option<u64>) -> Result<(),
 }
 
 /// Does a deed of a command that takes no memory.
-fn do_plain(site: &Site, core: &mut Core, caller: u8, deed: Deed)
+#[inline(always)]
+fn do_plain(site: &Site, core: &mut Core, caller: u8, deed: &Deed)
     requires books { Books site.now.setup core.old }
     requires sound { HasSoundDevices site.now.setup core.old.tree.live core.old.tree.next }
     requires rows { HaveRows site.now.setup core.old.tree.live }
     requires caller { caller < length core.old.callers.items }
     requires low { (state_at core.old.callers.items caller).over < 2 ^ 32 - 1 }
-    requires may { MayDo (world_at site.now core.old) caller deed }
-    requires plain { is_plain deed ≡ true }
-    ensures world { IsAfter site.now core.old caller deed core.new }
+    requires may { MayDo (world_at site.now core.old) caller deed.now }
+    requires plain { is_plain deed.now ≡ true }
+    ensures world { IsAfter site.now core.old caller deed.now core.new }
     ensures books { Books site.now.setup core.new }
     ensures aside { SameAside core.old core.new }
 {
-    match deed {
+    match *deed {
         Deed::Refuse(_) => finish(core, caller),
         Deed::Tell => finish(core, caller),
         Deed::Close { of } => close(core, caller, of),
@@ -235,25 +238,26 @@ fn rescan(
 }
 
 /// Does a deed of a command that the caller chose. At `Memory` all is as before.
+#[inline(always)]
 pub fn do_command(
     alloc: Global,
     site: &Site,
     core: &mut Core,
     caller: u8,
-    deed: Deed,
+    deed: &Deed,
 ) -> Result<(), Memory>
     requires may { MayRun site.now.setup }
     requires books { Books site.now.setup core.old }
     requires kept { Kept (world_at site.now core.old) }
     requires caller { caller < length core.old.callers.items }
-    requires chosen { next.next (world_at site.now core.old) caller ≡ Does deed }
-    requires command { is_of_frame deed ≡ false }
-    ensures ok { OnOk result (IsAfter site.now core.old caller deed core.new) }
+    requires chosen { next.next (world_at site.now core.old) caller ≡ Does deed.now }
+    requires command { is_of_frame deed.now ≡ false }
+    ensures ok { OnOk result (IsAfter site.now core.old caller deed.now core.new) }
     ensures err { OnErr result (world_at site.now core.new ≡ world_at site.now core.old) }
     ensures books { Books site.now.setup core.new }
     ensures aside { SameAside core.old core.new }
 {
-    match deed {
+    match *deed {
         Deed::Open { of, sole } => open(core, caller, of, sole),
         Deed::Rescan { of, only } => rescan(alloc, site, core, caller, of, only),
         Deed::Unplug { spot, of } => unplug(core, caller, spot, of),

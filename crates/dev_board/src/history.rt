@@ -9,6 +9,7 @@ use run_rules::{Event, Setup};
 use run_world::append;
 
 /// Appends the event of a caller, and is its witness.
+#[inline(always)]
 pub fn append_event(
     setup: &Setup,
     events: &mut Vec<Event>,

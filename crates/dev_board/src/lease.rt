@@ -57,10 +57,11 @@ fn return_step(core: &Core, caller: u8, of: u64) -> LeaseStep
 
 /// The slot that a deed of a caller takes or gives back, on a board that has not done it yet: it opens a device, or closes
 /// one.
-pub fn lease_of(core: &Core, caller: u8, deed: Deed) -> LeaseStep
-    ensures { (w : World) → w.live ≡ core.now.tree.live → w.refs ≡ core.now.refs.refs → next w caller ≡ Does deed → lease_step w (after w caller deed) caller ≡ result }
+#[inline(always)]
+pub fn lease_of(core: &Core, caller: u8, deed: &Deed) -> LeaseStep
+    ensures { (w : World) → w.live ≡ core.now.tree.live → w.refs ≡ core.now.refs.refs → next w caller ≡ Does deed.now → lease_step w (after w caller deed.now) caller ≡ result }
 {
-    match deed {
+    match *deed {
         Deed::Open { of, .. } => opening_step(core, caller, of),
         Deed::Close { of } => return_step(core, caller, of),
         Deed::Drop { of } => return_step(core, caller, of),

@@ -61,7 +61,7 @@ fn end_transfer(
     ensures books { Books setup.now core.new }
 {
     core.events.reserve(1)?;
-    match deed_event(alloc, setup, core, ticket.caller, Deed::Done(ticket)) {
+    match deed_event(alloc, setup, core, ticket.caller, &Deed::Done(ticket)) {
         Ok(event) => {
             finish_transfer(core, ticket.caller);
             Ok(append_event(

@@ -9,7 +9,7 @@ use match_search::LiveRows;
 fn is_hit(row: &Row, device: u32, unit: u32) -> bool
     ensures { hits row.now device unit ≡ result }
 {
-    !row.star && (device == row.device && unit == row.unit)
+    device == row.device && unit == row.unit && !row.star
 }
 
 /// Sets whether the rows of a device and a unit are live.

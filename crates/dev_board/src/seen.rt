@@ -20,6 +20,7 @@ unsafe impl<A: Send> Send for Seen<A> {}
 
 impl<A> Seen<A> {
     /// The note of this value.
+    #[inline(always)]
     pub fn of(value: &A) -> Seen<A>
         ensures { result.value ≡ value.now }
     {

@@ -122,10 +122,11 @@ pub fn free_with<S: Slots>(
 }
 
 /// The device that a deed condemns, with all that is below it.
-fn condemned_by(deed: Deed) -> Option<u64>
-    ensures { result ≡ slot_deeds.condemned_by deed }
+#[inline(always)]
+fn condemned_by(deed: &Deed) -> Option<u64>
+    ensures { result ≡ slot_deeds.condemned_by deed.now }
 {
-    match deed {
+    match *deed {
         Deed::Detach { of } => Some(of),
         Deed::Unplug { of, .. } => of,
         _ => None,
@@ -133,6 +134,7 @@ fn condemned_by(deed: Deed) -> Option<u64>
 }
 
 /// Condemns the slots of what was condemned just now, if anything was.
+#[inline(always)]
 fn condemn_too<S: Slots>(slots: &mut S, site: &Site, core: &Core, target: Option<u64>)
     requires { SlotsLag site.now.setup core.now.tree.live target (S.states slots.old) }
     ensures agree { S.states slots.new ≡ slots_of (world_at site.now core.now) }
@@ -146,10 +148,11 @@ fn condemn_too<S: Slots>(slots: &mut S, site: &Site, core: &Core, target: Option
 }
 
 /// The device that comes by a deed.
-pub fn got_of(deed: Deed) -> Option<Arrival>
-    ensures { result ≡ arrivals.got_of deed }
+#[inline(always)]
+pub fn got_of(deed: &Deed) -> Option<Arrival>
+    ensures { result ≡ arrivals.got_of deed.now }
 {
-    match deed {
+    match *deed {
         Deed::Search { got, .. } => got,
         Deed::Finalise { got, .. } => got,
         _ => None,
@@ -157,6 +160,7 @@ pub fn got_of(deed: Deed) -> Option<Arrival>
 }
 
 /// Publishes the slot of a device that comes.
+#[inline(always)]
 fn publish<S: Slots>(slots: &mut S, got: Option<Arrival>)
     requires { SlotReady got (S.states slots.old) }
     ensures states { S.states slots.new ≡ published got (S.states slots.old) }
@@ -171,28 +175,29 @@ fn publish<S: Slots>(slots: &mut S, got: Option<Arrival>)
 
 /// Does a deed that frees nothing; the slot of what came is published, and those of what it condemns are condemned. At
 /// `Memory` all is as before.
+#[inline(always)]
 fn do_with<S: Slots>(
     alloc: Global,
     site: &Site,
     core: &mut Core,
     caller: u8,
-    deed: Deed,
+    deed: &Deed,
     slots: &mut S,
 ) -> Result<(), Halt>
     requires may { MayRun site.now.setup }
     requires books { Books site.now.setup core.old }
     requires kept { Kept (world_at site.now core.old) }
     requires caller { caller < length core.old.callers.items }
-    requires chosen { next (world_at site.now core.old) caller ≡ Does deed }
+    requires chosen { next (world_at site.now core.old) caller ≡ Does deed.now }
     requires agree { S.states slots.old ≡ slots_of (world_at site.now core.old) }
     requires next { core.old.tree.next < 2 ^ 64 - 1 }
-    requires room { HasRoom core.old caller deed }
-    requires other { (of : ℕ) → deed ≢ deeds.Free of }
-    ensures done { OnOk result (IsAfter site.now core.old caller deed core.new) }
+    requires room { HasRoom core.old caller deed.now }
+    requires other { (of : ℕ) → deed.now ≢ deeds.Free of }
+    ensures done { OnOk result (IsAfter site.now core.old caller deed.now core.new) }
     ensures same { OnErr result (world_at site.now core.new ≡ world_at site.now core.old) }
     ensures agree { S.states slots.new ≡ slots_of (world_at site.now core.new) }
     ensures quiet { OnOk result ((S.denials slots.new ≡ S.denials slots.old) × (S.last_denial slots.new ≡ S.last_denial slots.old)) }
-    ensures halt { IfErr result (λ why. HaltIs core.old.tree.live deed (S.denials slots.old) (S.last_denial slots.old) why (S.denials slots.new) (S.last_denial slots.new)) }
+    ensures halt { IfErr result (λ why. HaltIs core.old.tree.live deed.now (S.denials slots.old) (S.last_denial slots.old) why (S.denials slots.new) (S.last_denial slots.new)) }
     ensures books { Books site.now.setup core.new }
     ensures aside { SameAside core.old core.new }
 {
@@ -208,31 +213,32 @@ fn do_with<S: Slots>(
 
 /// Does a deed that the caller chose, with its slots; or memory runs out, or callers hold the slot of the device that
 /// is to be freed, and nothing changes but the denials.
+#[inline(always)]
 pub fn run_deed<S: Slots>(
     alloc: Global,
     site: &Site,
     core: &mut Core,
     caller: u8,
-    deed: Deed,
+    deed: &Deed,
     slots: &mut S,
 ) -> Result<(), Halt>
     requires may { MayRun site.now.setup }
     requires books { Books site.now.setup core.old }
     requires kept { Kept (world_at site.now core.old) }
     requires caller { caller < length core.old.callers.items }
-    requires chosen { next (world_at site.now core.old) caller ≡ Does deed }
+    requires chosen { next (world_at site.now core.old) caller ≡ Does deed.now }
     requires agree { S.states slots.old ≡ slots_of (world_at site.now core.old) }
     requires next { core.old.tree.next < 2 ^ 64 - 1 }
-    requires room { HasRoom core.old caller deed }
-    ensures done { OnOk result (IsAfter site.now core.old caller deed core.new) }
+    requires room { HasRoom core.old caller deed.now }
+    ensures done { OnOk result (IsAfter site.now core.old caller deed.now core.new) }
     ensures quiet { OnOk result ((S.denials slots.new ≡ S.denials slots.old) × (S.last_denial slots.new ≡ S.last_denial slots.old)) }
     ensures same { OnErr result (world_at site.now core.new ≡ world_at site.now core.old) }
-    ensures halt { IfErr result (λ why. HaltIs core.old.tree.live deed (S.denials slots.old) (S.last_denial slots.old) why (S.denials slots.new) (S.last_denial slots.new)) }
+    ensures halt { IfErr result (λ why. HaltIs core.old.tree.live deed.now (S.denials slots.old) (S.last_denial slots.old) why (S.denials slots.new) (S.last_denial slots.new)) }
     ensures agree { S.states slots.new ≡ slots_of (world_at site.now core.new) }
     ensures books { Books site.now.setup core.new }
     ensures aside { SameAside core.old core.new }
 {
-    match deed {
+    match *deed {
         Deed::Free { of } => free_with(site, core, caller, of, slots),
         _ => do_with(alloc, site, core, caller, deed, slots),
     }

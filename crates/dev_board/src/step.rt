@@ -30,10 +30,11 @@ use std::alloc::Global;
 use std::mem::drop;
 
 /// How many frames a deed may push, beside the one of a rescan.
-fn frames_for(core: &Core, deed: Deed) -> usize
-    ensures { result ≡ commits.frames_for core.now.deferred deed }
+#[inline(always)]
+fn frames_for(core: &Core, deed: &Deed) -> usize
+    ensures { result ≡ commits.frames_for core.now.deferred deed.now }
 {
-    match deed {
+    match *deed {
         Deed::EndScan { of } => core.deferred.count(Key::Parent(of)),
         Deed::BeginInterrupts => core.deferred.count(Key::Interrupts),
         Deed::Search { .. } => 2,
@@ -43,7 +44,8 @@ fn frames_for(core: &Core, deed: Deed) -> usize
 }
 
 /// Notes for the spot of the device that comes by a deed, if one does, the place of the event that tells it.
-fn note_coming(came: &mut Vec<u64>, deed: Deed, place: u64) {
+#[inline(always)]
+fn note_coming(came: &mut Vec<u64>, deed: &Deed, place: u64) {
     if let Some(arrival) = got_of(deed) {
         if let Some(noted) = came.get_mut(arrival.spot as usize) {
             *noted = place;
@@ -52,12 +54,13 @@ fn note_coming(came: &mut Vec<u64>, deed: Deed, place: u64) {
 }
 
 /// Makes room for all that a deed may append; what the board shows stays.
-fn reserve(setup: &Setup, core: &mut Core, caller: u8, deed: Deed) -> Result<(), Memory>
+#[inline(always)]
+fn reserve(setup: &Setup, core: &mut Core, caller: u8, deed: &Deed) -> Result<(), Memory>
     requires caller { caller < length core.old.callers.items }
     requires books { Books setup.now core.old }
     ensures shown { shown_of setup.now core.new ≡ shown_of setup.now core.old }
     ensures books { Books setup.now core.new }
-    ensures room { OnOk result (HasRoom core.new caller deed) }
+    ensures room { OnOk result (HasRoom core.new caller deed.now) }
 {
     let frames = frames_for(core, deed);
     core.callers[caller as usize].stack.reserve(frames)?;
@@ -69,27 +72,28 @@ fn reserve(setup: &Setup, core: &mut Core, caller: u8, deed: Deed) -> Result<(),
 }
 
 /// Does what a caller chose, where there is room for it, and appends its event; or nothing changes but the denials.
+#[inline(always)]
 fn do_told<S: Slots>(
     alloc: Global,
     site: &Site,
     core: &mut Core,
     caller: u8,
-    deed: Deed,
+    deed: &Deed,
     slots: &mut S,
     event: Event,
 ) -> Result<Told, Halt>
     requires kept { CoreKept site.now.setup core.old }
     requires caller { caller < length core.old.callers.items }
     requires agree { S.states slots.old ≡ slots_of (world_at site.now core.old) }
-    requires chosen { next (world_at site.now core.old) caller ≡ Does deed }
-    requires room { HasRoom core.old caller deed }
-    requires event { event ≡ event_of (world_at site.now core.old) caller deed }
+    requires chosen { next (world_at site.now core.old) caller ≡ Does deed.now }
+    requires room { HasRoom core.old caller deed.now }
+    requires event { event ≡ event_of (world_at site.now core.old) caller deed.now }
     requires formed { IsFormed event }
-    ensures ok { OnOk result (Performed site.now.setup core.old core.new caller deed) }
-    ensures told { IfOk result (TellsDeed site.now core.old caller deed) }
+    ensures ok { OnOk result (Performed site.now.setup core.old core.new caller deed.now) }
+    ensures told { IfOk result (TellsDeed site.now core.old caller deed.now) }
     ensures quiet { OnOk result ((S.denials slots.new ≡ S.denials slots.old) × (S.last_denial slots.new ≡ S.last_denial slots.old)) }
     ensures err { OnErr result (shown_at site.now core.new ≡ shown_at site.now core.old) }
-    ensures halt { IfErr result (λ why. HaltIs core.old.tree.live deed (S.denials slots.old) (S.last_denial slots.old) why (S.denials slots.new) (S.last_denial slots.new)) }
+    ensures halt { IfErr result (λ why. HaltIs core.old.tree.live deed.now (S.denials slots.old) (S.last_denial slots.old) why (S.denials slots.new) (S.last_denial slots.new)) }
     ensures agree { S.states slots.new ≡ slots_of (world_at site.now core.new) }
     ensures books { Books site.now.setup core.new }
 {
@@ -104,24 +108,25 @@ fn do_told<S: Slots>(
 }
 
 /// Does what a caller chose, where there is room for it, and appends its event; or nothing changes but the denials.
+#[inline(always)]
 fn perform<S: Slots>(
     alloc: Global,
     site: &Site,
     core: &mut Core,
     caller: u8,
-    deed: Deed,
+    deed: &Deed,
     slots: &mut S,
 ) -> Result<Told, Halt>
     requires kept { CoreKept site.now.setup core.old }
     requires caller { caller < length core.old.callers.items }
     requires agree { S.states slots.old ≡ slots_of (world_at site.now core.old) }
-    requires chosen { next (world_at site.now core.old) caller ≡ Does deed }
-    requires room { HasRoom core.old caller deed }
-    ensures ok { OnOk result (Performed site.now.setup core.old core.new caller deed) }
-    ensures told { IfOk result (TellsDeed site.now core.old caller deed) }
+    requires chosen { next (world_at site.now core.old) caller ≡ Does deed.now }
+    requires room { HasRoom core.old caller deed.now }
+    ensures ok { OnOk result (Performed site.now.setup core.old core.new caller deed.now) }
+    ensures told { IfOk result (TellsDeed site.now core.old caller deed.now) }
     ensures quiet { OnOk result ((S.denials slots.new ≡ S.denials slots.old) × (S.last_denial slots.new ≡ S.last_denial slots.old)) }
     ensures err { OnErr result (shown_at site.now core.new ≡ shown_at site.now core.old) }
-    ensures halt { IfErr result (λ why. HaltIs core.old.tree.live deed (S.denials slots.old) (S.last_denial slots.old) why (S.denials slots.new) (S.last_denial slots.new)) }
+    ensures halt { IfErr result (λ why. HaltIs core.old.tree.live deed.now (S.denials slots.old) (S.last_denial slots.old) why (S.denials slots.new) (S.last_denial slots.new)) }
     ensures agree { S.states slots.new ≡ slots_of (world_at site.now core.new) }
     ensures books { Books site.now.setup core.new }
 {
@@ -133,21 +138,22 @@ fn perform<S: Slots>(
 
 /// What a caller chose is done, where there is room for it, or memory runs out, or the caller waits for those who hold the
 /// slot of the device that it frees.
+#[inline(always)]
 fn step_in_room<S: Slots>(
     alloc: Global,
     site: &Site,
     core: &mut Core,
     caller: u8,
-    deed: Deed,
+    deed: &Deed,
     slots: &mut S,
 ) -> Stepped
     requires kept { CoreKept site.now.setup core.old }
     requires caller { caller < length core.old.callers.items }
     requires agree { S.states slots.old ≡ slots_of (world_at site.now core.old) }
     requires goes_on { core.old.stopped ≡ None }
-    requires chosen { next (world_at site.now core.old) caller ≡ Does deed }
-    requires other { (ticket : Ticket) → deed ≢ Done ticket }
-    requires room { HasRoom core.old caller deed }
+    requires chosen { next (world_at site.now core.old) caller ≡ Does deed.now }
+    requires other { (ticket : Ticket) → deed.now ≢ Done ticket }
+    requires room { HasRoom core.old caller deed.now }
     ensures step { StepIs (shown_at site.now core.old) caller result (shown_at site.now core.new) }
     ensures kept { CoreKept site.now.setup core.new }
     ensures agree { S.states slots.new ≡ slots_of (world_at site.now core.new) }
@@ -163,26 +169,27 @@ fn step_in_room<S: Slots>(
 }
 
 /// What a caller chose is done, but for the end of a transfer, whose result it waits for.
+#[inline(never)]
 fn step_deed<S: Slots>(
     alloc: Global,
     site: &Site,
     core: &mut Core,
     caller: u8,
-    deed: Deed,
+    deed: &Deed,
     slots: &mut S,
 ) -> Stepped
     requires kept { CoreKept site.now.setup core.old }
     requires caller { caller < length core.old.callers.items }
     requires agree { S.states slots.old ≡ slots_of (world_at site.now core.old) }
     requires goes_on { core.old.stopped ≡ None }
-    requires chosen { next (world_at site.now core.old) caller ≡ Does deed }
+    requires chosen { next (world_at site.now core.old) caller ≡ Does deed.now }
     ensures step { StepIs (shown_at site.now core.old) caller result (shown_at site.now core.new) }
     ensures kept { CoreKept site.now.setup core.new }
     ensures agree { S.states slots.new ≡ slots_of (world_at site.now core.new) }
     ensures denials { DenialsAre core.old.tree.live (S.denials slots.old) (S.last_denial slots.old) result (S.denials slots.new) (S.last_denial slots.new) }
     ensures falls { IsDid result → caller ≡ 0 → BootFalls site.now core.old core.new }
 {
-    match deed {
+    match *deed {
         Deed::Done(ticket) => Stepped::Transfer(
             ticket,
             Told::of_transfer(&site.setup, caller, ticket),
@@ -195,6 +202,7 @@ fn step_deed<S: Slots>(
 }
 
 /// The next event of a caller, on a board that was not stopped.
+#[inline(always)]
 fn next_step<S: Slots>(
     alloc: Global,
     site: &Site,
@@ -219,11 +227,12 @@ fn next_step<S: Slots>(
         Err(_) => Stepped::Memory,
         Ok(Choice::Ended) => Stepped::Closed,
         Ok(Choice::Waits(why)) => Stepped::Waits(why),
-        Ok(Choice::Does(deed)) => step_deed(alloc, site, core, caller, deed, slots),
+        Ok(Choice::Does(deed)) => step_deed(alloc, site, core, caller, &deed, slots),
     }
 }
 
 /// One step of a caller: the one that boots, or that of a script.
+#[inline(always)]
 pub fn step_core<S: Slots>(
     alloc: Global,
     site: &Site,

@@ -37,6 +37,7 @@ impl Told {
     ghost use Rattle.dev_board.specs.Witness.{told_did, told_stale, told_stop, told_transfer};
 
     /// The witness of an event of a caller, with what becomes of its leases.
+    #[inline(always)]
     pub(crate) fn of_event(
         setup: &Setup,
         caller: u8,

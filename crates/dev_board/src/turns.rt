@@ -33,6 +33,7 @@ fn answer_transfer(board: &mut Board, ticket: Ticket) -> Result<(), Memory>
 }
 
 /// One turn of a caller: its next event, or nothing where it waits or has ended. At `Memory` all is as before.
+#[inline(always)]
 fn turn(board: &mut Board, slots: &mut PlainSlots, caller: u8) -> Result<(), Memory>
     requires caller { caller ≤ length board.old.world.setup.scripts }
     requires agree { slots.old ≡ slots_of board.old.world }

@@ -2,12 +2,13 @@ ghost use Rattle.std.specs.Prelude.{◌≡◌, ◌++◌, OnOk, codes, decimal};
 ghost use Rattle.run_rules.specs.Lines as text;
 
 use crate::parts::{
-    put_answer, put_depth_names, put_got, put_got_1, put_named, put_names, put_of, put_reply,
-    put_said, put_shown, put_shown_1, put_started,
+    put_answer, put_depth_names, put_got, put_got_1, put_named, put_names, put_number, put_of,
+    put_reply, put_said, put_shown, put_shown_1, put_started,
 };
-use cf_types::{List, Memory, Name, put_bytes, put_decimal};
+use cf_types::{List, Memory, Name, put_bytes};
 use run_rules::{Act, DepthName, Got, IoAnswer, PowerKind, Reply, Shown};
 
+#[inline(always)]
 fn power_word(kind: PowerKind) -> &'static [u8]
     ensures { result.now ≡ text.power_word kind }
 {
@@ -19,6 +20,7 @@ fn power_word(kind: PowerKind) -> &'static [u8]
 }
 
 /// Appends a command, its name and its reply.
+#[inline(always)]
 fn put_replied(out: &mut Vec<u8>, word: &[u8], name: &Name, reply: &Reply) -> Result<(), Memory>
     ensures { OnOk result (out.new.items ≡ out.old.items ++ text.said_of word.now name.now (text.reply_text reply.now)) }
 {
@@ -27,6 +29,7 @@ fn put_replied(out: &mut Vec<u8>, word: &[u8], name: &Name, reply: &Reply) -> Re
 }
 
 /// Appends which spot was searched, and what was attached there.
+#[inline(always)]
 fn put_found(out: &mut Vec<u8>, parent: &Name, spot: &Name, got: &Option<Got>) -> Result<(), Memory>
     ensures { OnOk result (out.new.items ≡ out.old.items ++ text.said_of (codes "found ") (parent.now ++ codes " on " ++ spot.now) (text.got_text got.now)) }
 {
@@ -44,6 +47,7 @@ fn put_found_1(out: &mut Vec<u8>, parent: &Name, got: &Option<Got>) -> Result<()
 }
 
 /// Appends that a scan of a device is done.
+#[inline(always)]
 fn put_scan(out: &mut Vec<u8>, device: &Name) -> Result<(), Memory>
     ensures { OnOk result (out.new.items ≡ out.old.items ++ text.said_of (codes "scan ") device.now (codes "done")) }
 {
@@ -73,12 +77,13 @@ fn put_transfer(out: &mut Vec<u8>, device: &Name, value: u32, reply: &Reply) -> 
 {
     put_named(out, b"io ", device)?;
     put_bytes(out, b" ")?;
-    put_decimal(out, i64::from(value))?;
+    put_number(out, value)?;
     put_bytes(out, b": ")?;
     put_started(out, reply)
 }
 
 /// Appends how a transfer ends.
+#[inline(always)]
 fn put_done(out: &mut Vec<u8>, device: &Name, answer: IoAnswer) -> Result<(), Memory>
     ensures { OnOk result (out.new.items ≡ out.old.items ++ text.said_of (codes "done ") device.now (text.answer_text answer)) }
 {
@@ -114,6 +119,7 @@ fn put_tree(
 
 /// Appends the text of an act. Where memory runs out, some of it may have been appended.
 #[tactic(auto, unfolding(run_rules::specs::Lines::act_text))]
+#[inline(always)]
 pub fn put_act(out: &mut Vec<u8>, act: &Act) -> Result<(), Memory>
     ensures { OnOk result (out.new.items ≡ out.old.items ++ text.act_text act.now) }
 {

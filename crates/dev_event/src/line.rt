@@ -2,24 +2,27 @@ ghost use Rattle.std.specs.Prelude.{◌≡◌, ◌++◌, [], OnOk, OnErr, codes,
 ghost use Rattle.run_rules.specs.Lines.{line_of, line_of_1};
 
 use crate::act::{put_act, put_act_1};
-use cf_types::{Memory, put_bytes, put_decimal};
+use crate::parts::put_number;
+use cf_types::{Memory, put_bytes};
 use run_rules::Event;
 
 /// How many bytes serve for most lines.
 const USUAL: usize = 96;
 
 /// Appends who did the event, and the number of its command.
+#[inline(always)]
 fn put_head(out: &mut Vec<u8>, event: &Event) -> Result<(), Memory>
     ensures { OnOk result (out.new.items ≡ out.old.items ++ (decimal event.now.caller ++ codes "." ++ decimal event.now.number ++ codes " ")) }
 {
-    put_decimal(out, i64::from(event.caller))?;
+    put_number(out, u32::from(event.caller))?;
     put_bytes(out, b".")?;
-    put_decimal(out, i64::from(event.number))?;
+    put_number(out, event.number)?;
     put_bytes(out, b" ")
 }
 
 /// Appends the line of an event. Where memory runs out, some of it may have been appended.
 #[tactic(auto, unfolding(run_rules::specs::Lines::line_of))]
+#[inline(always)]
 fn put_line(out: &mut Vec<u8>, event: &Event) -> Result<(), Memory>
     ensures { OnOk result (out.new.items ≡ out.old.items ++ line_of event.now) }
 {
@@ -28,6 +31,7 @@ fn put_line(out: &mut Vec<u8>, event: &Event) -> Result<(), Memory>
 }
 
 /// Puts the line of an event where nothing stands. Where memory runs out, nothing stands there.
+#[inline(always)]
 fn put_alone(out: &mut Vec<u8>, event: &Event) -> Result<(), Memory>
     requires empty { out.old.items ≡ [] }
     ensures ok { OnOk result (out.new.items ≡ line_of event.now) }
@@ -43,6 +47,7 @@ fn put_alone(out: &mut Vec<u8>, event: &Event) -> Result<(), Memory>
 }
 
 /// Appends the line of an event, without its newline: format 2. Where memory runs out, nothing is appended.
+#[inline(always)]
 pub fn put_event(event: &Event, out: &mut Vec<u8>) -> Result<(), Memory>
     ensures ok { OnOk result (out.new.items ≡ out.old.items ++ line_of event.now) }
     ensures err { OnErr result (out.new.items ≡ out.old.items) }

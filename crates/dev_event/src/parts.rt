@@ -5,7 +5,21 @@ ghost use Rattle.run_rules.specs.Lines.{reply_text, started_text, answer_text, g
 use cf_types::{List, Memory, Name, put_bytes, put_decimal};
 use run_rules::{DepthName, Got, IoAnswer, Reply, Shown};
 
+/// Appends a number in decimal.
+#[tactic(auto, using(std::proofs::lemmas::Fmt::decimal_digit))]
+#[inline(always)]
+pub fn put_number(out: &mut Vec<u8>, number: u32) -> Result<(), Memory>
+    ensures { OnOk result (out.new.items ≡ out.old.items ++ decimal number) }
+{
+    if number < 10 {
+        out.push(b'0' + number as u8)?;
+        return Ok(());
+    }
+    put_decimal(out, i64::from(number))
+}
+
 /// Appends a word and a name.
+#[inline(always)]
 pub fn put_named(out: &mut Vec<u8>, word: &[u8], name: &Name) -> Result<(), Memory>
     ensures { OnOk result (out.new.items ≡ out.old.items ++ (word.now ++ name.now)) }
 {
@@ -14,6 +28,7 @@ pub fn put_named(out: &mut Vec<u8>, word: &[u8], name: &Name) -> Result<(), Memo
 }
 
 /// Appends a word, a name, and the colon behind which follows what is said of it.
+#[inline(always)]
 pub fn put_said(out: &mut Vec<u8>, word: &[u8], name: &Name) -> Result<(), Memory>
     ensures { OnOk result (out.new.items ≡ out.old.items ++ (word.now ++ name.now ++ codes ": ")) }
 {
@@ -55,16 +70,18 @@ pub fn put_started(out: &mut Vec<u8>, reply: &Reply) -> Result<(), Memory>
 }
 
 /// Appends what a transfer brought.
+#[inline(always)]
 pub fn put_answer(out: &mut Vec<u8>, answer: IoAnswer) -> Result<(), Memory>
     ensures { OnOk result (out.new.items ≡ out.old.items ++ answer_text answer) }
 {
     match answer {
-        IoAnswer::Number(n) => put_decimal(out, i64::from(n)),
+        IoAnswer::Number(n) => put_number(out, n),
         IoAnswer::DeviceError => put_bytes(out, b"error"),
     }
 }
 
 /// Appends the name and the row of the device that was attached, if one was.
+#[inline(always)]
 pub fn put_got(out: &mut Vec<u8>, got: &Option<Got>) -> Result<(), Memory>
     ensures { OnOk result (out.new.items ≡ out.old.items ++ got_text got.now) }
 {
@@ -73,7 +90,7 @@ pub fn put_got(out: &mut Vec<u8>, got: &Option<Got>) -> Result<(), Memory>
         Some(got) => {
             put_bytes(out, got.name.bytes())?;
             put_bytes(out, b" row ")?;
-            put_decimal(out, i64::from(got.row))
+            put_number(out, got.row)
         }
     }
 }
@@ -161,7 +178,7 @@ fn put_each_depth(out: &mut Vec<u8>, names: &[DepthName]) -> Result<(), Memory>
 {
     for one in names {
         put_bytes(out, b" ")?;
-        put_decimal(out, i64::from(one.depth))?;
+        put_number(out, one.depth)?;
         put_named(out, b" ", &one.name)?;
     }
     Ok(())

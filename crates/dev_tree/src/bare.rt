@@ -8,6 +8,7 @@ use crate::lookup::place_of;
 use run_rules::Dev;
 
 /// Takes away the mark of the device of a serial, which may have children from now on.
+#[inline(always)]
 pub fn unmark(live: &[Dev], bare: &mut Vec<bool>, serial: u64)
     requires order { AreInOrder live.now }
     requires count { length bare.old.items ≡ length live.now }
@@ -22,6 +23,7 @@ pub fn unmark(live: &[Dev], bare: &mut Vec<bool>, serial: u64)
 }
 
 /// Whether the device of a serial is marked.
+#[inline(always)]
 pub fn is_marked(live: &[Dev], bare: &[bool], serial: u64) -> bool
     requires order { AreInOrder live.now }
     requires marks { AreBare live.now bare.now }

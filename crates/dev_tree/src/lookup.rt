@@ -10,6 +10,7 @@ use run_rules::Dev;
 use std::alloc::Global;
 
 /// The place of the live device with the serial.
+#[inline(always)]
 pub fn place_of(live: &[Dev], serial: u64) -> Option<usize>
     requires { AreInOrder live.now }
     ensures { MatchOption result (world.is_live live.now serial ≡ false) (λ i. (i < length live.now) × ((d : Dev) → (slice_index_or live.now i d).serial ≡ serial)) }
@@ -24,6 +25,7 @@ pub fn place_of(live: &[Dev], serial: u64) -> Option<usize>
 }
 
 /// The live device with the serial.
+#[inline(always)]
 pub fn device_at(live: &[Dev], serial: u64) -> Option<Dev>
     requires { AreInOrder live.now }
     ensures { result ≡ world.device_at live.now serial }
@@ -75,6 +77,7 @@ pub fn subtree(alloc: Global, live: &[Dev], serial: u64) -> Result<List<u64>, Me
 }
 
 /// The parent of a device; 0 for the root, and where no such device is live.
+#[inline(always)]
 fn parent_of(live: &[Dev], serial: u64) -> u64
     requires { AreInOrder live.now }
     ensures { result ≡ world.parent_of live.now serial }

@@ -9,6 +9,7 @@ use crate::lookup::{is_under, place_of};
 use run_rules::Dev;
 
 /// Puts a device to sleep or wakes it.
+#[inline(always)]
 pub fn mark_sleep(live: &mut [Dev], serial: u64, asleep: bool)
     requires { AreInOrder live.old }
     ensures { live.new ≡ map (with_sleep serial asleep) live.old }

@@ -48,6 +48,7 @@ impl Resting {
     }
 
     /// With the device at a place asleep.
+    #[inline(always)]
     fn fallen(self, place: usize) -> Resting
         ensures before { (i : ℕ) → i < result.awake_before → (i < self.awake_before) × (i ≢ place) }
         ensures from { (i : ℕ) → result.asleep_from ≤ i → i ≢ place → self.asleep_from ≤ i }
@@ -65,6 +66,7 @@ impl Resting {
     }
 
     /// With the device at a place awake.
+    #[inline(always)]
     fn woken(self, place: usize) -> Resting
         requires { place + 1 < 2 ^ 64 }
         ensures before { (i : ℕ) → i < result.awake_before → i ≢ place → i < self.awake_before }
@@ -82,6 +84,7 @@ impl Resting {
     }
 
     /// With a device asleep, or awake.
+    #[inline(always)]
     pub fn marked(self, live: &[Dev], serial: u64, asleep: bool) -> Resting
         requires { AreInOrder live.now }
         ensures { AreResting live.now self → AreResting (map (with_sleep serial asleep) live.now) result }
@@ -99,6 +102,7 @@ impl Resting {
     }
 
     /// The devices up to the last one that may be awake; all behind them sleep.
+    #[inline(always)]
     pub fn front(self, live: &[Dev]) -> &[Dev]
         requires { AreResting live.now self }
         ensures { (test : Dev → Bool) → ((d : Dev) → d.asleep ≡ true → test d ≡ false) → find test (reverse live.now) ≡ find test (reverse result.now) }
@@ -107,6 +111,7 @@ impl Resting {
     }
 
     /// The devices from the first one on that may sleep; all before them are awake.
+    #[inline(always)]
     pub fn back(self, live: &[Dev]) -> &[Dev]
         requires { AreResting live.now self }
         ensures { (test : Dev → Bool) → ((d : Dev) → d.asleep ≡ false → test d ≡ false) → find test live.now ≡ find test result.now }

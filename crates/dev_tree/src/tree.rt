@@ -45,6 +45,7 @@ impl Model for DevTree {
 }
 
 /// Appends a device to a list that has room.
+#[inline(always)]
 fn append(live: &mut Vec<Dev>, device: Dev)
     requires { vec_len live.old < vec_capacity live.old }
     ensures { live.new.items ≡ live.old.items ++ device ∷ [] }
@@ -53,6 +54,7 @@ fn append(live: &mut Vec<Dev>, device: Dev)
 }
 
 /// Marks a device more, in a list that has room.
+#[inline(always)]
 fn append_mark(bare: &mut Vec<bool>)
     requires { vec_len bare.old < vec_capacity bare.old }
     ensures { bare.new.items ≡ bare.old.items ++ true ∷ [] }
@@ -149,6 +151,7 @@ impl DevTree {
     }
 
     /// The device on a spot.
+    #[inline(always)]
     pub fn on_spot(&self, spot: u16) -> Option<u64>
         ensures { result ≡ world.serial_of (world.device_on self.now.live spot) }
     {
@@ -159,6 +162,7 @@ impl DevTree {
     }
 
     /// The device of a serial.
+    #[inline(always)]
     pub fn get(&self, serial: u64) -> Option<Dev>
         ensures { result ≡ world.device_at self.now.live serial }
     {
@@ -166,6 +170,7 @@ impl DevTree {
     }
 
     /// The devices in order of attachment, which is that of their serials.
+    #[inline(always)]
     pub fn devices(&self) -> &[Dev]
         ensures { result.now ≡ self.now.live }
     {
@@ -174,6 +179,7 @@ impl DevTree {
 
     /// The devices up to the last one that may be awake, in order. A test that sleeping devices fail finds the same from
     /// their end as from the end of all.
+    #[inline(always)]
     pub fn front(&self) -> &[Dev]
         ensures { (test : Dev → Bool) → ((d : Dev) → d.asleep ≡ true → test d ≡ false) → find test (reverse self.now.live) ≡ find test (reverse result.now) }
     {
@@ -182,6 +188,7 @@ impl DevTree {
 
     /// The devices from the first one on that may sleep, in order. A test that devices awake fail finds the same among them
     /// as among all.
+    #[inline(always)]
     pub fn back(&self) -> &[Dev]
         ensures { (test : Dev → Bool) → ((d : Dev) → d.asleep ≡ false → test d ≡ false) → find test self.now.live ≡ find test result.now }
     {
@@ -189,6 +196,7 @@ impl DevTree {
     }
 
     /// How many devices there are.
+    #[inline(always)]
     pub fn count(&self) -> usize
         ensures { result ≡ length self.now.live }
     {
@@ -196,6 +204,7 @@ impl DevTree {
     }
 
     /// The serial that the next device gets.
+    #[inline(always)]
     pub fn next(&self) -> u64
         ensures { result ≡ self.now.next }
     {

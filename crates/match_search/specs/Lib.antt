@@ -2,3 +2,4 @@ pub mod Best
 pub mod Index
 pub use Rattle.run_rules.specs.Search
 pub mod Own
+pub mod Found

@@ -9,12 +9,12 @@ ghost use Rattle.match_search.specs.Best.{best_row, live_rows, may_take, worth};
 ghost use Rattle.match_search.specs.Index as listed;
 ghost use Rattle.match_search.specs.Index.{IsIndexOf};
 
-use crate::fits::{fits, names_parent, parent_offers, passes, same_place};
+use crate::fits::{attr_at, fits, found_or, names_parent, parent_offers, passes, same_place};
 use crate::index::RowIndex;
 use crate::live::LiveRows;
 use crate::value::match_value;
 use attr_graph::Graph;
-use cf_types::{Machine, Place, Tables};
+use cf_types::{Locs, Machine, Place, Tables};
 use run_rules::ParentRef;
 
 /// Whether a row is marked live, fits, passes submatch and has a match value above 0.
@@ -35,7 +35,11 @@ fn takes(
         Some(r) => {
             live.is_live(row)
                 && fits(graph, tables, parent, place, r)
-                && passes(tables, machine, place, r, spot)
+                && passes(
+                    attr_at(tables, place),
+                    r,
+                    found_or(machine, spot, &Locs::make()),
+                )
                 && match_value(machine, r.attach, spot) > 0
         }
         None => false,

@@ -1,13 +1,14 @@
 //! Which rows fit a parent at a place, and what is found at a spot.
-ghost use Rattle.std.specs.Prelude.{◌≡◌};
+ghost use Rattle.std.specs.Prelude.{◌≡◌, []};
 ghost use Rattle.cf_types.specs.Locators as shared;
 ghost use Rattle.cf_types.specs.Offers as offer;
 ghost use Rattle.run_rules.specs.Search as rule;
 ghost use Rattle.run_rules.specs.World as world;
 ghost use Rattle.attr_graph.specs.Graphs.{IsGraphOf, declared_by};
+ghost use Rattle.match_search.specs.Found.{locators_in};
 
 use attr_graph::Graph;
-use cf_types::{Locs, Machine, ParentSpec, Place, Row, Tables};
+use cf_types::{Attr, Locs, Machine, ParentSpec, Place, Row, Tables};
 use locator_rules::submatch;
 use run_rules::ParentRef;
 
@@ -78,19 +79,34 @@ pub fn found_at(machine: &Machine, spot: u16) -> &[i64]
     }
 }
 
-/// Whether the locator values of a row fit those that are found at a spot.
-#[tactic(auto, unfolding(cf_types::specs::Locators::submatch))]
-pub fn passes(tables: &Tables, machine: &Machine, place: Place, row: &Row, spot: u16) -> bool
-    ensures { result ≡ shared.submatch (shared.locators_at tables.now.attrs place) row.now.locs (rule.found_at machine.now spot) }
+/// The attribute whose locators a row has at a place; none at the root.
+pub fn attr_at(tables: &Tables, place: Place) -> Option<&Attr>
+    ensures { locators_in result ≡ shared.locators_at tables.now.attrs place }
 {
-    let Place::At(attr) = place else {
-        return true;
-    };
-    let Some(attr) = tables.attrs.items().get(attr as usize) else {
-        return true;
-    };
+    match place {
+        Place::Root => None,
+        Place::At(attr) => tables.attrs.items().get(attr as usize),
+    }
+}
+
+/// The locator values that are found at a spot, or those given where there is no such spot.
+pub fn found_or<'a>(machine: &'a Machine, spot: u16, none: &'a Locs) -> &'a Locs
+    requires { none.now ≡ [] }
+    ensures { result.now ≡ rule.found_at machine.now spot }
+{
     match machine.spots.items().get(spot as usize) {
-        Some(spot) => submatch(attr, &row.locs, &spot.found),
-        None => submatch(attr, &row.locs, &Locs::make()),
+        Some(spot) => &spot.found,
+        None => none,
+    }
+}
+
+/// Whether the locator values of a row fit those that are found.
+#[tactic(auto, unfolding(cf_types::specs::Locators::submatch))]
+pub fn passes(attr: Option<&Attr>, row: &Row, found: &Locs) -> bool
+    ensures { result ≡ shared.submatch (locators_in attr.entry) row.now.locs found.now }
+{
+    match attr {
+        Some(attr) => submatch(attr, &row.locs, found),
+        None => true,
     }
 }

@@ -1,15 +1,15 @@
 //! The rows that suit each spot, the best first.
 ghost use Rattle.std.specs.Prelude.{◌≡◌, ◌≤◌, ◌&&◌, nat_lt, [], length, map, IfOk};
 ghost use Rattle.std.specs.List.{slice_index_or};
-ghost use Rattle.cf_types.specs.Locators.{locators_at, submatch};
-ghost use Rattle.run_rules.specs.Search.{found_at};
+ghost use Rattle.cf_types.specs.Locators.{submatch};
 ghost use Rattle.run_rules.specs.World as world;
+ghost use Rattle.match_search.specs.Found.{locators_in};
 ghost use Rattle.match_search.specs.Index.{AreBestFirst, AreValuesAt, IsIndexOf, candidates};
 
-use crate::fits::{passes, same_place};
+use crate::fits::{attr_at, found_or, passes, same_place};
 use crate::own::own_lines;
 use crate::values::{set_values, value_of, values_at};
-use cf_types::{Machine, Memory, Place, Row, Tables};
+use cf_types::{Attr, Locs, Machine, Memory, Place, Row, Tables};
 use std::alloc::Global;
 use std::cmp::Reverse;
 use std::marker::Model;
@@ -36,18 +36,11 @@ struct Candidate {
     row: u16,
 }
 
-/// Whether a row of this match value suits a spot at a place.
-fn is_suited(
-    tables: &Tables,
-    machine: &Machine,
-    place: Place,
-    spot: u16,
-    row: &Row,
-    value: u32,
-) -> bool
-    ensures { result ≡ (world.same_place row.now.place place && nat_lt 0 value && submatch (locators_at tables.now.attrs place) row.now.locs (found_at machine.now spot)) }
+/// Whether a row of this match value suits a place with the locators of this attribute, where these values are found.
+fn is_suited(place: Place, attr: Option<&Attr>, found: &Locs, row: &Row, value: u32) -> bool
+    ensures { result ≡ (world.same_place row.now.place place && nat_lt 0 value && submatch (locators_in attr.entry) row.now.locs found.now) }
 {
-    same_place(row.place, place) && 0 < value && passes(tables, machine, place, row, spot)
+    same_place(row.place, place) && 0 < value && passes(attr, row, found)
 }
 
 /// The rows that suit a spot at a place, in their order.
@@ -62,10 +55,13 @@ fn suiting_rows(
     requires values { AreValuesAt machine.now spot values.now.items }
     ensures { IfOk result (λ list. list.items ≡ candidates tables.now machine.now place spot (length tables.now.rows)) }
 {
+    let none = Locs::make();
+    let attr = attr_at(tables, place);
+    let found = found_or(machine, spot, &none);
     let mut list = Vec::new(*values.allocator());
     for (number, row) in tables.rows.items().iter().enumerate() {
         let value = value_of(values, row.attach);
-        if is_suited(tables, machine, place, spot, row, value) {
+        if is_suited(place, attr, found, row, value) {
             list.push(Candidate {
                 value: Reverse(value),
                 row: number as u16,

@@ -23,6 +23,7 @@ pub struct Searcher {
     pub spot: Option<u16>,
 }
 
+#[inline(always)]
 fn who_searches(setup: &Setup, tree: &DevTree, serial: u64) -> Searcher
     ensures { result ≡ searcher_of setup.now tree.now.live serial }
 {
@@ -41,6 +42,7 @@ fn who_searches(setup: &Setup, tree: &DevTree, serial: u64) -> Searcher
 }
 
 /// Whether a spot has the locator value that is wanted.
+#[inline(always)]
 fn has_value(found: &[i64], wanted: Wanted) -> bool
     ensures { result ≡ option_map_or (λ value. int_eq value wanted.value) (slice_get found.now wanted.place) false }
 {
@@ -51,6 +53,7 @@ fn has_value(found: &[i64], wanted: Wanted) -> bool
 }
 
 /// Whether a spot has all locator values that are wanted.
+#[inline(always)]
 fn passes_filter(found: &[i64], filter: &[Wanted]) -> bool
     ensures { result ≡ rule.passes_filter found.now filter.now }
 {
@@ -59,6 +62,7 @@ fn passes_filter(found: &[i64], filter: &[Wanted]) -> bool
 
 /// Whether a spot is open to search.
 #[tactic(auto, unfolding(run_rules::specs::Search::is_open))]
+#[inline(always)]
 pub fn is_open(setup: &Setup, core: &Core, filter: &[Wanted], spot: u16) -> bool
     ensures { rule.is_open setup.now.machine core.now.tree.live core.now.absent.items core.now.hidden.items filter.now spot ≡ result }
 {
@@ -69,6 +73,7 @@ pub fn is_open(setup: &Setup, core: &Core, filter: &[Wanted], spot: u16) -> bool
     !absent && !hidden && !occupied && passes
 }
 
+#[inline(always)]
 fn is_row(winner: Option<u32>, row: u32) -> bool
     ensures { result ≡ world.is_number winner row }
 {
@@ -79,6 +84,7 @@ fn is_row(winner: Option<u32>, row: u32) -> bool
 }
 
 /// Whether the turn's row is the winner at its spot.
+#[inline(always)]
 fn wins(site: &Site, core: &Core, serial: u64, turn: Turn) -> bool
     requires { Books site.now.setup core.now }
     ensures { world.is_number (rule.winner_at site.now.setup core.now.tree.live serial turn.place turn.at.spot) turn.at.row ≡ result }
@@ -91,6 +97,7 @@ fn wins(site: &Site, core: &Core, serial: u64, turn: Turn) -> bool
 
 /// Whether a turn is due: its spot is open, and on an indirect bus its row is the winner there.
 #[tactic(auto, unfolding(run_rules::specs::Search::is_due))]
+#[inline(always)]
 fn is_due(site: &Site, core: &Core, serial: u64, filter: &[Wanted], turn: Turn) -> bool
     requires { Books site.now.setup core.now }
     ensures { is_due_at site.now core.now serial filter.now turn ≡ result }
@@ -100,6 +107,7 @@ fn is_due(site: &Site, core: &Core, serial: u64, filter: &[Wanted], turn: Turn) 
 }
 
 /// The first due turn of a scan from a position on. See autoconf(9).
+#[inline(always)]
 pub fn due_turn(
     site: &Site,
     core: &Core,

@@ -13,6 +13,7 @@ use run_world::Core;
 
 /// How a detachment goes on: what was condemned last is freed once nobody holds it.
 #[tactic(auto, unfolding(run_rules::specs::Next::freeing))]
+#[inline(always)]
 pub fn plan_free(core: &Core, caller: u8) -> Choice
     ensures { (s : from.Setup) → next.freeing (world_of s core.now) caller ≡ result }
 {

@@ -19,6 +19,7 @@ use run_world::{Core, Site, command_of, is_ended};
 use std::alloc::Global;
 
 /// Whether a command is one of pmf(9).
+#[inline(always)]
 fn is_power(said: &Command) -> bool
     ensures { result ≡ next.is_power said.now }
 {
@@ -29,6 +30,7 @@ fn is_power(said: &Command) -> bool
 }
 
 /// The caller, not this one, that has the power turn.
+#[inline(always)]
 fn other_turn(turn: Option<u8>, caller: u8) -> Option<u8>
     ensures { result ≡ next.other_turn turn caller }
 {
@@ -39,6 +41,7 @@ fn other_turn(turn: Option<u8>, caller: u8) -> Option<u8>
 }
 
 /// The caller that a command waits for.
+#[inline(always)]
 fn waits_for(core: &Core, caller: u8, said: &Command) -> Option<u8>
     ensures { (if next.is_power said.now then next.other_turn core.now.power_owner caller else None) ≡ result }
 {
@@ -89,6 +92,7 @@ fn plan_next(alloc: Global, site: &Site, core: &Core, caller: u8) -> Result<Choi
 }
 
 /// What a frame on top leads to.
+#[inline(always)]
 fn plan_frame(site: &Site, core: &Core, frame: &Frame) -> Deed
     requires books { Books site.now.setup core.now }
     requires live { length core.now.tree.live ≤ 1024 }
@@ -128,6 +132,7 @@ fn plan_stack(alloc: Global, site: &Site, core: &Core, caller: u8) -> Result<Cho
 }
 
 /// What a caller does next that is in the middle of this.
+#[inline(always)]
 fn plan_activity(
     alloc: Global,
     site: &Site,
@@ -153,6 +158,7 @@ fn plan_activity(
 }
 
 /// Whether a caller waits for the boot to be over.
+#[inline(always)]
 fn waits_for_boot(core: &Core, caller: u8) -> bool
     requires there { 0 < length core.now.callers.items }
     ensures { (s : from.Setup) → (not (caller == 0) && not (has_ended (world_of s core.now) 0)) ≡ result }
@@ -162,6 +168,7 @@ fn waits_for_boot(core: &Core, caller: u8) -> bool
 
 /// What a caller does next.
 #[tactic(auto, unfolding(run_rules::specs::Next::next))]
+#[inline(never)]
 pub fn choose(alloc: Global, site: &Site, core: &Core, caller: u8) -> Result<Choice, Memory>
     requires may { MayRun site.now.setup }
     requires kept { Kept (world_at site.now core.now) }

@@ -15,6 +15,7 @@ use scan_engine::is_child;
 
 /// Whether a position is before another: by attribute, then row, then spot.
 #[tactic(auto, unfolding(run_rules::specs::Search::is_before))]
+#[inline(always)]
 fn is_before(a: Position, b: Position) -> bool
     ensures { result ≡ rule.is_before a b }
 {
@@ -23,6 +24,7 @@ fn is_before(a: Position, b: Position) -> bool
 
 /// The sooner of two positions; the second one counts only if it is there and behind a third.
 #[tactic(auto, unfolding(run_rules::specs::Search::is_before))]
+#[inline(always)]
 fn sooner(behind: Position, next: Position, found: Option<Position>) -> Position
     ensures behind { rule.is_before behind next ≡ true → rule.is_before behind result ≡ true }
     ensures sooner { (p : places.Position) → rule.is_before p result ≡ true → rule.is_before p next ≡ true }
@@ -100,6 +102,7 @@ fn next_pair(
 
 /// Whether a search passes a spot: it is not open, or does not hang on this bus.
 #[tactic(auto, unfolding(run_rules::specs::Search::is_open))]
+#[inline(always)]
 fn is_passed(
     setup: &Setup,
     core: &Core,
@@ -116,6 +119,7 @@ fn is_passed(
 }
 
 /// The first spot from a number on that a search of this bus does not pass; behind all spots where there is none.
+#[inline(always)]
 fn next_open(
     setup: &Setup,
     core: &Core,
@@ -137,6 +141,7 @@ fn next_open(
 }
 
 /// Where a search of a direct bus goes on: at its next open spot.
+#[inline(always)]
 fn next_on_bus(
     setup: &Setup,
     core: &Core,
@@ -159,6 +164,7 @@ fn next_on_bus(
 }
 
 /// Where a search goes on behind a turn that is not due: no turn that is due stands between.
+#[inline(always)]
 pub fn next_position(
     site: &Site,
     core: &Core,

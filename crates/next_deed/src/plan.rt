@@ -15,6 +15,7 @@ use run_world::{Core, Site, place_of};
 
 /// The position after a turn: behind it, or at the first pair of the same row.
 #[tactic(auto, unfolding(run_rules::specs::Search::after_turn))]
+#[inline(always)]
 fn after_turn(turn: Turn) -> Position
     requires { turn.at.spot < 1024 }
     ensures { result ≡ rule.after_turn turn }
@@ -36,6 +37,7 @@ fn after_turn(turn: Turn) -> Position
 
 /// What is done next on a scan.
 #[tactic(auto, unfolding(run_rules::specs::Next::next_scan))]
+#[inline(always)]
 pub fn plan_scan(
     site: &Site,
     core: &Core,

@@ -14,6 +14,7 @@ use run_rules::{Choice, Deed, Dev, PowerEnd, PowerKind, Setup, Wait};
 use run_world::{Core, policy_of};
 
 /// Whether a device lives.
+#[inline(always)]
 fn is_live(core: &Core, serial: u64) -> bool
     ensures { world.is_live core.now.tree.live serial ≡ result }
 {
@@ -21,6 +22,7 @@ fn is_live(core: &Core, serial: u64) -> bool
 }
 
 /// The device that a suspension of the target puts to sleep next.
+#[inline(always)]
 fn sleeper(core: &Core, target: u64) -> Option<Dev>
     requires later { EachLater (λ d e. d.serial < e.serial) core.now.tree.live }
     requires live { IsTrue (world.is_live core.now.tree.live target) }
@@ -34,6 +36,7 @@ fn sleeper(core: &Core, target: u64) -> Option<Dev>
 
 /// How a suspension goes on with the device that sleeps next: it is put to sleep, or is waited for, or is in the way.
 #[tactic(auto, unfolding(run_rules::specs::Next::suspending))]
+#[inline(always)]
 fn plan_sleep(setup: &Setup, core: &Core, target: u64, device: Dev) -> Choice
     requires there { world.device_at core.now.tree.live device.serial ≡ Some device }
     requires next { next.next_sleep core.now.tree.live target ≡ Some device }
@@ -54,6 +57,7 @@ fn plan_sleep(setup: &Setup, core: &Core, target: u64, device: Dev) -> Choice
 
 /// How a suspension goes on.
 #[tactic(auto, unfolding(run_rules::specs::Next::suspending))]
+#[inline(always)]
 fn plan_suspend(setup: &Setup, core: &Core, target: u64) -> Choice
     requires kept { Kept (world_of setup.now core.now) }
     requires live { IsTrue (world.is_live core.now.tree.live target) }
@@ -67,6 +71,7 @@ fn plan_suspend(setup: &Setup, core: &Core, target: u64) -> Choice
 
 /// How a resumption goes on.
 #[tactic(auto, unfolding(run_rules::specs::Next::waking))]
+#[inline(always)]
 fn plan_wake(core: &Core, target: u64, whole: bool) -> Choice
     requires live { IsTrue (world.is_live core.now.tree.live target) }
     ensures { (s : from.Setup) → next.waking (world_of s core.now) target whole ≡ result }
@@ -78,6 +83,7 @@ fn plan_wake(core: &Core, target: u64, whole: bool) -> Choice
 }
 
 /// How a power command goes on.
+#[inline(always)]
 pub fn plan_power(setup: &Setup, core: &Core, kind: PowerKind, target: u64) -> Choice
     requires kept { Kept (world_of setup.now core.now) }
     ensures { (k : ℕ) → next.by_activity (world_of setup.now core.now) k (activity.Power kind target) ≡ result }

@@ -12,6 +12,7 @@ use run_rules::{Arrival, ParentRef, Setup};
 use run_world::{Core, Site, driver_of};
 
 /// The parent of a search.
+#[inline(always)]
 pub fn parent_ref(setup: &Setup, tree: &DevTree, serial: u64) -> ParentRef
     ensures { result ≡ rule.parent_ref setup.now tree.now.live serial }
 {
@@ -25,6 +26,7 @@ pub fn parent_ref(setup: &Setup, tree: &DevTree, serial: u64) -> ParentRef
 }
 
 /// The row that takes a spot below a parent.
+#[inline(always)]
 pub fn winner_at(site: &Site, core: &Core, parent: u64, place: Place, spot: u16) -> Option<u32>
     requires { Books site.now.setup core.now }
     ensures { rule.winner_at site.now.setup core.now.tree.live parent place spot ≡ result }
@@ -43,6 +45,7 @@ pub fn winner_at(site: &Site, core: &Core, parent: u64, place: Place, spot: u16)
 
 /// The device that comes to a spot below a parent, if a row takes it.
 #[tactic(auto, unfolding(run_rules::specs::Next::arrival))]
+#[inline(always)]
 pub fn arrival(site: &Site, core: &Core, parent: u64, place: Place, spot: u16) -> Option<Arrival>
     requires books { Books site.now.setup core.now }
     requires live { length core.now.tree.live ≤ 1024 }

@@ -12,6 +12,7 @@ use cf_types::Memory;
 use run_rules::{Activity, Frame};
 
 /// Whether a caller has ended.
+#[inline(always)]
 pub fn is_ended(core: &Core, caller: u8) -> bool
     requires { caller < length core.now.callers.items }
     ensures { (s : from.Setup) → result ≡ world.has_ended (world_of s core.now) caller }
@@ -20,6 +21,7 @@ pub fn is_ended(core: &Core, caller: u8) -> bool
 }
 
 /// The command of a caller is over.
+#[inline(always)]
 pub fn finish(core: &mut Core, caller: u8)
     requires caller { caller < length core.old.callers.items }
     requires low { (state_at core.old.callers.items caller).over < 2 ^ 32 - 1 }
@@ -33,6 +35,7 @@ pub fn finish(core: &mut Core, caller: u8)
 }
 
 /// A caller is in the middle of something.
+#[inline(always)]
 pub fn begin(core: &mut Core, caller: u8, doing: Activity)
     requires caller { caller < length core.old.callers.items }
     ensures world { (s : from.Setup) → world_of s core.new ≡ rule.doing (world_of s core.old) caller doing }

@@ -64,6 +64,7 @@ impl CallerState {
     }
 
     /// A rescan is over where the stack is empty.
+    #[inline(always)]
     fn settle(&mut self)
         requires low { self.old.doing ≡ Scans → self.old.over < 2 ^ 32 - 1 }
         ensures settled { caller_of self.new ≡ settled (caller_of self.old) }
@@ -81,6 +82,7 @@ impl CallerState {
     }
 
     /// Puts a frame on top.
+    #[inline(always)]
     pub fn push(&mut self, frame: Frame)
         requires room { 0 < self.old.stack.room }
         ensures caller { caller_of self.new ≡ stacked (caller_of self.old) (frame ∷ self.old.stack.frames) }
@@ -90,6 +92,7 @@ impl CallerState {
     }
 
     /// Where the scan on top stands.
+    #[inline(always)]
     pub fn position(&self) -> Position
         requires top { IsTrue (is_scanning self.now.stack.frames) }
         ensures { moved_top result self.now.stack.frames ≡ self.now.stack.frames }
@@ -108,6 +111,7 @@ impl CallerState {
     }
 
     /// Moves the scan on top.
+    #[inline(always)]
     pub fn advance(&mut self, position: Position)
         requires top { IsTrue (is_scanning self.old.stack.frames) }
         ensures caller { caller_of self.new ≡ stacked (caller_of self.old) (moved_top position self.old.stack.frames) }
@@ -117,6 +121,7 @@ impl CallerState {
     }
 
     /// The frame on top is over.
+    #[inline(always)]
     pub fn leave(&mut self)
         requires low { self.old.doing ≡ Scans → self.old.over < 2 ^ 32 - 1 }
         requires top { 0 < length self.old.stack.frames }

@@ -123,6 +123,7 @@ pub fn opening_core(alloc: Global, setup: &Setup) -> Result<Core, Memory>
 }
 
 /// Appends to a vector that has room.
+#[inline(always)]
 pub fn append<T: Drop>(list: &mut Vec<T>, value: T)
     requires { vec_len list.old < vec_capacity list.old }
     ensures items { list.new.items ≡ list.old.items ++ value ∷ [] }

@@ -9,6 +9,7 @@ use cf_types::{Command, Given};
 use run_rules::Setup;
 
 /// The command of a caller of which so many are over.
+#[inline(always)]
 fn command_at(setup: &Setup, caller: u8, over: u32) -> Option<&Command>
     ensures { slice_get (slice_index_or setup.now.scripts (caller - 1) []) over ≡ option_copied result }
 {
@@ -19,6 +20,7 @@ fn command_at(setup: &Setup, caller: u8, over: u32) -> Option<&Command>
 }
 
 /// The command that a caller is at; none where its script is over.
+#[inline(always)]
 pub fn command_of<'a>(setup: &'a Setup, core: &Core, caller: u8) -> Option<&'a Command>
     requires { caller < length core.now.callers.items }
     ensures { next.command_of (world_of setup.now core.now) caller ≡ option_copied result }
@@ -27,6 +29,7 @@ pub fn command_of<'a>(setup: &'a Setup, core: &Core, caller: u8) -> Option<&'a C
 }
 
 /// The locator values that a command gives.
+#[inline(always)]
 fn given_in(said: &Command) -> &[Given]
     ensures { result.now ≡ rule.given_in said.now }
 {

@@ -10,6 +10,7 @@ use dev_tree::DevTree;
 use run_rules::Setup;
 
 /// The driver of a row.
+#[inline(always)]
 pub fn driver_of(setup: &Setup, row: u32) -> u32
     ensures { result ≡ world.driver_of setup.now row }
 {
@@ -20,6 +21,7 @@ pub fn driver_of(setup: &Setup, row: u32) -> u32
 }
 
 /// The attachment of a row.
+#[inline(always)]
 pub fn attach_of(setup: &Setup, row: u32) -> u32
     ensures { result ≡ world.attach_of setup.now row }
 {
@@ -30,6 +32,7 @@ pub fn attach_of(setup: &Setup, row: u32) -> u32
 }
 
 /// What the driver of a row does, by the row's attachment.
+#[inline(always)]
 pub fn policy_of(setup: &Setup, row: u32) -> Policy
     ensures { result ≡ world.policy_of setup.now row }
 {
@@ -65,6 +68,7 @@ pub fn is_late(setup: &Setup, spot: u16) -> bool
 }
 
 /// The place of a spot.
+#[inline(always)]
 pub fn place_of(setup: &Setup, spot: u16) -> Place
     ensures { result ≡ place_on setup.now spot }
 {
@@ -75,6 +79,7 @@ pub fn place_of(setup: &Setup, spot: u16) -> Place
 }
 
 /// Whether a list has a number.
+#[inline(always)]
 pub fn has(list: &[u32], n: u32) -> bool
     ensures { result ≡ world.has list.now n }
 {
@@ -82,6 +87,7 @@ pub fn has(list: &[u32], n: u32) -> bool
 }
 
 /// Whether a list has a spot.
+#[inline(always)]
 pub fn has_spot(list: &[u16], spot: u16) -> bool
     ensures { result ≡ world.has list.now spot }
 {
@@ -89,6 +95,7 @@ pub fn has_spot(list: &[u16], spot: u16) -> bool
 }
 
 /// Whether a live device stands on the spot.
+#[inline(always)]
 pub fn is_occupied(tree: &DevTree, spot: u16) -> bool
     ensures { result ≡ search.is_occupied tree.now.live spot }
 {
@@ -96,6 +103,7 @@ pub fn is_occupied(tree: &DevTree, spot: u16) -> bool
 }
 
 /// The name of a driver.
+#[inline(always)]
 pub fn driver_name(setup: &Setup, driver: u32) -> &[u8]
     ensures { result.now ≡ world.driver_name setup.now driver }
 {

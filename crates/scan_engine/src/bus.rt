@@ -21,6 +21,7 @@ pub struct Bus {
 
 impl Bus {
     /// Where a scan that goes on from a position begins on this bus: there, or at the start of a later bus.
+    #[inline(always)]
     pub fn begin(self, from: Position) -> Position
         ensures { result ≡ begin_in self.attr from }
     {
@@ -37,6 +38,7 @@ impl Bus {
 }
 
 /// The first turn of a row from a spot on.
+#[inline(always)]
 fn row_turn(
     machine: &Machine,
     parent: Option<u16>,
@@ -62,6 +64,7 @@ fn row_turn(
 }
 
 /// The first turn of a direct bus that is not before a position on it: spot by spot.
+#[inline(always)]
 fn direct_turn(
     machine: &Machine,
     parent: Option<u16>,
@@ -112,6 +115,7 @@ fn indirect_turn(
 }
 
 /// The first turn of a bus that is not before a position on it.
+#[inline(always)]
 pub fn bus_turn(
     machine: &Machine,
     rows: u32,

@@ -18,6 +18,7 @@ use run_rules::{Position, Turn};
 
 /// The interface attributes that a driver offers, in the order in which they are searched; none where there is no such
 /// driver. See config(5).
+#[inline(always)]
 pub fn offered<'a>(graph: &'a Graph, tables: &Tables, device: u32) -> &'a [u32]
     requires graph { IsGraphOf (declared_by tables.now) graph.now }
     ensures { result.now ≡ offer.interfaces tables.now.attrs tables.now.devices device }
@@ -29,6 +30,7 @@ pub fn offered<'a>(graph: &'a Graph, tables: &Tables, device: u32) -> &'a [u32]
     }
 }
 
+#[inline(always)]
 fn last_style(lines: &[StyleLine], attach: u32, attr: u32) -> Option<StyleLine>
     ensures { result ≡ find (λ line. line.attach == attach && line.attr == attr) (reverse lines.now) }
 {
@@ -40,6 +42,7 @@ fn last_style(lines: &[StyleLine], attach: u32, attr: u32) -> Option<StyleLine>
 }
 
 /// The last style line for an attachment and an attribute; direct without one.
+#[inline(always)]
 fn is_indirect_by(machine: &Machine, attach: u32, attr: u32) -> bool
     ensures { result ≡ option_map_or (λ line. line.indirect) (find (λ line. line.attach == attach && line.attr == attr) (reverse machine.now.styles)) false }
 {
@@ -51,6 +54,7 @@ fn is_indirect_by(machine: &Machine, attach: u32, attr: u32) -> bool
 
 /// Whether a device of this attachment searches a place row by row.
 #[tactic(auto, unfolding(run_rules::specs::Search::style_of))]
+#[inline(always)]
 fn is_indirect(machine: &Machine, attach: Option<u32>, place: Place) -> bool
     ensures { result ≡ style_of machine.now attach place }
 {
@@ -62,6 +66,7 @@ fn is_indirect(machine: &Machine, attach: Option<u32>, place: Place) -> bool
 }
 
 /// The first turn of a place that is not before a position on it or on an earlier place.
+#[inline(always)]
 fn place_turn(
     tables: &Tables,
     machine: &Machine,
@@ -94,6 +99,7 @@ fn place_turn(
 }
 
 /// The first turn at these attributes that is not before a position.
+#[inline(always)]
 fn turn_among(
     tables: &Tables,
     machine: &Machine,
@@ -120,6 +126,7 @@ fn turn_among(
 }
 
 /// The first turn at the root that is not before a position.
+#[inline(always)]
 fn root_turn(
     tables: &Tables,
     machine: &Machine,
@@ -140,6 +147,7 @@ fn root_turn(
 }
 
 /// The first turn of a scan that is not before a position.
+#[inline(always)]
 fn scan_turn(
     tables: &Tables,
     graph: &Graph,
@@ -174,6 +182,7 @@ fn scan_turn(
 /// device by its driver, attachment and spot, or without all three that of the root, and of one attribute alone where one
 /// is given. All spots below its own stand in the span. It takes no memory, and looks at nothing before the position. See
 /// autoconf(9).
+#[inline(always)]
 pub fn next_turn(
     tables: &Tables,
     graph: &Graph,

@@ -40,6 +40,7 @@ impl Span {
 }
 
 /// Where the span of a parent stands: that of the root first, and then those of the spots.
+#[inline(always)]
 fn seat_of(parent: Option<u16>) -> usize
     ensures { result ≡ seat_of parent }
 {
@@ -92,6 +93,7 @@ impl ChildSpans {
     }
 
     /// Between which numbers the spots below a spot, or below the root, stand. It takes no memory.
+    #[inline(always)]
     pub fn below(&self, parent: Option<u16>) -> Span
         ensures { result ≡ span_at self.now parent }
     {

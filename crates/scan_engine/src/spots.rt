@@ -8,6 +8,7 @@ use crate::spans::Span;
 use cf_types::{Machine, Place};
 
 /// Whether a spot hangs below another one, or below the root, at a place.
+#[inline(always)]
 pub fn is_child(machine: &Machine, parent: Option<u16>, place: Place, spot: u16) -> bool
     ensures { result ≡ rule.is_child machine.now parent place spot }
 {
@@ -18,6 +19,7 @@ pub fn is_child(machine: &Machine, parent: Option<u16>, place: Place, spot: u16)
 }
 
 /// The first such spot from a number on, in file order. All of them stand in the span.
+#[inline(always)]
 pub fn next_child(
     machine: &Machine,
     parent: Option<u16>,

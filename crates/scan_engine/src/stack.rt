@@ -25,6 +25,7 @@ impl Model for Stack {
     ghost view = { λ stack. record { frames = reverse stack.frames.items; room = vec_capacity stack.frames - length stack.frames.items } };
 }
 
+#[inline(always)]
 fn serial_of(frame: &Frame) -> u64
     ensures { result ≡ frame_serial frame.now }
 {
@@ -47,6 +48,7 @@ fn has_frame(frames: &[Frame], serial: u64) -> bool
 }
 
 /// Moves a scan to a position.
+#[inline(always)]
 fn move_frame(frame: &mut Frame, to: Position)
     ensures { frame.new ≡ moved to frame.old }
 {
@@ -72,6 +74,7 @@ impl Stack {
     }
 
     /// Makes room for so many more frames. The frames are as before at both answers, and at `Memory` so is the room.
+    #[inline(always)]
     pub fn reserve(&mut self, n: usize) -> Result<(), Memory>
         ensures frames { self.new.frames ≡ self.old.frames }
         ensures room { OnOk result (n ≤ self.new.room) }
@@ -83,6 +86,7 @@ impl Stack {
     }
 
     /// How many frames there are.
+    #[inline(always)]
     pub fn len(&self) -> usize
         ensures { result ≡ length self.now.frames }
     {
@@ -90,6 +94,7 @@ impl Stack {
     }
 
     /// Puts a frame on top, for which there has to be room. It takes no memory.
+    #[inline(always)]
     pub fn push(&mut self, frame: Frame)
         requires { 0 < self.old.room }
         ensures frames { self.new.frames ≡ frame ∷ self.old.frames }
@@ -99,6 +104,7 @@ impl Stack {
     }
 
     /// The frame on top.
+    #[inline(always)]
     pub fn top(&self) -> Option<&Frame>
         ensures { option_copied result ≡ top_of self.now.frames }
     {
@@ -106,6 +112,7 @@ impl Stack {
     }
 
     /// Takes the top frame away.
+    #[inline(always)]
     pub fn pop(&mut self)
         requires { 0 < length self.old.frames }
         ensures frames { self.new.frames ≡ under_top self.old.frames }
@@ -122,6 +129,7 @@ impl Stack {
     }
 
     /// Moves the scan on top to a position.
+    #[inline(always)]
     pub fn set_position(&mut self, position: Position)
         requires { IsTrue (is_scanning self.old.frames) }
         ensures frames { self.new.frames ≡ moved_top position self.old.frames }

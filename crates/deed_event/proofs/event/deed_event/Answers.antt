@@ -17,7 +17,7 @@ pub deed_act-requires-clause-caller : goal.deed_act-requires-clause-caller
 deed_act-requires-clause-caller c = doer_there c.args.setup.now c.args.core.now c.args.caller _ c.requires.chosen
 
 pub deed_act-requires-clause-may : goal.deed_act-requires-clause-may
-deed_act-requires-clause-may c = may_be_told (world_of c.args.setup.now c.args.core.now) c.args.caller c.args.deed c.requires.may c.requires.kept c.requires.calls c.requires.chosen
+deed_act-requires-clause-may c = may_be_told (world_of c.args.setup.now c.args.core.now) c.args.caller c.args.deed.now c.requires.may c.requires.kept c.requires.calls c.requires.chosen
 
 pub number_of-requires-clause-caller : goal.number_of-requires-clause-caller
 number_of-requires-clause-caller c = doer_there c.args.setup.now c.args.core.now c.args.caller _ c.requires.chosen
@@ -32,4 +32,4 @@ returns-clause-event c = rw (c.in_ok-act.ensures, ← c.number_of.ensures c.args
 pub returns-clause-formed : goal.returns-clause-formed
 returns-clause-formed c =
     subst IsFormed (sym (returns-clause-event c))
-    (deed_formed (world_of c.args.setup.now c.args.core.now) c.args.caller c.args.deed c.requires.may c.requires.scripts c.requires.kept c.requires.calls c.requires.chosen)
+    (deed_formed (world_of c.args.setup.now c.args.core.now) c.args.caller c.args.deed.now c.requires.may c.requires.scripts c.requires.kept c.requires.calls c.requires.chosen)

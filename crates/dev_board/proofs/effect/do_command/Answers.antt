@@ -19,12 +19,12 @@ unplug-requires-clause-low c =
 pub open-requires-clause-holder : goal.open-requires-clause-holder
 open-requires-clause-holder c =
     let w : World = world_of c.args.site.now.setup c.args.core.now in
-    (subst (MayDo w c.args.caller) c.in-Open.is (may_do w c.args.caller c.args.deed c.requires.may c.requires.kept c.requires.chosen)).0
+    (subst (MayDo w c.args.caller) c.in-Open.is (may_do w c.args.caller c.args.deed.now c.requires.may c.requires.kept c.requires.chosen)).0
 
 pub open-requires-clause-room : goal.open-requires-clause-room
 open-requires-clause-room c =
     let w : World = world_of c.args.site.now.setup c.args.core.now in
-    (subst (MayDo w c.args.caller) c.in-Open.is (may_do w c.args.caller c.args.deed c.requires.may c.requires.kept c.requires.chosen)).1
+    (subst (MayDo w c.args.caller) c.in-Open.is (may_do w c.args.caller c.args.deed.now c.requires.may c.requires.kept c.requires.chosen)).1
 
 pub rescan-requires-clause-few : goal.rescan-requires-clause-few
 rescan-requires-clause-few c = λ a. few_locators c.args.site.now.setup a c.requires.may
@@ -38,7 +38,7 @@ pub unplug-requires-clause-live : goal.unplug-requires-clause-live
 unplug-requires-clause-live c =
     let w : World = world_of c.args.site.now.setup c.args.core.now in
     unplug_may w c.args.caller c.in-Unplug.spot c.in-Unplug.of
-    (subst (MayDo w c.args.caller) c.in-Unplug.is (may_do w c.args.caller c.args.deed c.requires.may c.requires.kept c.requires.chosen))
+    (subst (MayDo w c.args.caller) c.in-Unplug.is (may_do w c.args.caller c.args.deed.now c.requires.may c.requires.kept c.requires.chosen))
 
 pub do_plain-requires : goal.do_plain-requires
 do_plain-requires c =
@@ -49,8 +49,8 @@ do_plain-requires c =
       rows = c.requires.kept.ranges.rows;
       caller = c.requires.caller;
       low = subst (λ (x : Caller). x.over < 4294967295) (sym (state_is c.args.core.now.callers.items c.args.caller)) (over_fits w c.args.caller c.requires.may c.requires.kept);
-      may = may_do w c.args.caller c.args.deed c.requires.may c.requires.kept c.requires.chosen;
-      plain = plain_is_left c.args.deed c.requires.command c.in_default.not-Open c.in_default.not-Rescan c.in_default.not-Unplug;
+      may = may_do w c.args.caller c.args.deed.now c.requires.may c.requires.kept c.requires.chosen;
+      plain = plain_is_left c.args.deed.now c.requires.command c.in_default.not-Open c.in_default.not-Rescan c.in_default.not-Unplug;
     }
 
 pub returns-in-Open-clause-err : goal.returns-in-Open-clause-err

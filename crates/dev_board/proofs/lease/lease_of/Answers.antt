@@ -13,4 +13,4 @@ pub returns-in-Drop : goal.returns-in-Drop
 returns-in-Drop c = λ w live refs e. rw c.in-Drop.is (returns_step w c.args.caller c.in-Drop.of (Drop c.in-Drop.of) (rw c.in-Drop.is at e) refl ∙ rw (live, refs) c.return_step-in-Drop.ensures)
 
 pub returns-in_default : goal.returns-in_default
-returns-in_default c = λ w live refs e. deed_keeps w c.args.caller c.args.deed c.in_default.not-Open c.in_default.not-Close c.in_default.not-Drop
+returns-in_default c = λ w live refs e. deed_keeps w c.args.caller c.args.deed.now c.in_default.not-Open c.in_default.not-Close c.in_default.not-Drop

@@ -14,12 +14,12 @@ use Rattle.dev_board.proofs.slots.do_with.Goals as goal
 pub publish-requires : goal.publish-requires
 publish-requires g c =
     let w : World = world_of c.args.site.now.setup c.args.core.now in
-    rw c.got_of.ensures (slot_ready w _ (g.S.Slots.states c.args.slots.now) c.requires.agree (deed_arrives w c.args.caller c.args.deed c.requires.may c.requires.kept c.requires.chosen))
+    rw c.got_of.ensures (slot_ready w _ (g.S.Slots.states c.args.slots.now) c.requires.agree (deed_arrives w c.args.caller c.args.deed.now c.requires.may c.requires.kept c.requires.chosen))
 
 pub condemn_too-requires : goal.condemn_too-requires
 condemn_too-requires g c =
     let w : World = world_of c.args.site.now.setup c.args.core.now in
-    let d = c.args.deed in
+    let d = c.args.deed.now in
     rw (c.condemned_by.ensures, c.publish.ensures.states, c.got_of.ensures, c.requires.agree)
     (subst (λ (ds : List Dev). SlotsLag w.setup ds (condemned_by d) (published (got_of d) (slots_of w))) (sym (ap (λ (v : World). v.live) c.in-Ok.ensures.ok))
     (slots_lag w c.args.caller d c.requires.chosen (deed_arrives w c.args.caller d c.requires.may c.requires.kept c.requires.chosen) c.requires.other))

@@ -28,11 +28,11 @@ step_in_room-requires-clause-kept g c =
 
 pub step_in_room-requires-clause-chosen : goal.step_in_room-requires-clause-chosen
 step_in_room-requires-clause-chosen g c =
-    subst (λ (b : Shown). next b.world c.args.caller ≡ Does c.args.deed) (sym c.reserve.ensures.shown) c.requires.chosen
+    subst (λ (b : Shown). next b.world c.args.caller ≡ Does c.args.deed.now) (sym c.reserve.ensures.shown) c.requires.chosen
 
 pub step_in_room-requires-clause-caller : goal.step_in_room-requires-clause-caller
 step_in_room-requires-clause-caller g c =
-    doer_there c.args.site.now.setup c.reserve.new.core c.args.caller c.args.deed (step_in_room-requires-clause-chosen g c)
+    doer_there c.args.site.now.setup c.reserve.new.core c.args.caller c.args.deed.now (step_in_room-requires-clause-chosen g c)
 
 pub step_in_room-requires-clause-agree : goal.step_in_room-requires-clause-agree
 step_in_room-requires-clause-agree g c =
@@ -57,7 +57,7 @@ returns-in-Ok-clause-falls g c = λ did boots.
 
 pub returns-in-Err-clause-step : goal.returns-in-Err-clause-step
 returns-in-Err-clause-step g c =
-    (c.requires.goes_on, (doing_so (world_of c.args.site.now.setup c.args.core.now) c.args.caller c.args.deed c.requires.chosen).unended, c.reserve.ensures.shown)
+    (c.requires.goes_on, (doing_so (world_of c.args.site.now.setup c.args.core.now) c.args.caller c.args.deed.now c.requires.chosen).unended, c.reserve.ensures.shown)
 
 pub returns-in-Err-clause-kept : goal.returns-in-Err-clause-kept
 returns-in-Err-clause-kept g c = kept_shown c.args.site.now.setup c.args.core.now c.reserve.new.core c.reserve.ensures.shown c.reserve.ensures.books c.requires.kept

@@ -14,25 +14,25 @@ use Rattle.dev_board.proofs.step.step_in_room.Goals as goal
 
 pub returns-in-Ok-clause-kept : goal.returns-in-Ok-clause-kept
 returns-in-Ok-clause-kept g c =
-    kept_step c.args.site.now.setup c.args.core.now c.perform.new.core c.args.caller c.args.deed c.requires.kept c.requires.chosen c.in-Ok.ensures.ok c.in-Ok.ensures.books
+    kept_step c.args.site.now.setup c.args.core.now c.perform.new.core c.args.caller c.args.deed.now c.requires.kept c.requires.chosen c.in-Ok.ensures.ok c.in-Ok.ensures.books
 
 pub returns-in-Ok-clause-falls : goal.returns-in-Ok-clause-falls
 returns-in-Ok-clause-falls g c = λ did boots.
     (let w : World = world_of c.args.site.now.setup c.args.core.now in
-    let d = c.args.deed in
+    let d = c.args.deed.now in
     let chosen : next w 0 ≡ Does d = subst (λ (k : ℕ). next w k ≡ Does d) boots c.requires.chosen in
     rw c.in-Ok.ensures.ok.world (subst (λ (k : ℕ). boot_left (after w k d) < boot_left w) (sym boots) (boot_falls w d c.requires.kept.may c.requires.kept.kept chosen)))
 
 pub returns-in-Err-Memory-clause-step : goal.returns-in-Err-Memory-clause-step
 returns-in-Err-Memory-clause-step g c =
-    (c.requires.goes_on, (doing_so (world_of c.args.site.now.setup c.args.core.now) c.args.caller c.args.deed c.requires.chosen).unended, c.in-Err-Memory.ensures.err)
+    (c.requires.goes_on, (doing_so (world_of c.args.site.now.setup c.args.core.now) c.args.caller c.args.deed.now c.requires.chosen).unended, c.in-Err-Memory.ensures.err)
 
 pub returns-in-Ok-clause-step : goal.returns-in-Ok-clause-step
 returns-in-Ok-clause-step g c =
     let s = c.args.site.now.setup in
     let k = c.args.caller in
     let w : World = world_of s c.args.core.now in
-    let d = c.args.deed in
+    let d = c.args.deed.now in
     let did = c.in-Ok.ensures.ok in
     let place : c.len-place.result ≡ length c.args.core.now.events.items = omega (arith, c.len-place.ensures, c.args.core.now.events.ok) in (
       c.requires.goes_on,
