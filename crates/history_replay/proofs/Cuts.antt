@@ -1,6 +1,11 @@
 -- The first line of a text and the others.
 use Rattle.std.proofs.Common.{◌≡◌, ◌<◌, ◌+◌, ◌==◌, ℕ, suc, Bool, true, false, cond, List, [], ◌∷◌, length, take, drop, Option, Some, None, refl, sym, ap, ◌∙◌, arith, add-one, length-drop}
-use Rattle.std.specs.Prelude.{position, option_map}
+use Rattle.std.specs.Prelude.{nat_lt, position, option_map}
+use Rattle.std.specs.List.{position_or_len}
+use Rattle.std.proofs.lemmas.Bool.{false_from_ne_true}
+use Rattle.std.proofs.lemmas.Bool.Decides.{nat_tests}
+use Rattle.std.proofs.lemmas.List.Sums.{position_or_len_is}
+use Rattle.memchr.specs.Find.{IsFirstByte, is_byte}
 use Rattle.cf_types.proofs.PlaceLemmas.{position_cons}
 use Rattle.run_rules.specs.Reread.{lines_of, onto_first, pieces_of, without_empty_last}
 use Rattle.history_replay.specs.Lines.{IsCut}
@@ -85,3 +90,18 @@ cut_whole text rest some none nothing = record {
 pub some_left : (text : List ℕ) → (length text == 0) ≡ false → 0 < length text
 some_left [] h = absurd cc
 some_left (b ∷ bs) h = omega arith
+
+-- ---- the first newline
+
+pub newline_is : (text : List ℕ) (r : Option ℕ) → IsFirstByte (is_byte 10) text r → r ≡ position (λ b. b == 10) text
+newline_is text None none =
+    let all : position_or_len (λ b. b == 10) text ≡ length text =
+    position_or_len_is (λ b. b == 10) text (length text) 0 (omega arith) (λ k lt. false_from_ne_true _ (none k (omega arith) lt)) (λ lt. absurd (omega (arith, lt))) in
+    let past : nat_lt (length text) (length text) ≡ false = grind (arith, nat_tests) in
+    rw (all, past) refl
+newline_is text (Some k) first =
+    let here : position_or_len (λ b. b == 10) text ≡ k =
+    position_or_len_is (λ b. b == 10) text k 0 (omega (arith, first.0.high)) (λ j lt. false_from_ne_true _ (first.0.before j (omega arith) lt)) (λ lt. first.1) in
+    let less = first.0.high in
+    let within : nat_lt k (length text) ≡ true = grind (arith, nat_tests) in
+    rw (here, within) refl

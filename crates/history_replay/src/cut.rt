@@ -3,13 +3,14 @@ ghost use Rattle.std.specs.Prelude.{◌≡◌, ◌<◌, ◌+◌, ◌==◌, [], M
 ghost use Rattle.run_rules.specs.Reread as rule;
 ghost use Rattle.history_replay.specs.Lines.{IsCut};
 
+use memchr::memchr;
 use run_rules::Format;
 
 /// The place of the first newline.
 fn newline_in(text: &[u8]) -> Option<usize>
     ensures { result ≡ position (λ b. b == 10) text.now }
 {
-    text.iter().position(|byte| *byte == b'\n')
+    memchr(b'\n', text)
 }
 
 /// What stands before a place, and what stands behind it.

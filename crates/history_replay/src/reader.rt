@@ -12,10 +12,13 @@ use cf_types::{List, Memory};
 use dev_event::{put_event, put_event_1, read_caller};
 use plain_choice::next;
 use plain_effect::apply;
-use plain_event::event_of;
+use plain_event::{Names, event_of};
 use plain_world::{Plain, Rules};
 use run_rules::{Choice, Deed, Event, Format};
 use std::alloc::Global;
+
+/// How many bytes serve for most lines.
+const USUAL: usize = 96;
 
 /// Appends the line of an event.
 fn put_line(format: Format, event: &Event, out: &mut Vec<u8>) -> Result<(), Memory>
@@ -31,7 +34,7 @@ fn put_line(format: Format, event: &Event, out: &mut Vec<u8>) -> Result<(), Memo
 fn is_line_of(alloc: Global, format: Format, event: &Event, line: &[u8]) -> Result<bool, Memory>
     ensures { IfOk result (λ is. is ≡ bytes_eq (rule.line_in format event.now) line.now) }
 {
-    let mut due = Vec::new(alloc);
+    let mut due = Vec::with_capacity(alloc, USUAL)?;
     put_line(format, event, &mut due)?;
     Ok(is(&due, line))
 }
@@ -69,6 +72,7 @@ fn event_if(
 fn event_told(
     alloc: Global,
     rules: &Rules,
+    names: &mut Names,
     plain: &Plain,
     format: Format,
     caller: u8,
@@ -80,7 +84,7 @@ fn event_told(
     requires due { IsDue (setup_by rules.now) plain.now caller deed }
     ensures { IfOk result (λ e. event_in format (world_of (setup_by rules.now) plain.now) caller deed line.now ≡ e) }
 {
-    match event_of(alloc, rules, plain, caller, deed) {
+    match event_of(alloc, rules, names, plain, caller, deed) {
         Ok(event) => event_if(alloc, format, event, line),
         Err(memory) => Err(memory),
     }
@@ -107,6 +111,7 @@ fn perform(
 fn take(
     alloc: Global,
     rules: &Rules,
+    names: &mut Names,
     plain: &mut Plain,
     format: Format,
     caller: u8,
@@ -119,7 +124,7 @@ fn take(
     requires due { IsDue (setup_by rules.now) plain.old caller deed }
     ensures { IfOk result (TellsDeed (setup_by rules.now) format plain.old caller line.now deed plain.new) }
 {
-    match event_told(alloc, rules, plain, format, caller, deed, line) {
+    match event_told(alloc, rules, names, plain, format, caller, deed, line) {
         Ok(Some(event)) => match perform(alloc, rules, plain, caller, deed) {
             Ok(()) => Ok(Some(event)),
             Err(memory) => {
@@ -136,6 +141,7 @@ fn take(
 fn told_by(
     alloc: Global,
     rules: &Rules,
+    names: &mut Names,
     plain: &mut Plain,
     format: Format,
     caller: u8,
@@ -147,7 +153,7 @@ fn told_by(
     ensures { IfOk result (TellsNext (setup_by rules.now) format plain.old caller line.now plain.new) }
 {
     match next(alloc, rules, plain, caller) {
-        Ok(Choice::Does(deed)) => take(alloc, rules, plain, format, caller, deed, line),
+        Ok(Choice::Does(deed)) => take(alloc, rules, names, plain, format, caller, deed, line),
         Ok(_) => Ok(None),
         Err(memory) => Err(memory),
     }
@@ -157,6 +163,7 @@ fn told_by(
 fn step(
     alloc: Global,
     rules: &Rules,
+    names: &mut Names,
     plain: &mut Plain,
     format: Format,
     line: &[u8],
@@ -167,7 +174,7 @@ fn step(
     ensures { IfOk result (TellsStep (setup_by rules.now) format plain.old line.now plain.new) }
 {
     match read_caller(line) {
-        Some(caller) => told_by(alloc, rules, plain, format, caller, line),
+        Some(caller) => told_by(alloc, rules, names, plain, format, caller, line),
         None => Ok(None),
     }
 }
@@ -189,6 +196,9 @@ fn read_lines(
     ensures read { ReadsLines (setup_by rules.now) format plain.old first text.now result plain.new }
     ensures going { OnOk result (IsGoing (setup_by rules.now) plain.new) }
 {
+    let Ok(mut names) = Names::make(alloc) else {
+        return Err(ReplayStop::Memory);
+    };
     let mut events = List::make(alloc);
     let mut left = text;
     let mut number = first;
@@ -196,7 +206,7 @@ fn read_lines(
         if is(line, b"tree") {
             return Ok(events);
         }
-        let Ok(told) = step(alloc, rules, plain, format, line) else {
+        let Ok(told) = step(alloc, rules, &mut names, plain, format, line) else {
             return Err(ReplayStop::Memory);
         };
         let Some(event) = told else {

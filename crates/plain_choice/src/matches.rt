@@ -105,14 +105,12 @@ fn parent_offers(rules: &Rules, parent: ParentRef, place: Place) -> bool
     }
 }
 
-/// Whether a row fits a parent at a place.
-fn fits(rules: &Rules, parent: ParentRef, place: Place, row: &Row) -> bool
-    requires { AreFit rules.now }
+/// Whether a row fits a parent at a place, where it is known whether the parent offers the place.
+fn fits(rules: &Rules, offers: bool, parent: ParentRef, place: Place, row: &Row) -> bool
+    requires { offers ≡ rule.parent_offers rules.now.tables.now parent place }
     ensures { result ≡ rule.fits rules.now.tables.now parent place row.now }
 {
-    same_place(row.place, place)
-        && parent_offers(rules, parent, place)
-        && names_parent(row.parent, parent)
+    same_place(row.place, place) && offers && names_parent(row.parent, parent)
 }
 
 /// Whether the locator values of a row fit those that are found at a spot.
@@ -152,17 +150,18 @@ fn is_live_row(rules: &Rules, live: &Live, row: &Row) -> bool
 fn is_candidate(
     rules: &Rules,
     live: &Live,
+    offers: bool,
     parent: ParentRef,
     place: Place,
     spot: u16,
     row: u32,
 ) -> bool
-    requires { AreFit rules.now }
+    requires { offers ≡ rule.parent_offers rules.now.tables.now parent place }
     ensures { result ≡ rule.is_candidate (setup_by rules.now) live.now.devices parent place spot row }
 {
     match rules.tables.rows.items().get(row as usize) {
         Some(row) => {
-            let fits = fits(rules, parent, place, row);
+            let fits = fits(rules, offers, parent, place, row);
             fits && passes(rules, place, row, spot)
                 && is_live_row(rules, live, row)
                 && match_value(rules, row.attach, spot) > 0
@@ -186,9 +185,12 @@ fn winner(rules: &Rules, live: &Live, parent: ParentRef, place: Place, spot: u16
     requires { AreFit rules.now }
     ensures { rule.winner (setup_by rules.now) live.now.devices parent place spot ≡ result }
 {
+    let offers = parent_offers(rules, parent, place);
     let mut best = None;
     for row in 0..rules.tables.rows.len() as u32 {
-        if is_candidate(rules, live, parent, place, spot, row) && is_above(rules, row, best, spot) {
+        if is_candidate(rules, live, offers, parent, place, spot, row)
+            && is_above(rules, row, best, spot)
+        {
             best = Some(row);
         }
     }

@@ -9,11 +9,9 @@ ghost use Rattle.plain_event.specs.Told.{AnswersLive, EndsLive, MayBeTold, answe
 ghost use Rattle.plain_world.specs.Plain.{HasCaller, state_at, world_of};
 ghost use Rattle.plain_world.specs.Rules.{AreFit, setup_by};
 
+use crate::names::{Names, live_name, parent_name};
 use cf_types::{Command, Memory, Name, Ticket};
-use plain_world::{
-    Plain, Rules, command_at, got_of, list_names, live_name, parent_name, shown_of, spot_name,
-    tree_names,
-};
+use plain_world::{Plain, Rules, command_at, got_of, list_names, shown_of, spot_name, tree_names};
 use run_rules::{Act, Deed, Event, IoAnswer, PowerEnd, PowerKind, Refusal, Reply};
 use std::alloc::Global;
 
@@ -33,6 +31,7 @@ fn answer_of(ticket: Ticket) -> IoAnswer
 fn answer_by(
     alloc: Global,
     rules: &Rules,
+    names: &mut Names,
     plain: &Plain,
     refused: Option<Refusal>,
 ) -> Result<Reply, Memory>
@@ -52,7 +51,7 @@ fn answer_by(
         Refusal::NotHeld => Ok(Reply::NotHeld),
         Refusal::Asleep => Ok(Reply::Asleep),
         Refusal::Busy(serial) => {
-            let name = live_name(alloc, rules, &plain.live, serial)?;
+            let name = live_name(alloc, rules, names, &plain.live, serial)?;
             Ok(Reply::Busy(name))
         }
         Refusal::NoRescan => Ok(Reply::NoRescan),
@@ -63,7 +62,13 @@ fn answer_by(
 }
 
 /// The reply with which a power command ends.
-fn end_of(alloc: Global, rules: &Rules, plain: &Plain, end: PowerEnd) -> Result<Reply, Memory>
+fn end_of(
+    alloc: Global,
+    rules: &Rules,
+    names: &mut Names,
+    plain: &Plain,
+    end: PowerEnd,
+) -> Result<Reply, Memory>
     requires fit { AreFit rules.now }
     requires live { EndsLive (world_of (setup_by rules.now) plain.now) end }
     ensures { IfOk result (λ r. r ≡ run.end_of (world_of (setup_by rules.now) plain.now) end) }
@@ -72,11 +77,11 @@ fn end_of(alloc: Global, rules: &Rules, plain: &Plain, end: PowerEnd) -> Result<
         PowerEnd::Done => Ok(Reply::Ok),
         PowerEnd::Gone => Ok(Reply::Gone),
         PowerEnd::NotSupported(serial) => {
-            let name = live_name(alloc, rules, &plain.live, serial)?;
+            let name = live_name(alloc, rules, names, &plain.live, serial)?;
             Ok(Reply::NotSupported(name))
         }
         PowerEnd::Failed(serial) => {
-            let name = live_name(alloc, rules, &plain.live, serial)?;
+            let name = live_name(alloc, rules, names, &plain.live, serial)?;
             Ok(Reply::SuspendFailed(name))
         }
     }
@@ -99,6 +104,7 @@ fn name_or_none(name: &Option<Name>) -> Result<Option<Name>, Memory>
 fn answered(
     alloc: Global,
     rules: &Rules,
+    names: &mut Names,
     plain: &Plain,
     name: &Name,
     refused: Option<Refusal>,
@@ -108,7 +114,7 @@ fn answered(
     ensures { IfOk result (λ told. told ≡ (name.now, answer_by (world_of (setup_by rules.now) plain.now) refused)) }
 {
     let name = name.clone()?;
-    let reply = answer_by(alloc, rules, plain, refused)?;
+    let reply = answer_by(alloc, rules, names, plain, refused)?;
     Ok((name, reply))
 }
 
@@ -116,6 +122,7 @@ fn answered(
 fn power_act(
     alloc: Global,
     rules: &Rules,
+    names: &mut Names,
     plain: &Plain,
     kind: PowerKind,
     name: &Name,
@@ -125,7 +132,7 @@ fn power_act(
     requires live { AnswersLive (world_of (setup_by rules.now) plain.now) refused }
     ensures { IfOk result (λ a. a ≡ act.Power kind name.now (answer_by (world_of (setup_by rules.now) plain.now) refused)) }
 {
-    let (device, reply) = answered(alloc, rules, plain, name, refused)?;
+    let (device, reply) = answered(alloc, rules, names, plain, name, refused)?;
     Ok(Act::Power {
         kind,
         device,
@@ -158,6 +165,7 @@ fn tree_act(alloc: Global, rules: &Rules, plain: &Plain, name: &Option<Name>) ->
 fn command_act(
     alloc: Global,
     rules: &Rules,
+    names: &mut Names,
     plain: &Plain,
     said: &Command,
     refused: Option<Refusal>,
@@ -169,19 +177,19 @@ fn command_act(
 {
     match said {
         Command::OpenDev(name) => {
-            let (device, reply) = answered(alloc, rules, plain, name, refused)?;
+            let (device, reply) = answered(alloc, rules, names, plain, name, refused)?;
             Ok(Act::OpenDev { device, reply })
         }
         Command::OpenSole(name) => {
-            let (device, reply) = answered(alloc, rules, plain, name, refused)?;
+            let (device, reply) = answered(alloc, rules, names, plain, name, refused)?;
             Ok(Act::OpenSole { device, reply })
         }
         Command::CloseDev(name) => {
-            let (device, reply) = answered(alloc, rules, plain, name, refused)?;
+            let (device, reply) = answered(alloc, rules, names, plain, name, refused)?;
             Ok(Act::CloseDev { device, reply })
         }
         Command::Io(name, value) => {
-            let (device, reply) = answered(alloc, rules, plain, name, refused)?;
+            let (device, reply) = answered(alloc, rules, names, plain, name, refused)?;
             Ok(Act::IoStart {
                 device,
                 value: *value,
@@ -189,7 +197,7 @@ fn command_act(
             })
         }
         Command::Detach(name) => {
-            let (device, reply) = answered(alloc, rules, plain, name, refused)?;
+            let (device, reply) = answered(alloc, rules, names, plain, name, refused)?;
             Ok(Act::Detach { device, reply })
         }
         Command::Rescan {
@@ -197,24 +205,42 @@ fn command_act(
             attr: _,
             given: _,
         } => {
-            let (device, reply) = answered(alloc, rules, plain, name, refused)?;
+            let (device, reply) = answered(alloc, rules, names, plain, name, refused)?;
             Ok(Act::Rescan { device, reply })
         }
         Command::ListDev(name) => list_act(alloc, rules, plain, name),
         Command::TreeDev(name) => tree_act(alloc, rules, plain, name),
         Command::Suspend(name) => {
-            power_act(alloc, rules, plain, PowerKind::Suspend, name, refused)
+            power_act(
+                alloc,
+                rules,
+                names,
+                plain,
+                PowerKind::Suspend,
+                name,
+                refused,
+            )
         }
-        Command::Resume(name) => power_act(alloc, rules, plain, PowerKind::Resume, name, refused),
+        Command::Resume(name) => {
+            power_act(alloc, rules, names, plain, PowerKind::Resume, name, refused)
+        }
         Command::ResumeTree(name) => {
-            power_act(alloc, rules, plain, PowerKind::ResumeTree, name, refused)
+            power_act(
+                alloc,
+                rules,
+                names,
+                plain,
+                PowerKind::ResumeTree,
+                name,
+                refused,
+            )
         }
         Command::Plug(name) => {
-            let (spot, reply) = answered(alloc, rules, plain, name, refused)?;
+            let (spot, reply) = answered(alloc, rules, names, plain, name, refused)?;
             Ok(Act::Plug { spot, reply })
         }
         Command::Unplug(name) => {
-            let (spot, reply) = answered(alloc, rules, plain, name, refused)?;
+            let (spot, reply) = answered(alloc, rules, names, plain, name, refused)?;
             Ok(Act::Unplug { spot, reply })
         }
     }
@@ -232,6 +258,7 @@ fn over_of(plain: &Plain, caller: u8) -> u32
 fn answered_act(
     alloc: Global,
     rules: &Rules,
+    names: &mut Names,
     plain: &Plain,
     caller: u8,
     refused: Option<Refusal>,
@@ -243,7 +270,7 @@ fn answered_act(
     ensures { IfOk result (λ a. a ≡ run.answered (world_of (setup_by rules.now) plain.now) caller (answer_by (world_of (setup_by rules.now) plain.now) refused)) }
 {
     match command_at(rules, caller, over_of(plain, caller)) {
-        Some(said) => command_act(alloc, rules, plain, said, refused),
+        Some(said) => command_act(alloc, rules, names, plain, said, refused),
         None => Ok(Act::End),
     }
 }
@@ -265,6 +292,7 @@ fn power_name(said: &Command) -> &Name
 fn power_end_act(
     alloc: Global,
     rules: &Rules,
+    names: &mut Names,
     plain: &Plain,
     caller: u8,
     end: PowerEnd,
@@ -278,7 +306,7 @@ fn power_end_act(
     match command_at(rules, caller, over_of(plain, caller)) {
         Some(said) => {
             let device = power_name(said).clone()?;
-            let reply = end_of(alloc, rules, plain, end)?;
+            let reply = end_of(alloc, rules, names, plain, end)?;
             Ok(Act::PowerEnd { device, reply })
         }
         None => unreachable!(),
@@ -290,6 +318,7 @@ fn power_end_act(
 fn act_of(
     alloc: Global,
     rules: &Rules,
+    names: &mut Names,
     plain: &Plain,
     caller: u8,
     deed: Deed,
@@ -308,48 +337,48 @@ fn act_of(
             got,
             ..
         } => {
-            let parent = parent_name(alloc, rules, live, parent)?;
+            let parent = parent_name(alloc, rules, names, live, parent)?;
             let spot = spot_name(rules, spot)?;
             let got = got_of(alloc, rules, got)?;
             Ok(Act::Found { parent, spot, got })
         }
         Deed::EndScan { of } => {
-            let device = parent_name(alloc, rules, live, of)?;
+            let device = parent_name(alloc, rules, names, live, of)?;
             Ok(Act::ScanEnd { device })
         }
         Deed::BeginInterrupts => Ok(Act::Interrupts),
         Deed::Finalise { of, shown, got, .. } => {
-            let device = live_name(alloc, rules, live, of)?;
+            let device = live_name(alloc, rules, names, live, of)?;
             let shown = shown_of(alloc, rules, shown, got)?;
             Ok(Act::Final { device, shown })
         }
         Deed::EndCaller => Ok(Act::End),
         Deed::Drop { of } => {
-            let device = live_name(alloc, rules, live, of)?;
+            let device = live_name(alloc, rules, names, live, of)?;
             Ok(Act::DropRef { device })
         }
         Deed::Done(ticket) => {
-            let device = live_name(alloc, rules, live, ticket.serial)?;
+            let device = live_name(alloc, rules, names, live, ticket.serial)?;
             Ok(Act::IoDone {
                 device,
                 answer: answer_of(ticket),
             })
         }
         Deed::Free { of } => {
-            let device = live_name(alloc, rules, live, of)?;
+            let device = live_name(alloc, rules, names, live, of)?;
             Ok(Act::Free { device })
         }
         Deed::Sleep { of } => {
-            let device = live_name(alloc, rules, live, of)?;
+            let device = live_name(alloc, rules, names, live, of)?;
             Ok(Act::Sleep { device })
         }
         Deed::Wake { of } => {
-            let device = live_name(alloc, rules, live, of)?;
+            let device = live_name(alloc, rules, names, live, of)?;
             Ok(Act::Wake { device })
         }
-        Deed::EndPower(end) => power_end_act(alloc, rules, plain, caller, end),
-        Deed::Refuse(why) => answered_act(alloc, rules, plain, caller, Some(why)),
-        _ => answered_act(alloc, rules, plain, caller, None),
+        Deed::EndPower(end) => power_end_act(alloc, rules, names, plain, caller, end),
+        Deed::Refuse(why) => answered_act(alloc, rules, names, plain, caller, Some(why)),
+        _ => answered_act(alloc, rules, names, plain, caller, None),
     }
 }
 
@@ -365,11 +394,12 @@ fn number_of(plain: &Plain, caller: u8) -> u32
     }
 }
 
-/// The event of what a caller does next.
+/// The event of what a caller does next. Names that it tells of devices are shared with these, and kept there.
 #[tactic(auto, unfolding(run_rules::specs::Run::event_of))]
 pub fn event_of(
     alloc: Global,
     rules: &Rules,
+    names: &mut Names,
     plain: &Plain,
     caller: u8,
     deed: Deed,
@@ -380,7 +410,7 @@ pub fn event_of(
     requires may { MayBeTold (world_of (setup_by rules.now) plain.now) caller deed }
     ensures { IfOk result (λ e. e ≡ run.event_of (world_of (setup_by rules.now) plain.now) caller deed) }
 {
-    let act = act_of(alloc, rules, plain, caller, deed)?;
+    let act = act_of(alloc, rules, names, plain, caller, deed)?;
     Ok(Event {
         caller,
         number: number_of(plain, caller),

@@ -18,7 +18,7 @@ pub use look::{
     attach_at, count, device_at, device_on, driver_at, holds, is_live, is_occupied, is_pinned,
     is_sole, is_under, refers, spot_of,
 };
-pub use names::{device_named, got_of, live_name, parent_name, shown_of, spot_name};
+pub use names::{device_named, got_of, parent_name, shown_of, spot_name, unit_name};
 pub use rules::{
     Rules, attach_of, attr_named, driver_of, found_at, has, has_spot, is_bad, is_nothing,
     is_number, offered, place_of, policy_of, row_at, same_place, spot_named,

@@ -35,14 +35,26 @@ impl Model for Live {
     ghost invariant = { λ live. AreInOrder live.devices.items live.next × AreCounted live.devices.items live.on_spots.items };
 }
 
-/// The place of the device of a serial.
-fn place_of(devices: &[Dev], serial: u64) -> Option<usize>
+/// The place of the device of a serial, found by halves.
+fn place_by_halves(devices: &[Dev], serial: u64) -> Option<usize>
     requires { EachLater (λ d e. d.serial < e.serial) devices.now }
     ensures { MatchOption result (world.is_live devices.now serial ≡ false) (λ i. (i < length devices.now) × ((d : Dev) → (slice_index_or devices.now i d).serial ≡ serial)) }
 {
     devices
         .binary_search_by_key(&serial, |device| device.serial)
         .ok()
+}
+
+/// The place of the device of a serial. While none has gone it is one below the serial.
+fn place_of(devices: &[Dev], serial: u64) -> Option<usize>
+    requires { EachLater (λ d e. d.serial < e.serial) devices.now }
+    ensures { MatchOption result (world.is_live devices.now serial ≡ false) (λ i. (i < length devices.now) × ((d : Dev) → (slice_index_or devices.now i d).serial ≡ serial)) }
+{
+    let place = serial.saturating_sub(1) as usize;
+    if place < devices.len() && devices[place].serial == serial {
+        return Some(place);
+    }
+    place_by_halves(devices, serial)
 }
 
 /// The device of a serial.

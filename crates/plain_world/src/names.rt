@@ -1,8 +1,7 @@
 //! The external names of devices, and which device has a name.
-ghost use Rattle.std.specs.Prelude.{◌≡◌, ◌<◌, ◌++◌, IfOk, IfSome, OnOk, length, true, bytes_eq};
+ghost use Rattle.std.specs.Prelude.{◌≡◌, ◌<◌, ◌++◌, IfOk, IfSome, OnOk, length, bytes_eq};
 ghost use Rattle.run_rules.specs.Run as run;
 ghost use Rattle.run_rules.specs.World as world;
-ghost use Rattle.plain_world.specs.Names.{name_live};
 ghost use Rattle.plain_world.specs.Rules.{AreFit, setup_by};
 
 use crate::live::Live;
@@ -53,18 +52,6 @@ pub fn parent_name(alloc: Global, rules: &Rules, live: &Live, serial: u64) -> Re
     match device_at(live, serial) {
         Some(device) => unit_name(alloc, rules, device.row, device.unit),
         None => Name::make(alloc, b"root"),
-    }
-}
-
-/// The name of a live device.
-pub fn live_name(alloc: Global, rules: &Rules, live: &Live, serial: u64) -> Result<Name, Memory>
-    requires fit { AreFit rules.now }
-    requires live { world.is_live live.now.devices serial ≡ true }
-    ensures { IfOk result (λ n. n ≡ name_live (setup_by rules.now) live.now.devices serial) }
-{
-    match device_at(live, serial) {
-        Some(device) => unit_name(alloc, rules, device.row, device.unit),
-        None => unreachable!(),
     }
 }
 

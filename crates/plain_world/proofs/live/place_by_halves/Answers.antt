@@ -1,7 +1,7 @@
 use Rattle.std.proofs.Common.{rules}
 use Rattle.std.proofs.lemmas.List.Sorted.{answers_always}
 use Rattle.run_rules.proofs.Order.{searched}
-use Rattle.plain_world.proofs.live.place_of.Goals as goal
+use Rattle.plain_world.proofs.live.place_by_halves.Goals as goal
 
 pub returns : goal.returns
 returns c =
