@@ -41,7 +41,7 @@ fn inst_of(instance: &Instance) -> Inst
 fn insts_of(alloc: Global, instances: &[Instance]) -> Result<List<Inst>, Memory>
     ensures { IfOk result (λ insts. insts ≡ map inst_of instances.now) }
 {
-    let mut insts = List::make(alloc);
+    let mut insts = List::from_vec(Vec::with_capacity(alloc, instances.len())?);
     for instance in instances {
         insts.push(inst_of(instance))?;
     }

@@ -85,7 +85,7 @@ fn judge_statement(
     if count >= MAX_INSTANCES {
         return Ok(Some(code::TOO_MANY_INSTANCES));
     }
-    match standing.declarations.join(base.bytes(), at, pairs.items()) {
+    match standing.declarations.join(base, at, pairs.items()) {
         Ok(joined) => {
             let instance = Instance {
                 stmt: place,
@@ -111,6 +111,14 @@ fn instance_count(stmt: &Stmt) -> usize
     }
 }
 
+/// No instance, with room for those that survive.
+fn room_for(alloc: Global, survive: &[bool]) -> Result<List<Instance>, Memory>
+    ensures { IfOk result (λ instances. instances ≡ []) }
+{
+    let count = survive.iter().filter(|&&survives| survives).count();
+    Ok(List::from_vec(Vec::with_capacity(alloc, count)?))
+}
+
 /// Judges the placed statements one after the other, each behind what those before it declare, up to the first code.
 pub fn judge(
     alloc: Global,
@@ -122,9 +130,10 @@ pub fn judge(
     requires survive { survive.now ≡ kept (stmts_of placed.now) }
     ensures { IfOk result (Judges files.now placed.now) }
 {
+    let instances = room_for(alloc, survive)?;
     let mut standing = Standing {
         declarations: Declarations::make(alloc, placed),
-        instances: List::make(alloc),
+        instances,
     };
     let mut count = 0;
     for (place, statement) in placed.iter().enumerate() {

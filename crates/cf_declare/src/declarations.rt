@@ -12,7 +12,7 @@ use crate::judge::code_of;
 use crate::names::name_hash;
 use attr_graph::Graph;
 use cf_names::Catalog;
-use cf_types::{AtSpec, Declared, GivenLoc, Joined, Memory, Placed, Stmt};
+use cf_types::{AtSpec, Declared, GivenLoc, Joined, Memory, Name, Placed, Stmt};
 use std::alloc::Global;
 use std::marker::Model;
 
@@ -64,7 +64,7 @@ impl Declarations {
     }
 
     /// What an instance joins, or its first code.
-    pub fn join(&self, base: &[u8], at: &AtSpec, pairs: &[GivenLoc]) -> Result<Joined, u8>
+    pub fn join(&self, base: &Name, at: &AtSpec, pairs: &[GivenLoc]) -> Result<Joined, u8>
         requires { FitsDeclared self.now }
         ensures { result ≡ join self.now base.now at.now pairs.now }
     {

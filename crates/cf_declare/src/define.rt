@@ -37,7 +37,7 @@ pub fn define_fault(
     alloc: Global,
     declared: &Catalog,
     graph: &mut Graph,
-    name: &[u8],
+    name: &Name,
     locators: &Option<List<Locator>>,
     needs: &[Name],
 ) -> Result<Option<u8>, Memory>
@@ -46,7 +46,7 @@ pub fn define_fault(
     ensures code { IfOk result (λ code. code ≡ define_fault declared.now name.now locators.now needs.now) }
     ensures same { graph.new ≡ graph.old }
 {
-    if is_root(name) || has_attr(declared, name) {
+    if is_root(name.bytes()) || has_attr(declared, name) {
         return Ok(Some(code::NAME_TAKEN));
     }
     if repeats_locator(locators) {
@@ -104,7 +104,7 @@ pub fn device_fault(
     alloc: Global,
     declared: &Catalog,
     graph: &mut Graph,
-    name: &[u8],
+    name: &Name,
     locators: &Option<List<Locator>>,
     needs: &[Name],
 ) -> Result<Option<u8>, Memory>
@@ -113,7 +113,7 @@ pub fn device_fault(
     ensures code { IfOk result (λ code. code ≡ device_fault declared.now name.now locators.now needs.now) }
     ensures same { graph.new ≡ graph.old }
 {
-    if is_root(name)
+    if is_root(name.bytes())
         || has_device(declared, name)
         || (locators.is_some() && has_attr(declared, name))
     {

@@ -146,11 +146,11 @@ fn own_number(declared: &Catalog, locators: &Option<List<Locator>>) -> Option<u3
     }
 }
 
-fn place_named(declared: &Catalog, name: &[u8]) -> Place
+fn place_named(declared: &Catalog, name: &Name) -> Place
     requires { length declared.now.attrs ≤ 65536 }
     ensures { result ≡ place_named declared.now name.now }
 {
-    if is_root(name) {
+    if is_root(name.bytes()) {
         return Place::Root;
     }
     Place::At(declared.attr_number(name).unwrap_or(0) as u32)
@@ -162,12 +162,12 @@ fn places_named(alloc: Global, declared: &Catalog, names: &[Name]) -> Result<Lis
 {
     let mut places = Vec::with_capacity(alloc, names.len())?;
     for name in names {
-        places.push(place_named(declared, name.bytes()))?;
+        places.push(place_named(declared, name))?;
     }
     Ok(List::from_vec(places))
 }
 
-fn device_or_zero(declared: &Catalog, name: &[u8]) -> u32
+fn device_or_zero(declared: &Catalog, name: &Name) -> u32
     requires { length declared.now.devices ≤ 65536 }
     ensures { result ≡ unwrap_or (device_number declared.now name.now) 0 }
 {
@@ -190,7 +190,7 @@ pub fn new_attach(alloc: Global, declared: &Catalog, stmt: &Stmt) -> Result<Opti
             let name = attach_name.as_ref().unwrap_or(device);
             Ok(Some(Attach {
                 name: name.clone()?,
-                device: device_or_zero(declared, device.bytes()),
+                device: device_or_zero(declared, device),
                 places: places_named(alloc, declared, places.items())?,
                 needs: attr_numbers(alloc, declared, needs.items())?,
             }))

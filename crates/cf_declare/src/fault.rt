@@ -9,13 +9,13 @@ use cf_types::code::configuration as code;
 use cf_types::{List, Locator, Memory, Name};
 use std::alloc::Global;
 
-pub fn has_attr(declared: &Catalog, name: &[u8]) -> bool
+pub fn has_attr(declared: &Catalog, name: &Name) -> bool
     ensures { result ≡ has_attr declared.now name.now }
 {
     declared.attr_number(name).is_some()
 }
 
-pub fn has_device(declared: &Catalog, name: &[u8]) -> bool
+pub fn has_device(declared: &Catalog, name: &Name) -> bool
     ensures { result ≡ has_device declared.now name.now }
 {
     declared.device_number(name).is_some()
@@ -25,11 +25,11 @@ pub fn has_device(declared: &Catalog, name: &[u8]) -> bool
 pub fn lacks_attr(declared: &Catalog, names: &[Name]) -> bool
     ensures { result ≡ lacks_attr declared.now names.now }
 {
-    names.iter().any(|name| !has_attr(declared, name.bytes()))
+    names.iter().any(|name| !has_attr(declared, name))
 }
 
 /// The number of an attribute, 0 where there is none.
-fn number_or_zero(declared: &Catalog, name: &[u8]) -> u32
+fn number_or_zero(declared: &Catalog, name: &Name) -> u32
     requires { length declared.now.attrs ≤ 65536 }
     ensures { result ≡ unwrap_or (attr_number declared.now name.now) 0 }
 {
@@ -43,7 +43,7 @@ pub fn attr_numbers(alloc: Global, declared: &Catalog, names: &[Name]) -> Result
 {
     let numbers = names
         .iter()
-        .map(|name| number_or_zero(declared, name.bytes()))
+        .map(|name| number_or_zero(declared, name))
         .collect(alloc)?;
     Ok(List::from_vec(numbers))
 }
@@ -79,10 +79,10 @@ fn is_named(locators: &[Locator], name: &[u8]) -> bool
 }
 
 /// The code of a place: unknown, or no interface attribute.
-fn place_fault(declared: &Catalog, place: &[u8]) -> Option<u8>
+fn place_fault(declared: &Catalog, place: &Name) -> Option<u8>
     ensures { result ≡ place_fault declared.now place.now }
 {
-    if is_root(place) {
+    if is_root(place.bytes()) {
         return None;
     }
     match attr_named(declared, place) {
@@ -102,7 +102,7 @@ fn places_fault(declared: &Catalog, places: &[Name]) -> Option<u8>
     ensures { result ≡ places_fault declared.now places.now }
 {
     for place in places {
-        if let Some(code) = place_fault(declared, place.bytes()) {
+        if let Some(code) = place_fault(declared, place) {
             return Some(code);
         }
     }
@@ -112,9 +112,9 @@ fn places_fault(declared: &Catalog, places: &[Name]) -> Option<u8>
 /// The first code of an attachment.
 pub fn attach_fault(
     declared: &Catalog,
-    device: &[u8],
+    device: &Name,
     places: &[Name],
-    name: &[u8],
+    name: &Name,
     needs: &[Name],
 ) -> Option<u8>
     ensures { result ≡ attach_fault declared.now device.now places.now name.now needs.now }
@@ -125,7 +125,7 @@ pub fn attach_fault(
     if let Some(code) = places_fault(declared, places) {
         return Some(code);
     }
-    if is_root(name) || declared.has_attach(name) {
+    if is_root(name.bytes()) || declared.has_attach(name) {
         return Some(code::NAME_TAKEN);
     }
     if lacks_attr(declared, needs) {
@@ -135,7 +135,7 @@ pub fn attach_fault(
 }
 
 /// Whether the attribute of this name is that of a pseudo-device.
-pub fn is_pseudo(declared: &Catalog, name: &[u8]) -> bool
+pub fn is_pseudo(declared: &Catalog, name: &Name) -> bool
     ensures { result ≡ is_pseudo declared.now name.now }
 {
     match attr_named(declared, name) {

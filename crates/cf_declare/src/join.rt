@@ -12,14 +12,14 @@ use crate::spot::noted_place;
 use attr_graph::Graph;
 use cf_names::Catalog;
 use cf_types::code::configuration as code;
-use cf_types::{AtSpec, AttachPlace, GivenLoc, Joined, Locs, ParentSpec, Place, Target};
+use cf_types::{AtSpec, AttachPlace, GivenLoc, Joined, Locs, Name, ParentSpec, Place, Target};
 use locator_rules::fill;
 
 /// How many attachments of a device, and how many places of each, are gone over.
 const MAX_SCANNED: usize = 8;
 
 /// An attribute that an instance attaches to: unknown, no interface attribute, or written with a unit.
-fn attr_target(declared: &Catalog, name: &[u8], unit: Option<u32>) -> Result<Target, u8>
+fn attr_target(declared: &Catalog, name: &Name, unit: Option<u32>) -> Result<Target, u8>
     requires { length declared.now.attrs ≤ 65536 }
     ensures { result ≡ attr_target declared.now unit (attr_number declared.now name.now) }
 {
@@ -43,12 +43,12 @@ fn target_of(declared: &Catalog, at: &AtSpec) -> Result<Target, u8>
 {
     match at {
         AtSpec::Root => Ok(Target::AtRoot),
-        AtSpec::Named { base, unit } => match declared.device_number(base.bytes()) {
+        AtSpec::Named { base, unit } => match declared.device_number(base) {
             Some(device) => Ok(Target::Below(ParentSpec {
                 device: device as u32,
                 unit: *unit,
             })),
-            None => attr_target(declared, base.bytes(), *unit),
+            None => attr_target(declared, base, *unit),
         },
     }
 }
@@ -208,7 +208,7 @@ fn fill_nothing(pairs: &[GivenLoc]) -> Result<Locs, u8>
 pub fn join(
     declared: &Catalog,
     graph: &Graph,
-    base: &[u8],
+    base: &Name,
     at: &AtSpec,
     pairs: &[GivenLoc],
 ) -> Result<Joined, u8>

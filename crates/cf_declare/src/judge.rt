@@ -10,17 +10,17 @@ use crate::lookup::is_root;
 use attr_graph::Graph;
 use cf_names::Catalog;
 use cf_types::code::configuration as code;
-use cf_types::{AtSpec, GivenLoc, Memory, Stmt};
+use cf_types::{AtSpec, GivenLoc, Memory, Name, Stmt};
 use std::alloc::Global;
 
 /// How many instance statements there may be.
 pub const MAX_INSTANCES: usize = 8_192;
 
 /// The code of a device class.
-fn class_fault(declared: &Catalog, name: &[u8]) -> Option<u8>
+fn class_fault(declared: &Catalog, name: &Name) -> Option<u8>
     ensures { result ≡ class_fault declared.now name.now }
 {
-    if is_root(name) || has_attr(declared, name) {
+    if is_root(name.bytes()) || has_attr(declared, name) {
         return Some(code::NAME_TAKEN);
     }
     None
@@ -31,7 +31,7 @@ fn instance_fault(
     declared: &Catalog,
     graph: &Graph,
     instances: usize,
-    base: &[u8],
+    base: &Name,
     at: &AtSpec,
     pairs: &[GivenLoc],
 ) -> Option<u8>
@@ -50,7 +50,7 @@ fn instance_fault(
 }
 
 /// The code of a pseudo-device.
-fn pseudo_fault(declared: &Catalog, name: &[u8]) -> Option<u8>
+fn pseudo_fault(declared: &Catalog, name: &Name) -> Option<u8>
     ensures { result ≡ pseudo_fault declared.now name.now }
 {
     if is_pseudo(declared, name) {
@@ -75,11 +75,11 @@ pub fn code_of(
 {
     match stmt {
         Stmt::Define { name, locs, needs } | Stmt::DefPseudo { name, locs, needs } => {
-            define_fault(alloc, declared, graph, name.bytes(), locs, needs.items())
+            define_fault(alloc, declared, graph, name, locs, needs.items())
         }
-        Stmt::Class { name } => Ok(class_fault(declared, name.bytes())),
+        Stmt::Class { name } => Ok(class_fault(declared, name)),
         Stmt::Device { name, locs, needs } => {
-            device_fault(alloc, declared, graph, name.bytes(), locs, needs.items())
+            device_fault(alloc, declared, graph, name, locs, needs.items())
         }
         Stmt::Attach {
             device,
@@ -88,21 +88,15 @@ pub fn code_of(
             needs,
         } => {
             let name = attach_name.as_ref().unwrap_or(device);
-            Ok(attach_fault(
-                declared,
-                device.bytes(),
-                places.items(),
-                name.bytes(),
-                needs.items(),
-            ))
+            Ok(attach_fault(declared, device, places.items(), name, needs.items()))
         }
         Stmt::Inst {
             base,
             at,
             pairs,
             ..
-        } => { Ok(instance_fault(declared, graph, instances, base.bytes(), at, pairs.items())) }
-        Stmt::PseudoDevice { name, .. } => Ok(pseudo_fault(declared, name.bytes())),
+        } => { Ok(instance_fault(declared, graph, instances, base, at, pairs.items())) }
+        Stmt::PseudoDevice { name, .. } => Ok(pseudo_fault(declared, name)),
         _ => Ok(None),
     }
 }

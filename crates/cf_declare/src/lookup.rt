@@ -3,7 +3,7 @@ ghost use Rattle.std.specs.Option.{option_copied};
 ghost use Rattle.config_rules.specs.Declared.{is_root, attr_named};
 
 use cf_names::Catalog;
-use cf_types::Attr;
+use cf_types::{Attr, Name};
 
 /// Whether a name is `root`, which nothing may be called.
 pub fn is_root(name: &[u8]) -> bool
@@ -13,7 +13,7 @@ pub fn is_root(name: &[u8]) -> bool
 }
 
 /// The attribute of this name.
-pub fn attr_named<'a>(declared: &'a Catalog, name: &[u8]) -> Option<&'a Attr>
+pub fn attr_named<'a>(declared: &'a Catalog, name: &Name) -> Option<&'a Attr>
     ensures { option_copied result ≡ attr_named declared.now name.now }
 {
     match declared.attr_number(name) {

@@ -1,5 +1,7 @@
-ghost use Rattle.std.specs.Prelude.{◌≡◌, ◌<◌, [], ◌∷◌, ◌++◌, IfOk, OnOk, Some, is_some, length};
+ghost use Rattle.std.specs.Prelude.{◌≡◌, ◌<◌, [], ◌∷◌, ◌++◌, IfErr, IfOk, OnOk, Some, is_some, length};
+ghost use Rattle.cf_grammar.specs.Statement.{AreWithin, IsFaultOf};
 ghost use Rattle.config_rules.specs.Cut.{pieces};
+ghost use Rattle.config_rules.specs.Form.{Form};
 ghost use Rattle.config_rules.specs.Reading.{asking, is_declared, nothing_read, refused, under_prefix};
 ghost use Rattle.config_rules.specs.Written.{AreWritten, IsWritten};
 ghost use Rattle.cf_expand.specs.Prefixes.{Pops};
@@ -7,7 +9,9 @@ ghost use Rattle.cf_expand.specs.Steps.{expanded};
 
 use crate::placed::PlacedList;
 use crate::prefixes::Prefixes;
-use cf_types::{Expanded, List, Memory, Placed, Refusal, Stmt, Text};
+use cf_grammar::{GrammarStop, statement};
+use cf_types::{Expanded, List, Memory, Placed, Refusal, Stmt, Text, Token};
+use cf_words::{Known, Word};
 use std::alloc::Global;
 use std::marker::Model;
 
@@ -20,6 +24,8 @@ pub struct Progress {
     asked: List<Text>,
     prefixes: Prefixes,
     fault: Option<Refusal>,
+    /// Names of statements, which later ones share.
+    known: Known,
 }
 
 impl Model for Progress {
@@ -41,7 +47,24 @@ impl Progress {
             asked: List::make(alloc),
             prefixes: Prefixes::make(alloc),
             fault: None,
+            known: Known::make(alloc),
         }
+    }
+
+    /// Reads the tokens of one statement, without its `Stop`, as `statement` does.
+    #[inline(always)]
+    pub fn read<'a>(
+        &mut self,
+        words: &mut Vec<Word<'a>>,
+        text: &'a [u8],
+        tokens: &[Token],
+    ) -> Result<Stmt, GrammarStop>
+        requires { AreWithin text.now tokens.now }
+        ensures same { self.new ≡ self.old }
+        ensures form { IfOk result (λ s. Form (pieces text.now tokens.now) s) }
+        ensures fault { IfErr result (λ stop. IsFaultOf (pieces text.now tokens.now) stop) }
+    {
+        statement(&mut self.known, words, text, tokens)
     }
 
     /// How many statements were placed.

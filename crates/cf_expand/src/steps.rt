@@ -9,7 +9,7 @@ use crate::conditions::Conditions;
 use crate::lines::{condition_word, line_number};
 use crate::progress::Progress;
 use crate::source::{Include, Source};
-use cf_grammar::{GrammarStop, statement, word_of};
+use cf_grammar::{GrammarStop, word_of};
 use cf_types::code::configuration as code;
 use cf_types::{CondWord, Memory, Stmt, Text, Token};
 use cf_words::Word;
@@ -138,7 +138,7 @@ fn read_placed<'a>(
         )?;
         return Ok(None);
     }
-    match statement(alloc, words, source.text.items(), tokens) {
+    match progress.read(words, source.text.items(), tokens) {
         Ok(stmt) => treat(alloc, progress, source, conditions, tokens, stmt),
         Err(GrammarStop::Fault { code }) => {
             progress.refuse(alloc, source.name.items(), line_number(tokens), code)?;

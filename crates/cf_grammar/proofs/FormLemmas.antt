@@ -1,17 +1,20 @@
 -- The form of a statement, by its first word.
 use Rattle.std.proofs.Common.{◌≡◌, ◌∙◌, ◌-◌, ◌≤◌, Bool, true, false, Option, Some, None, List, [], ◌∷◌, length, get_or, map, take, drop, refl, sym, ap, arith}
-use Rattle.std.specs.Prelude.{find, nat_le, option_map}
+use Rattle.std.specs.Prelude.{nat_le, option_map}
 use Rattle.std.specs.List.{list_all}
 use Rattle.cf_types.specs.declared.stmt.Piece.{Piece}
 use Rattle.cf_types.specs.declared.stmt.Stmt.{Stmt}
-use Rattle.config_rules.specs.Form.{form_by, form_of, inst_stmt, is_word, row_by, row_of, spelling_of, table}
+use Rattle.config_rules.specs.Form.{form_by, form_of, inst_stmt, row_by, row_of, table}
 use Rattle.cf_words.proofs.ListLemmas.{map_first_rest}
 use Rattle.cf_types.specs.declared.keyword.Keyword.{Keyword}
 use Rattle.cf_types.specs.declared.keyword.TheConstants.{KEYWORDS}
+use Rattle.cf_grammar.specs.Keywords.{first_keyword, keyword_in}
 use Rattle.cf_grammar.proofs.KeywordLemmas.{row_found, table_is}
 
-abbrev pub keyword_in : Piece → Option Keyword
-keyword_in p = find (λ k. is_word (spelling_of k) p) KEYWORDS
+-- the keyword of a statement is that of its first word
+pub keyword_first : {X : Type 0} (f : X → Piece) (xs : List X) (d : X) → 1 ≤ length xs → first_keyword (map f xs) ≡ keyword_in (f (get_or xs 0 d))
+keyword_first f [] d h = absurd (omega arith)
+keyword_first f (x ∷ xs) d h = refl
 
 pub row_is : (p : Piece) (found : Option Keyword) → found ≡ keyword_in p → row_of table p ≡ option_map row_by found
 row_is p found e = ap (λ rows. row_of rows p) table_is ∙ row_found KEYWORDS p ∙ ap (option_map row_by) (sym e)

@@ -15,7 +15,8 @@ use Rattle.cf_types.specs.declared.stmt.UnitMark.TheVariants.{Fixed, Star}
 use Rattle.cf_types.specs.declared.tables.Locator.{Locator}
 use Rattle.cf_text.specs.Shapes.{ends_with_digit, in_range, number, unit_of}
 use Rattle.config_rules.specs.Form.{◌or◌, are_values, at_place, by_row, count_of, defining, device_stmt, each, fixed_of, form_by, form_of, given, given_value, inst_stmt, is_chunk, is_mark, is_word, locator, locator_name, locator_of, locators_of, marked_of, name_of, needs_of, no_inst, no_stmt, pair_of, pairs_of, parted, parted_at, place_of, pseudo_stmt, row_by, row_of, table, unit_chunk, value_of, with_body, with_default, within}
-use Rattle.cf_grammar.proofs.FormLemmas.{keyword_in, row_is}
+use Rattle.cf_grammar.specs.Keywords.{keyword_in}
+use Rattle.cf_grammar.proofs.FormLemmas.{row_is}
 
 -- ---- the second is the first where the first is there
 

@@ -4,8 +4,7 @@ ghost use Rattle.cf_words.specs.Words.{piece_of};
 
 use crate::define::needs_of;
 use cf_types::{List, Memory, Name, Stmt};
-use cf_words::{Word, alone_name, name_of, names_of, split_before};
-use std::alloc::Global;
+use cf_words::{Known, Word, alone_name, known_name, names_of, split_before};
 
 /// Whether a statement's places end with `with` and one word more.
 #[inline(always)]
@@ -21,7 +20,7 @@ fn is_named(words: &[Word]) -> bool
 /// The places, and the attachment's name behind `with`, where one is written.
 #[inline(always)]
 fn attached(
-    alloc: Global,
+    known: &mut Known,
     device: Name,
     needs: List<Name>,
     words: &[Word],
@@ -29,7 +28,7 @@ fn attached(
     ensures { IfOk result (λ s. s ≡ attached device needs (map piece_of words.now)) }
 {
     if !is_named(words) {
-        return match names_of(alloc, words)? {
+        return match names_of(known, words)? {
             Some(places) => Ok(Some(Stmt::Attach {
                 device,
                 places,
@@ -39,10 +38,10 @@ fn attached(
             None => Ok(None),
         };
     }
-    let Some(places) = names_of(alloc, &words[..words.len() - 2])? else {
+    let Some(places) = names_of(known, &words[..words.len() - 2])? else {
         return Ok(None);
     };
-    match alone_name(alloc, &words[words.len() - 1..])? {
+    match alone_name(known.alloc(), &words[words.len() - 1..])? {
         Some(name) => Ok(Some(Stmt::Attach {
             device,
             places,
@@ -55,7 +54,7 @@ fn attached(
 
 /// `attach`: a device, `at`, one or more places, perhaps `with` and a name, and perhaps attributes behind a colon.
 #[inline(always)]
-pub fn attach(alloc: Global, words: &[Word]) -> Result<Option<Stmt>, Memory>
+pub fn attach(known: &mut Known, words: &[Word]) -> Result<Option<Stmt>, Memory>
     ensures { IfOk result (λ s. s ≡ attach_stmt (map piece_of words.now)) }
 {
     let [device, at, rest @ ..] = words else {
@@ -64,12 +63,12 @@ pub fn attach(alloc: Global, words: &[Word]) -> Result<Option<Stmt>, Memory>
     if !at.is_word(b"at") {
         return Ok(None);
     }
-    let Some(device) = name_of(alloc, *device)? else {
+    let Some(device) = known_name(known, *device)? else {
         return Ok(None);
     };
     let (places, needs) = split_before(rest, b":");
-    match needs_of(alloc, needs)? {
-        Some(needs) => attached(alloc, device, needs, places),
+    match needs_of(known, needs)? {
+        Some(needs) => attached(known, device, needs, places),
         None => Ok(None),
     }
 }

@@ -3,8 +3,8 @@ ghost use Rattle.config_rules.specs.Form.{alone, are_chunks, are_values, checked
 ghost use Rattle.cf_words.specs.Words.{piece_of};
 
 use crate::keyword::spelling;
-use cf_types::{Keyword, Memory, Name, Pieces, Stmt};
-use cf_words::{Word, count_of, is_name_word, is_path_word, name_of, value_of};
+use cf_types::{Keyword, Memory, Pieces, Stmt};
+use cf_words::{Known, Word, count_of, is_name_word, is_path_word, name_of, value_of};
 use std::alloc::Global;
 
 /// `pseudo-device`: a name, perhaps with a count from 1 to 65,535.
@@ -104,53 +104,57 @@ fn is_config(words: &[Word]) -> bool
 }
 
 /// A statement whose form alone is looked at.
-fn checked(alloc: Global, keyword: Keyword, holds: bool) -> Result<Option<Stmt>, Memory>
+fn checked(known: &mut Known, keyword: Keyword, holds: bool) -> Result<Option<Stmt>, Memory>
     ensures { IfOk result (λ s. s ≡ checked (spelling_of keyword) holds) }
 {
     if !holds {
         return Ok(None);
     }
-    let word = Name::make(alloc, spelling(keyword))?;
+    let word = known.name(spelling(keyword))?;
     Ok(Some(Stmt::Checked { word }))
 }
 
 /// `maxusers`: one number or three.
-pub fn max_users(alloc: Global, sized: bool, words: &[Word]) -> Result<Option<Stmt>, Memory>
+pub fn max_users(known: &mut Known, sized: bool, words: &[Word]) -> Result<Option<Stmt>, Memory>
     ensures { IfOk result (λ s. s ≡ form_by Keyword.MaxUsers sized (map piece_of words.now)) }
 {
-    checked(alloc, Keyword::MaxUsers, is_max_users(sized, words))
+    checked(known, Keyword::MaxUsers, is_max_users(sized, words))
 }
 
 /// `maxpartitions`: a number.
-pub fn max_partitions(alloc: Global, sized: bool, words: &[Word]) -> Result<Option<Stmt>, Memory>
+pub fn max_partitions(
+    known: &mut Known,
+    sized: bool,
+    words: &[Word],
+) -> Result<Option<Stmt>, Memory>
     ensures { IfOk result (λ s. s ≡ form_by Keyword.MaxPartitions sized (map piece_of words.now)) }
 {
     checked(
-        alloc,
+        known,
         Keyword::MaxPartitions,
         is_max_partitions(sized, words),
     )
 }
 
 /// `machine`: one or more names.
-pub fn machine(alloc: Global, words: &[Word]) -> Result<Option<Stmt>, Memory>
+pub fn machine(known: &mut Known, words: &[Word]) -> Result<Option<Stmt>, Memory>
     ensures { IfOk result (λ s. s ≡ form_by Keyword.Machine true (map piece_of words.now)) }
 {
-    checked(alloc, Keyword::Machine, is_machine(words))
+    checked(known, Keyword::Machine, is_machine(words))
 }
 
 /// `ident`: a path.
-pub fn ident(alloc: Global, words: &[Word]) -> Result<Option<Stmt>, Memory>
+pub fn ident(known: &mut Known, words: &[Word]) -> Result<Option<Stmt>, Memory>
     ensures { IfOk result (λ s. s ≡ form_by Keyword.Ident true (map piece_of words.now)) }
 {
-    checked(alloc, Keyword::Ident, is_ident(words))
+    checked(known, Keyword::Ident, is_ident(words))
 }
 
 /// `config`: a name, `root`, `on` and one or more chunks.
-pub fn config(alloc: Global, words: &[Word]) -> Result<Option<Stmt>, Memory>
+pub fn config(known: &mut Known, words: &[Word]) -> Result<Option<Stmt>, Memory>
     ensures { IfOk result (λ s. s ≡ form_by Keyword.Config true (map piece_of words.now)) }
 {
-    checked(alloc, Keyword::Config, is_config(words))
+    checked(known, Keyword::Config, is_config(words))
 }
 
 /// How many bytes these words have.
@@ -176,13 +180,13 @@ fn pieces(alloc: Global, words: &[Word]) -> Result<Pieces, Memory>
 
 /// A statement that may have any words, one at least.
 #[inline(always)]
-pub fn free(alloc: Global, keyword: Keyword, words: &[Word]) -> Result<Option<Stmt>, Memory>
+pub fn free(known: &mut Known, keyword: Keyword, words: &[Word]) -> Result<Option<Stmt>, Memory>
     ensures { IfOk result (λ s. s ≡ free_form (spelling_of keyword) true (map piece_of words.now)) }
 {
     if words.is_empty() {
         return Ok(None);
     }
-    let rest = pieces(alloc, words)?;
-    let word = Name::make(alloc, spelling(keyword))?;
+    let rest = pieces(known.alloc(), words)?;
+    let word = known.name(spelling(keyword))?;
     Ok(Some(Stmt::Free { word, rest }))
 }

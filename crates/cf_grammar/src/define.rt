@@ -5,8 +5,7 @@ ghost use Rattle.cf_words.specs.Words.{piece_of};
 ghost use Rattle.cf_grammar.specs.Define.{made};
 
 use cf_types::{List, Locator, Memory, Name, Stmt};
-use cf_words::{Word, locators_of, name_of, names_of, parted_at};
-use std::alloc::Global;
+use cf_words::{Known, Word, known_name, locators_of, names_of, parted_at};
 
 /// What a statement with a list of locators and of attributes defines.
 #[derive(Clone, Copy)]
@@ -29,16 +28,16 @@ fn make(defines: Defines, name: Name, locs: Option<List<Locator>>, needs: List<N
 
 /// The attributes behind a colon, or none.
 #[inline(always)]
-pub fn needs_of(alloc: Global, words: &[Word]) -> Result<Option<List<Name>>, Memory>
+pub fn needs_of(known: &mut Known, words: &[Word]) -> Result<Option<List<Name>>, Memory>
     ensures { IfOk result (λ needs. needs ≡ needs_of (map piece_of words.now)) }
 {
     match words {
-        [] => Ok(Some(List::make(alloc))),
+        [] => Ok(Some(List::make(known.alloc()))),
         [colon, names @ ..] => {
             if !colon.is_mark(b":") {
                 return Ok(None);
             }
-            names_of(alloc, names)
+            names_of(known, names)
         }
     }
 }
@@ -46,7 +45,7 @@ pub fn needs_of(alloc: Global, words: &[Word]) -> Result<Option<List<Name>>, Mem
 /// The locators up to the closing brace, and the attributes behind it.
 #[inline(always)]
 fn with_locators(
-    alloc: Global,
+    known: &mut Known,
     sized: bool,
     defines: Defines,
     name: Name,
@@ -59,10 +58,10 @@ fn with_locators(
     let Some((locs, needs)) = parted_at(words, b"}") else {
         return Ok(None);
     };
-    let Some(locs) = locators_of(alloc, sized, locs)? else {
+    let Some(locs) = locators_of(known, sized, locs)? else {
         return Ok(None);
     };
-    match needs_of(alloc, needs)? {
+    match needs_of(known, needs)? {
         Some(needs) => Ok(Some(make(defines, name, Some(locs), needs))),
         None => Ok(None),
     }
@@ -71,7 +70,7 @@ fn with_locators(
 /// The locators in braces, where there are any, and the attributes behind a colon.
 #[inline(always)]
 fn with_body(
-    alloc: Global,
+    known: &mut Known,
     sized: bool,
     defines: Defines,
     name: Name,
@@ -81,10 +80,10 @@ fn with_body(
 {
     if let [brace, rest @ ..] = words {
         if brace.is_mark(b"{") {
-            return with_locators(alloc, sized, defines, name, rest);
+            return with_locators(known, sized, defines, name, rest);
         }
     }
-    match needs_of(alloc, words)? {
+    match needs_of(known, words)? {
         Some(needs) => Ok(Some(make(defines, name, None, needs))),
         None => Ok(None),
     }
@@ -92,7 +91,7 @@ fn with_body(
 
 /// `define` or `defpseudo`: a name, perhaps locators in braces, and perhaps attributes behind a colon.
 pub fn defining(
-    alloc: Global,
+    known: &mut Known,
     sized: bool,
     defines: Defines,
     words: &[Word],
@@ -102,8 +101,8 @@ pub fn defining(
     let [name, body @ ..] = words else {
         return Ok(None);
     };
-    match name_of(alloc, *name)? {
-        Some(name) => with_body(alloc, sized, defines, name, body),
+    match known_name(known, *name)? {
+        Some(name) => with_body(known, sized, defines, name, body),
         None => Ok(None),
     }
 }
@@ -119,7 +118,7 @@ fn ends_with_digit(name: &[u8]) -> bool
 }
 
 /// `device`: as `define`, with a name that does not end with a digit.
-pub fn device(alloc: Global, sized: bool, words: &[Word]) -> Result<Option<Stmt>, Memory>
+pub fn device(known: &mut Known, sized: bool, words: &[Word]) -> Result<Option<Stmt>, Memory>
     ensures { IfOk result (λ s. s ≡ device_stmt sized (map piece_of words.now)) }
 {
     if let [name, ..] = words {
@@ -127,5 +126,5 @@ pub fn device(alloc: Global, sized: bool, words: &[Word]) -> Result<Option<Stmt>
             return Ok(None);
         }
     }
-    defining(alloc, sized, Defines::Device, words)
+    defining(known, sized, Defines::Device, words)
 }

@@ -3,7 +3,7 @@ ghost use Rattle.config_rules.specs.Form.{alone, cond_form, cond_stmt, cond_word
 ghost use Rattle.cf_words.specs.Words.{piece_of};
 
 use cf_types::{CondWord, Memory, Stmt};
-use cf_words::{Word, alone_name, alone_path, names_of};
+use cf_words::{Known, Word, alone_name, alone_path, names_of};
 use std::alloc::Global;
 
 /// `include` or `cinclude`: a path.
@@ -76,10 +76,10 @@ pub fn class(alloc: Global, words: &[Word]) -> Result<Option<Stmt>, Memory>
 }
 
 /// `file-system`: names.
-pub fn file_systems(alloc: Global, words: &[Word]) -> Result<Option<Stmt>, Memory>
+pub fn file_systems(known: &mut Known, words: &[Word]) -> Result<Option<Stmt>, Memory>
     ensures { IfOk result (λ s. s ≡ option_map Stmt.FileSystems (names_of (map piece_of words.now))) }
 {
-    match names_of(alloc, words)? {
+    match names_of(known, words)? {
         Some(names) => Ok(Some(Stmt::FileSystems { names })),
         None => Ok(None),
     }

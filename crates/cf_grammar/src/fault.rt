@@ -1,10 +1,11 @@
 ghost use Rattle.std.specs.Prelude.{◌≡◌, ◌||◌, ◌&&◌, drop, is_none, map};
 ghost use Rattle.config_rules.specs.Form.{braced, has_named_text, has_text_or_size, is_chunk, is_defining, is_left_out, is_word, may_name_locator, row_of, table};
 ghost use Rattle.cf_words.specs.Words.{piece_of};
+ghost use Rattle.cf_grammar.specs.Keywords.{first_keyword, keyword_in};
 ghost use Rattle.cf_grammar.specs.LeftOut.{begins_named_text, begins_size_or_text, begins_text, begins_text_or_size, defines_text_or_size, gives_text, is_left_out_statement, is_left_out_word, left_out_spelling};
 
-use crate::keyword::keyword_of;
 use cf_text::is_name;
+use cf_types::Keyword;
 use cf_words::{Word, behind_first, split_before};
 
 /// The first word of a statement that is left out of the language.
@@ -154,13 +155,14 @@ fn is_defining(word: Word) -> bool
 
 /// Whether a word begins an instance: a chunk that is no keyword.
 #[inline(always)]
-fn begins_instance(word: Word) -> bool
+fn begins_instance(word: Word, keyword: Option<Keyword>) -> bool
+    requires { keyword ≡ keyword_in (piece_of word) }
     ensures { result ≡ (is_chunk (piece_of word.entry) && is_none (row_of table (piece_of word.entry))) }
 {
     if !word.is_chunk() {
         return false;
     }
-    match keyword_of(word) {
+    match keyword {
         Some(_) => false,
         None => true,
     }
@@ -168,10 +170,11 @@ fn begins_instance(word: Word) -> bool
 
 /// Whether an instance gives a locator a string.
 #[inline(always)]
-fn gives_text(first: Word, rest: &[Word]) -> bool
+fn gives_text(first: Word, keyword: Option<Keyword>, rest: &[Word]) -> bool
+    requires { keyword ≡ keyword_in (piece_of first) }
     ensures { result ≡ gives_text (piece_of first.entry) (map piece_of rest.now) }
 {
-    begins_instance(first) && has_named_text(behind_two(rest))
+    begins_instance(first, keyword) && has_named_text(behind_two(rest))
 }
 
 /// Whether a definition gives a locator a string or a size.
@@ -193,19 +196,22 @@ fn behind_two<'w, 'a>(words: &'w [Word<'a>]) -> &'w [Word<'a>]
 }
 
 #[inline(always)]
-fn is_left_out_statement(first: Word, rest: &[Word]) -> bool
+fn is_left_out_statement(first: Word, keyword: Option<Keyword>, rest: &[Word]) -> bool
+    requires { keyword ≡ keyword_in (piece_of first) }
     ensures { result ≡ is_left_out_statement (piece_of first.entry) (map piece_of rest.now) }
 {
-    is_left_out_word(first) || gives_text(first, rest) || defines_text_or_size(first, rest)
+    is_left_out_word(first) || gives_text(first, keyword, rest) || defines_text_or_size(first, rest)
 }
 
-/// Whether the words are a statement that is left out: by its first word, or as a locator of it has a string or a size.
+/// Whether the words, of which the first is this keyword or none, are a statement that is left out: by its first word, or
+/// as a locator of it has a string or a size.
 #[inline(always)]
-pub fn is_left_out(words: &[Word]) -> bool
+pub fn is_left_out(keyword: Option<Keyword>, words: &[Word]) -> bool
+    requires { keyword ≡ first_keyword (map piece_of words.now) }
     ensures { result ≡ is_left_out (map piece_of words.now) }
 {
     match words {
-        [first, rest @ ..] => is_left_out_statement(*first, rest),
+        [first, rest @ ..] => is_left_out_statement(*first, keyword, rest),
         [] => false,
     }
 }

@@ -2,14 +2,16 @@ ghost use Rattle.std.specs.Prelude.{◌≡◌, IfErr, IfOk, OnOk, false, is_some
 ghost use Rattle.config_rules.specs.Cut.{piece, pieces};
 ghost use Rattle.config_rules.specs.Form.{Form, form_of};
 ghost use Rattle.cf_words.specs.Words.{piece_of};
+ghost use Rattle.cf_grammar.specs.Keywords.{first_keyword};
 ghost use Rattle.cf_grammar.specs.Statement.{AreWithin, IsFaultOf, IsWithin, unread_code};
 
 use crate::fault::is_left_out;
 use crate::form::form_of;
+use crate::keyword::first_keyword;
 use cf_types::code::configuration as code;
-use cf_types::{Memory, Stmt, Token};
-use cf_words::Word;
-use std::alloc::{AllocError, Global};
+use cf_types::{Keyword, Memory, Stmt, Token};
+use cf_words::{Known, Word};
+use std::alloc::AllocError;
 use thiserror::Error;
 
 /// Why tokens gave no statement.
@@ -75,10 +77,11 @@ fn put_words<'a>(
 }
 
 /// Whether words are a statement, whatever its numbers.
-fn has_form(alloc: Global, words: &[Word]) -> Result<bool, Memory>
+fn has_form(known: &mut Known, keyword: Option<Keyword>, words: &[Word]) -> Result<bool, Memory>
+    requires { keyword ≡ first_keyword (map piece_of words.now) }
     ensures { IfOk result (λ holds. holds ≡ is_some (form_of false (map piece_of words.now))) }
 {
-    let form = form_of(alloc, false, words)?;
+    let form = form_of(known, false, keyword, words)?;
     let holds = form.is_some();
     drop(form);
     Ok(holds)
@@ -86,10 +89,11 @@ fn has_form(alloc: Global, words: &[Word]) -> Result<bool, Memory>
 
 /// The code of words that are no statement with each number in its range.
 #[cold]
-fn unread_code(alloc: Global, words: &[Word]) -> Result<u8, Memory>
+fn unread_code(known: &mut Known, keyword: Option<Keyword>, words: &[Word]) -> Result<u8, Memory>
+    requires { keyword ≡ first_keyword (map piece_of words.now) }
     ensures { IfOk result (λ code. code ≡ unread_code (map piece_of words.now)) }
 {
-    if has_form(alloc, words)? {
+    if has_form(known, keyword, words)? {
         Ok(code::OUT_OF_RANGE)
     } else {
         Ok(code::NO_FORM)
@@ -98,19 +102,20 @@ fn unread_code(alloc: Global, words: &[Word]) -> Result<u8, Memory>
 
 /// The statement that words are.
 #[inline(always)]
-fn read(alloc: Global, words: &[Word]) -> Result<Stmt, GrammarStop>
+fn read(known: &mut Known, words: &[Word]) -> Result<Stmt, GrammarStop>
     ensures form { IfOk result (λ s. Form (map piece_of words.now) s) }
     ensures fault { IfErr result (λ stop. IsFaultOf (map piece_of words.now) stop) }
 {
-    if is_left_out(words) {
+    let keyword = first_keyword(words);
+    if is_left_out(keyword, words) {
         return Err(GrammarStop::Fault {
             code: code::LEFT_OUT,
         });
     }
-    match form_of(alloc, true, words)? {
+    match form_of(known, true, keyword, words)? {
         Some(stmt) => Ok(stmt),
         None => Err(GrammarStop::Fault {
-            code: unread_code(alloc, words)?,
+            code: unread_code(known, keyword, words)?,
         }),
     }
 }
@@ -118,10 +123,10 @@ fn read(alloc: Global, words: &[Word]) -> Result<Stmt, GrammarStop>
 /// Reads the tokens of one statement, without its `Stop`, as the statement that they are. Their spans lie within the
 /// text, as those that `cut` gives do. The error is the first of the codes `LEFT_OUT`, `NO_FORM` and `OUT_OF_RANGE`
 /// that the tokens have, as the grammar of config(5) is read here, or want of memory. The words stand in place of what was
-/// there; for many statements hand in the same vector.
+/// there; for many statements hand in the same vector, and the same names, so that equal ones share their memory.
 #[inline(always)]
 pub fn statement<'a>(
-    alloc: Global,
+    known: &mut Known,
     words: &mut Vec<Word<'a>>,
     text: &'a [u8],
     tokens: &[Token],
@@ -131,5 +136,5 @@ pub fn statement<'a>(
     ensures fault { IfErr result (λ stop. IsFaultOf (pieces text.now tokens.now) stop) }
 {
     put_words(words, text, tokens)?;
-    read(alloc, words)
+    read(known, words)
 }

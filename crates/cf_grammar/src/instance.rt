@@ -4,8 +4,7 @@ ghost use Rattle.cf_words.specs.Words.{piece_of};
 ghost use Rattle.cf_grammar.specs.Pairs.{parts_of};
 
 use cf_types::{AtSpec, GivenLoc, List, Memory, Name, Stmt, UnitMark};
-use cf_words::{MarkedUnit, Word, name_of, place_of, unit_chunk, value_of};
-use std::alloc::Global;
+use cf_words::{Known, MarkedUnit, Word, known_name, place_of, unit_chunk, value_of};
 
 /// What an instance gives behind its place: the locators in written order, and the flags.
 #[derive(Drop)]
@@ -30,10 +29,15 @@ fn given_value(sized: bool, word: Word) -> Option<Option<i64>>
 
 /// A name and its value.
 #[inline(always)]
-fn pair_of(alloc: Global, sized: bool, name: Word, value: Word) -> Result<Option<GivenLoc>, Memory>
+fn pair_of(
+    known: &mut Known,
+    sized: bool,
+    name: Word,
+    value: Word,
+) -> Result<Option<GivenLoc>, Memory>
     ensures { IfOk result (λ pair. pair ≡ pair_of sized (piece_of name.entry) (piece_of value.entry)) }
 {
-    let Some(name) = name_of(alloc, name)? else {
+    let Some(name) = known_name(known, name)? else {
         return Ok(None);
     };
     match given_value(sized, value) {
@@ -52,10 +56,10 @@ fn flags_of(sized: bool, value: Word, behind: usize) -> Option<i64>
 }
 
 /// Names with their values, and perhaps `flags` with its own at the end.
-fn pairs_of(alloc: Global, sized: bool, words: &[Word]) -> Result<Option<Pairs>, Memory>
+fn pairs_of(known: &mut Known, sized: bool, words: &[Word]) -> Result<Option<Pairs>, Memory>
     ensures { IfOk result (λ pairs. option_map parts_of pairs ≡ pairs_of sized (map piece_of words.now)) }
 {
-    let mut pairs = List::make(alloc);
+    let mut pairs = List::from_vec(Vec::with_capacity(known.alloc(), words.len() / 2)?);
     let mut place = 0;
     while place + 1 < words.len() {
         let name = words[place];
@@ -66,7 +70,7 @@ fn pairs_of(alloc: Global, sized: bool, words: &[Word]) -> Result<Option<Pairs>,
                 None => Ok(None),
             };
         }
-        match pair_of(alloc, sized, name, value)? {
+        match pair_of(known, sized, name, value)? {
             Some(pair) => pairs.push(pair)?,
             None => return Ok(None),
         }
@@ -82,7 +86,7 @@ fn pairs_of(alloc: Global, sized: bool, words: &[Word]) -> Result<Option<Pairs>,
 /// The instance of a unit, what it attaches to, and its pairs.
 #[inline(always)]
 fn with_pairs(
-    alloc: Global,
+    known: &mut Known,
     sized: bool,
     base: Name,
     mark: UnitMark,
@@ -91,7 +95,7 @@ fn with_pairs(
 ) -> Result<Option<Stmt>, Memory>
     ensures { IfOk result (λ s. s ≡ option_map (λ rest. Stmt.Inst base mark at rest.0 rest.1) (pairs_of sized (map piece_of words.now))) }
 {
-    match pairs_of(alloc, sized, words)? {
+    match pairs_of(known, sized, words)? {
         Some(Pairs { pairs, flags }) => Ok(Some(Stmt::Inst {
             base,
             mark,
@@ -106,7 +110,7 @@ fn with_pairs(
 /// The instance of three words and its pairs.
 #[inline(always)]
 fn instance_of(
-    alloc: Global,
+    known: &mut Known,
     sized: bool,
     unit: Word,
     at: Word,
@@ -118,22 +122,22 @@ fn instance_of(
     if !at.is_word(b"at") {
         return Ok(None);
     }
-    let Some(MarkedUnit { base, mark }) = unit_chunk(alloc, sized, unit)? else {
+    let Some(MarkedUnit { base, mark }) = unit_chunk(known, sized, unit)? else {
         return Ok(None);
     };
-    let Some(at) = place_of(alloc, sized, place)? else {
+    let Some(at) = place_of(known, sized, place)? else {
         return Ok(None);
     };
-    with_pairs(alloc, sized, base, mark, at, words)
+    with_pairs(known, sized, base, mark, at, words)
 }
 
 /// A device instance: a unit, `at`, what it attaches to, and values of locators.
 #[inline(always)]
-pub fn instance(alloc: Global, sized: bool, words: &[Word]) -> Result<Option<Stmt>, Memory>
+pub fn instance(known: &mut Known, sized: bool, words: &[Word]) -> Result<Option<Stmt>, Memory>
     ensures { IfOk result (λ s. s ≡ inst_stmt sized (map piece_of words.now)) }
 {
     match words {
-        [unit, at, place, rest @ ..] => instance_of(alloc, sized, *unit, *at, *place, rest),
+        [unit, at, place, rest @ ..] => instance_of(known, sized, *unit, *at, *place, rest),
         _ => Ok(None),
     }
 }

@@ -1,6 +1,6 @@
-ghost use Rattle.std.specs.Prelude.{◌≡◌, ◌≤◌, filter, find, length};
+ghost use Rattle.std.specs.Prelude.{◌≡◌, ◌≤◌, filter, find, length, map};
 ghost use Rattle.config_rules.specs.Form.{condition_spelling, is_word, spelling_of};
-ghost use Rattle.cf_grammar.specs.Keywords.{begins_with};
+ghost use Rattle.cf_grammar.specs.Keywords.{begins_with, first_keyword, keyword_in};
 ghost use Rattle.cf_types.specs.declared.keyword.TheConstants.{KEYWORDS};
 ghost use Rattle.cf_words.specs.Words.{piece_of};
 
@@ -126,11 +126,22 @@ fn keyword_among(keywords: &[Keyword], word: Word) -> Option<Keyword>
 
 /// The keyword that a word is.
 #[inline]
-pub fn keyword_of(word: Word) -> Option<Keyword>
-    ensures { result ≡ find (λ keyword. is_word (spelling_of keyword) (piece_of word.entry)) KEYWORDS }
+fn keyword_of(word: Word) -> Option<Keyword>
+    ensures { result ≡ keyword_in (piece_of word.entry) }
 {
     match word.text {
         [first, ..] => keyword_among(keywords_by(*first), word),
+        [] => None,
+    }
+}
+
+/// The keyword with which a statement of these words begins.
+#[inline]
+pub fn first_keyword(words: &[Word]) -> Option<Keyword>
+    ensures { result ≡ first_keyword (map piece_of words.now) }
+{
+    match words {
+        [first, ..] => keyword_of(*first),
         [] => None,
     }
 }

@@ -4,12 +4,11 @@ ghost use Rattle.cf_words.specs.Words.{piece_of};
 ghost use Rattle.cf_grammar.specs.Negation.{negated_of, negated_spelling, no_by_unit, no_by_word};
 
 use cf_types::{AtSpec, ItemKind, List, Memory, Name, Stmt, UnitMark};
-use cf_words::{MarkedUnit, Word, alone_name, names_of, place_of, unit_chunk};
-use std::alloc::Global;
+use cf_words::{Known, MarkedUnit, Word, alone_name, names_of, place_of, unit_chunk};
 
 /// `at` and what an instance attaches to.
 #[inline(always)]
-fn at_place(alloc: Global, sized: bool, words: &[Word]) -> Result<Option<AtSpec>, Memory>
+fn at_place(known: &mut Known, sized: bool, words: &[Word]) -> Result<Option<AtSpec>, Memory>
     ensures { IfOk result (λ at. at ≡ at_place sized (map piece_of words.now)) }
 {
     let [at, place] = words else {
@@ -18,13 +17,13 @@ fn at_place(alloc: Global, sized: bool, words: &[Word]) -> Result<Option<AtSpec>
     if !at.is_word(b"at") {
         return Ok(None);
     }
-    place_of(alloc, sized, *place)
+    place_of(known, sized, *place)
 }
 
 /// An instance that is taken back, perhaps with what it attaches to.
 #[inline(always)]
 fn no_instance(
-    alloc: Global,
+    known: &mut Known,
     sized: bool,
     base: Name,
     mark: UnitMark,
@@ -39,7 +38,7 @@ fn no_instance(
             at: None,
         }));
     }
-    match at_place(alloc, sized, words)? {
+    match at_place(known, sized, words)? {
         Some(at) => Ok(Some(Stmt::NoInst {
             base,
             mark,
@@ -51,10 +50,10 @@ fn no_instance(
 
 /// Items that are taken back by name.
 #[inline(always)]
-fn no_items(alloc: Global, kind: ItemKind, words: &[Word]) -> Result<Option<Stmt>, Memory>
+fn no_items(known: &mut Known, kind: ItemKind, words: &[Word]) -> Result<Option<Stmt>, Memory>
     ensures { IfOk result (λ s. s ≡ option_map (Stmt.NoItems kind) (names_of (map piece_of words.now))) }
 {
-    match names_of(alloc, words)? {
+    match names_of(known, words)? {
         Some(names) => Ok(Some(Stmt::NoItems { kind, names })),
         None => Ok(None),
     }
@@ -62,13 +61,13 @@ fn no_items(alloc: Global, kind: ItemKind, words: &[Word]) -> Result<Option<Stmt
 
 /// A pseudo-device that is taken back.
 #[inline(always)]
-fn no_pseudo_device(alloc: Global, words: &[Word]) -> Result<Option<Stmt>, Memory>
+fn no_pseudo_device(known: &mut Known, words: &[Word]) -> Result<Option<Stmt>, Memory>
     ensures { IfOk result (λ s. s ≡ option_map (λ name. Stmt.NoItems ItemKind.PseudoDevice (name ∷ [])) (alone name_of (map piece_of words.now))) }
 {
-    let Some(name) = alone_name(alloc, words)? else {
+    let Some(name) = alone_name(known.alloc(), words)? else {
         return Ok(None);
     };
-    let mut names = List::make(alloc);
+    let mut names = List::make(known.alloc());
     names.push(name)?;
     Ok(Some(Stmt::NoItems {
         kind: ItemKind::PseudoDevice,
@@ -78,10 +77,10 @@ fn no_pseudo_device(alloc: Global, words: &[Word]) -> Result<Option<Stmt>, Memor
 
 /// All instances at a place that are taken back.
 #[inline(always)]
-fn no_device(alloc: Global, sized: bool, words: &[Word]) -> Result<Option<Stmt>, Memory>
+fn no_device(known: &mut Known, sized: bool, words: &[Word]) -> Result<Option<Stmt>, Memory>
     ensures { IfOk result (λ s. s ≡ option_map Stmt.NoDevice (at_place sized (map piece_of words.now))) }
 {
-    match at_place(alloc, sized, words)? {
+    match at_place(known, sized, words)? {
         Some(at) => Ok(Some(Stmt::NoDevice { at })),
         None => Ok(None),
     }
@@ -129,16 +128,19 @@ fn spells_negated(word: Word, negated: Negated) -> bool
 fn negated_of(word: Word) -> Option<Negated>
     ensures { result ≡ negated_of (piece_of word.entry) }
 {
-    NEGATED
-        .iter()
-        .copied()
-        .find(|&negated| spells_negated(word, negated))
+    match word.text {
+        [b'o' | b'm' | b'f' | b'p' | b'd', ..] => NEGATED
+            .iter()
+            .copied()
+            .find(|&negated| spells_negated(word, negated)),
+        _ => None,
+    }
 }
 
 /// What is taken back by a word of its own.
 #[inline(always)]
 fn no_by_word(
-    alloc: Global,
+    known: &mut Known,
     sized: bool,
     negated: Negated,
     words: &[Word],
@@ -146,40 +148,40 @@ fn no_by_word(
     ensures { IfOk result (λ s. s ≡ no_by_word negated sized (map piece_of words.now)) }
 {
     match negated {
-        Negated::Options => no_items(alloc, ItemKind::Options, words),
-        Negated::MakeOptions => no_items(alloc, ItemKind::MakeOptions, words),
-        Negated::FileSystem => no_items(alloc, ItemKind::FileSystem, words),
-        Negated::PseudoDevice => no_pseudo_device(alloc, words),
-        Negated::Device => no_device(alloc, sized, words),
+        Negated::Options => no_items(known, ItemKind::Options, words),
+        Negated::MakeOptions => no_items(known, ItemKind::MakeOptions, words),
+        Negated::FileSystem => no_items(known, ItemKind::FileSystem, words),
+        Negated::PseudoDevice => no_pseudo_device(known, words),
+        Negated::Device => no_device(known, sized, words),
     }
 }
 
 /// What is taken back by its unit.
 #[inline(always)]
 fn no_by_unit(
-    alloc: Global,
+    known: &mut Known,
     sized: bool,
     unit: Word,
     words: &[Word],
 ) -> Result<Option<Stmt>, Memory>
     ensures { IfOk result (λ s. s ≡ no_by_unit sized (piece_of unit.entry) (map piece_of words.now)) }
 {
-    match unit_chunk(alloc, sized, unit)? {
-        Some(MarkedUnit { base, mark }) => no_instance(alloc, sized, base, mark, words),
+    match unit_chunk(known, sized, unit)? {
+        Some(MarkedUnit { base, mark }) => no_instance(known, sized, base, mark, words),
         None => Ok(None),
     }
 }
 
 /// `no` and what it takes back: items by name, instances at a place, or an instance.
 #[inline(always)]
-pub fn negation(alloc: Global, sized: bool, words: &[Word]) -> Result<Option<Stmt>, Memory>
+pub fn negation(known: &mut Known, sized: bool, words: &[Word]) -> Result<Option<Stmt>, Memory>
     ensures { IfOk result (λ s. s ≡ no_stmt sized (map piece_of words.now)) }
 {
     let [first, rest @ ..] = words else {
         return Ok(None);
     };
     match negated_of(*first) {
-        Some(negated) => no_by_word(alloc, sized, negated, rest),
-        None => no_by_unit(alloc, sized, *first, rest),
+        Some(negated) => no_by_word(known, sized, negated, rest),
+        None => no_by_unit(known, sized, *first, rest),
     }
 }

@@ -1,15 +1,17 @@
 -- One more line of a text, with its stop.
-use Rattle.std.proofs.Common.{◌≡◌, ℕ, suc, ◌+◌, ◌<◌, ◌≤◌, Bool, true, false, cond, not, ◌&&◌, List, [], ◌∷◌, ◌++◌, length, get_or, drop, ◌-◌, refl, ap, sym, ◌∙◌, arith, Result, Ok, Err, append_assoc, append-nil, length-drop}
+use Rattle.std.proofs.Common.{◌≡◌, ℕ, suc, ◌+◌, ◌<◌, ◌≤◌, Bool, true, false, cond, not, ◌&&◌, List, [], ◌∷◌, ◌++◌, length, get_or, take, drop, ◌-◌, Some, None, refl, ap, sym, ◌∙◌, arith, Result, Ok, Err, append_assoc, append-nil}
 use Rattle.std.specs.Prelude.{if◌then◌else◌, ◌==◌}
 use Rattle.cf_types.specs.declared.stmt.Token.{Token}
 use Rattle.cf_types.specs.declared.stmt.TokenKind.TheVariants as kind
 use Rattle.config_rules.specs.Cut.{token, Part, Space, Comment, Quoted, Chunk, Mark, spellings, is_part, is_mark_byte, is_space, is_chunk_byte, are_parts, parts_of, at_line, all_parts, cut_of, lines_of, line_tokens, lines_tokens, has_token, begins_statement, is_over, stop_behind, LineCut, ◌>>=◌}
 use Rattle.config_rules.proofs.CutLaws.{both_left, chunk_no_space, chunk_is_not, mark_is, parts_sound}
 use Rattle.std.proofs.lemmas.Bool.{eqb-true}
-use Rattle.std.proofs.lemmas.List.{drop_more}
-use Rattle.std.proofs.lemmas.List.Splits.{length-slice_split}
-use Rattle.std.specs.List.{onto_first}
+use Rattle.std.proofs.lemmas.Bool.{false_from_ne_true}
+use Rattle.std.proofs.lemmas.List.Splits.{length-slice_split, slice_split_first, slice_split_none}
+use Rattle.std.proofs.lemmas.List.Sums.{fails_before_first, position_or_len_is}
+use Rattle.std.specs.List.{onto_first, position_or_len}
 use Rattle.std.specs.Prelude.{IfOk, IfErr}
+use Rattle.memchr.specs.Find.{IsFirstByte, Nowhere, Passes, is_byte}
 use Rattle.cf_lexer.specs.declared.line.LexStop.{LexStop}
 use Rattle.cf_lexer.specs.declared.line.LexStop.TheVariants.{Fault, Memory}
 use Rattle.config_rules.specs.Cut.{Cut}
@@ -146,9 +148,24 @@ stop_of (x ∷ y ∷ xs) t d h e =
     let n : suc (suc (length xs)) - 1 ≡ suc (suc (length xs) - 1) = omega arith in
     stop_of (y ∷ xs) t d (omega arith) (e ∙ ap (λ m. get_or (x ∷ y ∷ xs) m d) n)
 
--- the line that comes next
-pub line_next : (lines : List (List ℕ)) (n : ℕ) (line : List ℕ) → (n < length lines) × (line ≡ get_or lines n line) → drop n lines ≡ line ∷ drop (n + 1) lines
-line_next lines n line h = drop_more lines n line h.0 ∙ ap (λ x. x ∷ drop (n + 1) lines) (sym h.1)
+-- ---- the first line
+
+-- the place of the first newline, or of the end
+newline_from : (text : List ℕ) (k : ℕ) → k ≤ length text → Nowhere (Passes (is_byte 10) text) 0 k → (k < length text → Passes (is_byte 10) text k) → position_or_len (λ c. c == 10) text ≡ k
+newline_from text k within none here = position_or_len_is (λ c. c == 10) text k 0 within (λ j lt. false_from_ne_true _ (none j (omega arith) lt)) here
+
+-- a text with a newline
+pub line_at : (text : List ℕ) (k : ℕ) → IsFirstByte (is_byte 10) text (Some k) → lines_of text ≡ take k text ∷ lines_of (drop (k + 1) text)
+line_at text k first =
+    let place : position_or_len (λ c. c == 10) text ≡ k = newline_from text k (omega (arith, first.0.high)) first.0.before (λ lt. first.1) in
+    slice_split_first (λ c. c == 10) text 0 (omega (arith, place, first.0.high))
+    ∙ ap (λ m. take m text ∷ lines_of (drop (m + 1) text)) place
+
+-- a text without one
+pub line_whole : (text : List ℕ) → IsFirstByte (is_byte 10) text None → lines_of text ≡ text ∷ []
+line_whole text none =
+    let place : position_or_len (λ c. c == 10) text ≡ length text = newline_from text (length text) (omega arith) none (λ lt. absurd (omega (arith, lt))) in
+    slice_split_none (λ c. c == 10) text (λ k e m. fails_before_first (λ c. c == 10) text k e (omega (arith, place, m)))
 
 -- all lines with their newlines are one byte longer than the text
 pub total_first : (c : ℕ) (lines : List (List ℕ)) → 1 ≤ length lines → total (onto_first c lines) ≡ total lines + 1
@@ -176,10 +193,10 @@ line_fails text before stopped after n at line lines (Fault l code) h e =
 line_fails text before stopped after n at line lines Memory h e = tt
 
 -- where no line is left, the text is cut
-pub lines_end : (text : List ℕ) (before after : List Token) (n at k : ℕ) → k ≡ length (lines_of text) → after ≡ before ++ stop_behind before
-    → finish before n at (drop k (lines_of text)) ≡ finish [] 1 0 (lines_of text) → cut_of text ≡ Ok after
-lines_end text before after n at k all stop e =
-    sym (text_begins text) ∙ sym e ∙ text_ends before after n at (drop k (lines_of text)) (omega (arith, length-drop k (lines_of text))) stop
+pub lines_end : (text : List ℕ) (before after : List Token) (n at : ℕ) → after ≡ before ++ stop_behind before
+    → finish before n at [] ≡ finish [] 1 0 (lines_of text) → cut_of text ≡ Ok after
+lines_end text before after n at stop e =
+    sym (text_begins text) ∙ sym e ∙ text_ends before after n at [] (omega arith) stop
 
 pub cut_is : (text : List ℕ) (r : Result (List Token) LexStop) → Shows (cut_of text) r → IfOk r (λ tokens. Cut text tokens)
 cut_is text (Ok tokens) h = cut_sound text tokens h

@@ -1,7 +1,8 @@
 -- What becomes of a line, and of a text.
 use Rattle.std.specs.Prelude.{◌≡◌, ℕ, ◌+◌, Bool, false, not, ◌&&◌, ◌==◌, List, [], ◌∷◌, ◌++◌, Option, Some, None, Result, Ok, Err}
+use Rattle.std.specs.Borrow.{Bor}
 use Rattle.cf_types.specs.declared.stmt.Token.{Token}
-use Rattle.config_rules.specs.Cut.{Part, token, line_tokens, is_space, CutFault, ◌>>=◌}
+use Rattle.config_rules.specs.Cut.{Part, token, line_tokens, lines_of, is_space, CutFault, ◌>>=◌}
 use Rattle.cf_lexer.specs.declared.front.Span.{Span}
 use Rattle.cf_lexer.specs.declared.line.LexStop.{LexStop}
 use Rattle.cf_lexer.specs.declared.line.LexStop.TheVariants.{Fault, Memory}
@@ -25,6 +26,11 @@ Leaves whole line (Err Memory) tokens = Unit {0}
 abbrev pub begins : List ℕ → Bool
 begins [] = false
 begins (c ∷ cs) = not (is_space c) && not (c == 35)
+
+-- the lines of what is left of a text, where some is
+abbrev pub lines_left : Option (Bor (List ℕ)) → List (List ℕ)
+lines_left None = []
+lines_left (Some text) = lines_of text.now
 
 -- what a function answers is what the text gives, unless memory ran out
 abbrev pub Shows : Result (List Token) (ℕ × ℕ) → Result (List Token) LexStop → Type 0

@@ -1,11 +1,23 @@
-ghost use Rattle.std.specs.Prelude.{◌≡◌, [], ◌++◌, ◌≤◌, cond, length, IfOk, IfErr, OnOk};
-ghost use Rattle.config_rules.specs.Cut.{Cut, cut_of, stop_behind};
-ghost use Rattle.cf_lexer.specs.Line.{begins, IsFaultOf, Shows};
+ghost use Rattle.std.specs.Prelude.{◌≡◌, ◌<◌, [], ◌∷◌, ◌++◌, ◌≤◌, cond, length, IfOk, IfErr, IfSome, OnOk};
+ghost use Rattle.config_rules.specs.Cut.{Cut, cut_of, lines_of, stop_behind};
+ghost use Rattle.cf_lexer.specs.Line.{begins, IsFaultOf, lines_left, Shows};
 
 use crate::line::{LexStop, cut_line};
 use cf_text::is_space;
 use cf_types::{List, Memory as NoMemory, Token, TokenKind};
+use memchr::memchr;
 use std::alloc::Global;
+
+/// The first line, and what stands behind its newline, where there is one.
+fn first_line(text: &[u8]) -> (&[u8], Option<&[u8]>)
+    ensures lines { lines_of text.now ≡ result.0.now ∷ lines_left result.1 }
+    ensures shorter { IfSome result.1 (λ rest. length rest.now < length text.now) }
+{
+    match memchr(b'\n', text) {
+        Some(place) => (&text[..place], Some(&text[place + 1..])),
+        None => (text, None),
+    }
+}
 
 /// Whether a line that is not blank begins a statement: it begins with no space, tab or comment.
 #[inline]
@@ -65,11 +77,14 @@ pub fn cut(alloc: Global, text: &[u8]) -> Result<List<Token>, LexStop>
     let mut tokens = room_for(alloc, text.len())?;
     let mut number = 1;
     let mut at = 0;
-    for line in text.split(|&byte| byte == b'\n') {
+    let mut left = Some(text);
+    while let Some(rest) = left {
+        let (line, behind) = first_line(rest);
         end_statement(&mut tokens, line)?;
         cut_line(&mut tokens, number, at, line)?;
         number += 1;
         at += line.len() as u32 + 1;
+        left = behind;
     }
     push_stop(&mut tokens)?;
     Ok(tokens)

@@ -1,7 +1,6 @@
 -- The numbers of names, with one more name.
 use Rattle.std.proofs.Common.{◌≡◌, ℕ, ◌+◌, suc, Bool, true, false, cond, Option, Some, None, List, [], ◌∷◌, ◌++◌, length, map, refl, ap, sym, ◌∙◌, subst, arith}
-use Rattle.std.specs.Prelude.{Vec, bytes_eq, option_map, position, unwrap_or}
-use Rattle.std.specs.Global.{Global}
+use Rattle.std.specs.Prelude.{bytes_eq, option_map, position, unwrap_or}
 use Rattle.std.specs.Map.{lookup}
 use Rattle.std.proofs.lemmas.Bool.{false≢true}
 use Rattle.std.proofs.lemmas.List.{length-map, map-append}
@@ -12,14 +11,11 @@ use Rattle.cf_names.specs.Numbers.{AreNumbers, Numbers, number_in}
 
 -- ---- one more key of a map
 
-abbrev Key : Type 0
-Key = Vec ℕ Global
+abbrev key_eq : List ℕ → List ℕ → Bool
+key_eq a b = bytes_eq a b
 
-abbrev key_eq : Key → Key → Bool
-key_eq a b = bytes_eq a.items b.items
-
-abbrev is_key : List ℕ → Key → Bool
-is_key q k = bytes_eq q k.items
+abbrev is_key : List ℕ → List ℕ → Bool
+is_key q k = bytes_eq q k
 
 over : {X : Type 0} (a b : Bool) (new old more : X) → a ≡ b → cond b new more ≡ cond a new (cond b old more)
 over true true new old more h = refl
@@ -28,20 +24,20 @@ over true false new old more h = absurd (cc)
 over false true new old more h = absurd (cc)
 
 -- what is looked up after a number was set
-key_set : (q : List ℕ) (es : List (Key × ℕ)) (k : Key) (n : ℕ) → lookup (is_key q) (insert_entry key_eq es k n) ≡ cond (is_key q k) (Some n) (lookup (is_key q) es)
+key_set : (q : List ℕ) (es : List (List ℕ × ℕ)) (k : List ℕ) (n : ℕ) → lookup (is_key q) (insert_entry key_eq es k n) ≡ cond (is_key q k) (Some n) (lookup (is_key q) es)
 key_set q [] k n = refl
 key_set q (e ∷ es) k n = by_equal (key_eq k e.0) refl (key_set q es k n)
   where
     apart : (a b : Bool) → is_key q k ≡ a → is_key q e.0 ≡ b → key_eq k e.0 ≡ false → (rest : Option ℕ) → cond b (Some e.1) (cond a (Some n) rest) ≡ cond a (Some n) (cond b (Some e.1) rest)
     apart true true h k' g rest =
-        absurd (false≢true (sym g ∙ (bytes_eq-Decides k.items e.0.items).1 (sym ((bytes_eq-Decides q k.items).0 h) ∙ (bytes_eq-Decides q e.0.items).0 k')))
+        absurd (false≢true (sym g ∙ (bytes_eq-Decides k e.0).1 (sym ((bytes_eq-Decides q k).0 h) ∙ (bytes_eq-Decides q e.0).0 k')))
     apart true false h k' g rest = refl
     apart false true h k' g rest = refl
     apart false false h k' g rest = refl
 
     by_equal : (b : Bool) → key_eq k e.0 ≡ b → lookup (is_key q) (insert_entry key_eq es k n) ≡ cond (is_key q k) (Some n) (lookup (is_key q) es)
         → lookup (is_key q) (cond b ((e.0, n) ∷ es) (e ∷ insert_entry key_eq es k n)) ≡ cond (is_key q k) (Some n) (cond (is_key q e.0) (Some e.1) (lookup (is_key q) es))
-    by_equal true h rest = over (is_key q k) (is_key q e.0) (Some n) (Some e.1) (lookup (is_key q) es) (ap (bytes_eq q) ((bytes_eq-Decides k.items e.0.items).0 h))
+    by_equal true h rest = over (is_key q k) (is_key q e.0) (Some n) (Some e.1) (lookup (is_key q) es) (ap (bytes_eq q) ((bytes_eq-Decides k e.0).0 h))
     by_equal false h rest = ap (cond (is_key q e.0) (Some e.1)) rest ∙ apart (is_key q k) (is_key q e.0) refl refl h (lookup (is_key q) es)
 
 -- ---- one more name
@@ -84,12 +80,12 @@ eq_sym a b =
     (λ h. (bytes_eq-Decides a b).1 (sym ((bytes_eq-Decides b a).0 h)))
 
 -- a key of a name answers as the name does
-key_is : (q name : List ℕ) (k : Key) → k.items ≡ name → is_key q k ≡ bytes_eq name q
+key_is : (q name : List ℕ) (k : List ℕ) → k ≡ name → is_key q k ≡ bytes_eq name q
 key_is q name k is = ap (bytes_eq q) is ∙ eq_sym q name
 
 -- a name gets the next number, unless one stands there
-pub next_name : (old : Numbers) (new : List (Key × ℕ)) (k : Key) (name : List ℕ) (number v : ℕ) → v ≡ unwrap_or (number_in old name) number
-    → new ≡ insert_entry key_eq old.entries k v → k.items ≡ name
+pub next_name : (old : Numbers) (new : List (List ℕ × ℕ)) (k : List ℕ) (name : List ℕ) (number v : ℕ) → v ≡ unwrap_or (number_in old name) number
+    → new ≡ insert_entry key_eq old.entries k v → k ≡ name
     → (names : List (List ℕ)) → AreNumbers old names → length names ≡ number → (q : List ℕ) → lookup (is_key q) new ≡ position (λ n. bytes_eq n q) (names ++ name ∷ [])
 next_name old new k name number v value entries is names are size q =
     let place : Option ℕ = position (λ n. bytes_eq n q) names in

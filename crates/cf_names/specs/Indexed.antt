@@ -14,7 +14,7 @@ pub record IsIndexOf (d : Declared) (index : Index) : Type 0 where
   pub of_attrs : AreNumbers index.attrs (map (λ a. a.name) d.attrs)
   pub of_device_names : AreNumbers index.devices (map (λ x. x.name) d.devices)
   pub of_attach_names : AreNumbers index.attaches (map (λ a. a.name) d.attaches)
-  pub of_attaches : AreOfDevices index.of_devices d.attaches
+  pub of_attaches : AreOfDevices index.of_devices.items d.attaches
   pub of_spots : AreSpots index.spots (all_spots d.attaches)
 
 -- one more attribute, device or attachment is declared

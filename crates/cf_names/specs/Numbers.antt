@@ -1,16 +1,15 @@
 -- The numbers of names, as a map has them.
-use Rattle.std.specs.Prelude.{◌≡◌, ℕ, List, Option, Vec, bytes_eq, position}
-use Rattle.std.specs.Global.{Global}
+use Rattle.std.specs.Prelude.{◌≡◌, ℕ, List, Option, bytes_eq, position}
 use Rattle.indexmap.specs.IndexMap.{IndexMap, get_by}
 use Rattle.cf_names.specs.declared.hash.NameHash.{NameHash}
 
 -- a map from names to numbers
 abbrev pub Numbers : Type 0
-Numbers = IndexMap (Vec ℕ Global) ℕ NameHash
+Numbers = IndexMap (List ℕ) ℕ NameHash
 
 -- the number that a map has for a name
 abbrev pub number_in : Numbers → List ℕ → Option ℕ
-number_in numbers name = get_by (λ k. bytes_eq name k.items) numbers
+number_in numbers name = get_by (bytes_eq name) numbers
 
 -- for each of these names the map has the number of the first that is the same, and none for another
 abbrev pub AreNumbers : Numbers → List (List ℕ) → Type 0

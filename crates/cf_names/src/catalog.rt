@@ -8,7 +8,7 @@ use crate::hash::{HashKey, NameHash};
 use crate::index::{Index, add_number};
 use crate::numbers::{add_name, number_in};
 use crate::spots::{FirstSpot, SpotKey};
-use cf_types::{Attach, Attr, Declared, Device, List, Memory};
+use cf_types::{Attach, Attr, Declared, Device, List, Memory, Name};
 use std::alloc::Global;
 use std::marker::Model;
 
@@ -37,7 +37,7 @@ fn note_attr(alloc: Global, index: &mut Index, lists: &Declared, attr: &Attr) ->
     ensures { OnOk result (IsIndexOf (with_attr lists.now attr.now) index.new) }
 {
     let number = lists.attrs.len();
-    add_name(alloc, &mut index.attrs, attr.name.bytes(), number)?;
+    add_name(&mut index.attrs, &attr.name, number)?;
     Ok(())
 }
 
@@ -52,7 +52,7 @@ fn note_device(
     ensures { OnOk result (IsIndexOf (with_device lists.now device.now) index.new) }
 {
     let number = lists.devices.len();
-    add_name(alloc, &mut index.devices, device.name.bytes(), number)?;
+    add_name(&mut index.devices, &device.name, number)?;
     Ok(())
 }
 
@@ -67,7 +67,7 @@ fn note_attach(
     ensures { OnOk result (IsIndexOf (with_attach lists.now attach.now) index.new) }
 {
     let number = lists.attaches.len();
-    add_name(alloc, &mut index.attaches, attach.name.bytes(), number)?;
+    add_name(&mut index.attaches, &attach.name, number)?;
     add_number(alloc, &mut index.of_devices, attach.device, number)?;
     let Ok(short) = u32::try_from(number) else {
         return Err(Memory);
@@ -159,7 +159,7 @@ impl Catalog {
     }
 
     /// The number of the first attribute of this name.
-    pub fn attr_number(&self, name: &[u8]) -> Option<usize>
+    pub fn attr_number(&self, name: &Name) -> Option<usize>
         ensures found { result ≡ attr_number self.now name.now }
         ensures within { IfSome result (λ n. n < length self.now.attrs) }
     {
@@ -167,7 +167,7 @@ impl Catalog {
     }
 
     /// The number of the first device of this name.
-    pub fn device_number(&self, name: &[u8]) -> Option<usize>
+    pub fn device_number(&self, name: &Name) -> Option<usize>
         ensures found { result ≡ device_number self.now name.now }
         ensures within { IfSome result (λ n. n < length self.now.devices) }
     {
@@ -175,7 +175,7 @@ impl Catalog {
     }
 
     /// Whether an attachment has this name.
-    pub fn has_attach(&self, name: &[u8]) -> bool
+    pub fn has_attach(&self, name: &Name) -> bool
         ensures { result ≡ has_attach self.now name.now }
     {
         number_in(&self.index.attaches, name).is_some()
@@ -186,7 +186,7 @@ impl Catalog {
         ensures numbers { result.now ≡ attaches_of self.now.attaches device }
         ensures within { All (λ n. n < length self.now.attaches) result.now }
     {
-        match self.index.of_devices.get(&device) {
+        match self.index.of_devices.get(device as usize) {
             Some(numbers) => numbers.items(),
             None => &[],
         }

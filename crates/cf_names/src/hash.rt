@@ -1,7 +1,6 @@
 ghost use Rattle.std.specs.Prelude.{◌≡◌, ℕ, List, [], ◌++◌};
 ghost use Rattle.cf_names.specs.Hash.{Holds, hash_of, line_of};
 
-use crate::held::NameHasher;
 use sha2::{Digest, Sha256};
 use std::hash::{BuildHasher, DefaultHasher, Hasher};
 
@@ -12,12 +11,12 @@ pub struct NameHash {
 }
 
 impl BuildHasher for NameHash {
-    type Hasher = NameHasher;
+    type Hasher = DefaultHasher;
 
     ghost build_hasher = { λ hash. hash.keyed };
 
-    fn build_hasher(&self) -> NameHasher {
-        NameHasher::make(self.keyed)
+    fn build_hasher(&self) -> DefaultHasher {
+        self.keyed
     }
 }
 

@@ -1,4 +1,4 @@
-ghost use Rattle.std.specs.Prelude.{◌≡◌, ◌==◌, ℕ, [], ◌∷◌, ◌++◌, OnOk, if◌then◌else◌};
+ghost use Rattle.std.specs.Prelude.{◌≡◌, ◌==◌, ◌<◌, ℕ, [], ◌∷◌, ◌++◌, OnOk, length, if◌then◌else◌};
 ghost use Rattle.cf_names.specs.Attaches.{numbers_at};
 ghost use Rattle.cf_names.specs.Numbers.{AreNumbers};
 ghost use Rattle.cf_names.specs.Spots.{AreSpots};
@@ -8,10 +8,9 @@ use crate::numbers::{Numbers, no_numbers};
 use crate::spots::Spots;
 use cf_types::{List, Memory};
 use std::alloc::Global;
-use std::collections::BTreeMap;
 
-/// Of each device the numbers of its attachments, in order.
-pub type OfDevices = BTreeMap<u32, List<usize>>;
+/// Of each device the numbers of its attachments, in order, up to the last device that has one.
+pub type OfDevices = Vec<List<usize>>;
 
 /// The numbers of attributes, devices and attachments by name, and those of the attachments by device; and of each device
 /// the first spot at each place.
@@ -30,17 +29,28 @@ impl Index {
         ensures attrs { AreNumbers result.attrs [] }
         ensures devices { AreNumbers result.devices [] }
         ensures attaches { AreNumbers result.attaches [] }
-        ensures of_devices { result.of_devices.entries ≡ [] }
+        ensures of_devices { result.of_devices.items ≡ [] }
         ensures spots { AreSpots result.spots [] }
     {
         Index {
             attrs: no_numbers(alloc, hash),
             devices: no_numbers(alloc, hash),
             attaches: no_numbers(alloc, hash),
-            of_devices: BTreeMap::new(alloc),
+            of_devices: Vec::new(alloc),
             spots: Spots::make(alloc),
         }
     }
+}
+
+/// Adds empty lists, so that there is one for a device.
+fn make_room(alloc: Global, of_devices: &mut OfDevices, device: usize) -> Result<(), Memory>
+    ensures room { OnOk result (device < length of_devices.new.items) }
+    ensures same { OnOk result ((q : ℕ) → numbers_at of_devices.new.items q ≡ numbers_at of_devices.old.items q) }
+{
+    while of_devices.len() <= device {
+        of_devices.push(List::make(alloc))?;
+    }
+    Ok(())
 }
 
 /// Appends a number to those of a device.
@@ -50,10 +60,9 @@ pub fn add_number(
     device: u32,
     number: usize,
 ) -> Result<(), Memory>
-    ensures { OnOk result ((q : ℕ) → numbers_at of_devices.new q ≡ numbers_at of_devices.old q ++ (if device == q then number ∷ [] else [])) }
+    ensures { OnOk result ((q : ℕ) → numbers_at of_devices.new.items q ≡ numbers_at of_devices.old.items q ++ (if device == q then number ∷ [] else [])) }
 {
-    of_devices
-        .entry(device)?
-        .or_insert(List::make(alloc))
-        .push(number)
+    make_room(alloc, of_devices, device as usize)?;
+    let numbers = &mut of_devices[device as usize];
+    numbers.push(number)
 }

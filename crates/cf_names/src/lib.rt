@@ -3,13 +3,11 @@
 
 mod catalog;
 mod hash;
-mod held;
 mod index;
 mod numbers;
 mod spots;
 
 pub use catalog::Catalog;
 pub use hash::{HashKey, NameHash};
-pub use held::NameHasher;
 pub use numbers::{Numbers, add_name, no_numbers, number_in};
 pub use spots::{FirstSpot, SpotKey};

@@ -2,12 +2,12 @@ ghost use Rattle.std.specs.Prelude.{◌≡◌, ℕ, List, [], ◌∷◌, ◌++�
 ghost use Rattle.cf_names.specs.Numbers.{AreNumbers, number_in};
 
 use crate::hash::NameHash;
-use cf_types::Memory;
+use cf_types::{Memory, Name};
 use indexmap::IndexMap;
 use std::alloc::Global;
 
 /// Names in the order in which they come, each with its number: that of the first that is the same.
-pub type Numbers = IndexMap<Vec<u8>, usize, NameHash>;
+pub type Numbers = IndexMap<Name, usize, NameHash>;
 
 /// No name yet. It takes no memory.
 pub fn no_numbers(alloc: Global, hash: NameHash) -> Numbers
@@ -17,22 +17,17 @@ pub fn no_numbers(alloc: Global, hash: NameHash) -> Numbers
 }
 
 /// The number of a name.
-pub fn number_in(numbers: &Numbers, name: &[u8]) -> Option<usize>
+pub fn number_in(numbers: &Numbers, name: &Name) -> Option<usize>
     ensures { result ≡ number_in numbers.now name.now }
 {
     numbers.get(name).copied()
 }
 
 /// Adds the next name, with its number. Where an earlier one is the same, its number stays.
-pub fn add_name(
-    alloc: Global,
-    numbers: &mut Numbers,
-    name: &[u8],
-    number: usize,
-) -> Result<(), Memory>
+pub fn add_name(numbers: &mut Numbers, name: &Name, number: usize) -> Result<(), Memory>
     ensures { OnOk result ((names : List (List ℕ)) → AreNumbers numbers.old names → length names ≡ number → AreNumbers numbers.new (names ++ name.now ∷ [])) }
 {
-    let key = Vec::from_slice(alloc, name)?;
+    let key = name.clone()?;
     numbers.entry(key)?.or_insert(number);
     Ok(())
 }

@@ -93,6 +93,9 @@ fn push_front<'a>(
     ensures left { IfOk result (λ left. left.now ≡ drop (prefix_len (λ p. p == place) places.now) places.now) }
 {
     let count = front_count(places, place);
+    if count == 0 {
+        return Ok(places);
+    }
     push_warnings(alloc, out, files, statement, WarnKind::Nothing, count)?;
     Ok(&places[count..])
 }
@@ -110,6 +113,9 @@ fn push_orphan<'a>(
     ensures left { IfOk result (λ left. left.now ≡ drop (prefix_len (λ i. i.stmt == place) orphans.now) orphans.now) }
 {
     let count = orphan_count(orphans, place);
+    if count == 0 {
+        return Ok(orphans);
+    }
     push_warnings(alloc, out, files, statement, WarnKind::Orphan, count)?;
     Ok(&orphans[count..])
 }

@@ -20,7 +20,7 @@ pub fn split_by_marks(
     ensures rooted { IfOk result (λ parts. parts.rooted ≡ marked true instances marks.now) }
     ensures orphans { IfOk result (λ parts. parts.orphans ≡ marked false instances marks.now) }
 {
-    let mut rooted = List::make(alloc);
+    let mut rooted = List::from_vec(Vec::with_capacity(alloc, instances.len())?);
     let mut orphans = List::make(alloc);
     for (instance, mark) in instances.into_vec().into_iter().zip(marks) {
         if *mark {

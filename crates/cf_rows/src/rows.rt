@@ -55,7 +55,7 @@ pub fn rows_of(alloc: Global, devices: u32, instances: &[Instance]) -> Result<Li
     requires { All UnitFits instances.now }
     ensures { IfOk result (λ rows. rows ≡ rows_of devices instances.now) }
 {
-    let mut rows = List::make(alloc);
+    let mut rows = List::from_vec(Vec::with_capacity(alloc, instances.len())?);
     let lists = by_device(alloc, devices, instances)?;
     for own in &lists {
         push_device(alloc, &mut rows, own.items())?;

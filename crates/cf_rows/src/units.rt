@@ -1,8 +1,8 @@
-ghost use Rattle.std.specs.Prelude.{◌≡◌, ℕ, ◌<◌, [], ◌∷◌, ◌++◌, length, flat_map, nat_eq, All, IfOk, OnOk};
+ghost use Rattle.std.specs.Prelude.{◌≡◌, ℕ, ◌<◌, ◌≤◌, [], ◌∷◌, ◌++◌, length, flat_map, nat_eq, All, IfOk, IfSome, IsTrue, OnOk};
 ghost use Rattle.std.specs.List.{filter_map};
 ghost use Rattle.std.specs.HashMap.{get};
 ghost use Rattle.config_rules.specs.Meaning.{unit_of, first_unit, in_order};
-ghost use Rattle.cf_rows.specs.Rows.{seen, UnitFits, AreGroups, units_of, of_unit, starred};
+ghost use Rattle.cf_rows.specs.Rows.{seen, UnitFits, AreGroups, least_behind, may_follow, units_of, of_unit, starred};
 
 use cf_types::{Instance, List, Memory, UnitMark};
 use std::alloc::Global;
@@ -82,12 +82,54 @@ fn push_starred<'a>(ordered: &mut Vec<&'a Instance>, own: &[&'a Instance]) -> Re
     Ok(())
 }
 
+/// The least unit that may come next in order; behind a star none may.
+fn least_behind(unit: Option<u32>) -> u32
+    requires { IfSome unit (λ u. u ≤ 65535) }
+    ensures { result ≡ least_behind unit }
+{
+    match unit {
+        Some(unit) => unit + 1,
+        None => 65_536,
+    }
+}
+
+/// Whether an instance of this unit may come next in order.
+fn may_follow(least: u32, unit: Option<u32>) -> bool
+    ensures { result ≡ may_follow least unit }
+{
+    match unit {
+        Some(unit) => least <= unit,
+        None => true,
+    }
+}
+
+/// Whether these instances of a device stand in the order of their rows: the units ascend, and stars stand at the end.
+fn are_ordered(own: &[&Instance]) -> bool
+    requires { All UnitFits (seen own.now) }
+    ensures { IsTrue result → in_order (seen own.now) ≡ seen own.now }
+{
+    let mut least = 0;
+    for instance in own {
+        let unit = unit_of(instance);
+        if !may_follow(least, unit) {
+            return false;
+        }
+        least = least_behind(unit);
+    }
+    true
+}
+
 /// The instances of a device in the order of their rows.
 pub fn in_order<'a>(alloc: Global, own: &[&'a Instance]) -> Result<Vec<&'a Instance>, Memory>
+    requires { All UnitFits (seen own.now) }
     ensures { IfOk result (λ ordered. seen ordered.items ≡ in_order (seen own.now)) }
 {
+    let mut ordered = Vec::with_capacity(alloc, own.len())?;
+    if are_ordered(own) {
+        ordered.extend_from_slice(own)?;
+        return Ok(ordered);
+    }
     let groups = by_unit(alloc, own)?;
-    let mut ordered = Vec::new(alloc);
     for group in &groups {
         ordered.extend_from_slice(group.items())?;
     }

@@ -3,6 +3,7 @@ ghost use Rattle.cf_types.specs.Names.{bytes_of};
 
 use crate::Memory;
 use std::alloc::{AllocError, Global};
+use std::hash::{Hash, Hasher};
 use std::marker::Model;
 use std::sync::Arc;
 
@@ -127,6 +128,28 @@ impl PartialEq for Name {
 
     fn eq(&self, other: &Name) -> bool {
         self.bytes() == other.bytes()
+    }
+}
+
+impl Eq for Name {
+    ghost use Rattle.std.proofs.Common.{rules};
+    ghost use Rattle.std.specs.Cmp.Rules.{comparing};
+
+    ghost laws = { Prim.search (comparing, rules) };
+}
+
+/// A name is hashed as one piece, without its length.
+impl Hash for Name {
+    ghost use Rattle.std.specs.Prelude.{[], ◌∷◌};
+    ghost use Rattle.std.proofs.Common.{ap};
+    ghost use Rattle.std.specs.Cmp.Lexicographic.{bytes_decides};
+
+    ghost hash_input = { λ name. name ∷ [] };
+
+    ghost respects_eq = { λ a b h. ap (λ name. name ∷ []) ((bytes_decides a b).0 h) };
+
+    fn hash<H: Hasher>(&self, state: &mut H) {
+        state.write(self.bytes());
     }
 }
 

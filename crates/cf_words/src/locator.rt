@@ -2,28 +2,28 @@ ghost use Rattle.std.specs.Prelude.{◌≡◌, ◌&&◌, IfOk, codes, map, Some}
 ghost use Rattle.config_rules.specs.Form.{each, is_mark, locator_name, locator_of, locators_of, parted, with_default};
 ghost use Rattle.cf_words.specs.Words.{piece_of};
 
-use crate::name::name_of;
+use crate::known::Known;
+use crate::name::known_name;
 use crate::value::value_of;
 use crate::word::{Word, count_parts, first_part};
 use cf_types::{List, Locator, Memory, Name};
-use std::alloc::Global;
 
 /// The most locators of an attribute.
 const MAX_LOCATORS: usize = 16;
 
 /// A name other than `flags`.
-fn locator_name(alloc: Global, word: Word) -> Result<Option<Name>, Memory>
+fn locator_name(known: &mut Known, word: Word) -> Result<Option<Name>, Memory>
     ensures { IfOk result (λ name. name ≡ locator_name (piece_of word.entry)) }
 {
     if word.is_word(b"flags") {
         return Ok(None);
     }
-    name_of(alloc, word)
+    known_name(known, word)
 }
 
 /// A locator with a default: a name, `=` and a number.
 fn with_default(
-    alloc: Global,
+    known: &mut Known,
     sized: bool,
     optional: bool,
     name: Word,
@@ -35,7 +35,7 @@ fn with_default(
     if !equals.is_mark(b"=") {
         return Ok(None);
     }
-    let Some(name) = locator_name(alloc, name)? else {
+    let Some(name) = locator_name(known, name)? else {
         return Ok(None);
     };
     let Some(value) = value_of(sized, value) else {
@@ -55,11 +55,11 @@ fn is_bracketed(first: Word, last: Word) -> bool
 }
 
 /// A locator: a name, a name with a default, or both in brackets, where it is optional.
-fn locator_of(alloc: Global, sized: bool, words: &[Word]) -> Result<Option<Locator>, Memory>
+fn locator_of(known: &mut Known, sized: bool, words: &[Word]) -> Result<Option<Locator>, Memory>
     ensures { IfOk result (λ l. l ≡ locator_of sized (map piece_of words.now)) }
 {
     match words {
-        [name] => match locator_name(alloc, *name)? {
+        [name] => match locator_name(known, *name)? {
             Some(name) => Ok(Some(Locator {
                 name,
                 default: None,
@@ -67,26 +67,30 @@ fn locator_of(alloc: Global, sized: bool, words: &[Word]) -> Result<Option<Locat
             })),
             None => Ok(None),
         },
-        [name, equals, value] => with_default(alloc, sized, false, *name, *equals, *value),
+        [name, equals, value] => with_default(known, sized, false, *name, *equals, *value),
         [open_bracket, name, equals, value, close_bracket] => {
             if !is_bracketed(*open_bracket, *close_bracket) {
                 return Ok(None);
             }
-            with_default(alloc, sized, true, *name, *equals, *value)
+            with_default(known, sized, true, *name, *equals, *value)
         }
         _ => Ok(None),
     }
 }
 
 /// The locators between commas.
-fn each_locator(alloc: Global, sized: bool, words: &[Word]) -> Result<Option<List<Locator>>, Memory>
+fn each_locator(
+    known: &mut Known,
+    sized: bool,
+    words: &[Word],
+) -> Result<Option<List<Locator>>, Memory>
     ensures { IfOk result (λ locs. locs ≡ each (locator_of sized) (parted (map piece_of words.now))) }
 {
-    let mut locs = Vec::with_capacity(alloc, count_parts(words))?;
+    let mut locs = Vec::with_capacity(known.alloc(), count_parts(words))?;
     let mut left = Some(words);
     while let Some(rest) = left {
         let (part, behind) = first_part(rest);
-        match locator_of(alloc, sized, part)? {
+        match locator_of(known, sized, part)? {
             Some(loc) => locs.push(loc)?,
             None => return Ok(None),
         }
@@ -97,16 +101,16 @@ fn each_locator(alloc: Global, sized: bool, words: &[Word]) -> Result<Option<Lis
 
 /// Reads what stands between braces: nothing, or up to 16 locators, parted by commas.
 pub fn locators_of(
-    alloc: Global,
+    known: &mut Known,
     sized: bool,
     words: &[Word],
 ) -> Result<Option<List<Locator>>, Memory>
     ensures { IfOk result (λ locs. locs ≡ locators_of sized (map piece_of words.now)) }
 {
     if words.is_empty() {
-        return Ok(Some(List::make(alloc)));
+        return Ok(Some(List::make(known.alloc())));
     }
-    match each_locator(alloc, sized, words)? {
+    match each_locator(known, sized, words)? {
         Some(locs) => if locs.len() <= MAX_LOCATORS {
             Ok(Some(locs))
         } else {

@@ -3,6 +3,7 @@ ghost use Rattle.cf_text.specs.Shapes.{is_written};
 ghost use Rattle.config_rules.specs.Form.{alone, bytes_of, name_of, names_of, path_of};
 ghost use Rattle.cf_words.specs.Words.{piece_of};
 
+use crate::known::Known;
 use crate::word::{Word, count_parts, first_part};
 use cf_text::is_name;
 use cf_types::{List, Memory, Name, Text};
@@ -31,6 +32,17 @@ pub fn name_of(alloc: Global, word: Word) -> Result<Option<Name>, Memory>
     Ok(None)
 }
 
+/// Reads a word as a name, as `name_of` does; one that was read before may share its memory.
+#[inline]
+pub fn known_name(known: &mut Known, word: Word) -> Result<Option<Name>, Memory>
+    ensures { IfOk result (λ name. name ≡ name_of (piece_of word.entry)) }
+{
+    if word.is_chunk() && is_written(word.text) {
+        return Ok(Some(known.name(word.text)?));
+    }
+    Ok(None)
+}
+
 /// Reads one word alone as a name.
 #[inline(always)]
 pub fn alone_name(alloc: Global, words: &[Word]) -> Result<Option<Name>, Memory>
@@ -42,15 +54,26 @@ pub fn alone_name(alloc: Global, words: &[Word]) -> Result<Option<Name>, Memory>
     }
 }
 
+/// Reads one word alone as a name.
+#[inline(always)]
+fn alone_known(known: &mut Known, words: &[Word]) -> Result<Option<Name>, Memory>
+    ensures { IfOk result (λ name. name ≡ alone name_of (map piece_of words.now)) }
+{
+    match words {
+        [word] => known_name(known, *word),
+        _ => Ok(None),
+    }
+}
+
 /// Reads one or more names, parted by commas.
-pub fn names_of(alloc: Global, words: &[Word]) -> Result<Option<List<Name>>, Memory>
+pub fn names_of(known: &mut Known, words: &[Word]) -> Result<Option<List<Name>>, Memory>
     ensures { IfOk result (λ names. names ≡ names_of (map piece_of words.now)) }
 {
-    let mut names = Vec::with_capacity(alloc, count_parts(words))?;
+    let mut names = Vec::with_capacity(known.alloc(), count_parts(words))?;
     let mut left = Some(words);
     while let Some(rest) = left {
         let (part, behind) = first_part(rest);
-        match alone_name(alloc, part)? {
+        match alone_known(known, part)? {
             Some(name) => names.push(name)?,
             None => return Ok(None),
         }

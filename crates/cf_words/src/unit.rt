@@ -4,11 +4,11 @@ ghost use Rattle.config_rules.specs.Form.{fixed_of, marked_of, place_of, unit_ch
 ghost use Rattle.cf_words.specs.Words.{piece_of, unit_number};
 ghost use Rattle.cf_words.specs.Units.{fixed_parts, unit_parts};
 
+use crate::known::Known;
 use crate::name::is_written;
 use crate::word::Word;
 use cf_text::{MAX_UNIT, base_len, read_decimal};
 use cf_types::{AtSpec, Memory, Name, UnitMark};
-use std::alloc::Global;
 
 /// A base and the number behind it, as in `com0`.
 #[derive(Drop)]
@@ -41,7 +41,7 @@ fn unit_number(sized: bool, digits: &[u8]) -> Option<u32>
 
 /// The base and the unit of a word, where it has both.
 #[inline(always)]
-fn fixed_of(alloc: Global, sized: bool, word: Word) -> Result<Option<FixedUnit>, Memory>
+fn fixed_of(known: &mut Known, sized: bool, word: Word) -> Result<Option<FixedUnit>, Memory>
     ensures { IfOk result (λ unit. option_map fixed_parts unit ≡ fixed_of sized (piece_of word.entry)) }
 {
     if !word.is_chunk() {
@@ -55,7 +55,7 @@ fn fixed_of(alloc: Global, sized: bool, word: Word) -> Result<Option<FixedUnit>,
         return Ok(None);
     }
     Ok(Some(FixedUnit {
-        base: Name::make(alloc, base)?,
+        base: known.name(base)?,
         unit,
     }))
 }
@@ -76,29 +76,29 @@ fn base_before(chunk: &[u8], mark: u8) -> Option<&[u8]>
 }
 
 #[inline(always)]
-fn marked_of(alloc: Global, mark: u8, word: Word) -> Result<Option<Name>, Memory>
+fn marked_of(known: &mut Known, mark: u8, word: Word) -> Result<Option<Name>, Memory>
     ensures { IfOk result (λ base. base ≡ marked_of mark (piece_of word.entry)) }
 {
     if !word.is_chunk() {
         return Ok(None);
     }
     match base_before(word.text, mark) {
-        Some(base) => Ok(Some(Name::make(alloc, base)?)),
+        Some(base) => Ok(Some(known.name(base)?)),
         None => Ok(None),
     }
 }
 
 /// Reads the first word of an instance: a name and a number up to 65,535 or `*`.
-pub fn unit_chunk(alloc: Global, sized: bool, word: Word) -> Result<Option<MarkedUnit>, Memory>
+pub fn unit_chunk(known: &mut Known, sized: bool, word: Word) -> Result<Option<MarkedUnit>, Memory>
     ensures { IfOk result (λ unit. option_map unit_parts unit ≡ unit_chunk sized (piece_of word.entry)) }
 {
-    if let Some(FixedUnit { base, unit }) = fixed_of(alloc, sized, word)? {
+    if let Some(FixedUnit { base, unit }) = fixed_of(known, sized, word)? {
         return Ok(Some(MarkedUnit {
             base,
             mark: UnitMark::Fixed(unit),
         }));
     }
-    match marked_of(alloc, b'*', word)? {
+    match marked_of(known, b'*', word)? {
         Some(base) => Ok(Some(MarkedUnit {
             base,
             mark: UnitMark::Star,
@@ -108,19 +108,19 @@ pub fn unit_chunk(alloc: Global, sized: bool, word: Word) -> Result<Option<Marke
 }
 
 /// Reads what an instance attaches to: `root`, or a name and a number up to 65,535 or `?`.
-pub fn place_of(alloc: Global, sized: bool, word: Word) -> Result<Option<AtSpec>, Memory>
+pub fn place_of(known: &mut Known, sized: bool, word: Word) -> Result<Option<AtSpec>, Memory>
     ensures { IfOk result (λ place. place ≡ place_of sized (piece_of word.entry)) }
 {
     if word.is_word(b"root") {
         return Ok(Some(AtSpec::Root));
     }
-    if let Some(FixedUnit { base, unit }) = fixed_of(alloc, sized, word)? {
+    if let Some(FixedUnit { base, unit }) = fixed_of(known, sized, word)? {
         return Ok(Some(AtSpec::Named {
             base,
             unit: Some(unit),
         }));
     }
-    match marked_of(alloc, b'?', word)? {
+    match marked_of(known, b'?', word)? {
         Some(base) => Ok(Some(AtSpec::Named { base, unit: None })),
         None => Ok(None),
     }

@@ -60,7 +60,14 @@ fn is_comma(word: Word) -> bool
 fn count_before(words: &[Word], mark: &[u8]) -> usize
     ensures { result ≡ length (take_while (λ word. not (is_mark mark.now (piece_of word))) words.now) }
 {
-    words.iter().take_while(|word| !word.is_mark(mark)).count()
+    let mut count = 0;
+    for word in words {
+        if word.is_mark(mark) {
+            return count;
+        }
+        count += 1;
+    }
+    count
 }
 
 /// The words before the first of these marks, and those from it on.

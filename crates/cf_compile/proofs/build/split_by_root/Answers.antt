@@ -1,4 +1,4 @@
-use Rattle.std.proofs.Common.{List, sym, ◌∙◌, subst, All, ◌<◌, length}
+use Rattle.std.proofs.Common.{List, sym, subst, All, ◌<◌, length}
 use Rattle.cf_types.specs.declared.instance.Instance.{Instance}
 use Rattle.cf_compile.proofs.build.split_by_root.Goals as goal
 

@@ -2,7 +2,7 @@ use Rattle.std.proofs.Common.{◌∙◌}
 use Rattle.config_rules.specs.Reading.{Reading}
 use Rattle.cf_declare.proofs.LoopLaws.{fault_in_stops, fault_in_ends}
 use Rattle.cf_compile.specs.Judged.{Judges}
-use Rattle.cf_compile.specs.Meant.{IsMeant, read_from}
+use Rattle.cf_compile.specs.Meant.{read_from}
 use Rattle.cf_compile.specs.declared.judge.Verdict.TheVariants.{Accepted, Refused}
 use Rattle.cf_compile.proofs.compiler.compile_placed.Goals as goal
 

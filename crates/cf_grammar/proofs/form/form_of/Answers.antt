@@ -1,7 +1,7 @@
-use Rattle.std.proofs.Common.{Some, None, map, arith}
+use Rattle.std.proofs.Common.{◌∙◌, Some, None, map, sym, arith}
 use Rattle.cf_words.specs.Words.{piece_of}
 use Rattle.cf_words.proofs.Blank.{blank}
-use Rattle.cf_grammar.proofs.FormLemmas.{form_of-long, form_of-none, form_of-words}
+use Rattle.cf_grammar.proofs.FormLemmas.{form_of-long, form_of-none, form_of-words, keyword_first}
 use Rattle.cf_grammar.proofs.form.form_of.Goals as goal
 
 pub returns-in_default : goal.returns-in_default
@@ -12,10 +12,10 @@ returns-then-not-are_short c = form_of-long c.args.sized (map piece_of c.args.wo
 
 pub returns-in-Some : goal.returns-in-Some
 returns-in-Some c =
-    let e = form_of-words piece_of c.args.sized c.args.words.now blank (Some c.in-Some.keyword) c.in-len1-up.len_at_least c.if-not-are_short.ensures c.in-Some.ensures in
+    let e = form_of-words piece_of c.args.sized c.args.words.now blank (Some c.in-Some.keyword) c.in-len1-up.len_at_least c.if-not-are_short.ensures (sym c.in-Some.is ∙ c.requires ∙ keyword_first piece_of c.args.words.now blank c.in-len1-up.len_at_least) in
     rw (← e) c.by_keyword.ensures
 
 pub returns-in-None : goal.returns-in-None
 returns-in-None c =
-    let e = form_of-words piece_of c.args.sized c.args.words.now blank None c.in-len1-up.len_at_least c.if-not-are_short.ensures c.in-None.ensures in
+    let e = form_of-words piece_of c.args.sized c.args.words.now blank None c.in-len1-up.len_at_least c.if-not-are_short.ensures (sym c.in-None.is ∙ c.requires ∙ keyword_first piece_of c.args.words.now blank c.in-len1-up.len_at_least) in
     rw (← e) c.instance.ensures

@@ -1,12 +1,15 @@
-use Rattle.std.proofs.Common.{◌≡◌, ◌+◌, ◌≤◌, length, drop, []}
+use Rattle.std.proofs.Common.{◌≡◌, ◌+◌, ◌≤◌, []}
 use Rattle.config_rules.specs.Cut.{lines_of}
-use Rattle.cf_lexer.proofs.TextWords.{finish, total}
+use Rattle.cf_lexer.specs.Line.{lines_left}
+use Rattle.cf_lexer.proofs.TextWords.{finish, left_len, total}
 use Rattle.cf_lexer.proofs.text.cut.Given as goal
 
-abbrev pub invariant-loop-line : goal.invariant-loop-line
-invariant-loop-line l = record {
-  iterator : (goal.iterator-loop-line).can_next l.line-iterator × (goal.iterator-loop-line).is_finite l.line-iterator;
-  so_far : finish l.tokens l.number l.at (drop (length l.yielded) (lines_of l.text)) ≡ finish [] 1 0 (lines_of l.text);
-  place : l.at + total (drop (length l.yielded) (lines_of l.text)) ≡ total (lines_of l.text);
+abbrev pub invariant-loop-left : goal.invariant-loop-left
+invariant-loop-left l = record {
+  so_far : finish l.tokens l.number l.at (lines_left l.left) ≡ finish [] 1 0 (lines_of l.text);
+  place : l.at + total (lines_left l.left) ≡ total (lines_of l.text);
   count : l.number ≤ l.at + 1;
 }
+
+abbrev pub decreases-loop-left : goal.decreases-loop-left
+decreases-loop-left l = left_len l.left

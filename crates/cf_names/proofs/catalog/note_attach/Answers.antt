@@ -20,8 +20,8 @@ returns c =
     record {
       of_attrs = c.requires.of_attrs;
       of_device_names = c.requires.of_device_names;
-      of_attach_names = numbers_push (λ (a : Attach). a.name) attaches (attaches ++ attach ∷ []) attach c.bytes.result.now c.len-number.result c.args.index.now.attaches c.add_name.new.numbers
-          c.requires.of_attach_names c.bytes.ensures.bytes c.len-number.ensures refl c.in_ok-add_name.ensures;
+      of_attach_names = numbers_push (λ (a : Attach). a.name) attaches (attaches ++ attach ∷ []) attach attach.name c.len-number.result c.args.index.now.attaches c.add_name.new.numbers
+          c.requires.of_attach_names refl c.len-number.ensures refl c.in_ok-add_name.ensures;
       of_attaches = λ q.
           c.in_ok-add_number.ensures q
           ∙ ap (λ (numbers : List ℕ). numbers ++ (if attach.device == q then c.len-number.result ∷ [] else [])) (c.requires.of_attaches q)

@@ -6,6 +6,6 @@ use Rattle.cf_names.proofs.numbers.add_name.Goals as goal
 
 pub returns : goal.returns
 returns c = λ names are size.
-    next_name c.args.numbers.now _ c.in_ok-key.key c.args.name.now c.args.number c.or_insert.result.now
-    (c.or_insert.ensures.value ∙ ap (λ (o : Option ℕ). unwrap_or o c.args.number) (c.in_ok-numbers.ensures.value ∙ ap (number_in c.args.numbers.now) c.in_ok-key.ensures.items))
-    (search rules) c.in_ok-key.ensures.items names are size
+    next_name c.args.numbers.now _ _ c.args.name.now c.args.number c.or_insert.result.now
+    (c.or_insert.ensures.value ∙ ap (λ (o : Option ℕ). unwrap_or o c.args.number) (c.in_ok-numbers.ensures.value ∙ ap (number_in c.args.numbers.now) c.in_ok-key.ensures))
+    (search rules) c.in_ok-key.ensures names are size

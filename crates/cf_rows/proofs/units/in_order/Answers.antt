@@ -8,12 +8,12 @@ use Rattle.cf_rows.proofs.RowLemmas.{seen_groups}
 use Rattle.cf_rows.proofs.units.in_order.Goals as goal
 
 pub loop-group-init : goal.loop-group-init
-loop-group-init c = ap seen c.new-ordered.ensures.items
+loop-group-init c = ap seen c.in_ok-ordered.ensures.items
 
 pub loop-group-preserved : goal.loop-group-preserved
 loop-group-preserved c =
     seen_groups c.deref-group-items.result.now c.loop-group.group-index c.loop-group.ordered.items _ c.group-item.result c.loop-group-test.true c.group-item.is c.loop-group.invariant
-    (c.in_ok-extend_from_slice.ensures.items ∙ ap (λ (xs : List (Bor Instance)). c.loop-group.ordered.items ++ xs) c.items.ensures)
+    (c.in_ok-extend_from_slice-2.ensures.items ∙ ap (λ (xs : List (Bor Instance)). c.loop-group.ordered.items ++ xs) c.items.ensures)
 
 pub returns : goal.returns
 returns c =
