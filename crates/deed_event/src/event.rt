@@ -125,8 +125,8 @@ fn device_act(
 
 /// What happens by a deed of a scan, of a finaliser or of a device; a deed of a command is told by its command.
 #[tactic(auto, unfolding(run_rules::specs::Run::printed))]
-#[inline(always)]
-fn deed_act(
+#[inline(never)]
+fn act_of_any_kind(
     alloc: Global,
     setup: &Setup,
     core: &Core,
@@ -162,6 +162,34 @@ fn deed_act(
         Deed::EndPower(end) => power_end_act(alloc, setup, core, caller, end),
         Deed::Refuse(why) => answered_act(alloc, setup, core, caller, Some(why)),
         _ => answered_act(alloc, setup, core, caller, None),
+    }
+}
+
+/// What happens by a deed. A search, as most deeds are, is told first.
+#[tactic(auto, unfolding(run_rules::specs::Run::printed))]
+#[inline(always)]
+fn deed_act(
+    alloc: Global,
+    setup: &Setup,
+    core: &Core,
+    caller: u8,
+    deed: &Deed,
+) -> Result<Act, Memory>
+    requires bounded { Bounded setup.now }
+    requires rows { HaveRows setup.now core.now.tree.live }
+    requires few { length core.now.tree.live + 1 < 2 ^ 32 }
+    requires caller { caller < length core.now.callers.items }
+    requires may { MayBeTold (world_of setup.now core.now) caller deed.now }
+    ensures { IfOk result (λ a. a ≡ run.printed (world_of setup.now core.now) caller deed.now) }
+{
+    match *deed {
+        Deed::Search {
+            parent,
+            spot,
+            got,
+            ..
+        } => found_act(alloc, setup, core, parent, spot, got),
+        _ => act_of_any_kind(alloc, setup, core, caller, deed),
     }
 }
 

@@ -78,6 +78,7 @@ pub fn device_name(alloc: Global, setup: &Setup, core: &Core, device: &Dev) -> R
 
 /// The name of a parent, which may be the root.
 #[tactic(auto, unfolding(run_rules::specs::World::parent_name, run_rules::specs::World::root_name))]
+#[inline(always)]
 pub fn parent_name(alloc: Global, setup: &Setup, core: &Core, serial: u64) -> Result<Name, Memory>
     requires bounded { Bounded setup.now }
     requires rows { HaveRows setup.now core.now.tree.live }

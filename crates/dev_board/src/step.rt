@@ -1,11 +1,12 @@
 //! One step over the parts of a board.
-ghost use Rattle.std.specs.Prelude.{◌≡◌, ◌≢◌, ◌<◌, ◌≤◌, length, None, IfErr, IfOk, OnOk, OnErr};
+ghost use Rattle.std.specs.Prelude.{◌≡◌, ◌≢◌, ◌<◌, ◌≤◌, false, length, None, IfErr, IfOk, OnOk, OnErr, vec_len, vec_capacity};
 ghost use Rattle.cf_types.specs.declared.machine.Ticket.{Ticket};
 ghost use Rattle.run_rules.specs.Lines.{IsFormed};
 ghost use Rattle.run_rules.specs.Run.{event_of};
 ghost use Rattle.run_rules.specs.declared.deed.Deed.TheVariants.{Done};
 ghost use Rattle.run_rules.specs.declared.deed.Choice.TheVariants.{Does};
-ghost use Rattle.run_rules.specs.Next.{next};
+ghost use Rattle.run_rules.specs.Next.{next, on_top};
+ghost use Rattle.run_rules.specs.World.{caller_at, has_ended};
 ghost use Rattle.dev_board.specs.Agreement.{slots_of};
 ghost use Rattle.dev_board.specs.Commits as commits;
 ghost use Rattle.dev_board.specs.Commits.{HasRoom, Performed, TellsDeed};
@@ -22,7 +23,7 @@ use crate::stepped::Stepped;
 use crate::told::Told;
 use cf_types::Memory;
 use deed_event::deed_event;
-use next_deed::choose;
+use next_deed::{choose, goes_by_frames, next_on_scan};
 use ref_ledger::Slots;
 use run_rules::{Choice, Deed, Event, Key, Setup};
 use run_world::{Core, Site, is_ended};
@@ -53,6 +54,20 @@ fn note_coming(came: &mut Vec<u64>, deed: &Deed, place: u64) {
     }
 }
 
+/// Makes room for one more in a list, by a call only where there is none.
+#[inline(always)]
+fn make_room<T: Drop>(list: &mut Vec<T>) -> Result<(), Memory>
+    ensures items { list.new.items ≡ list.old.items }
+    ensures len { vec_len list.new ≡ vec_len list.old }
+    ensures room { OnOk result (vec_len list.new < vec_capacity list.new) }
+{
+    if list.len() < list.capacity() {
+        return Ok(());
+    }
+    list.reserve(1)?;
+    Ok(())
+}
+
 /// Makes room for all that a deed may append; what the board shows stays.
 #[inline(always)]
 fn reserve(setup: &Setup, core: &mut Core, caller: u8, deed: &Deed) -> Result<(), Memory>
@@ -64,8 +79,8 @@ fn reserve(setup: &Setup, core: &mut Core, caller: u8, deed: &Deed) -> Result<()
 {
     let frames = frames_for(core, deed);
     core.callers[caller as usize].stack.reserve(frames)?;
-    core.finalisers.reserve(1)?;
-    core.events.reserve(1)?;
+    make_room(&mut core.finalisers)?;
+    make_room(&mut core.events)?;
     let place = core.events.len() as u64;
     note_coming(&mut core.came, deed, place);
     Ok(())
@@ -168,7 +183,61 @@ fn step_in_room<S: Slots>(
     }
 }
 
-/// What a caller chose is done, but for the end of a transfer, whose result it waits for.
+/// What a caller chose is done, once there is room for it.
+#[inline(always)]
+fn step_with_room<S: Slots>(
+    alloc: Global,
+    site: &Site,
+    core: &mut Core,
+    caller: u8,
+    deed: &Deed,
+    slots: &mut S,
+) -> Stepped
+    requires kept { CoreKept site.now.setup core.old }
+    requires caller { caller < length core.old.callers.items }
+    requires agree { S.states slots.old ≡ slots_of (world_at site.now core.old) }
+    requires goes_on { core.old.stopped ≡ None }
+    requires chosen { next (world_at site.now core.old) caller ≡ Does deed.now }
+    requires other { (ticket : Ticket) → deed.now ≢ Done ticket }
+    ensures step { StepIs (shown_at site.now core.old) caller result (shown_at site.now core.new) }
+    ensures kept { CoreKept site.now.setup core.new }
+    ensures agree { S.states slots.new ≡ slots_of (world_at site.now core.new) }
+    ensures denials { DenialsAre core.old.tree.live (S.denials slots.old) (S.last_denial slots.old) result (S.denials slots.new) (S.last_denial slots.new) }
+    ensures falls { IsDid result → caller ≡ 0 → BootFalls site.now core.old core.new }
+{
+    match reserve(&site.setup, core, caller, deed) {
+        Ok(()) => step_in_room(alloc, site, core, caller, deed, slots),
+        Err(_) => Stepped::Memory,
+    }
+}
+
+/// What a caller chose is done, of whatever kind it is.
+#[inline(never)]
+fn step_of_any_kind<S: Slots>(
+    alloc: Global,
+    site: &Site,
+    core: &mut Core,
+    caller: u8,
+    deed: &Deed,
+    slots: &mut S,
+) -> Stepped
+    requires kept { CoreKept site.now.setup core.old }
+    requires caller { caller < length core.old.callers.items }
+    requires agree { S.states slots.old ≡ slots_of (world_at site.now core.old) }
+    requires goes_on { core.old.stopped ≡ None }
+    requires chosen { next (world_at site.now core.old) caller ≡ Does deed.now }
+    requires other { (ticket : Ticket) → deed.now ≢ Done ticket }
+    ensures step { StepIs (shown_at site.now core.old) caller result (shown_at site.now core.new) }
+    ensures kept { CoreKept site.now.setup core.new }
+    ensures agree { S.states slots.new ≡ slots_of (world_at site.now core.new) }
+    ensures denials { DenialsAre core.old.tree.live (S.denials slots.old) (S.last_denial slots.old) result (S.denials slots.new) (S.last_denial slots.new) }
+    ensures falls { IsDid result → caller ≡ 0 → BootFalls site.now core.old core.new }
+{
+    step_with_room(alloc, site, core, caller, deed, slots)
+}
+
+/// What a caller chose is done, but for the end of a transfer, whose result it waits for. The deeds of power commands, of
+/// which there are many, go their own way, as searches do.
 #[inline(never)]
 fn step_deed<S: Slots>(
     alloc: Global,
@@ -194,10 +263,90 @@ fn step_deed<S: Slots>(
             ticket,
             Told::of_transfer(&site.setup, caller, ticket),
         ),
-        _ => match reserve(&site.setup, core, caller, deed) {
-            Ok(()) => step_in_room(alloc, site, core, caller, deed, slots),
-            Err(_) => Stepped::Memory,
-        },
+        Deed::Sleep { of } => {
+            step_with_room(alloc, site, core, caller, &Deed::Sleep { of }, slots)
+        }
+        Deed::Wake { of } => step_with_room(alloc, site, core, caller, &Deed::Wake { of }, slots),
+        _ => {
+            // It has a name, so that what the other arms answer is not put into the memory of this call's answer first.
+            let stepped = step_of_any_kind(alloc, site, core, caller, deed, slots);
+            stepped
+        }
+    }
+}
+
+/// The next event of a caller that did not end, chosen of all that it may do.
+#[inline(never)]
+fn chosen_step<S: Slots>(
+    alloc: Global,
+    site: &Site,
+    core: &mut Core,
+    caller: u8,
+    slots: &mut S,
+) -> Stepped
+    requires kept { CoreKept site.now.setup core.old }
+    requires caller { caller < length core.old.callers.items }
+    requires agree { S.states slots.old ≡ slots_of (world_at site.now core.old) }
+    requires goes_on { core.old.stopped ≡ None }
+    requires lasts { has_ended (world_at site.now core.old) caller ≡ false }
+    ensures step { StepIs (shown_at site.now core.old) caller result (shown_at site.now core.new) }
+    ensures kept { CoreKept site.now.setup core.new }
+    ensures agree { S.states slots.new ≡ slots_of (world_at site.now core.new) }
+    ensures denials { DenialsAre core.old.tree.live (S.denials slots.old) (S.last_denial slots.old) result (S.denials slots.new) (S.last_denial slots.new) }
+    ensures falls { IsDid result → caller ≡ 0 → BootFalls site.now core.old core.new }
+{
+    match choose(alloc, site, core, caller) {
+        Err(_) => Stepped::Memory,
+        Ok(Choice::Ended) => Stepped::Closed,
+        Ok(Choice::Waits(why)) => Stepped::Waits(why),
+        Ok(Choice::Does(deed)) => step_deed(alloc, site, core, caller, &deed, slots),
+    }
+}
+
+/// The next event of a caller that goes on by its frames. A search, as most events are, goes its own way: its deed is put
+/// together anew, so that nothing asks again of what kind it is.
+#[inline(never)]
+fn framed_step<S: Slots>(
+    alloc: Global,
+    site: &Site,
+    core: &mut Core,
+    caller: u8,
+    slots: &mut S,
+) -> Stepped
+    requires kept { CoreKept site.now.setup core.old }
+    requires caller { caller < length core.old.callers.items }
+    requires agree { S.states slots.old ≡ slots_of (world_at site.now core.old) }
+    requires goes_on { core.old.stopped ≡ None }
+    requires lasts { has_ended (world_at site.now core.old) caller ≡ false }
+    requires goes { next (world_at site.now core.old) caller ≡ on_top (world_at site.now core.old) caller (caller_at (world_at site.now core.old) caller).stack }
+    ensures step { StepIs (shown_at site.now core.old) caller result (shown_at site.now core.new) }
+    ensures kept { CoreKept site.now.setup core.new }
+    ensures agree { S.states slots.new ≡ slots_of (world_at site.now core.new) }
+    ensures denials { DenialsAre core.old.tree.live (S.denials slots.old) (S.last_denial slots.old) result (S.denials slots.new) (S.last_denial slots.new) }
+    ensures falls { IsDid result → caller ≡ 0 → BootFalls site.now core.old core.new }
+{
+    match next_on_scan(site, core, caller) {
+        Some(
+            Deed::Search {
+                parent,
+                spot,
+                moved,
+                got,
+            },
+        ) => {
+            let search = Deed::Search {
+                parent,
+                spot,
+                moved,
+                got,
+            };
+            step_with_room(alloc, site, core, caller, &search, slots)
+        }
+        _ => {
+            // A name for it, as in `step_deed`.
+            let stepped = chosen_step(alloc, site, core, caller, slots);
+            stepped
+        }
     }
 }
 
@@ -223,11 +372,10 @@ fn next_step<S: Slots>(
     if is_ended(core, caller) {
         return Stepped::Closed;
     }
-    match choose(alloc, site, core, caller) {
-        Err(_) => Stepped::Memory,
-        Ok(Choice::Ended) => Stepped::Closed,
-        Ok(Choice::Waits(why)) => Stepped::Waits(why),
-        Ok(Choice::Does(deed)) => step_deed(alloc, site, core, caller, &deed, slots),
+    if goes_by_frames(core, caller) {
+        framed_step(alloc, site, core, caller, slots)
+    } else {
+        chosen_step(alloc, site, core, caller, slots)
     }
 }
 

@@ -8,11 +8,12 @@ use run_rules::{Event, Setup};
 use std::marker::Model;
 
 /// The witness of an answer: of which board it is, for which caller, and of which event. Only this crate makes one, with no memory.
+/// Nearly all of it are notes for proofs, so it is small.
 #[derive(Drop)]
 pub struct Told {
     setup: Seen<Setup>,
-    caller: u8,
-    answer: Answer,
+    caller: Seen<u8>,
+    answer: Seen<Answer>,
     event: Option<Seen<Event>>,
     lease: LeaseStep,
 }
@@ -26,8 +27,8 @@ impl Model for Told {
 
     ghost view = { λ t. record {
       began = opening t.setup.value;
-      caller = t.caller;
-      answer = t.answer;
+      caller = t.caller.value;
+      answer = t.answer.value;
       event = option_map (λ e. e.value) t.event;
       lease = t.lease;
     } };
@@ -49,8 +50,8 @@ impl Told {
     {
         Told {
             setup: Seen::of(setup),
-            caller,
-            answer: Answer::Did(place),
+            caller: Seen::of(&caller),
+            answer: Seen::of(&Answer::Did(place)),
             event: Some(Seen::of(event)),
             lease,
         }
@@ -62,8 +63,8 @@ impl Told {
     {
         Told {
             setup: Seen::of(setup),
-            caller,
-            answer: Answer::Transfer(ticket),
+            caller: Seen::of(&caller),
+            answer: Seen::of(&Answer::Transfer(ticket)),
             event: None,
             lease: LeaseStep::Keep,
         }
@@ -75,8 +76,8 @@ impl Told {
     {
         Told {
             setup: Seen::of(setup),
-            caller,
-            answer: Answer::Stale(held),
+            caller: Seen::of(&caller),
+            answer: Seen::of(&Answer::Stale(held)),
             event: None,
             lease: LeaseStep::Keep,
         }
@@ -88,8 +89,8 @@ impl Told {
     {
         Told {
             setup: Seen::of(setup),
-            caller,
-            answer: Answer::Stopped(first),
+            caller: Seen::of(&caller),
+            answer: Seen::of(&Answer::Stopped(first)),
             event: None,
             lease: LeaseStep::Keep,
         }

@@ -1,5 +1,6 @@
 pub mod Bare
 pub mod Branching
+pub mod Keeping
 pub mod Rest
 pub mod Tree
 pub use Rattle.run_rules.specs.World

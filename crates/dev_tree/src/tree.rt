@@ -33,15 +33,14 @@ pub struct DevTree {
 }
 
 impl Model for DevTree {
-    ghost use Rattle.dev_tree.specs.Bare.{AreBare};
-    ghost use Rattle.dev_tree.specs.Rest.{AreResting};
-    ghost use Rattle.dev_tree.specs.Tree.{AreOnSpots, AreSound, Devices};
+    ghost use Rattle.dev_tree.specs.Keeping.{Keeps};
+    ghost use Rattle.dev_tree.specs.Tree.{Devices};
 
     ghost Value = { Devices };
 
     ghost view = { λ tree. record { live = tree.live.items; drivers = tree.drivers.items; next = tree.next } };
 
-    ghost invariant = { λ tree. AreSound (record { live = tree.live.items; drivers = tree.drivers.items; next = tree.next }) × (AreOnSpots tree.live.items tree.spots.items × (AreResting tree.live.items tree.rest × AreBare tree.live.items tree.bare.items)) };
+    ghost invariant = { λ tree. Keeps (record { live = tree.live.items; drivers = tree.drivers.items; next = tree.next }) tree.spots.items tree.rest tree.bare.items };
 }
 
 /// Appends a device to a list that has room.

@@ -203,3 +203,13 @@ listed_is t m live p place x index h at offered =
 
 pub none_offered : (t : Tables) (m : Machine) (live : List Bool) (p : ParentRef) (place : Place) (x : ℕ) → parent_offers t p place ≡ false → None ≡ best_row t m live p place x
 none_offered t m live p place x offered = row_is t m live p place x None (λ q lt. none_takes t m live p place x q offered)
+
+-- where none of them is open no row is the best, whether the parent offers the place or not
+none_open_by : (t : Tables) (m : Machine) (live : List Bool) (p : ParentRef) (place : Place) (x : ℕ) (index : List (List ℕ)) (b : Bool) → parent_offers t p place ≡ b → IsIndexOf t m index → hangs_at m x place ≡ true
+    → find (is_open_to t live p) (slice_index_or index x []) ≡ None → None ≡ best_row t m live p place x
+none_open_by t m live p place x index true offered h at none = sym none ∙ listed_is t m live p place x index h at offered
+none_open_by t m live p place x index false offered h at none = none_offered t m live p place x offered
+
+pub none_open : (t : Tables) (m : Machine) (live : List Bool) (p : ParentRef) (place : Place) (x : ℕ) (index : List (List ℕ)) → IsIndexOf t m index → hangs_at m x place ≡ true
+    → find (is_open_to t live p) (slice_index_or index x []) ≡ None → None ≡ best_row t m live p place x
+none_open t m live p place x index = none_open_by t m live p place x index (parent_offers t p place) refl

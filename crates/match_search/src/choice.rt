@@ -68,6 +68,7 @@ fn is_above(tables: &Tables, machine: &Machine, row: u32, best: Option<u32>, spo
 }
 
 /// The same, found by a look at each row of the tables.
+#[inline(never)]
 fn best_of_all(
     tables: &Tables,
     graph: &Graph,
@@ -93,6 +94,7 @@ fn best_of_all(
 }
 
 /// Whether a spot hangs at a place.
+#[inline(always)]
 fn hangs_at(machine: &Machine, spot: u16, place: Place) -> bool
     ensures { result ≡ listed.hangs_at machine.now spot place }
 {
@@ -123,6 +125,7 @@ fn first_open(tables: &Tables, live: &LiveRows, parent: ParentRef, rows: &[u16])
 }
 
 /// The best row for a spot. Where the spot hangs at the place, only the rows that suit it are looked at, the best first.
+#[inline(always)]
 fn best_row_of(
     tables: &Tables,
     graph: &Graph,
@@ -141,11 +144,14 @@ fn best_row_of(
     if !hangs_at(machine, spot, place) {
         return best_of_all(tables, graph, machine, live, parent, place, spot);
     }
-    if !parent_offers(graph, tables, parent, place) {
-        return None;
-    }
     match first_open(tables, live, parent, index.rows(spot)) {
-        Some(row) => Some(u32::from(row)),
+        Some(row) => {
+            if parent_offers(graph, tables, parent, place) {
+                Some(u32::from(row))
+            } else {
+                None
+            }
+        }
         None => None,
     }
 }
@@ -153,6 +159,7 @@ fn best_row_of(
 /// The row that takes a spot below a parent at a place: of those that are marked live, fit, pass submatch and have a match
 /// value above 0 the one of greatest match value, the earliest among equals. None where there is none. The truth values
 /// may be any. See autoconf(9).
+#[inline(always)]
 pub fn best(
     tables: &Tables,
     graph: &Graph,

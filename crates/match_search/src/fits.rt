@@ -24,6 +24,7 @@ pub fn names_parent(spec: Option<ParentSpec>, parent: ParentRef) -> bool
     }
 }
 
+#[inline(always)]
 pub fn same_place(a: Place, b: Place) -> bool
     ensures { result ≡ world.same_place a b }
 {

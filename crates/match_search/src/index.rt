@@ -119,6 +119,7 @@ impl RowIndex {
     }
 
     /// The rows that suit a spot at its own place, the best first. It takes no memory.
+    #[inline(always)]
     pub fn rows(&self, spot: u16) -> &[u16]
         ensures { result.now ≡ slice_index_or self.now spot [] }
     {

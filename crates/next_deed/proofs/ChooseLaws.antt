@@ -1,8 +1,9 @@
 -- What a caller does next, by its frames.
 use Rattle.std.proofs.Common.{◌≡◌, ◌≢◌, ◌<◌, ◌&&◌, ◌==◌, ℕ, Bool, true, false, not, List, [], ◌∷◌, length, None, Some, refl, sym, ap, ◌∙◌, ne_eqb}
 use Rattle.std.specs.List.{slice_index_or}
+use Rattle.run_rules.specs.declared.world.Activity.{Activity}
 use Rattle.run_rules.specs.declared.world.Frame.{Frame}
-use Rattle.run_rules.specs.World.{World, caller_at, has_ended, nobody}
+use Rattle.run_rules.specs.World.{World, caller_at, has_ended, is_ended, nobody}
 use Rattle.run_rules.specs.declared.world.Wait.TheVariants as wait
 use Rattle.run_rules.specs.declared.deed.Choice.{Choice}
 use Rattle.run_rules.specs.declared.deed.Choice.TheVariants.{Ended, Waits}
@@ -60,3 +61,7 @@ next_waits w k goes waits = rw (goes, waits) refl
 pub next_goes : (w : World) (k : ℕ) → has_ended w k ≡ false → (not (k == 0) && not (has_ended w 0)) ≡ false → next w k ≡ by_activity w k (caller_at w k).doing
 unfolding next
 next_goes w k goes waits = rw (goes, waits) refl
+
+-- who is in the middle of this goes on with it
+pub next_doing : (w : World) (k : ℕ) (a : Activity) → (caller_at w k).doing ≡ a → is_ended a ≡ false → (not (k == 0) && not (has_ended w 0)) ≡ false → next w k ≡ by_activity w k a
+next_doing w k a is goes boot = next_goes w k (ap is_ended is ∙ goes) boot ∙ ap (by_activity w k) is

@@ -7,15 +7,15 @@ use Rattle.run_rules.specs.declared.world.Position.{Position}
 use Rattle.run_rules.specs.declared.world.Turn.{Turn}
 use Rattle.run_rules.specs.declared.world.Wanted.{Wanted}
 use Rattle.run_rules.specs.Next.{next_scan}
-use Rattle.run_rules.specs.Search.{driver_at, attach_at, due, is_due, is_open, spot_of}
+use Rattle.run_rules.specs.Search.{driver_at, attach_at, due, is_due, is_open, parent_ref, spot_of}
 use Rattle.run_world.specs.declared.parts.Core.{Core}
 use Rattle.run_world.specs.declared.site.Site.{Site}
 use Rattle.run_world.specs.Late.{late_test}
 use Rattle.next_deed.specs.declared.due.Searcher.{Searcher}
 
--- the driver, the attachment and the spot of a live device; none of them for the root
+-- the driver, the attachment and the spot of a live device, and as what rows name it; none of the three for the root
 abbrev pub searcher_of : Setup → List Dev → ℕ → Searcher
-searcher_of s live p = record { driver = driver_at s live p; attach = attach_at s live p; spot = spot_of live p }
+searcher_of s live p = record { driver = driver_at s live p; attach = attach_at s live p; spot = spot_of live p; parent = parent_ref s live p }
 
 -- the first turn from a position on that is due on a site, and whether a turn is due there
 abbrev pub due_at : Site → Core → ℕ → Option ℕ → List Wanted → Position → Option Turn

@@ -11,20 +11,22 @@ use crate::next_due::next_position;
 use crate::search::winner_at;
 use dev_tree::DevTree;
 use match_search::found_at;
-use run_rules::{Position, Setup, Turn, Wanted};
+use run_rules::{ParentRef, Position, Setup, Turn, Wanted};
 use run_world::{Core, Site, attach_of, driver_of, has_spot, is_occupied};
 use scan_engine::next_turn;
 
-/// What searches: the driver, the attachment and the spot of a device, none of them for the root.
+/// What searches: the driver, the attachment and the spot of a device, none of them for the root; and as what rows name it.
 #[derive(Clone, Copy)]
 pub struct Searcher {
     pub driver: Option<u32>,
     pub attach: Option<u32>,
     pub spot: Option<u16>,
+    pub parent: ParentRef,
 }
 
+/// The device of a serial as one that searches, or the root.
 #[inline(always)]
-fn who_searches(setup: &Setup, tree: &DevTree, serial: u64) -> Searcher
+pub fn who_searches(setup: &Setup, tree: &DevTree, serial: u64) -> Searcher
     ensures { result ≡ searcher_of setup.now tree.now.live serial }
 {
     match tree.get(serial) {
@@ -32,11 +34,16 @@ fn who_searches(setup: &Setup, tree: &DevTree, serial: u64) -> Searcher
             driver: Some(driver_of(setup, d.row)),
             attach: Some(attach_of(setup, d.row)),
             spot: Some(d.spot),
+            parent: ParentRef::Dev {
+                device: driver_of(setup, d.row),
+                unit: d.unit,
+            },
         },
         None => Searcher {
             driver: None,
             attach: None,
             spot: None,
+            parent: ParentRef::Root,
         },
     }
 }
@@ -112,15 +119,16 @@ pub fn due_turn(
     site: &Site,
     core: &Core,
     serial: u64,
+    by: &Searcher,
     only: Option<u32>,
     filter: &[Wanted],
     from: Position,
 ) -> Option<Turn>
-    requires { Books site.now.setup core.now }
+    requires books { Books site.now.setup core.now }
+    requires by { by.now ≡ searcher_of site.now.setup core.now.tree.live serial }
     ensures due { due_at site.now core.now serial only filter.now from ≡ result }
     ensures spot { IfSome result (λ t. t.at.spot < length site.now.setup.machine.spots) }
 {
-    let by = who_searches(&site.setup, &core.tree, serial);
     let span = site.spans.below(by.spot);
     let mut position = from;
     loop {

@@ -1,5 +1,5 @@
 //! What a caller does next.
-ghost use Rattle.std.specs.Prelude.{◌≡◌, ◌≤◌, ◌<◌, ◌-◌, ℕ, List, ◌∷◌, false, not, ◌&&◌, ◌==◌, Some, None, IfOk, length, if◌then◌else◌};
+ghost use Rattle.std.specs.Prelude.{◌≡◌, ◌≤◌, ◌<◌, ◌-◌, ℕ, List, ◌∷◌, true, false, not, ◌&&◌, ◌==◌, Some, None, IfOk, IfSome, length, if◌then◌else◌};
 ghost use Rattle.run_rules.specs.Next as next;
 ghost use Rattle.run_rules.specs.World.{caller_at, has_ended};
 ghost use Rattle.run_rules.specs.declared.deed.Choice.TheVariants.{Does};
@@ -164,6 +164,43 @@ fn waits_for_boot(core: &Core, caller: u8) -> bool
     ensures { (s : from.Setup) → (not (caller == 0) && not (has_ended (world_of s core.now) 0)) ≡ result }
 {
     caller != 0 && !is_ended(core, 0)
+}
+
+/// Whether a caller goes on by its frames: it does not wait for the boot, and is in the middle of nothing but scans.
+#[inline(always)]
+pub fn goes_by_frames(core: &Core, caller: u8) -> bool
+    requires caller { caller < length core.now.callers.items }
+    ensures { result ≡ true → (s : from.Setup) → next.next (world_of s core.now) caller ≡ next.on_top (world_of s core.now) caller (caller_at (world_of s core.now) caller).stack }
+{
+    if waits_for_boot(core, caller) {
+        return false;
+    }
+    match core.callers[caller as usize].doing {
+        Activity::Scans => true,
+        Activity::Idle => true,
+        _ => false,
+    }
+}
+
+/// What a caller does next that goes on by its frames, where a scan is on top; none where `choose` has to tell.
+#[inline(always)]
+pub fn next_on_scan(site: &Site, core: &Core, caller: u8) -> Option<Deed>
+    requires kept { Kept (world_at site.now core.now) }
+    requires books { Books site.now.setup core.now }
+    requires caller { caller < length core.now.callers.items }
+    requires goes { next.next (world_at site.now core.now) caller ≡ next.on_top (world_at site.now core.now) caller (caller_at (world_at site.now core.now) caller).stack }
+    ensures { IfSome result (λ deed. next.next (world_at site.now core.now) caller ≡ Does deed) }
+{
+    let frame = core.callers[caller as usize].stack.top()?;
+    match frame {
+        Frame::Scan {
+            serial,
+            only,
+            filter,
+            position,
+        } => Some(plan_scan(site, core, *serial, *only, filter.items(), *position)),
+        Frame::Finaliser { serial: _ } => None,
+    }
 }
 
 /// What a caller does next.

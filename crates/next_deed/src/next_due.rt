@@ -72,6 +72,7 @@ fn due_position(
 
 /// Where a search of an indirect bus goes on: at the first pair of an open spot and of the row that takes it, so that no row
 /// is gone through that takes nothing.
+#[inline(never)]
 fn next_pair(
     site: &Site,
     core: &Core,
@@ -141,7 +142,7 @@ fn next_open(
 }
 
 /// Where a search of a direct bus goes on: at its next open spot.
-#[inline(always)]
+#[inline(never)]
 fn next_on_bus(
     setup: &Setup,
     core: &Core,

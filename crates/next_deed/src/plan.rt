@@ -7,9 +7,9 @@ ghost use Rattle.run_world.specs.View.{Books};
 ghost use Rattle.run_world.specs.Sites.{world_at};
 ghost use Rattle.next_deed.specs.Turns.{next_scan_at};
 
-use crate::due::due_turn;
+use crate::due::{due_turn, who_searches};
 use crate::late::shown_by;
-use crate::search::arrival;
+use crate::search::{arrival, parent_ref};
 use run_rules::{Deed, Position, Turn, Wanted};
 use run_world::{Core, Site, place_of};
 
@@ -50,19 +50,21 @@ pub fn plan_scan(
     requires live { length core.now.tree.live ≤ 1024 }
     ensures { next_scan_at site.now core.now serial only filter.now position ≡ result }
 {
-    match due_turn(site, core, serial, only, filter, position) {
+    let by = who_searches(&site.setup, &core.tree, serial);
+    match due_turn(site, core, serial, &by, only, filter, position) {
         None => Deed::EndScan { of: serial },
         Some(turn) => Deed::Search {
             parent: serial,
             spot: turn.at.spot,
             moved: after_turn(turn),
-            got: arrival(site, core, serial, turn.place, turn.at.spot),
+            got: arrival(site, core, serial, by.parent, turn.place, turn.at.spot),
         },
     }
 }
 
 /// What the finaliser of a device does.
 #[tactic(auto, unfolding(run_rules::specs::Next::finalise))]
+#[inline(never)]
 pub fn plan_call(site: &Site, core: &Core, serial: u64, listed: Option<u64>, anew: bool) -> Deed
     requires books { Books site.now.setup core.now }
     requires live { length core.now.tree.live ≤ 1024 }
@@ -79,7 +81,14 @@ pub fn plan_call(site: &Site, core: &Core, serial: u64, listed: Option<u64>, ane
         Some(spot) => Deed::Finalise {
             of: serial,
             shown: Some(spot),
-            got: arrival(site, core, serial, place_of(&site.setup, spot), spot),
+            got: arrival(
+                site,
+                core,
+                serial,
+                parent_ref(&site.setup, &core.tree, serial),
+                place_of(&site.setup, spot),
+                spot,
+            ),
             listed,
             anew,
         },

@@ -25,11 +25,11 @@ pub fn parent_ref(setup: &Setup, tree: &DevTree, serial: u64) -> ParentRef
     }
 }
 
-/// The row that takes a spot below a parent.
+/// The row that takes a spot below a parent, which rows name so.
 #[inline(always)]
-pub fn winner_at(site: &Site, core: &Core, parent: u64, place: Place, spot: u16) -> Option<u32>
+fn winner_below(site: &Site, core: &Core, named: ParentRef, place: Place, spot: u16) -> Option<u32>
     requires { Books site.now.setup core.now }
-    ensures { rule.winner_at site.now.setup core.now.tree.live parent place spot ≡ result }
+    ensures { rule.winner site.now.setup core.now.tree.live named place spot ≡ result }
 {
     best(
         &site.setup.tables,
@@ -37,21 +37,39 @@ pub fn winner_at(site: &Site, core: &Core, parent: u64, place: Place, spot: u16)
         &site.index,
         &site.setup.machine,
         &core.rows,
-        parent_ref(&site.setup, &core.tree, parent),
+        named,
         place,
         spot,
     )
 }
 
-/// The device that comes to a spot below a parent, if a row takes it.
+/// The row that takes a spot below a parent.
+#[inline(always)]
+pub fn winner_at(site: &Site, core: &Core, parent: u64, place: Place, spot: u16) -> Option<u32>
+    requires { Books site.now.setup core.now }
+    ensures { rule.winner_at site.now.setup core.now.tree.live parent place spot ≡ result }
+{
+    let named = parent_ref(&site.setup, &core.tree, parent);
+    winner_below(site, core, named, place, spot)
+}
+
+/// The device that comes to a spot below a parent, which rows name so, if a row takes it.
 #[tactic(auto, unfolding(run_rules::specs::Next::arrival))]
 #[inline(always)]
-pub fn arrival(site: &Site, core: &Core, parent: u64, place: Place, spot: u16) -> Option<Arrival>
+pub fn arrival(
+    site: &Site,
+    core: &Core,
+    parent: u64,
+    named: ParentRef,
+    place: Place,
+    spot: u16,
+) -> Option<Arrival>
     requires books { Books site.now.setup core.now }
     requires live { length core.now.tree.live ≤ 1024 }
+    requires named { named ≡ rule.parent_ref site.now.setup core.now.tree.live parent }
     ensures { next.arrival site.now.setup core.now.tree.live parent place spot ≡ result }
 {
-    match winner_at(site, core, parent, place, spot) {
+    match winner_below(site, core, named, place, spot) {
         Some(row) => Some(Arrival {
             row,
             unit: unit_of(&site.setup, &core.units, row),

@@ -92,13 +92,3 @@ pub other_digit : (v last zero_digit : ℕ) (ds : List ℕ) → v < 2 ^ 32 → 1
     → bytes_eq (decimal v) ds ≡ (last == zero_digit + v % 10)
 other_digit v last zero_digit ds low some here is isnt =
     not_equal (decimal v) ds (not_last v ds low some (λ e. isnt (here ∙ e ∙ ap (λ z. z + v % 10) (sym is)))) ∙ sym (ne_eqb last (zero_digit + v % 10) isnt)
-
--- ---- a text with what begins it
-
-append_same : (xs ys zs : List ℕ) → xs ++ ys ≡ xs ++ zs → ys ≡ zs
-append_same [] ys zs e = e
-append_same (x ∷ xs) ys zs e = let rest : xs ++ ys ≡ xs ++ zs = cc in append_same xs ys zs rest
-
-pub begun_alike : (xs ys zs : List ℕ) → bytes_eq (xs ++ ys) (xs ++ zs) ≡ bytes_eq ys zs
-begun_alike xs ys zs =
-    same_truth _ _ (λ e. equal_from ys zs (append_same xs ys zs (equal_to _ _ e))) (λ e. equal_from _ _ (ap (λ (ts : List ℕ). xs ++ ts) (equal_to ys zs e)))

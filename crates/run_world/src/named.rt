@@ -1,5 +1,5 @@
 //! What a command names: devices, spots and attributes.
-ghost use Rattle.std.specs.Prelude.{◌≡◌, ◌≤◌, IfSome, IsTrue, length, bytes_eq, decimal, position};
+ghost use Rattle.std.specs.Prelude.{◌≡◌, ◌≤◌, ◌++◌, IfSome, IsTrue, length, bytes_eq, decimal, position};
 ghost use Rattle.run_rules.specs.World as world;
 
 use crate::parts::Core;
@@ -23,15 +23,30 @@ fn spells(digits: &[u8], value: u32) -> bool
     }
 }
 
+/// Whether a name is a beginning with the digits of a number behind it. Names are short, so bytes are compared one by one.
+fn is_unit_name(name: &[u8], front: &[u8], unit: u32) -> bool
+    ensures { bytes_eq (front.now ++ decimal unit) name.now ≡ result }
+{
+    match front {
+        [] => spells(name, unit),
+        [first, front @ ..] => match name {
+            [] => false,
+            [byte, name @ ..] => byte == first && is_unit_name(name, front, unit),
+        },
+    }
+}
+
 /// Whether a device has the name.
 #[tactic(auto, unfolding(run_rules::specs::World::unit_name))]
+#[inline(always)]
 pub fn is_called(setup: &Setup, device: &Dev, name: &[u8]) -> bool
     ensures { result ≡ bytes_eq (world.name_of setup.now device.now) name.now }
 {
-    match name.strip_prefix(driver_name(setup, driver_of(setup, device.row))) {
-        Some(digits) => spells(digits, device.unit),
-        None => false,
-    }
+    is_unit_name(
+        name,
+        driver_name(setup, driver_of(setup, device.row)),
+        device.unit,
+    )
 }
 
 /// The live device of a name.

@@ -130,5 +130,5 @@ pub fn append<T: Drop>(list: &mut Vec<T>, value: T)
     ensures len { vec_len list.new ≡ vec_len list.old + 1 }
     ensures room { vec_capacity list.old ≤ vec_capacity list.new }
 {
-    let _ = list.push(value);
+    list.push_reserved(value);
 }

@@ -84,6 +84,7 @@ fn direct_turn(
 }
 
 /// The first turn of an indirect bus that is not before a position on it: row by row, and in each row spot by spot.
+#[inline(always)]
 fn indirect_turn(
     machine: &Machine,
     rows: u32,

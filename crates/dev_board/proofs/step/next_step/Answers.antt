@@ -1,30 +1,8 @@
 use Rattle.std.proofs.Common.{◌∙◌, refl, sym}
-use Rattle.run_rules.specs.World.{World}
-use Rattle.run_world.specs.View.{world_of}
-use Rattle.dev_board.proofs.NextLaws.{ended_so, quiet_wait, wait_is}
 use Rattle.dev_board.proofs.step.next_step.Goals as goal
 
 pub returns-then-is_ended-clause-step : goal.returns-then-is_ended-clause-step
 returns-then-is_ended-clause-step g c = (c.requires.goes_on, sym (c.is_ended.ensures c.args.site.now.setup) ∙ c.if-is_ended.true, refl)
-
-pub returns-in-Err-clause-step : goal.returns-in-Err-clause-step
-returns-in-Err-clause-step g c = (c.requires.goes_on, sym (c.is_ended.ensures c.args.site.now.setup) ∙ c.if-is_ended.false, refl)
-
-pub returns-in-Ok-Ended-clause-step : goal.returns-in-Ok-Ended-clause-step
-returns-in-Ok-Ended-clause-step g c =
-    let w : World = world_of c.args.site.now.setup c.args.core.now in
-    (c.requires.goes_on, ended_so w c.args.caller c.requires.kept.kept (rw c.in-Ok-Ended.field-0-is at c.in-Ok-Ended.ensures), refl)
-
-pub returns-in-Ok-Waits-clause-step : goal.returns-in-Ok-Waits-clause-step
-returns-in-Ok-Waits-clause-step g c =
-    let w : World = world_of c.args.site.now.setup c.args.core.now in
-    (c.requires.goes_on, wait_is w c.args.caller c.in-Ok-Waits.why c.requires.kept.kept (rw c.in-Ok-Waits.field-0-is at c.in-Ok-Waits.ensures), refl)
-
-pub returns-in-Ok-Waits-clause-denials : goal.returns-in-Ok-Waits-clause-denials
-returns-in-Ok-Waits-clause-denials g c =
-    let w : World = world_of c.args.site.now.setup c.args.core.now in
-    quiet_wait w c.args.caller c.in-Ok-Waits.why c.args.core.now.tree.live (g.S.Slots.denials c.args.slots.now) (g.S.Slots.last_denial c.args.slots.now) c.requires.kept.kept
-    (rw c.in-Ok-Waits.field-0-is at c.in-Ok-Waits.ensures)
 
 pub returns-then-is_ended-clause-kept : goal.returns-then-is_ended-clause-kept
 returns-then-is_ended-clause-kept g c = c.requires.kept
@@ -38,70 +16,54 @@ returns-then-is_ended-clause-denials g c = (refl, refl)
 pub returns-then-is_ended-clause-falls : goal.returns-then-is_ended-clause-falls
 returns-then-is_ended-clause-falls g c = λ did. absurd did
 
-pub returns-in-Err-clause-kept : goal.returns-in-Err-clause-kept
-returns-in-Err-clause-kept g c = c.requires.kept
-
-pub returns-in-Err-clause-agree : goal.returns-in-Err-clause-agree
-returns-in-Err-clause-agree g c = c.requires.agree
-
-pub returns-in-Err-clause-denials : goal.returns-in-Err-clause-denials
-returns-in-Err-clause-denials g c = (refl, refl)
-
-pub returns-in-Err-clause-falls : goal.returns-in-Err-clause-falls
-returns-in-Err-clause-falls g c = λ did. absurd did
-
-pub returns-in-Ok-Ended-clause-kept : goal.returns-in-Ok-Ended-clause-kept
-returns-in-Ok-Ended-clause-kept g c = c.requires.kept
-
-pub returns-in-Ok-Ended-clause-agree : goal.returns-in-Ok-Ended-clause-agree
-returns-in-Ok-Ended-clause-agree g c = c.requires.agree
-
-pub returns-in-Ok-Ended-clause-denials : goal.returns-in-Ok-Ended-clause-denials
-returns-in-Ok-Ended-clause-denials g c = (refl, refl)
-
-pub returns-in-Ok-Ended-clause-falls : goal.returns-in-Ok-Ended-clause-falls
-returns-in-Ok-Ended-clause-falls g c = λ did. absurd did
-
-pub returns-in-Ok-Waits-clause-kept : goal.returns-in-Ok-Waits-clause-kept
-returns-in-Ok-Waits-clause-kept g c = c.requires.kept
-
-pub returns-in-Ok-Waits-clause-agree : goal.returns-in-Ok-Waits-clause-agree
-returns-in-Ok-Waits-clause-agree g c = c.requires.agree
-
-pub returns-in-Ok-Waits-clause-falls : goal.returns-in-Ok-Waits-clause-falls
-returns-in-Ok-Waits-clause-falls g c = λ did. absurd did
-
-pub returns-in-Ok-Does-clause-step : goal.returns-in-Ok-Does-clause-step
-returns-in-Ok-Does-clause-step g c = c.step_deed.ensures.step
-
-pub returns-in-Ok-Does-clause-kept : goal.returns-in-Ok-Does-clause-kept
-returns-in-Ok-Does-clause-kept g c = c.step_deed.ensures.kept
-
-pub returns-in-Ok-Does-clause-agree : goal.returns-in-Ok-Does-clause-agree
-returns-in-Ok-Does-clause-agree g c = c.step_deed.ensures.agree
-
-pub returns-in-Ok-Does-clause-denials : goal.returns-in-Ok-Does-clause-denials
-returns-in-Ok-Does-clause-denials g c = c.step_deed.ensures.denials
-
-pub returns-in-Ok-Does-clause-falls : goal.returns-in-Ok-Does-clause-falls
-returns-in-Ok-Does-clause-falls g c = c.step_deed.ensures.falls
-
 pub is_ended-requires : goal.is_ended-requires
 is_ended-requires g c = c.requires.caller
 
-pub choose-requires : goal.choose-requires
-choose-requires g c = record {
-  may = c.requires.kept.may;
-  kept = c.requires.kept.kept;
-  books = c.requires.kept.books;
-  caller = c.requires.caller;
-}
-
-pub step_deed-requires : goal.step_deed-requires
-step_deed-requires g c = record {
+pub framed_step-requires : goal.framed_step-requires
+framed_step-requires g c = record {
   kept = c.requires.kept;
   caller = c.requires.caller;
   agree = c.requires.agree;
   goes_on = c.requires.goes_on;
-  chosen = rw c.in-Ok-Does.field-0-is at c.in-Ok-Does.ensures;
+  lasts = sym (c.is_ended.ensures c.args.site.now.setup) ∙ c.if-is_ended.false;
+  goes = c.goes_by_frames.ensures c.if-goes_by_frames.true c.args.site.now.setup;
 }
+
+pub chosen_step-requires : goal.chosen_step-requires
+chosen_step-requires g c = record {
+  kept = c.requires.kept;
+  caller = c.requires.caller;
+  agree = c.requires.agree;
+  goes_on = c.requires.goes_on;
+  lasts = sym (c.is_ended.ensures c.args.site.now.setup) ∙ c.if-is_ended.false;
+}
+
+pub returns-then-goes_by_frames-clause-step : goal.returns-then-goes_by_frames-clause-step
+returns-then-goes_by_frames-clause-step g c = c.framed_step.ensures.step
+
+pub returns-then-goes_by_frames-clause-kept : goal.returns-then-goes_by_frames-clause-kept
+returns-then-goes_by_frames-clause-kept g c = c.framed_step.ensures.kept
+
+pub returns-then-goes_by_frames-clause-agree : goal.returns-then-goes_by_frames-clause-agree
+returns-then-goes_by_frames-clause-agree g c = c.framed_step.ensures.agree
+
+pub returns-then-goes_by_frames-clause-denials : goal.returns-then-goes_by_frames-clause-denials
+returns-then-goes_by_frames-clause-denials g c = c.framed_step.ensures.denials
+
+pub returns-then-goes_by_frames-clause-falls : goal.returns-then-goes_by_frames-clause-falls
+returns-then-goes_by_frames-clause-falls g c = c.framed_step.ensures.falls
+
+pub returns-else-goes_by_frames-clause-step : goal.returns-else-goes_by_frames-clause-step
+returns-else-goes_by_frames-clause-step g c = c.chosen_step.ensures.step
+
+pub returns-else-goes_by_frames-clause-kept : goal.returns-else-goes_by_frames-clause-kept
+returns-else-goes_by_frames-clause-kept g c = c.chosen_step.ensures.kept
+
+pub returns-else-goes_by_frames-clause-agree : goal.returns-else-goes_by_frames-clause-agree
+returns-else-goes_by_frames-clause-agree g c = c.chosen_step.ensures.agree
+
+pub returns-else-goes_by_frames-clause-denials : goal.returns-else-goes_by_frames-clause-denials
+returns-else-goes_by_frames-clause-denials g c = c.chosen_step.ensures.denials
+
+pub returns-else-goes_by_frames-clause-falls : goal.returns-else-goes_by_frames-clause-falls
+returns-else-goes_by_frames-clause-falls g c = c.chosen_step.ensures.falls

@@ -1,18 +1,8 @@
-use Rattle.std.proofs.Common.{◌≡◌, ◌<◌, ◌∙◌, ap, refl, subst, sym}
-use Rattle.run_rules.specs.declared.deed.Choice.TheVariants.{Does}
+use Rattle.std.proofs.Common.{refl}
 use Rattle.run_rules.specs.declared.deed.Deed.TheVariants.{Done}
-use Rattle.run_rules.specs.Next.{next}
 use Rattle.run_rules.specs.World.{World}
-use Rattle.run_sound.proofs.Callers.{doing_so}
 use Rattle.run_sound.proofs.Reasons.{has_command_reason}
-use Rattle.run_sound.specs.Left.{boot_left}
-use Rattle.run_world.proofs.TellLaws.{doer_there}
 use Rattle.run_world.specs.View.{world_of}
-use Rattle.dev_board.specs.Agreement.{slots_of}
-use Rattle.dev_board.specs.KeptCore.{shown_of}
-use Rattle.dev_board.specs.Shown.{Shown}
-use Rattle.dev_board.specs.Stepping.{StepIs, DenialsAre}
-use Rattle.dev_board.proofs.Kept.{kept_shown}
 use Rattle.dev_board.proofs.step.step_deed.Goals as goal
 
 pub returns-in-Done-clause-step : goal.returns-in-Done-clause-step
@@ -21,62 +11,6 @@ returns-in-Done-clause-step g c =
     let t = c.in-Done.ticket in
     let chosen = rw c.in-Done.is at c.requires.chosen in
     (c.requires.goes_on, c.requires.kept.kept.ranges.tickets c.args.caller t (has_command_reason w c.args.caller (Done t) chosen), chosen, c.of_transfer.ensures, refl)
-
-pub step_in_room-requires-clause-kept : goal.step_in_room-requires-clause-kept
-step_in_room-requires-clause-kept g c =
-    kept_shown c.args.site.now.setup c.args.core.now c.reserve.new.core c.reserve.ensures.shown c.reserve.ensures.books c.requires.kept
-
-pub step_in_room-requires-clause-chosen : goal.step_in_room-requires-clause-chosen
-step_in_room-requires-clause-chosen g c =
-    subst (λ (b : Shown). next b.world c.args.caller ≡ Does c.args.deed.now) (sym c.reserve.ensures.shown) c.requires.chosen
-
-pub step_in_room-requires-clause-caller : goal.step_in_room-requires-clause-caller
-step_in_room-requires-clause-caller g c =
-    doer_there c.args.site.now.setup c.reserve.new.core c.args.caller c.args.deed.now (step_in_room-requires-clause-chosen g c)
-
-pub step_in_room-requires-clause-agree : goal.step_in_room-requires-clause-agree
-step_in_room-requires-clause-agree g c =
-    subst (λ (b : Shown). g.S.Slots.states c.args.slots.now ≡ slots_of b.world) (sym c.reserve.ensures.shown) c.requires.agree
-
-pub step_in_room-requires-clause-goes_on : goal.step_in_room-requires-clause-goes_on
-step_in_room-requires-clause-goes_on g c = ap (λ (b : Shown). b.stopped) c.reserve.ensures.shown ∙ c.requires.goes_on
-
-pub returns-in-Ok-clause-step : goal.returns-in-Ok-clause-step
-returns-in-Ok-clause-step g c =
-    subst (λ (b : Shown). StepIs b c.args.caller c.step_in_room.result (shown_of c.args.site.now.setup c.step_in_room.new.core)) c.reserve.ensures.shown c.step_in_room.ensures.step
-
-pub returns-in-Ok-clause-denials : goal.returns-in-Ok-clause-denials
-returns-in-Ok-clause-denials g c =
-    subst
-    (λ (b : Shown). DenialsAre b.world.live (g.S.Slots.denials c.args.slots.now) (g.S.Slots.last_denial c.args.slots.now) c.step_in_room.result (g.S.Slots.denials c.step_in_room.new.slots) (g.S.Slots.last_denial c.step_in_room.new.slots))
-    c.reserve.ensures.shown c.step_in_room.ensures.denials
-
-pub returns-in-Ok-clause-falls : goal.returns-in-Ok-clause-falls
-returns-in-Ok-clause-falls g c = λ did boots.
-    subst (λ (b : Shown). boot_left (world_of c.args.site.now.setup c.step_in_room.new.core) < boot_left b.world) c.reserve.ensures.shown (c.step_in_room.ensures.falls did boots)
-
-pub returns-in-Err-clause-step : goal.returns-in-Err-clause-step
-returns-in-Err-clause-step g c =
-    (c.requires.goes_on, (doing_so (world_of c.args.site.now.setup c.args.core.now) c.args.caller c.args.deed.now c.requires.chosen).unended, c.reserve.ensures.shown)
-
-pub returns-in-Err-clause-kept : goal.returns-in-Err-clause-kept
-returns-in-Err-clause-kept g c = kept_shown c.args.site.now.setup c.args.core.now c.reserve.new.core c.reserve.ensures.shown c.reserve.ensures.books c.requires.kept
-
-pub returns-in-Err-clause-agree : goal.returns-in-Err-clause-agree
-returns-in-Err-clause-agree g c =
-    subst (λ (b : Shown). g.S.Slots.states c.args.slots.now ≡ slots_of b.world) (sym c.reserve.ensures.shown) c.requires.agree
-
-pub returns-in-Ok-clause-kept : goal.returns-in-Ok-clause-kept
-returns-in-Ok-clause-kept g c = c.step_in_room.ensures.kept
-
-pub returns-in-Ok-clause-agree : goal.returns-in-Ok-clause-agree
-returns-in-Ok-clause-agree g c = c.step_in_room.ensures.agree
-
-pub returns-in-Err-clause-denials : goal.returns-in-Err-clause-denials
-returns-in-Err-clause-denials g c = (refl, refl)
-
-pub returns-in-Err-clause-falls : goal.returns-in-Err-clause-falls
-returns-in-Err-clause-falls g c = λ did. absurd did
 
 pub returns-in-Done-clause-kept : goal.returns-in-Done-clause-kept
 returns-in-Done-clause-kept g c = c.requires.kept
@@ -90,14 +24,77 @@ returns-in-Done-clause-denials g c = (refl, refl)
 pub returns-in-Done-clause-falls : goal.returns-in-Done-clause-falls
 returns-in-Done-clause-falls g c = λ did. absurd did
 
-pub reserve-requires : goal.reserve-requires
-reserve-requires g c = record {
+pub step_with_room-requires : goal.step_with_room-requires
+step_with_room-requires g c = record {
+  kept = c.requires.kept;
   caller = c.requires.caller;
-  books = c.requires.kept.books;
+  agree = c.requires.agree;
+  goes_on = c.requires.goes_on;
+  chosen = rw c.in-Sleep.is at c.requires.chosen;
+  other = λ ticket is. absurd cc;
 }
 
-pub step_in_room-requires-clause-room : goal.step_in_room-requires-clause-room
-step_in_room-requires-clause-room g c = c.in-Ok.ensures.room
+pub returns-in-Sleep-clause-step : goal.returns-in-Sleep-clause-step
+returns-in-Sleep-clause-step g c = c.step_with_room.ensures.step
 
-pub step_in_room-requires-clause-other : goal.step_in_room-requires-clause-other
-step_in_room-requires-clause-other g c = c.in_default.not-Done
+pub returns-in-Sleep-clause-kept : goal.returns-in-Sleep-clause-kept
+returns-in-Sleep-clause-kept g c = c.step_with_room.ensures.kept
+
+pub returns-in-Sleep-clause-agree : goal.returns-in-Sleep-clause-agree
+returns-in-Sleep-clause-agree g c = c.step_with_room.ensures.agree
+
+pub returns-in-Sleep-clause-denials : goal.returns-in-Sleep-clause-denials
+returns-in-Sleep-clause-denials g c = c.step_with_room.ensures.denials
+
+pub returns-in-Sleep-clause-falls : goal.returns-in-Sleep-clause-falls
+returns-in-Sleep-clause-falls g c = c.step_with_room.ensures.falls
+
+pub step_with_room-requires-in-Wake : goal.step_with_room-requires-in-Wake
+step_with_room-requires-in-Wake g c = record {
+  kept = c.requires.kept;
+  caller = c.requires.caller;
+  agree = c.requires.agree;
+  goes_on = c.requires.goes_on;
+  chosen = rw c.in-Wake.is at c.requires.chosen;
+  other = λ ticket is. absurd cc;
+}
+
+pub returns-in-Wake-clause-step : goal.returns-in-Wake-clause-step
+returns-in-Wake-clause-step g c = c.step_with_room-in-Wake.ensures.step
+
+pub returns-in-Wake-clause-kept : goal.returns-in-Wake-clause-kept
+returns-in-Wake-clause-kept g c = c.step_with_room-in-Wake.ensures.kept
+
+pub returns-in-Wake-clause-agree : goal.returns-in-Wake-clause-agree
+returns-in-Wake-clause-agree g c = c.step_with_room-in-Wake.ensures.agree
+
+pub returns-in-Wake-clause-denials : goal.returns-in-Wake-clause-denials
+returns-in-Wake-clause-denials g c = c.step_with_room-in-Wake.ensures.denials
+
+pub returns-in-Wake-clause-falls : goal.returns-in-Wake-clause-falls
+returns-in-Wake-clause-falls g c = c.step_with_room-in-Wake.ensures.falls
+
+pub step_of_any_kind-stepped-requires : goal.step_of_any_kind-stepped-requires
+step_of_any_kind-stepped-requires g c = record {
+  kept = c.requires.kept;
+  caller = c.requires.caller;
+  agree = c.requires.agree;
+  goes_on = c.requires.goes_on;
+  chosen = c.requires.chosen;
+  other = c.in_default.not-Done;
+}
+
+pub returns-in_default-clause-step : goal.returns-in_default-clause-step
+returns-in_default-clause-step g c = c.step_of_any_kind-stepped.ensures.step
+
+pub returns-in_default-clause-kept : goal.returns-in_default-clause-kept
+returns-in_default-clause-kept g c = c.step_of_any_kind-stepped.ensures.kept
+
+pub returns-in_default-clause-agree : goal.returns-in_default-clause-agree
+returns-in_default-clause-agree g c = c.step_of_any_kind-stepped.ensures.agree
+
+pub returns-in_default-clause-denials : goal.returns-in_default-clause-denials
+returns-in_default-clause-denials g c = c.step_of_any_kind-stepped.ensures.denials
+
+pub returns-in_default-clause-falls : goal.returns-in_default-clause-falls
+returns-in_default-clause-falls g c = c.step_of_any_kind-stepped.ensures.falls
