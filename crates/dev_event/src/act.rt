@@ -34,7 +34,7 @@ fn put_found(out: &mut Vec<u8>, parent: &Name, spot: &Name, got: &Option<Got>) -
     ensures { OnOk result (out.new.items ≡ out.old.items ++ text.said_of (codes "found ") (parent.now ++ codes " on " ++ spot.now) (text.got_text got.now)) }
 {
     put_named(out, b"found ", parent)?;
-    put_said(out, b" on ", spot)?;
+    put_named(out, b" on ", spot)?;
     put_got(out, got)
 }
 
@@ -51,8 +51,8 @@ fn put_found_1(out: &mut Vec<u8>, parent: &Name, got: &Option<Got>) -> Result<()
 fn put_scan(out: &mut Vec<u8>, device: &Name) -> Result<(), Memory>
     ensures { OnOk result (out.new.items ≡ out.old.items ++ text.said_of (codes "scan ") device.now (codes "done")) }
 {
-    put_said(out, b"scan ", device)?;
-    put_bytes(out, b"done")
+    put_named(out, b"scan ", device)?;
+    put_bytes(out, b": done")
 }
 
 /// Appends what a finaliser answered.

@@ -2,8 +2,8 @@ ghost use Rattle.std.specs.Prelude.{◌≡◌, ◌++◌, [], OnOk, OnErr, codes,
 ghost use Rattle.run_rules.specs.Lines.{line_of, line_of_1};
 
 use crate::act::{put_act, put_act_1};
-use crate::parts::put_number;
-use cf_types::{Memory, put_bytes};
+use crate::parts::put_marked;
+use cf_types::Memory;
 use run_rules::Event;
 
 /// How many bytes serve for most lines.
@@ -14,10 +14,8 @@ const USUAL: usize = 96;
 fn put_head(out: &mut Vec<u8>, event: &Event) -> Result<(), Memory>
     ensures { OnOk result (out.new.items ≡ out.old.items ++ (decimal event.now.caller ++ codes "." ++ decimal event.now.number ++ codes " ")) }
 {
-    put_number(out, u32::from(event.caller))?;
-    put_bytes(out, b".")?;
-    put_number(out, event.number)?;
-    put_bytes(out, b" ")
+    put_marked(out, u32::from(event.caller), b'.')?;
+    put_marked(out, event.number, b' ')
 }
 
 /// Appends the line of an event. Where memory runs out, some of it may have been appended.

@@ -1,5 +1,5 @@
 //! The pieces of a line. Where memory runs out, some of a piece may have been appended.
-ghost use Rattle.std.specs.Prelude.{◌≡◌, ◌++◌, OnOk, codes, decimal, flat_map};
+ghost use Rattle.std.specs.Prelude.{◌≡◌, ◌++◌, ◌∷◌, [], OnOk, codes, decimal, flat_map};
 ghost use Rattle.run_rules.specs.Lines.{reply_text, started_text, answer_text, got_text, got_text_1, shown_text, shown_text_1, of_text, names_text, depth_names_text};
 
 use cf_types::{List, Memory, Name, put_bytes, put_decimal};
@@ -16,6 +16,35 @@ pub fn put_number(out: &mut Vec<u8>, number: u32) -> Result<(), Memory>
         return Ok(());
     }
     put_decimal(out, i64::from(number))
+}
+
+/// Appends a number in decimal, and a byte behind it. Up to three digits are put in place.
+#[tactic(auto, using(std::proofs::lemmas::Fmt::decimal_digit, crate::proofs::Digits::two_digits, crate::proofs::Digits::three_digits))]
+#[inline(always)]
+pub fn put_marked(out: &mut Vec<u8>, number: u32, mark: u8) -> Result<(), Memory>
+    ensures { OnOk result (out.new.items ≡ out.old.items ++ (decimal number ++ mark ∷ [])) }
+{
+    let ones = b'0' + (number % 10) as u8;
+    let tens = number / 10;
+    if number < 10 {
+        put_bytes(out, &[ones, mark])
+    } else if number < 100 {
+        put_bytes(out, &[b'0' + tens as u8, ones, mark])
+    } else if number < 1000 {
+        put_bytes(
+            out,
+            &[
+                b'0' + (tens / 10) as u8,
+                b'0' + (tens % 10) as u8,
+                ones,
+                mark,
+            ],
+        )
+    } else {
+        put_decimal(out, i64::from(number))?;
+        out.push(mark)?;
+        Ok(())
+    }
 }
 
 /// Appends a word and a name.
@@ -80,15 +109,15 @@ pub fn put_answer(out: &mut Vec<u8>, answer: IoAnswer) -> Result<(), Memory>
     }
 }
 
-/// Appends the name and the row of the device that was attached, if one was.
+/// Appends a colon, and the name and the row of the device that was attached, if one was.
 #[inline(always)]
 pub fn put_got(out: &mut Vec<u8>, got: &Option<Got>) -> Result<(), Memory>
-    ensures { OnOk result (out.new.items ≡ out.old.items ++ got_text got.now) }
+    ensures { OnOk result (out.new.items ≡ out.old.items ++ (codes ": " ++ got_text got.now)) }
 {
     match got {
-        None => put_bytes(out, b"not configured"),
+        None => put_bytes(out, b": not configured"),
         Some(got) => {
-            put_bytes(out, got.name.bytes())?;
+            put_named(out, b": ", &got.name)?;
             put_bytes(out, b" row ")?;
             put_number(out, got.row)
         }
@@ -102,7 +131,7 @@ pub fn put_shown(out: &mut Vec<u8>, shown: &Option<Shown>) -> Result<(), Memory>
     match shown {
         None => put_bytes(out, b"0"),
         Some(shown) => {
-            put_said(out, b"1 on ", &shown.spot)?;
+            put_named(out, b"1 on ", &shown.spot)?;
             put_got(out, &shown.got)
         }
     }

@@ -1,4 +1,5 @@
 pub mod Cuts
 pub mod Readings
+pub mod Readers
 pub mod Goes
 pub mod Told

@@ -2,3 +2,4 @@ pub mod Lines
 pub mod Stops
 pub mod Going
 pub mod Steps
+pub mod Readers

@@ -13,7 +13,7 @@ ghost use Rattle.history_replay.specs.Stops.{IsReliableTree, IsReplay, Replays, 
 use crate::reader::read_history;
 use attr_graph::graph_of;
 use cf_types::{DevLine, List, Machine, Script, Tables};
-use plain_world::{Plain, Rules, opening, tree_lines};
+use plain_world::{Plain, Rules, opening, stretches_of, tree_lines};
 use run_rules::Event;
 use std::alloc::Global;
 use thiserror::Error;
@@ -58,10 +58,14 @@ pub fn reread(
     let Ok(graph) = graph_of(alloc, tables) else {
         return Err(ReplayStop::Memory);
     };
+    let Ok(stretches) = stretches_of(alloc, machine) else {
+        return Err(ReplayStop::Memory);
+    };
     let rules = Rules {
         tables,
         graph: &graph,
         machine,
+        stretches: &stretches,
         scripts,
     };
     reread_under(alloc, &rules, text)

@@ -4,6 +4,7 @@ ghost use Rattle.run_rules.specs.Reread as rule;
 ghost use Rattle.plain_world.specs.Plain.{world_of};
 ghost use Rattle.plain_world.specs.Rules.{AreFit, setup_by};
 ghost use Rattle.history_replay.specs.Going.{GoesOn, IsDue, IsGoing};
+ghost use Rattle.history_replay.specs.Readers.{IsSame, setup_in, world_in};
 ghost use Rattle.history_replay.specs.Steps.{ReadsHistory, ReadsLines, TellsDeed, TellsNext, TellsStep, event_in, given};
 
 use crate::cut::{first_line, format_of, is};
@@ -12,13 +13,34 @@ use cf_types::{List, Memory};
 use dev_event::{put_event, put_event_1, read_caller};
 use plain_choice::next;
 use plain_effect::apply;
-use plain_event::{Names, event_of};
+use plain_event::{Teller, event_of};
 use plain_world::{Plain, Rules};
 use run_rules::{Choice, Deed, Event, Format};
 use std::alloc::Global;
 
 /// How many bytes serve for most lines.
 const USUAL: usize = 96;
+
+/// By what lines are read: who tells events, the format, and room for the line that is due.
+#[derive(Drop)]
+struct Reader<'a> {
+    teller: Teller<'a>,
+    format: Format,
+    due: Vec<u8>,
+}
+
+/// A reader of lines of a format.
+fn reader_by<'a>(alloc: Global, rules: &'a Rules<'a>, format: Format) -> Result<Reader<'a>, Memory>
+    ensures { IfOk result (λ r. (r.teller.rules.now ≡ rules.now) × (r.format ≡ format)) }
+{
+    let teller = Teller::make(alloc, rules)?;
+    let due = Vec::with_capacity(alloc, USUAL)?;
+    Ok(Reader {
+        teller,
+        format,
+        due,
+    })
+}
 
 /// Appends the line of an event.
 fn put_line(format: Format, event: &Event, out: &mut Vec<u8>) -> Result<(), Memory>
@@ -30,13 +52,13 @@ fn put_line(format: Format, event: &Event, out: &mut Vec<u8>) -> Result<(), Memo
     }
 }
 
-/// Whether a line is that of an event.
-fn is_line_of(alloc: Global, format: Format, event: &Event, line: &[u8]) -> Result<bool, Memory>
+/// Whether a line is that of an event, which is put into this room.
+fn is_line_of(due: &mut Vec<u8>, format: Format, event: &Event, line: &[u8]) -> Result<bool, Memory>
     ensures { IfOk result (λ is. is ≡ bytes_eq (rule.line_in format event.now) line.now) }
 {
-    let mut due = Vec::with_capacity(alloc, USUAL)?;
-    put_line(format, event, &mut due)?;
-    Ok(is(&due, line))
+    due.clear();
+    put_line(format, event, due)?;
+    Ok(is(due, line))
 }
 
 /// An event where the test has passed.
@@ -52,14 +74,14 @@ fn where_so(is: bool, event: Event) -> Option<Event>
 
 /// An event, if a line is that of it.
 fn event_if(
-    alloc: Global,
+    due: &mut Vec<u8>,
     format: Format,
     event: Event,
     line: &[u8],
 ) -> Result<Option<Event>, Memory>
     ensures { IfOk result (λ e. given (bytes_eq (rule.line_in format event) line.now) event ≡ e) }
 {
-    match is_line_of(alloc, format, &event, line) {
+    match is_line_of(due, format, &event, line) {
         Ok(is) => Ok(where_so(is, event)),
         Err(memory) => {
             drop(event);
@@ -70,62 +92,52 @@ fn event_if(
 
 /// The event of what a caller does next, if a line is that of it.
 fn event_told(
-    alloc: Global,
-    rules: &Rules,
-    names: &mut Names,
+    reader: &mut Reader,
     plain: &Plain,
-    format: Format,
     caller: u8,
-    deed: Deed,
+    deed: &Deed,
     line: &[u8],
 ) -> Result<Option<Event>, Memory>
-    requires fit { AreFit rules.now }
-    requires going { IsGoing (setup_by rules.now) plain.now }
-    requires due { IsDue (setup_by rules.now) plain.now caller deed }
-    ensures { IfOk result (λ e. event_in format (world_of (setup_by rules.now) plain.now) caller deed line.now ≡ e) }
+    requires fit { AreFit reader.old.teller.rules.now }
+    requires going { IsGoing (setup_in reader.old) plain.now }
+    requires due { IsDue (setup_in reader.old) plain.now caller deed.now }
+    ensures told { IfOk result (λ e. event_in reader.old.format (world_in reader.old plain.now) caller deed.now line.now ≡ e) }
+    ensures same { IsSame reader.old reader.new }
 {
-    match event_of(alloc, rules, names, plain, caller, deed) {
-        Ok(event) => event_if(alloc, format, event, line),
+    match event_of(&mut reader.teller, plain, caller, deed) {
+        Ok(event) => event_if(&mut reader.due, reader.format, event, line),
         Err(memory) => Err(memory),
     }
 }
 
 /// Does what a caller does next.
-fn perform(
-    alloc: Global,
-    rules: &Rules,
-    plain: &mut Plain,
-    caller: u8,
-    deed: Deed,
-) -> Result<(), Memory>
-    requires fit { AreFit rules.now }
-    requires going { IsGoing (setup_by rules.now) plain.old }
+fn perform(teller: &Teller, plain: &mut Plain, caller: u8, deed: &Deed) -> Result<(), Memory>
+    requires fit { AreFit teller.now.rules.now }
+    requires going { IsGoing (setup_by teller.now.rules.now) plain.old }
     requires next { plain.old.live.next < 2 ^ 64 - 1 }
-    requires due { IsDue (setup_by rules.now) plain.old caller deed }
-    ensures { OnOk result (GoesOn (setup_by rules.now) plain.old caller deed plain.new) }
+    requires due { IsDue (setup_by teller.now.rules.now) plain.old caller deed.now }
+    ensures { OnOk result (GoesOn (setup_by teller.now.rules.now) plain.old caller deed.now plain.new) }
 {
-    apply(alloc, rules, plain, caller, deed)
+    apply(teller.alloc, teller.rules, plain, caller, deed)
 }
 
 /// Does what a caller does next, if a line is that of its event.
 fn take(
-    alloc: Global,
-    rules: &Rules,
-    names: &mut Names,
+    reader: &mut Reader,
     plain: &mut Plain,
-    format: Format,
     caller: u8,
-    deed: Deed,
+    deed: &Deed,
     line: &[u8],
 ) -> Result<Option<Event>, Memory>
-    requires fit { AreFit rules.now }
-    requires going { IsGoing (setup_by rules.now) plain.old }
+    requires fit { AreFit reader.old.teller.rules.now }
+    requires going { IsGoing (setup_in reader.old) plain.old }
     requires next { plain.old.live.next < 2 ^ 64 - 1 }
-    requires due { IsDue (setup_by rules.now) plain.old caller deed }
-    ensures { IfOk result (TellsDeed (setup_by rules.now) format plain.old caller line.now deed plain.new) }
+    requires due { IsDue (setup_in reader.old) plain.old caller deed.now }
+    ensures told { IfOk result (TellsDeed (setup_in reader.old) reader.old.format plain.old caller line.now deed.now plain.new) }
+    ensures same { IsSame reader.old reader.new }
 {
-    match event_told(alloc, rules, names, plain, format, caller, deed, line) {
-        Ok(Some(event)) => match perform(alloc, rules, plain, caller, deed) {
+    match event_told(reader, plain, caller, deed, line) {
+        Ok(Some(event)) => match perform(&reader.teller, plain, caller, deed) {
             Ok(()) => Ok(Some(event)),
             Err(memory) => {
                 drop(event);
@@ -139,42 +151,34 @@ fn take(
 
 /// The event of a caller, if a line is that of what it does next: the world is then the one after it.
 fn told_by(
-    alloc: Global,
-    rules: &Rules,
-    names: &mut Names,
+    reader: &mut Reader,
     plain: &mut Plain,
-    format: Format,
     caller: u8,
     line: &[u8],
 ) -> Result<Option<Event>, Memory>
-    requires fit { AreFit rules.now }
-    requires going { IsGoing (setup_by rules.now) plain.old }
+    requires fit { AreFit reader.old.teller.rules.now }
+    requires going { IsGoing (setup_in reader.old) plain.old }
     requires next { plain.old.live.next < 2 ^ 64 - 1 }
-    ensures { IfOk result (TellsNext (setup_by rules.now) format plain.old caller line.now plain.new) }
+    ensures told { IfOk result (TellsNext (setup_in reader.old) reader.old.format plain.old caller line.now plain.new) }
+    ensures same { IsSame reader.old reader.new }
 {
-    match next(alloc, rules, plain, caller) {
-        Ok(Choice::Does(deed)) => take(alloc, rules, names, plain, format, caller, deed, line),
+    match next(reader.teller.alloc, reader.teller.rules, plain, caller) {
+        Ok(Choice::Does(deed)) => take(reader, plain, caller, &deed, line),
         Ok(_) => Ok(None),
         Err(memory) => Err(memory),
     }
 }
 
 /// The event that a line tells, if it is that of what its caller does next: the world is then the one after it.
-fn step(
-    alloc: Global,
-    rules: &Rules,
-    names: &mut Names,
-    plain: &mut Plain,
-    format: Format,
-    line: &[u8],
-) -> Result<Option<Event>, Memory>
-    requires fit { AreFit rules.now }
-    requires going { IsGoing (setup_by rules.now) plain.old }
+fn step(reader: &mut Reader, plain: &mut Plain, line: &[u8]) -> Result<Option<Event>, Memory>
+    requires fit { AreFit reader.old.teller.rules.now }
+    requires going { IsGoing (setup_in reader.old) plain.old }
     requires next { plain.old.live.next < 2 ^ 64 - 1 }
-    ensures { IfOk result (TellsStep (setup_by rules.now) format plain.old line.now plain.new) }
+    ensures told { IfOk result (TellsStep (setup_in reader.old) reader.old.format plain.old line.now plain.new) }
+    ensures same { IsSame reader.old reader.new }
 {
     match read_caller(line) {
-        Some(caller) => told_by(alloc, rules, names, plain, format, caller, line),
+        Some(caller) => told_by(reader, plain, caller, line),
         None => Ok(None),
     }
 }
@@ -182,6 +186,42 @@ fn step(
 /// The events of the lines up to the next line `tree`, of which the first has this number: the world is then the one that
 /// they lead to.
 fn read_lines(
+    reader: &mut Reader,
+    plain: &mut Plain,
+    text: &[u8],
+    first: u64,
+) -> Result<List<Event>, ReplayStop>
+    requires fit { AreFit reader.old.teller.rules.now }
+    requires going { IsGoing (setup_in reader.old) plain.old }
+    requires next { plain.old.live.next ≤ first }
+    requires few { first + length text.now < 2 ^ 64 - 1 }
+    ensures read { ReadsLines (setup_in reader.old) reader.old.format plain.old first text.now result plain.new }
+    ensures going { OnOk result (IsGoing (setup_in reader.old) plain.new) }
+{
+    let mut events = List::make(reader.teller.alloc);
+    let mut left = text;
+    let mut number = first;
+    while let Some((line, rest)) = first_line(left) {
+        if is(line, b"tree") {
+            return Ok(events);
+        }
+        let Ok(told) = step(reader, plain, line) else {
+            return Err(ReplayStop::Memory);
+        };
+        let Some(event) = told else {
+            return Err(ReplayStop::Bad { line: number });
+        };
+        if events.push(event).is_err() {
+            return Err(ReplayStop::Memory);
+        }
+        left = rest;
+        number += 1;
+    }
+    Err(ReplayStop::Bad { line: number })
+}
+
+/// The events of the lines of a format behind its head.
+fn read_behind_head(
     alloc: Global,
     rules: &Rules,
     plain: &mut Plain,
@@ -196,29 +236,10 @@ fn read_lines(
     ensures read { ReadsLines (setup_by rules.now) format plain.old first text.now result plain.new }
     ensures going { OnOk result (IsGoing (setup_by rules.now) plain.new) }
 {
-    let Ok(mut names) = Names::make(alloc) else {
-        return Err(ReplayStop::Memory);
-    };
-    let mut events = List::make(alloc);
-    let mut left = text;
-    let mut number = first;
-    while let Some((line, rest)) = first_line(left) {
-        if is(line, b"tree") {
-            return Ok(events);
-        }
-        let Ok(told) = step(alloc, rules, &mut names, plain, format, line) else {
-            return Err(ReplayStop::Memory);
-        };
-        let Some(event) = told else {
-            return Err(ReplayStop::Bad { line: number });
-        };
-        if events.push(event).is_err() {
-            return Err(ReplayStop::Memory);
-        }
-        left = rest;
-        number += 1;
+    match reader_by(alloc, rules, format) {
+        Ok(mut reader) => read_lines(&mut reader, plain, text, first),
+        Err(_) => Err(ReplayStop::Memory),
     }
-    Err(ReplayStop::Bad { line: number })
 }
 
 /// The events of a history, from its head on: the world is then the one that they lead to.
@@ -240,7 +261,7 @@ pub fn read_history(
         left = rest;
         number += 1;
         if let Some(format) = format_of(line) {
-            return read_lines(alloc, rules, plain, format, left, number);
+            return read_behind_head(alloc, rules, plain, format, left, number);
         }
     }
     Err(ReplayStop::Bad { line: 0 })

@@ -1,12 +1,11 @@
 //! What a command does, or why it does nothing. See drvctl(8) and pmf(9).
-ghost use Rattle.std.specs.Prelude.{◌≡◌, true, false, nat_lt, IfOk, if◌then◌else◌};
+ghost use Rattle.std.specs.Prelude.{◌≡◌, IfOk};
 ghost use Rattle.std.specs.Option.{option_map_or};
 ghost use Rattle.run_rules.specs.Next as next;
-ghost use Rattle.run_rules.specs.References.{count_in};
 ghost use Rattle.run_rules.specs.World as world;
 ghost use Rattle.run_rules.specs.declared.deed.Deed.TheVariants as deeds;
 ghost use Rattle.run_rules.specs.declared.deed.Refusal.TheVariants as refusal;
-ghost use Rattle.plain_choice.specs.Commands.{if_held, on_found};
+ghost use Rattle.plain_choice.specs.Commands.{begun, closed, detached, granted, granted_alone, if_held, started};
 ghost use Rattle.plain_world.specs.Plain.{world_of};
 ghost use Rattle.plain_world.specs.Rules.{AreFit, setup_by};
 
@@ -27,56 +26,68 @@ fn named(alloc: Global, rules: &Rules, plain: &Plain, name: &Name) -> Result<Opt
 }
 
 /// A reference is asked for.
-fn open(rules: &Rules, plain: &Plain, caller: u8, found: Option<Dev>) -> Deed
-    ensures { let w = world_of (setup_by rules.now) plain.now in on_found found (λ d. if world.has w.sole d.serial then deeds.Refuse refusal.Exclusive else (if nat_lt (count_in w.refs caller d.serial) 15 then deeds.Open d.serial false else deeds.Refuse refusal.TooMany)) ≡ result }
+fn open(
+    alloc: Global,
+    rules: &Rules,
+    plain: &Plain,
+    caller: u8,
+    name: &Name,
+) -> Result<Deed, Memory>
+    ensures { let w = world_of (setup_by rules.now) plain.now in IfOk result (λ does. next.on_device w name.now (granted w caller) ≡ does) }
 {
-    let Some(device) = found else {
-        return Deed::Refuse(Refusal::NoDevice);
+    let Some(device) = named(alloc, rules, plain, name)? else {
+        return Ok(Deed::Refuse(Refusal::NoDevice));
     };
     if device.condemned.is_some() {
-        Deed::Refuse(Refusal::Gone)
+        Ok(Deed::Refuse(Refusal::Gone))
     } else if is_sole(&plain.sole, device.serial) {
-        Deed::Refuse(Refusal::Exclusive)
+        Ok(Deed::Refuse(Refusal::Exclusive))
     } else if count(&plain.refs, caller, device.serial) < 15 {
-        Deed::Open {
+        Ok(Deed::Open {
             of: device.serial,
             sole: false,
-        }
+        })
     } else {
-        Deed::Refuse(Refusal::TooMany)
+        Ok(Deed::Refuse(Refusal::TooMany))
     }
 }
 
 /// The only reference is asked for.
-fn open_sole(rules: &Rules, plain: &Plain, found: Option<Dev>) -> Deed
-    ensures { let w = world_of (setup_by rules.now) plain.now in on_found found (λ d. if world.is_referred w d.serial then deeds.Refuse refusal.Shared else deeds.Open d.serial true) ≡ result }
+fn open_sole(alloc: Global, rules: &Rules, plain: &Plain, name: &Name) -> Result<Deed, Memory>
+    ensures { let w = world_of (setup_by rules.now) plain.now in IfOk result (λ does. next.on_device w name.now (granted_alone w) ≡ does) }
 {
-    let Some(device) = found else {
-        return Deed::Refuse(Refusal::NoDevice);
+    let Some(device) = named(alloc, rules, plain, name)? else {
+        return Ok(Deed::Refuse(Refusal::NoDevice));
     };
     if device.condemned.is_some() {
-        Deed::Refuse(Refusal::Gone)
+        Ok(Deed::Refuse(Refusal::Gone))
     } else if refers(&plain.refs, device.serial) {
-        Deed::Refuse(Refusal::Shared)
+        Ok(Deed::Refuse(Refusal::Shared))
     } else {
-        Deed::Open {
+        Ok(Deed::Open {
             of: device.serial,
             sole: true,
-        }
+        })
     }
 }
 
 /// A reference is given back.
-fn close(rules: &Rules, plain: &Plain, caller: u8, found: Option<Dev>) -> Deed
-    ensures { if_held (world_of (setup_by rules.now) plain.now) caller found (λ d. deeds.Close d.serial) ≡ result }
+fn close(
+    alloc: Global,
+    rules: &Rules,
+    plain: &Plain,
+    caller: u8,
+    name: &Name,
+) -> Result<Deed, Memory>
+    ensures { IfOk result (λ does. next.on_held (world_of (setup_by rules.now) plain.now) caller name.now closed ≡ does) }
 {
-    let Some(device) = found else {
-        return Deed::Refuse(Refusal::NotHeld);
+    let Some(device) = named(alloc, rules, plain, name)? else {
+        return Ok(Deed::Refuse(Refusal::NotHeld));
     };
     if holds(&plain.refs, caller, device.serial) {
-        Deed::Close { of: device.serial }
+        Ok(Deed::Close { of: device.serial })
     } else {
-        Deed::Refuse(Refusal::NotHeld)
+        Ok(Deed::Refuse(Refusal::NotHeld))
     }
 }
 
@@ -103,7 +114,7 @@ fn ticket_of(
 
 /// A transfer is asked for, by the command of this number.
 fn io(rules: &Rules, plain: &Plain, caller: u8, number: u32, found: Option<Dev>, value: u32) -> Deed
-    ensures { let w = world_of (setup_by rules.now) plain.now in if_held w caller found (λ d. if d.asleep then deeds.Refuse refusal.Asleep else deeds.Start (next.ticket_of w caller number d value)) ≡ result }
+    ensures { let w = world_of (setup_by rules.now) plain.now in if_held w caller found (started w caller number value) ≡ result }
 {
     let Some(device) = found else {
         return Deed::Refuse(Refusal::NotHeld);
@@ -163,17 +174,23 @@ fn unless_hindered(
 }
 
 /// A device is to go with all that is below it.
-fn detach(rules: &Rules, plain: &Plain, caller: u8, found: Option<Dev>) -> Deed
-    ensures { let w = world_of (setup_by rules.now) plain.now in on_found found (λ d. next.unless_hindered w caller d.serial false (deeds.Detach d.serial)) ≡ result }
+fn detach(
+    alloc: Global,
+    rules: &Rules,
+    plain: &Plain,
+    caller: u8,
+    name: &Name,
+) -> Result<Deed, Memory>
+    ensures { let w = world_of (setup_by rules.now) plain.now in IfOk result (λ does. next.on_device w name.now (detached w caller) ≡ does) }
 {
-    let Some(device) = found else {
-        return Deed::Refuse(Refusal::NoDevice);
+    let Some(device) = named(alloc, rules, plain, name)? else {
+        return Ok(Deed::Refuse(Refusal::NoDevice));
     };
     if device.condemned.is_some() {
-        return Deed::Refuse(Refusal::Gone);
+        return Ok(Deed::Refuse(Refusal::Gone));
     }
     let deed = Deed::Detach { of: device.serial };
-    unless_hindered(rules, plain, caller, device.serial, false, deed)
+    Ok(unless_hindered(rules, plain, caller, device.serial, false, deed))
 }
 
 /// A device is to be searched again.
@@ -181,14 +198,14 @@ fn rescan(
     alloc: Global,
     rules: &Rules,
     plain: &Plain,
-    found: Option<Dev>,
+    name: &Name,
     attr: &Option<Name>,
     given: &[Given],
 ) -> Result<Deed, Memory>
     requires { AreFit rules.now }
-    ensures { IfOk result (λ does. on_found found (λ d. next.rescanning (world_of (setup_by rules.now) plain.now) d attr.now given.now) ≡ does) }
+    ensures { let w = world_of (setup_by rules.now) plain.now in IfOk result (λ does. next.on_device w name.now (λ d. next.rescanning w d attr.now given.now) ≡ does) }
 {
-    let Some(device) = found else {
+    let Some(device) = named(alloc, rules, plain, name)? else {
         return Ok(Deed::Refuse(Refusal::NoDevice));
     };
     if device.condemned.is_some() {
@@ -211,19 +228,25 @@ fn tell(alloc: Global, rules: &Rules, plain: &Plain, of: &Option<Name>) -> Resul
 }
 
 /// A power command is asked for.
-fn begin_power(kind: PowerKind, found: Option<Dev>) -> Deed
-    ensures { on_found found (λ d. deeds.BeginPower kind d.serial) ≡ result }
+fn begin_power(
+    alloc: Global,
+    rules: &Rules,
+    plain: &Plain,
+    kind: PowerKind,
+    name: &Name,
+) -> Result<Deed, Memory>
+    ensures { IfOk result (λ does. next.on_device (world_of (setup_by rules.now) plain.now) name.now (begun kind) ≡ does) }
 {
-    let Some(device) = found else {
-        return Deed::Refuse(Refusal::NoDevice);
+    let Some(device) = named(alloc, rules, plain, name)? else {
+        return Ok(Deed::Refuse(Refusal::NoDevice));
     };
     if device.condemned.is_some() {
-        Deed::Refuse(Refusal::Gone)
+        Ok(Deed::Refuse(Refusal::Gone))
     } else {
-        Deed::BeginPower {
+        Ok(Deed::BeginPower {
             kind,
             of: device.serial,
-        }
+        })
     }
 }
 
@@ -277,48 +300,24 @@ pub fn command_deed(
     ensures { IfOk result (λ does. next.command_deed (world_of (setup_by rules.now) plain.now) caller number said.now ≡ does) }
 {
     match said {
-        Command::OpenDev(name) => {
-            let found = named(alloc, rules, plain, name)?;
-            Ok(open(rules, plain, caller, found))
-        }
-        Command::OpenSole(name) => {
-            let found = named(alloc, rules, plain, name)?;
-            Ok(open_sole(rules, plain, found))
-        }
-        Command::CloseDev(name) => {
-            let found = named(alloc, rules, plain, name)?;
-            Ok(close(rules, plain, caller, found))
-        }
+        Command::OpenDev(name) => open(alloc, rules, plain, caller, name),
+        Command::OpenSole(name) => open_sole(alloc, rules, plain, name),
+        Command::CloseDev(name) => close(alloc, rules, plain, caller, name),
         Command::Io(name, value) => {
             let found = named(alloc, rules, plain, name)?;
             Ok(io(rules, plain, caller, number, found, *value))
         }
-        Command::Detach(name) => {
-            let found = named(alloc, rules, plain, name)?;
-            Ok(detach(rules, plain, caller, found))
-        }
+        Command::Detach(name) => detach(alloc, rules, plain, caller, name),
         Command::Rescan {
             device,
             attr,
             given,
-        } => {
-            let found = named(alloc, rules, plain, device)?;
-            rescan(alloc, rules, plain, found, attr, given.items())
-        }
+        } => rescan(alloc, rules, plain, device, attr, given.items()),
         Command::ListDev(of) => tell(alloc, rules, plain, of),
         Command::TreeDev(of) => tell(alloc, rules, plain, of),
-        Command::Suspend(name) => {
-            let found = named(alloc, rules, plain, name)?;
-            Ok(begin_power(PowerKind::Suspend, found))
-        }
-        Command::Resume(name) => {
-            let found = named(alloc, rules, plain, name)?;
-            Ok(begin_power(PowerKind::Resume, found))
-        }
-        Command::ResumeTree(name) => {
-            let found = named(alloc, rules, plain, name)?;
-            Ok(begin_power(PowerKind::ResumeTree, found))
-        }
+        Command::Suspend(name) => begin_power(alloc, rules, plain, PowerKind::Suspend, name),
+        Command::Resume(name) => begin_power(alloc, rules, plain, PowerKind::Resume, name),
+        Command::ResumeTree(name) => begin_power(alloc, rules, plain, PowerKind::ResumeTree, name),
         Command::Plug(name) => Ok(plug(rules, plain, name)),
         Command::Unplug(name) => Ok(unplug(rules, plain, caller, name)),
     }

@@ -13,7 +13,7 @@ use crate::matches::{arrival, winner_at};
 use cf_types::{Place, StyleLine};
 use plain_world::{
     Plain, Rules, attach_at, driver_at, found_at, has_spot, is_occupied, offered, same_place,
-    spot_of,
+    spot_of, stretch_at,
 };
 use run_rules::{Deed, Position, Turn, Wanted};
 
@@ -160,7 +160,9 @@ fn row_turn(
     requires { AreFit rules.now }
     ensures { find (takes rules.now plain.now scan.now) (map (turn_on bus row) (rule.child_spots rules.now.machine.now parent bus.place)) ≡ result }
 {
-    for spot in first_spot(scan, bus, row)..rules.machine.spots.len() as u16 {
+    let below = stretch_at(rules.stretches, parent);
+    let end = below.end.min(rules.machine.spots.len() as u16);
+    for spot in first_spot(scan, bus, row).max(below.first)..end {
         let turn = turn_on(bus, row, spot);
         if is_child(rules, parent, bus.place, spot) && is_next(rules, plain, scan, turn) {
             return Some(turn);

@@ -1,5 +1,9 @@
 -- Which deeds take no memory, and what place a deed has in the boot's list.
-use Rattle.std.specs.Prelude.{◌<◌, ◌-◌, ◌^◌, ⊤, Bool, true, false, IfSome}
+use Rattle.std.specs.Prelude.{◌<◌, ◌-◌, ◌^◌, ⊤, ℕ, Bool, true, false, IfSome}
+use Rattle.run_rules.specs.declared.world.Arrival.{Arrival}
+use Rattle.run_rules.specs.declared.world.Setup.{Setup}
+use Rattle.run_rules.specs.After.{scan_placed}
+use Rattle.run_rules.specs.World.{World, offered_by, policy_of}
 use Rattle.run_rules.specs.declared.deed.Deed.{Deed}
 use Rattle.run_rules.specs.declared.deed.Deed.TheVariants.{Finalise, EndCaller, Drop, Refuse, Close, Start, Done, Free, BeginPower, Sleep, Wake, EndPower, Plug, Tell}
 
@@ -24,3 +28,7 @@ is_quiet _ = false
 abbrev pub HasPlace : Deed → Type 0
 HasPlace (Finalise of shown got listed anew) = IfSome listed (λ place. place < 2 ^ 64 - 1)
 HasPlace _ = ⊤
+
+-- the scan of the device of this serial goes where the policy and what the device offers say, by this setup
+abbrev pub with_scan : Setup → World → ℕ → ℕ → Arrival → Bool → World
+with_scan s w k serial a may_defer = scan_placed (policy_of s a.row) (offered_by s a.row) w k a.parent serial may_defer

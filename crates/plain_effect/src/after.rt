@@ -4,6 +4,7 @@ ghost use Rattle.run_rules.specs.After as after;
 ghost use Rattle.run_rules.specs.World as world;
 ghost use Rattle.run_rules.specs.declared.world.Setup.{Setup};
 ghost use Rattle.run_rules.specs.declared.deed.Deed.TheVariants as deeds;
+ghost use Rattle.plain_effect.specs.Effects.{with_scan};
 ghost use Rattle.plain_world.specs.Plain.{HasCaller, state_at, world_of};
 ghost use Rattle.plain_world.specs.Rules.{AreFit, setup_by};
 
@@ -211,7 +212,7 @@ fn place_scan(
 ) -> Result<(), Memory>
     requires fit { AreFit rules.now }
     requires caller { HasCaller plain.old caller 502 }
-    ensures world { (s : Setup) → OnOk result (world_of s plain.new ≡ after.scan_placed (world.policy_of (setup_by rules.now) arrival.row) (world.offered_by (setup_by rules.now) arrival.row) (world_of s plain.old) caller arrival.parent serial may_defer) }
+    ensures world { (s : Setup) → OnOk result (world_of s plain.new ≡ with_scan (setup_by rules.now) (world_of s plain.old) caller serial arrival may_defer) }
     ensures caller { OnOk result (HasCaller plain.new caller 503) }
 {
     let policy = policy_of(rules, arrival.row);

@@ -239,12 +239,12 @@ fn close(plain: &mut Plain, caller: u8, of: u64)
 
 /// What a deed changes that takes no memory.
 #[tactic(auto, unfolding(run_rules::specs::After::after))]
-fn do_quietly(plain: &mut Plain, caller: u8, deed: Deed)
+fn do_quietly(plain: &mut Plain, caller: u8, deed: &Deed)
     requires caller { HasCaller plain.old caller 500 }
-    requires quiet { is_quiet deed ≡ true }
-    ensures { (s : Setup) → world_of s plain.new ≡ after.after (world_of s plain.old) caller deed }
+    requires quiet { is_quiet deed.now ≡ true }
+    ensures { (s : Setup) → world_of s plain.new ≡ after.after (world_of s plain.old) caller deed.now }
 {
-    match deed {
+    match *deed {
         Deed::EndCaller => begin(plain, caller, Activity::Ended),
         Deed::Drop { of } => give_back(plain, caller, of),
         Deed::Close { of } => close(plain, caller, of),
@@ -285,15 +285,15 @@ pub fn apply(
     rules: &Rules,
     plain: &mut Plain,
     caller: u8,
-    deed: Deed,
+    deed: &Deed,
 ) -> Result<(), Memory>
     requires fit { AreFit rules.now }
     requires caller { HasCaller plain.old caller 500 }
     requires next { plain.old.live.next < 2 ^ 64 - 1 }
-    requires place { HasPlace deed }
-    ensures { OnOk result (world_of (setup_by rules.now) plain.new ≡ after.after (world_of (setup_by rules.now) plain.old) caller deed) }
+    requires place { HasPlace deed.now }
+    ensures { OnOk result (world_of (setup_by rules.now) plain.new ≡ after.after (world_of (setup_by rules.now) plain.old) caller deed.now) }
 {
-    match deed {
+    match *deed {
         Deed::Search { moved, got, .. } => search(alloc, rules, plain, caller, moved, got),
         Deed::EndScan { of } => end_scan(alloc, plain, caller, of),
         Deed::BeginInterrupts => begin_interrupts(alloc, plain, caller),

@@ -1,6 +1,8 @@
 -- What the event of a deed is made of: the devices that it names are live, and its spots are of the machine.
-use Rattle.std.specs.Prelude.{◌≡◌, ◌<◌, ⊤, ℕ, true, false, length, IfSome, Option, Some, None}
+use Rattle.std.specs.Prelude.{◌≡◌, ◌<◌, ⊤, ℕ, true, false, length, IfSome, List, Option, Some, None}
 use Rattle.std.specs.Option.{option_map_or}
+use Rattle.cf_types.specs.declared.machine.Command.{Command}
+use Rattle.cf_types.specs.declared.machine.Command.TheVariants as command
 use Rattle.run_rules.specs.declared.deed.Deed.{Deed}
 use Rattle.run_rules.specs.declared.deed.Deed.TheVariants.{Search, Finalise, Drop, Refuse, Done, Free, Sleep, Wake, EndPower}
 use Rattle.run_rules.specs.declared.deed.PowerEnd.{PowerEnd}
@@ -17,6 +19,31 @@ use Rattle.run_rules.specs.Run.{reply_of}
 abbrev pub answer_by : World → Option Refusal → Reply
 answer_by w None = reply.Ok
 answer_by w (Some why) = reply_of w why
+
+-- the name that a command gives, which is neither a list nor a tree
+abbrev pub name_given : Command → Option (List ℕ)
+name_given (command.OpenDev name) = Some name
+name_given (command.OpenSole name) = Some name
+name_given (command.CloseDev name) = Some name
+name_given (command.Io name value) = Some name
+name_given (command.Detach name) = Some name
+name_given (command.Rescan name attr given) = Some name
+name_given (command.ListDev name) = None
+name_given (command.TreeDev name) = None
+name_given (command.Suspend name) = Some name
+name_given (command.Resume name) = Some name
+name_given (command.ResumeTree name) = Some name
+name_given (command.Plug name) = Some name
+name_given (command.Unplug name) = Some name
+
+-- the device that the line of a deed tells alone
+abbrev pub device_told : Deed → Option ℕ
+device_told (Drop s) = Some s
+device_told (Done ticket) = Some ticket.serial
+device_told (Free s) = Some s
+device_told (Sleep s) = Some s
+device_told (Wake s) = Some s
+device_told _ = None
 
 -- the device that a refusal names is live
 abbrev pub RefusesLive : World → Refusal → Type 0

@@ -1,12 +1,7 @@
-//! The names of devices, shared where they were told before.
-ghost use Rattle.std.specs.Prelude.{◌≡◌, ◌++◌, true, IfOk, IfSome, decimal};
-ghost use Rattle.run_rules.specs.World as world;
-ghost use Rattle.plain_world.specs.Names.{name_live};
-ghost use Rattle.plain_world.specs.Rules.{AreFit, setup_by};
+//! Names of devices, kept for the next event that tells them.
+ghost use Rattle.std.specs.Prelude.{◌≡◌, ◌++◌, IfSome, decimal};
 
 use cf_types::{Memory, Name};
-use plain_world::{Live, Rules, device_at, driver_of, unit_name};
-use run_rules::Dev;
 use std::alloc::Global;
 
 /// The name of a driver and a unit.
@@ -43,7 +38,7 @@ impl Names {
     }
 
     /// The name of this driver and unit, if it is at the place of a serial.
-    fn get(&self, serial: u64, driver: &Name, unit: u32) -> Option<&Name>
+    pub fn get(&self, serial: u64, driver: &Name, unit: u32) -> Option<&Name>
         ensures { IfSome result (λ n. n.now ≡ driver.now ++ decimal unit) }
     {
         match self.kept.get(place_of(serial)) {
@@ -59,7 +54,7 @@ impl Names {
     }
 
     /// Puts the name of a driver and a unit at the place of a serial.
-    fn keep(&mut self, serial: u64, driver: &Name, unit: u32, name: &Name) -> Result<(), Memory>
+    pub fn keep(&mut self, serial: u64, driver: &Name, unit: u32, name: &Name) -> Result<(), Memory>
         requires { name.now ≡ driver.now ++ decimal unit }
     {
         let spelled = Spelled {
@@ -72,78 +67,5 @@ impl Names {
             self.kept[place] = Some(spelled);
         }
         Ok(())
-    }
-}
-
-/// The name of a row's driver, if there is one.
-fn driver_at<'a>(rules: &'a Rules, row: u32) -> Option<&'a Name>
-    ensures { IfSome result (λ n. n.now ≡ world.driver_name (setup_by rules.now) (world.driver_of (setup_by rules.now) row)) }
-{
-    match rules
-        .tables
-        .devices
-        .items()
-        .get(driver_of(rules, row) as usize)
-    {
-        Some(driver) => Some(&driver.name),
-        None => None,
-    }
-}
-
-/// The name of a device.
-#[tactic(auto, unfolding(run_rules::specs::World::unit_name))]
-fn device_name(
-    alloc: Global,
-    rules: &Rules,
-    names: &mut Names,
-    device: &Dev,
-) -> Result<Name, Memory>
-    requires { AreFit rules.now }
-    ensures { IfOk result (λ n. n ≡ world.name_of (setup_by rules.now) device.now) }
-{
-    let Some(driver) = driver_at(rules, device.row) else {
-        return unit_name(alloc, rules, device.row, device.unit);
-    };
-    if let Some(name) = names.get(device.serial, driver, device.unit) {
-        return Ok(name.clone()?);
-    }
-    let name = unit_name(alloc, rules, device.row, device.unit)?;
-    names.keep(device.serial, driver, device.unit, &name)?;
-    Ok(name)
-}
-
-/// The name of a parent, which may be the root.
-#[tactic(auto, unfolding(run_rules::specs::World::parent_name, run_rules::specs::World::root_name))]
-pub fn parent_name(
-    alloc: Global,
-    rules: &Rules,
-    names: &mut Names,
-    live: &Live,
-    serial: u64,
-) -> Result<Name, Memory>
-    requires { AreFit rules.now }
-    ensures { IfOk result (λ n. n ≡ world.parent_name (setup_by rules.now) live.now.devices serial) }
-{
-    match device_at(live, serial) {
-        Some(device) => device_name(alloc, rules, names, &device),
-        None => Name::make(alloc, b"root"),
-    }
-}
-
-/// The name of a live device.
-pub fn live_name(
-    alloc: Global,
-    rules: &Rules,
-    names: &mut Names,
-    live: &Live,
-    serial: u64,
-) -> Result<Name, Memory>
-    requires fit { AreFit rules.now }
-    requires live { world.is_live live.now.devices serial ≡ true }
-    ensures { IfOk result (λ n. n ≡ name_live (setup_by rules.now) live.now.devices serial) }
-{
-    match device_at(live, serial) {
-        Some(device) => device_name(alloc, rules, names, &device),
-        None => unreachable!(),
     }
 }

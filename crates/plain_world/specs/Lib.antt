@@ -3,3 +3,4 @@ pub mod Plain
 pub mod Standing
 pub mod Names
 pub mod Wanted
+pub mod Stretches

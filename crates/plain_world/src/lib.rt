@@ -8,6 +8,7 @@ mod names;
 mod rules;
 mod script;
 mod spots;
+mod stretch;
 mod tree;
 mod wanted;
 mod world;
@@ -24,6 +25,7 @@ pub use rules::{
     is_number, offered, place_of, policy_of, row_at, same_place, spot_named,
 };
 pub use script::{command_at, command_of, has_ended, over_of};
+pub use stretch::{Stretch, stretch_at, stretches_of};
 pub use tree::{list_names, tree_lines, tree_names};
 pub use wanted::{wanted_by, wanted_of};
 pub use world::{Plain, opening};

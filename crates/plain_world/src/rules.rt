@@ -8,16 +8,18 @@ ghost use Rattle.run_rules.specs.Next as next;
 ghost use Rattle.run_rules.specs.Search as rule;
 ghost use Rattle.plain_world.specs.Rules.{AreFit, setup_by};
 
+use crate::stretch::Stretch;
 use attr_graph::Graph;
 use cf_types::{Machine, Place, Policy, Row, Script, Tables};
 
-/// What a run goes by: the tables with the graph of their attributes, the machine, and the scripts of the callers 1, 2 and
-/// so on.
+/// What a run goes by: the tables with the graph of their attributes, the machine with the stretches of its spots, and the
+/// scripts of the callers 1, 2 and so on.
 #[derive(Drop)]
 pub struct Rules<'a> {
     pub tables: &'a Tables,
     pub graph: &'a Graph,
     pub machine: &'a Machine,
+    pub stretches: &'a [Stretch],
     pub scripts: &'a [Script],
 }
 

@@ -7,13 +7,16 @@ use Rattle.history_replay.proofs.Goes.{few_called, goes_on}
 use Rattle.history_replay.proofs.reader.perform.Goals as goal
 
 pub apply-requires : goal.apply-requires
-apply-requires c = record {
-  fit = c.requires.fit;
-  caller = has_caller (setup_by c.args.rules.now) c.args.plain.now c.args.caller c.args.deed c.requires.fit.may c.requires.going.kept c.requires.due.chosen;
-  next = c.requires.next;
-  place = has_place (world_of (setup_by c.args.rules.now) c.args.plain.now) c.args.caller c.args.deed (few_called c.args.plain.now) c.requires.due.chosen;
-}
+apply-requires c =
+    let s = setup_by c.args.teller.now.rules.now in
+    record {
+      fit = c.requires.fit;
+      caller = has_caller s c.args.plain.now c.args.caller c.args.deed.now c.requires.fit.may c.requires.going.kept c.requires.due.chosen;
+      next = c.requires.next;
+      place = has_place (world_of s c.args.plain.now) c.args.caller c.args.deed.now (few_called c.args.plain.now) c.requires.due.chosen;
+    }
 
 pub returns : goal.returns
 returns c =
-    ok_more c.apply.result c.apply.ensures (goes_on (setup_by c.args.rules.now) c.args.plain.now c.args.caller c.args.deed c.apply.new.plain c.requires.fit.may c.requires.going c.requires.due)
+    ok_more c.apply.result c.apply.ensures
+    (goes_on (setup_by c.args.teller.now.rules.now) c.args.plain.now c.args.caller c.args.deed.now c.apply.new.plain c.requires.fit.may c.requires.going c.requires.due)

@@ -11,11 +11,11 @@ use Rattle.history_replay.proofs.reader.read_history.Goals as goal
 pub loop-line-init : goal.loop-line-init
 loop-line-init c = record { same = refl; passed = none_passed (world_of (setup_by c.args.rules.now) c.args.plain.now) c.args.text.now }
 
-pub read_lines-requires-clause-going : goal.read_lines-requires-clause-going
-read_lines-requires-clause-going c = subst (IsGoing (setup_by c.args.rules.now)) (sym c.loop-line.invariant.same) c.requires.going
+pub read_behind_head-requires-clause-going : goal.read_behind_head-requires-clause-going
+read_behind_head-requires-clause-going c = subst (IsGoing (setup_by c.args.rules.now)) (sym c.loop-line.invariant.same) c.requires.going
 
-pub read_lines-requires-clause-next : goal.read_lines-requires-clause-next
-read_lines-requires-clause-next c = omega (arith, c.requires.next, c.loop-line.invariant.passed.counted, ap (λ (p : Plain). p.live.next) c.loop-line.invariant.same)
+pub read_behind_head-requires-clause-next : goal.read_behind_head-requires-clause-next
+read_behind_head-requires-clause-next c = omega (arith, c.requires.next, c.loop-line.invariant.passed.counted, ap (λ (p : Plain). p.live.next) c.loop-line.invariant.same)
 
 pub returns-in-Some-format_of-clause-read : goal.returns-in-Some-format_of-clause-read
 returns-in-Some-format_of-clause-read c =
@@ -23,7 +23,7 @@ returns-in-Some-format_of-clause-read c =
     head_met (world_of (setup_by c.args.rules.now) c.args.plain.now) c.args.text.now c.loop-line.number c.loop-line.left.now c.in-Some.line.now c.in-Some.rest.now c.in-Some-format_of.format c.loop-line.invariant.passed
     c.in-Some.ensures (sym c.format_of.ensures ∙ c.in-Some-format_of.is) in
     let here = ap (λ (p : Plain). reread_lines c.in-Some-format_of.format (world_of (setup_by c.args.rules.now) p) (c.loop-line.number + 1) (lines_of c.in-Some.rest.now)) (sym c.loop-line.invariant.same) in
-    subst (λ r. IsRead r c.read_lines.result (world_of (setup_by c.args.rules.now) c.read_lines.new.plain)) (sym (head ∙ here)) c.read_lines.ensures.read
+    subst (λ r. IsRead r c.read_behind_head.result (world_of (setup_by c.args.rules.now) c.read_behind_head.new.plain)) (sym (head ∙ here)) c.read_behind_head.ensures.read
 
 pub loop-line-preserved : goal.loop-line-preserved
 loop-line-preserved c = record {

@@ -1,6 +1,6 @@
-use Rattle.plain_world.specs.Rules.{setup_by}
 use Rattle.plain_world.proofs.Ready.{ready}
+use Rattle.history_replay.specs.Readers.{setup_in}
 use Rattle.history_replay.proofs.reader.told_by.Goals as goal
 
 pub next-requires : goal.next-requires
-next-requires c = record { fit = c.requires.fit; ready = ready (setup_by c.args.rules.now) c.args.plain.now c.requires.fit.may c.requires.going.kept }
+next-requires c = record { fit = c.requires.fit; ready = ready (setup_in c.args.reader.now) c.args.plain.now c.requires.fit.may c.requires.going.kept }

@@ -9,7 +9,7 @@ use Rattle.plain_effect.proofs.effect.apply.Goals as goal
 pub do_quietly-requires-clause-quiet : goal.do_quietly-requires-clause-quiet
 do_quietly-requires-clause-quiet c =
     let d = c.in_default in
-    quiet_is_left c.args.deed d.not-Search d.not-EndScan d.not-BeginInterrupts d.not-Finalise d.not-Open d.not-Detach d.not-Rescan d.not-Unplug
+    quiet_is_left c.args.deed.now d.not-Search d.not-EndScan d.not-BeginInterrupts d.not-Finalise d.not-Open d.not-Detach d.not-Rescan d.not-Unplug
 
 pub returns-in-Search : goal.returns-in-Search
 returns-in-Search c =

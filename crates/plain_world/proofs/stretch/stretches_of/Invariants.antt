@@ -1,0 +1,5 @@
+use Rattle.plain_world.proofs.StretchLaws.{AreStretchesTo}
+use Rattle.plain_world.proofs.stretch.stretches_of.Given as goal
+
+abbrev pub invariant-loop-number : goal.invariant-loop-number
+invariant-loop-number l = AreStretchesTo l.machine l.number l.stretches.items
