@@ -14,7 +14,7 @@ use Rattle.config_rules.proofs.MachineLaws.{machine_fits}
 use Rattle.config_rules.specs.MachineText.{WordLine, after_line, after_lines, bad_line, line_form, machine_of, match_line, no_machine, spot_line, word_lines, words_of}
 use Rattle.machine_text.specs.declared.line.MachineStop.{MachineStop}
 use Rattle.machine_text.specs.declared.line.MachineStop.TheVariants.{Fault, Memory}
-use Rattle.machine_text.specs.Records.{seen}
+use Rattle.machine_text.specs.Words.{seen}
 use Rattle.machine_model.specs.Left.{Gives, after_words}
 
 -- a slice pattern's three words and the others

@@ -8,7 +8,7 @@ use Rattle.std.proofs.lemmas.List.Folds.{length-prefix_len}
 use Rattle.cf_words.proofs.ListLemmas.{part_more, part_none, with_front}
 use Rattle.config_rules.specs.Form.{each}
 use Rattle.config_rules.specs.MachineText.{GivenValue, located_value}
-use Rattle.machine_text.specs.Records.{seen}
+use Rattle.machine_text.specs.Words.{seen}
 
 pub any_seen : (p : List ℕ → Bool) (words : List (Bor (List ℕ))) → list_any p (seen words) ≡ list_any (λ w. p w.now) words
 any_seen p [] = refl

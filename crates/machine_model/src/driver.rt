@@ -1,7 +1,7 @@
 ghost use Rattle.std.specs.Prelude.{◌≡◌, ◌==◌, if◌then◌else◌, map};
 ghost use Rattle.std.specs.List.{enumerate_from};
 ghost use Rattle.config_rules.specs.MachineText.{with_policies};
-ghost use Rattle.machine_text.specs.Records.{seen};
+ghost use Rattle.machine_text.specs.Words.{seen};
 
 use crate::word::is_one;
 use cf_types::Policy;

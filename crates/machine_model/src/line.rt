@@ -5,7 +5,7 @@ ghost use Rattle.machine_model.specs.Found.{given_of};
 ghost use Rattle.machine_model.specs.Indexed.{IsDraft, IsIndex, with_spot};
 ghost use Rattle.machine_model.specs.Left.{Leaves, after_words};
 ghost use Rattle.machine_model.specs.Numbers.{IsPlaceOf, number_in};
-ghost use Rattle.machine_text.specs.Records.{seen};
+ghost use Rattle.machine_text.specs.Words.{seen};
 
 use crate::draft::Draft;
 use crate::driver::add_policies;

@@ -6,7 +6,7 @@ ghost use Rattle.config_rules.specs.MachineText.{differ, located_value, is_locat
 ghost use Rattle.machine_model.specs.Found.{given_of, names_of};
 ghost use Rattle.machine_model.specs.Numbers.{AreNumbers};
 ghost use Rattle.machine_model.specs.Numbers as numbered;
-ghost use Rattle.machine_text.specs.Records.{seen};
+ghost use Rattle.machine_text.specs.Words.{seen};
 
 use crate::numbers::{Numbers, number_in, push, put_in_order};
 use crate::word::ranged;

@@ -4,7 +4,7 @@ ghost use Rattle.config_rules.specs.MachineText.{depth_of, found_fault, found_va
 ghost use Rattle.machine_model.specs.Found.{given_of};
 ghost use Rattle.machine_model.specs.Indexed.{IsDraft, IsIndex};
 ghost use Rattle.machine_model.specs.Sites.{IsSite, found_fault_at, site_fault, spot_at};
-ghost use Rattle.machine_text.specs.Records.{seen};
+ghost use Rattle.machine_text.specs.Words.{seen};
 
 use crate::draft::Draft;
 use crate::index::Index;

@@ -2,7 +2,7 @@ ghost use Rattle.std.specs.Prelude.{◌≡◌, ◌≤◌, IsTrue, bytes_eq, leng
 ghost use Rattle.std.specs.List.{list_all};
 ghost use Rattle.config_rules.specs.Form.{given};
 ghost use Rattle.config_rules.specs.MachineText.{differ, in_match_range, is_free_name, is_one, mark_words, match_value, policy_words, ranged};
-ghost use Rattle.machine_text.specs.Records.{seen};
+ghost use Rattle.machine_text.specs.Words.{seen};
 
 use cf_text::{NumberRead, is_name, read_number};
 

@@ -1,2 +1,2 @@
-pub mod Records
+pub mod Words
 pub use Rattle.config_rules.specs.MachineText

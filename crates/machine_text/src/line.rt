@@ -1,9 +1,10 @@
-ghost use Rattle.std.specs.Prelude.{◌≡◌, ◌==◌, IfOk, OnOk, length, not, take_while};
+ghost use Rattle.std.specs.Prelude.{◌≡◌, IfOk, OnOk};
 ghost use Rattle.config_rules.specs.MachineText.{has_bad_byte, is_allowed, uncommented, words_of};
-ghost use Rattle.machine_text.specs.Records.{parted, seen};
+ghost use Rattle.machine_text.specs.Words.{parted, seen};
 
 use cf_text::is_space;
 use cf_types::{List, Memory as NoMemory, Text};
+use memchr::memchr;
 use std::alloc::{AllocError, Global};
 use thiserror::Error;
 
@@ -40,24 +41,32 @@ impl From<AllocError> for MachineStop {
     }
 }
 
+/// Each byte that is allowed stands at its own place, and a newline at every other place.
+static ALLOWED_BYTES: [u8; 256] = *b"\
+    \n\n\n\n\n\n\n\n\n\t\n\n\n\n\n\n\n\n\n\n\n\n\n\n\n\n\n\n\n\n\n\n\
+    \x20!\"#$%&'()*+,-./0123456789:;<=>?\
+    @ABCDEFGHIJKLMNOPQRSTUVWXYZ[\\]^_\
+    `abcdefghijklmnopqrstuvwxyz{|}~\n\
+    \n\n\n\n\n\n\n\n\n\n\n\n\n\n\n\n\n\n\n\n\n\n\n\n\n\n\n\n\n\n\n\n\
+    \n\n\n\n\n\n\n\n\n\n\n\n\n\n\n\n\n\n\n\n\n\n\n\n\n\n\n\n\n\n\n\n\
+    \n\n\n\n\n\n\n\n\n\n\n\n\n\n\n\n\n\n\n\n\n\n\n\n\n\n\n\n\n\n\n\n\
+    \n\n\n\n\n\n\n\n\n\n\n\n\n\n\n\n\n\n\n\n\n\n\n\n\n\n\n\n\n\n\n\n";
+
+#[inline(always)]
 fn is_allowed(byte: u8) -> bool
     ensures { result ≡ is_allowed byte }
 {
-    byte == b'\t' || (b' ' <= byte && byte <= b'~')
-}
-
-/// How many bytes stand before the first `#`; all of them where there is none.
-fn comment_start(line: &[u8]) -> usize
-    ensures { result ≡ length (take_while (λ c. not (c == 35)) line.now) }
-{
-    line.iter().take_while(|&&byte| byte != b'#').count()
+    ALLOWED_BYTES[byte as usize] != b'\n'
 }
 
 /// What stands before the first `#`: a line without its comment.
 pub fn uncommented(line: &[u8]) -> &[u8]
     ensures { result.now ≡ uncommented line.now }
 {
-    line.split_at(comment_start(line)).0
+    match memchr(b'#', line) {
+        Some(place) => &line[..place],
+        None => line,
+    }
 }
 
 /// Whether a byte that is not allowed stands outside the comment.

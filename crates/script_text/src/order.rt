@@ -2,7 +2,7 @@ ghost use Rattle.std.specs.Prelude.{◌≡◌, ◌≤◌, ◌==◌, ◌||◌, Al
 ghost use Rattle.std.specs.List.{list_all};
 ghost use Rattle.cf_types.specs.declared.code.script.TheConstants.{OUT_OF_RANGE, WRONG_WORDS};
 ghost use Rattle.config_rules.specs.ScriptText.{is_number, order_of};
-ghost use Rattle.machine_text.specs.Records.{parted};
+ghost use Rattle.machine_text.specs.Words.{parted};
 ghost use Rattle.script_text.specs.Left.{AddsTurns, AddsWords, Gives};
 
 use crate::operand::{caller_number, is_number};

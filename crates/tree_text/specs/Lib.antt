@@ -1,1 +1,2 @@
+pub mod Parts
 pub use Rattle.run_rules.specs.Tree

@@ -2,7 +2,7 @@ use Rattle.std.proofs.Common.{◌∙◌, ap, arith}
 use Rattle.std.specs.Prelude.{slice_set}
 use Rattle.cf_types.specs.declared.machine.Policy.{Policy}
 use Rattle.config_rules.specs.MachineText.{with_policies}
-use Rattle.machine_text.specs.Records.{seen}
+use Rattle.machine_text.specs.Words.{seen}
 use Rattle.machine_model.proofs.DriverLemmas.{one_at, past_all}
 use Rattle.machine_model.proofs.driver.add_policies.Goals as goal
 

@@ -1,6 +1,6 @@
 use Rattle.std.proofs.Common.{◌≡◌, ◌+◌, drop, length}
 use Rattle.config_rules.specs.MachineText.{located}
-use Rattle.machine_text.specs.Records.{seen}
+use Rattle.machine_text.specs.Words.{seen}
 use Rattle.machine_model.proofs.locator.count_located.Given as goal
 
 abbrev pub invariant-loop-word : goal.invariant-loop-word

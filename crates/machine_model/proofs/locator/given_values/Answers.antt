@@ -4,7 +4,7 @@ use Rattle.std.proofs.lemmas.List.{map-append}
 use Rattle.config_rules.specs.Form.{each}
 use Rattle.config_rules.specs.MachineText.{GivenValue, located_value}
 use Rattle.cf_words.proofs.ListLemmas.{with_front}
-use Rattle.machine_text.specs.Records.{seen}
+use Rattle.machine_text.specs.Words.{seen}
 use Rattle.machine_model.specs.declared.locator.FoundValue.{FoundValue}
 use Rattle.machine_model.specs.Found.{given_of}
 use Rattle.machine_model.proofs.SeenLemmas.{value_more, value_none}

@@ -2,7 +2,7 @@ use Rattle.std.proofs.Common.{◌≡◌, drop, map}
 use Rattle.config_rules.specs.Form.{each}
 use Rattle.config_rules.specs.MachineText.{located_value}
 use Rattle.cf_words.proofs.ListLemmas.{with_front}
-use Rattle.machine_text.specs.Records.{seen}
+use Rattle.machine_text.specs.Words.{seen}
 use Rattle.machine_model.specs.Found.{given_of}
 use Rattle.machine_model.proofs.locator.given_values.Given as goal
 

@@ -4,7 +4,7 @@ use Rattle.std.proofs.lemmas.List.{length_push}
 use Rattle.std.proofs.lemmas.Iterator.Consumers.{YieldsList-turn}
 use Rattle.std.proofs.lemmas.Iterator.Splits.{YieldsList-from_slice_split}
 use Rattle.config_rules.specs.MachineText.{after_lines}
-use Rattle.machine_text.specs.Records.{seen}
+use Rattle.machine_text.specs.Words.{seen}
 use Rattle.machine_text.proofs.TextLemmas.{left_at, left_none, lines_few}
 use Rattle.machine_model.proofs.MachineLemmas.{goes_on, stops, words_from}
 use Rattle.machine_model.proofs.machine.read_with.Goals as goal

@@ -1,7 +1,7 @@
 use Rattle.std.proofs.Common.{◌∙◌, ◌+◌, ap, sym, drop, length, arith, ◌-◌}
 use Rattle.std.proofs.lemmas.List.{drop_all, length-drop, take_all}
 use Rattle.config_rules.specs.MachineText.{differ}
-use Rattle.machine_text.specs.Records.{seen}
+use Rattle.machine_text.specs.Words.{seen}
 use Rattle.machine_model.proofs.SeenLemmas.{seen_from}
 use Rattle.machine_model.proofs.WordLemmas.{twice, once}
 use Rattle.machine_model.proofs.word.differ.Goals as goal

@@ -4,7 +4,7 @@ use Rattle.std.specs.Borrow.{Bor}
 use Rattle.std.proofs.lemmas.Iterator.Splits.{YieldsList-from_slice_split}
 use Rattle.std.proofs.lemmas.List.{map-append}
 use Rattle.config_rules.specs.Cut.{is_space}
-use Rattle.machine_text.specs.Records.{seen}
+use Rattle.machine_text.specs.Words.{seen}
 use Rattle.machine_text.proofs.TextLemmas.{left_at, left_none, part_here, not_empty, empty_word}
 use Rattle.machine_text.proofs.line.cut_words.Goals as goal
 

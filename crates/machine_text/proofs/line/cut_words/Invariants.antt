@@ -3,7 +3,7 @@ use Rattle.std.specs.Prelude.{filter, nat_lt}
 use Rattle.std.specs.List.{slice_split}
 use Rattle.config_rules.specs.Cut.{is_space}
 use Rattle.config_rules.specs.MachineText.{uncommented, words_of}
-use Rattle.machine_text.specs.Records.{seen}
+use Rattle.machine_text.specs.Words.{seen}
 use Rattle.machine_text.proofs.line.cut_words.Given as goal
 
 abbrev pub invariant-loop-word : goal.invariant-loop-word

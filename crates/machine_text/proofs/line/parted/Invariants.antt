@@ -2,7 +2,7 @@ use Rattle.std.proofs.Common.{◌≡◌, ◌++◌, length, drop}
 use Rattle.std.specs.Prelude.{filter, nat_lt}
 use Rattle.std.specs.List.{slice_split}
 use Rattle.config_rules.specs.Cut.{is_space}
-use Rattle.machine_text.specs.Records.{parted}
+use Rattle.machine_text.specs.Words.{parted}
 use Rattle.machine_text.proofs.line.parted.Given as goal
 
 abbrev pub invariant-loop-word : goal.invariant-loop-word

@@ -6,7 +6,7 @@ use Rattle.std.proofs.lemmas.Iterator.Splits.{YieldsList-from_slice_split}
 use Rattle.config_rules.specs.Cut.{is_space}
 use Rattle.config_rules.specs.ScriptText.{is_turn, turns_of}
 use Rattle.machine_text.proofs.TextLemmas.{empty_word, left_at, left_none, not_empty}
-use Rattle.machine_text.specs.Records.{parted}
+use Rattle.machine_text.specs.Words.{parted}
 use Rattle.script_text.specs.Left.{AddsWords}
 use Rattle.script_text.proofs.LeftLemmas.{ends_with}
 use Rattle.script_text.proofs.OrderLemmas.{all_more, turns_more, word_none, words_stop}

@@ -3,7 +3,7 @@ use Rattle.std.specs.Prelude.{filter, nat_lt}
 use Rattle.std.specs.List.{list_all, slice_split}
 use Rattle.config_rules.specs.Cut.{is_space}
 use Rattle.config_rules.specs.ScriptText.{is_turn, turns_of}
-use Rattle.machine_text.specs.Records.{parted}
+use Rattle.machine_text.specs.Words.{parted}
 use Rattle.script_text.proofs.order.add_words.Given as goal
 
 abbrev pub invariant-loop-part : goal.invariant-loop-part
