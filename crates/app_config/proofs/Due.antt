@@ -14,7 +14,8 @@ use Rattle.app_input.specs.declared.inputs.Inputs.TheVariants as input
 use Rattle.app_words.specs.declared.status.Status.{Status}
 use Rattle.app_words.specs.declared.status.Status.TheVariants.{Ok, ConfigRefused, Usage, MachineRefused, ScriptRefused, HistoryRefused, Absent, TooLong, ReadFault, WriteFault, Memory}
 use Rattle.app_config.specs.Asked.{IsAskedText}
-use Rattle.app_config.specs.Found.{FindsFor, Unfound, Unselected, Untaken, found_text}
+use Rattle.app_tasks.specs.Retold.{Untaken}
+use Rattle.app_config.specs.Found.{FindsFor, Unfound, Unselected, found_text}
 use Rattle.app_words.specs.Status.{Counts, status_of}
 use Rattle.app_config.specs.Run.{IsDueOr, IsInputsStatus, history_status}
 use Rattle.app_config.specs.declared.found.Found.{Found}

@@ -28,11 +28,12 @@ use Rattle.app_words.specs.declared.status.Status.{Status}
 use Rattle.app_words.specs.declared.status.Status.TheVariants.{Ok, ConfigRefused, Usage, MachineRefused, ScriptRefused, HistoryRefused, Absent, TooLong, ReadFault, WriteFault, Memory}
 use Rattle.app_output.proofs.RunLaws.{tree_is}
 use Rattle.app_output.specs.RunText.{run_text, tree_of}
-use Rattle.app_config.specs.Asked.{IsAskedText, IsPlayed}
-use Rattle.app_config.specs.Found.{FindsFor, Finds, Retells, Unfound, Unselected, Untaken}
+use Rattle.app_config.specs.Asked.{IsAskedText}
+use Rattle.app_tasks.specs.Ran.{IsBootOf, IsPlayOf, IsPlayed}
+use Rattle.app_tasks.specs.Retold.{Retells, Untaken}
+use Rattle.app_tasks.specs.Summary.{IsSummary}
+use Rattle.app_config.specs.Found.{FindsFor, Finds, Unfound, Unselected}
 use Rattle.app_config.specs.declared.found.Found.{Found}
-use Rattle.app_config.specs.Ran.{IsBootOf, IsPlayOf}
-use Rattle.app_config.specs.Summary.{IsSummary, summary}
 use Rattle.config_rules.specs.Listing.{listing}
 
 -- the tables of a run fit into a graph
@@ -84,12 +85,6 @@ pub load_ran : (told : Option Files) (asked : Inputs) (n : ℕ) (tables : Tables
     → IsSummary n tables machine line → IsAskedText told asked line
 unfolding IsAskedText
 load_ran told asked n tables machine line is sums = subst (λ (i : Inputs). IsAskedText told i line) (sym is) sums
-
--- the line of numbers of a boot
-pub summed : {E : Type 0} (n : ℕ) (tables : Tables) (machine : Machine) (b : Shown) (line : Result (Vec ℕ Global) E) → IsBootOf (setup_of tables machine []) b
-    → IfOk line (λ bytes. bytes.items ≡ ended (summary n b.events b.world)) → IfOk line (λ bytes. IsSummary n tables machine bytes.items)
-summed n tables machine b (std.Ok bytes) boots is = (b.events, b.world, boots.boot, is)
-summed n tables machine b (std.Err stop) boots is = tt
 
 -- ---- why nothing was found
 

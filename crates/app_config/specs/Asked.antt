@@ -21,7 +21,8 @@ use Rattle.app_words.specs.Words.{Form}
 use Rattle.app_input.specs.declared.inputs.Inputs.{Inputs}
 use Rattle.app_input.specs.declared.inputs.Inputs.TheVariants as input
 use Rattle.app_output.specs.RunText.{run_text}
-use Rattle.app_config.specs.Summary.{IsSummary}
+use Rattle.app_tasks.specs.Ran.{IsPlayed}
+use Rattle.app_tasks.specs.Summary.{IsSummary}
 
 -- the paths of the sources that a configuration selects, one a line
 abbrev pub IsSelection : Files → List ℕ → List ℕ → Type 0
@@ -32,11 +33,6 @@ IsSelection files name text = (paths : List (List ℕ)) × Selects files name pa
 abbrev pub IsBootText : Tables → Machine → List ℕ → Type 0
 IsBootText tables machine text =
     (h : List Event) × (w : World) × run.Boot (opening (setup_of tables machine [])) h w × IsReliable h w × (text ≡ run_text tables h w)
-
--- the events and the world of a boot and of the turns of an order after it
-abbrev pub IsPlayed : Setup → List ℕ → List Event → World → Type 0
-IsPlayed setup order events world =
-    (h : List Event) × (w : World) × run.Boot (opening setup) h w × (events ≡ h ++ (run.played w order).0) × (world ≡ (run.played w order).1)
 
 -- the text of a boot and of the turns of an order after it, and the same holds of its history
 abbrev pub IsPlayedText : Tables → Machine → List (List Command) → List ℕ → List ℕ → Type 0

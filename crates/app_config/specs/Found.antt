@@ -6,21 +6,17 @@ use Rattle.config_rules.specs.Formed.{FitGraph}
 use Rattle.config_rules.specs.Listing.{listing}
 use Rattle.config_rules.specs.Reading.{Files}
 use Rattle.file_rules.specs.Sources.{IsFirstFault}
-use Rattle.history_laws.specs.Reliable.{IsReliable}
 use Rattle.history_replay.specs.declared.history.Replayed.{Replayed}
-use Rattle.replay_laws.specs.Taken.{Takes}
-use Rattle.run_rules.specs.declared.world.Setup.{Setup}
 use Rattle.run_rules.specs.Lines.{lines}
-use Rattle.run_rules.specs.Reread.{reread}
-use Rattle.run_rules.specs.Tree.{tree_lines}
-use Rattle.run_rules.specs.World.{World, opening, setup_of}
+use Rattle.run_rules.specs.World.{setup_of}
 use Rattle.app_input.specs.Inputs.{Reads}
 use Rattle.app_words.specs.Words.{Form}
 use Rattle.app_input.specs.declared.inputs.Inputs.{Inputs}
 use Rattle.app_input.specs.declared.inputs.Inputs.TheVariants as input
 use Rattle.app_words.specs.declared.status.Status.{Status}
-use Rattle.app_words.specs.declared.status.Status.TheVariants.{ConfigRefused, HistoryRefused, ReadFault, Memory}
+use Rattle.app_words.specs.declared.status.Status.TheVariants.{ConfigRefused, ReadFault, Memory}
 use Rattle.app_output.specs.RunText.{run_text, tree_of}
+use Rattle.app_tasks.specs.Retold.{Untaken}
 use Rattle.app_config.specs.Asked.{Asks, IsAskedText}
 use Rattle.app_config.specs.declared.found.Found.{Found}
 use Rattle.app_config.specs.declared.found.Found.TheVariants.{Listed, Selected, Ran, Line, Tree, Retold}
@@ -49,17 +45,6 @@ abbrev pub Unselected : Option Files → List ℕ → Status → Type 0
 Unselected told name (ConfigRefused file line code) = IfSome told (λ files. IsFirstFault files name (record { file = file; line = line; code = code }))
 Unselected told name ReadFault = ⊤
 Unselected told name status = ⊥
-
--- why a history is not taken: its first bad line
-abbrev pub Untaken : Setup → List ℕ → Status → Type 0
-Untaken setup history (HistoryRefused line) = reread (opening setup) history ≡ std.Err line
-Untaken setup history status = ⊥
-
--- what a history is taken as, and that it may be relied on; or why it is not taken, or memory ran out
-abbrev pub Retells : Setup → List ℕ → Result Replayed Status → Type 0
-Retells setup history (std.Ok told) =
-    (w : World) × Takes setup history told.events w × IsReliable told.events w × (told.tree ≡ tree_lines w)
-Retells setup history (std.Err status) = (status ≡ Memory) ⊎ Untaken setup history status
 
 -- why nothing was found for the inputs: their sources were not selected, or their history was not taken
 abbrev pub Unfound : Option Files → Inputs → Status → Type 0

@@ -7,12 +7,9 @@ ghost use Rattle.app_output.specs.Output.{Puts};
 ghost use Rattle.app_config.specs.FilesAsked.{AsksThen};
 ghost use Rattle.app_config.specs.Found.{FindsFor, HasGraph, found_text};
 
-use crate::boot::booted;
-use crate::load::loaded;
-use crate::play::played;
-use crate::replay::retold;
 use app_input::{Inputs, status_of_stop};
 use app_output::{OutputStop, put_history, put_listing, put_paths, put_piece, put_run, put_tree};
+use app_tasks::{booted, loaded, played, retold};
 use app_words::Status;
 use cf_io::{Files, Sink};
 use cf_types::{DevLine, List, Tables, Text};

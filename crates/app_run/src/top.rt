@@ -21,6 +21,7 @@ use cf_io::{Files, Sink};
 use dev_board::Board;
 use drv_workers::Medium;
 use std::alloc::Global;
+use std::mem::forget;
 use std::sync::Wait;
 use std::thread::Threads;
 
@@ -98,7 +99,7 @@ fn run<R: Threads + Wait + Sync, F: Files, S: Sink, M: Medium + Sync>(
     match find(rt, alloc, words, files, medium) {
         Ok(board) => {
             let written = write_run(alloc, &board, out);
-            drop(board);
+            forget(board);
             status_after(written)
         }
         Err(status) => status,

@@ -1,0 +1,5 @@
+pub mod Attached
+pub mod BadLines
+pub mod Counts
+pub mod RanLaws
+pub mod ReplayLaws

@@ -1,0 +1,23 @@
+-- What a history that is read again tells, and why it is not taken.
+use Rattle.std.specs.Prelude.{◌≡◌, ℕ, ◌⊎◌, Result, List}
+use Rattle.std.specs.Prelude as std
+use Rattle.history_laws.specs.Reliable.{IsReliable}
+use Rattle.history_replay.specs.declared.history.Replayed.{Replayed}
+use Rattle.replay_laws.specs.Taken.{Takes}
+use Rattle.run_rules.specs.declared.world.Setup.{Setup}
+use Rattle.run_rules.specs.Reread.{reread}
+use Rattle.run_rules.specs.Tree.{tree_lines}
+use Rattle.run_rules.specs.World.{World, opening}
+use Rattle.app_words.specs.declared.status.Status.{Status}
+use Rattle.app_words.specs.declared.status.Status.TheVariants.{HistoryRefused, Memory}
+
+-- why a history is not taken: its first bad line
+abbrev pub Untaken : Setup → List ℕ → Status → Type 0
+Untaken setup history (HistoryRefused line) = reread (opening setup) history ≡ std.Err line
+Untaken setup history status = ⊥
+
+-- what a history is taken as, and that it may be relied on; or why it is not taken, or memory ran out
+abbrev pub Retells : Setup → List ℕ → Result Replayed Status → Type 0
+Retells setup history (std.Ok told) =
+    (w : World) × Takes setup history told.events w × IsReliable told.events w × (told.tree ≡ tree_lines w)
+Retells setup history (std.Err status) = (status ≡ Memory) ⊎ Untaken setup history status
