@@ -25,12 +25,14 @@ is_current() {
         \( -name '*.rt' -o -name '*.antt' -o -name crates.txt \) -newer "$program" -print -quit)" ]
 }
 
-# Was the crate $1 proved after the last change of its sources and of those that it stands on?
+# Was the crate $1 proved after the last change of its sources and of those that it stands on, and over these as they are now?
 is_proved() {
     stamp=$top/crates/$1/out/rlib/stamp
     [ -f "$stamp" ] || return 1
     for lower in $(crates_of "$1"); do
         [ -z "$(find "$top/crates/$lower" "$top/crates.txt" -name out -prune -o -type f -newer "$stamp" -print -quit)" ] || return 1
+        made=$top/crates/$lower/out/rlib/stamp
+        [ -f "$made" ] && [ -z "$(find "$made" -newer "$stamp")" ] || return 1
     done
 }
 
@@ -74,38 +76,59 @@ places() {
     if [ "${free:-1}" -lt "$processors" ]; then echo "${free:-1}"; else echo "$processors"; fi
 }
 
-# Puts what was made of the crate $1 from its room to its place.
-bring_back() {
-    [ ! -d "$work/$1/crates/$1/out" ] || mv "$work/$1/crates/$1/out" "$top/crates/$1/out"
+# The libraries that the crate $1 names.
+named_by() {
+    awk -v named="$1" '
+    { sub(/#.*/, "") }
+    /:/ { crate = $1; sub(/:$/, "", crate); sub(/^[^:]*:/, ""); if (crate == named) print }' "$top/crates.txt"
 }
 
-# Proves the crate $1 with so many jobs, in a room of its own, since two checks that share a lower crate's folder wait for
-# one another. The room has the sources, and of the lower crates what was made of them.
-prove() {
-    room=$work/$1
-    mkdir -p "$room/crates"
-    for crate in $(crates_of "$1"); do
-        mkdir "$room/crates/$crate"
-        for part in src specs proofs; do
-            [ ! -d "$top/crates/$crate/$part" ] || cp -pR "$top/crates/$crate/$part" "$room/crates/$crate/"
-        done
-        grep "^$crate[ :]" "$top/crates.txt" >>"$room/crates.txt"
-        [ "$crate" != "$1" ] || continue
-        mkdir "$room/crates/$crate/out"
-        cp -pRl "$top/crates/$crate/out/rlib" "$room/crates/$crate/out/" 2>/dev/null \
-            || cp -pR "$top/crates/$crate/out/rlib" "$room/crates/$crate/out/"
+# Checks the crate $1 with so many jobs, and makes a library's statements or a program's object. It calls rattle as `rt ci` does:
+# what stands above a library then reads its statements alone. `rt lib` keeps each part of each proof for the next check of a crate
+# that is changed, and what stands above reads them all.
+check() {
+    crate=$1 jobs=$2
+    cd "$top/crates/$crate" || exit
+    mkdir -p out/rlib
+    root=src/lib.rt
+    [ "$crate" != "$name" ] || root=src/main.rt
+    set -- --crate-name "$crate" "$root" --extern "std=$kit/rlibs/std.rlib" -L "dependency=$kit/rlibs"
+    for library in $(named_by "$crate"); do
+        if [ -d "$top/crates/$library" ]; then
+            set -- "$@" --extern "$library=$top/crates/$library/out/rlib/$library.rlib"
+        else
+            set -- "$@" --extern "$library=$kit/rlibs/$library.rlib"
+        fi
     done
-    cp "$top/HANDLES" "$room/"
-    [ ! -d "$top/crates/$1/out" ] || mv "$top/crates/$1/out" "$room/crates/$1/out"
-    verb=lib
-    [ "$1" != "$name" ] || verb=run
-    (cd "$room/crates/$1" && exec rt "$verb" --jobs "$2") >"$work/$1.log" 2>&1 </dev/null &
+    for lower in $(crates_of "$crate"); do
+        [ "$lower" = "$crate" ] || set -- "$@" -L "dependency=$top/crates/$lower/out/rlib"
+    done
+    set -- "$@" --antt-project "$kit/rattle/logic/antt-project.json" --logic-built "$kit/logic_built" --links "$crate=" --jobs "$jobs"
+    if [ "$crate" = "$name" ]; then
+        exec "$kit/bin/rattle" build "$@" --toolchain "$kit/toolchain" --backend llvm -o "out/$crate.o"
+    fi
+    exec "$kit/bin/rattle" build "$@" --statements -o "out/rlib/$crate.rlib"
+}
+
+# Makes the program of its object.
+link() {
+    "$kit/bin/rattle-link" --target x86_64-unknown-linux-gnu --toolchain "$kit/toolchain" -o "$program" "$program.o" \
+        "$kit/c/libos_c.a" "$kit/c/liblibc_c.a"
+}
+
+# Proves the crate $1 with so many jobs. The text of its stamp is not that of `rt`, which makes libraries of its own.
+prove() {
+    rm -f "$top/crates/$1/out/rlib/stamp"
+    check "$1" "$2" >"$work/$1.log" 2>&1 </dev/null &
     echo $! >"$work/$1.at"
     wait $!
     status=$?
-    [ "$1" != "$name" ] || { [ -x "$room/crates/$1/out/$name" ] && status=0; }
-    bring_back "$1"
-    rm -rf "$room"
+    if [ "$status" = 0 ] && [ "$1" = "$name" ]; then
+        link >>"$work/$1.log" 2>&1
+        status=$?
+    elif [ "$status" = 0 ]; then
+        echo "statements" >"$top/crates/$1/out/rlib/stamp"
+    fi
     echo "$status" >"$work/$1.status"
     mv "$work/$1.status" "$work/$1.ended"
 }
@@ -184,6 +207,7 @@ leave() {
 
 build() {
     command -v rt >/dev/null || { echo "$name: the command rt of the Rattle kit is needed to build the program" >&2; exit 125; }
+    kit=$(dirname "$(dirname "$(readlink -f "$(command -v rt)")")")
     work=$top/out/building
     mkdir -p "$top/out"
     until mkdir "$work" 2>/dev/null; do
@@ -192,7 +216,6 @@ build() {
             while kill -0 "$(cat "$work/launcher" 2>/dev/null)" 2>/dev/null; do sleep 1; done
         else
             # The call that made it was killed.
-            for room in "$work"/*/; do bring_back "$(basename "$room")"; done
             rm -rf "$work"
         fi
     done
@@ -205,7 +228,9 @@ build() {
     : >"$work/done"
     for crate in $(crates_of "$name"); do
         ! is_proved "$crate" || echo "$crate" >>"$work/done"
-        echo "$crate $(find "$top/crates/$crate" -name out -prune -o \( -name '*.rt' -o -name '*.antt' \) -exec cat {} + | wc -l)"
+        lines=$(find "$top/crates/$crate" -name out -prune -o \( -name '*.rt' -o -name '*.antt' \) -exec cat {} + | wc -l)
+        # To begin a crate at all costs about as much as 200 lines.
+        echo "$crate $((lines + 200))"
     done | longest_first >"$work/todo"
     all=$(wc -l <"$work/todo")
     echo "$name: proving and building the program, $places crates at a time; README.md says how long the first time takes" >&2
