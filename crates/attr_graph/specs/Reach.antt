@@ -1,8 +1,8 @@
 -- What contracts see of a graph of attributes and devices, and what it keeps.
-use Rattle.std.specs.Prelude.{◌≡◌, ℕ, Option, Some, None, ◌<◌, ◌≤◌, Bool, false, List, [], ◌∷◌, ◌++◌, length, map, slice_get, Result, Ok, Err, Vec}
+use Rattle.std.specs.Prelude.{◌≡◌, ◌⊎◌, ℕ, Option, Some, None, ◌<◌, ◌≤◌, Bool, false, List, [], ◌∷◌, ◌++◌, length, flat_map, map, slice_get, Result, Ok, Err, Vec}
 use Rattle.std.specs.List.{slice_index_or, All}
 use Rattle.std.specs.Option.{option_map_or}
-use Rattle.cf_types.specs.Gather.{is_in}
+use Rattle.cf_types.specs.Gather.{is_in, with_all}
 use Rattle.cf_types.specs.Offers.{Node, AreEarlier, interfaces_of}
 use Rattle.std.specs.Global.{Global}
 use Rattle.attr_graph.specs.declared.gather.GraphStop.{GraphStop}
@@ -40,6 +40,16 @@ device_reach devices d = option_map_or (λ e. e.reach) (slice_get devices d) []
 -- the interface list of an attribute
 abbrev pub reach_at : List AttrEntry → ℕ → List ℕ
 reach_at attrs a = option_map_or (λ e. e.reach) (slice_get attrs a) []
+
+-- each number of a list stands there once
+abbrev pub StandOnce : List ℕ → Type 0
+StandOnce xs = with_all [] xs ≡ xs
+
+-- what these attributes offer is what those at the front do, followed by what the last one does
+pub record IsSplit (attrs : List AttrEntry) (names front last : List ℕ) : Type 0 where
+  pub whole : flat_map (reach_at attrs) names ≡ flat_map (reach_at attrs) front ++ last
+  pub known : All (λ a. a < length attrs) front
+  pub of_last : (last ≡ []) ⊎ ((a : ℕ) × (last ≡ reach_at attrs a))
 
 -- each attribute's list is its interface list, and no number is marked
 pub record KeptAttrs (attrs : List AttrEntry) (marks : List Bool) : Type 0 where

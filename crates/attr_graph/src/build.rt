@@ -35,14 +35,15 @@ fn push_device(graph: &mut Graph, device: &Device) -> Result<(), Memory>
     }
 }
 
-/// The graph of attributes alone.
-fn graph_of_attrs(alloc: Global, attrs: &[Attr]) -> Result<Graph, Memory>
+/// The graph of attributes alone, with room for so many devices.
+fn graph_of_attrs(alloc: Global, attrs: &[Attr], devices: usize) -> Result<Graph, Memory>
     requires few { length attrs.now ≤ 65536 }
     requires earlier { AreEarlier (nodes_of attrs.now) }
     requires offered { (a : ℕ) → length (interfaces_of (nodes_of attrs.now) (a ∷ [])) ≤ 64 }
     ensures { IfOk result (λ graph. graph ≡ record { attrs = nodes_of attrs.now; devices = [] }) }
 {
     let mut graph = Graph::make(alloc);
+    graph.reserve(attrs.len(), devices)?;
     for attr in attrs {
         push_attr(&mut graph, attr)?;
     }
@@ -68,7 +69,7 @@ pub fn graph_of(alloc: Global, tables: &Tables) -> Result<Graph, Memory>
     requires { FitGraph tables.now }
     ensures { IfOk result (λ graph. IsGraphOf (declared_by tables.now) graph) }
 {
-    let mut graph = graph_of_attrs(alloc, tables.attrs.items())?;
+    let mut graph = graph_of_attrs(alloc, tables.attrs.items(), tables.devices.len())?;
     push_devices(&mut graph, tables.devices.items())?;
     Ok(graph)
 }

@@ -5,10 +5,9 @@ ghost use Rattle.cf_types.specs.Gather.{is_in};
 ghost use Rattle.cf_types.specs.Offers.{interfaces_of};
 ghost use Rattle.attr_graph.specs.Reach.{AddsAttr, AddsDevice};
 
-use crate::entry::{AttrEntry, DeviceEntry};
+use crate::entry::{AttrEntry, DeviceEntry, Numbers};
 use crate::gather::{GraphStop, MAX_INTERFACES, list_count};
 use crate::prepare::{attr_entry, device_entry, reach_count};
-use cf_types::List;
 use std::alloc::{AllocError, Global};
 use std::marker::Model;
 
@@ -29,18 +28,6 @@ impl Model for Graph {
     ghost view = { λ it. shape_of it.attrs.items it.devices.items };
 
     ghost invariant = { λ it. KeptAttrs it.attrs.items it.marks.items × KeptDevices it.attrs.items it.devices.items };
-}
-
-/// The names of a device: its own interface attribute, and then the attributes behind its `:`.
-fn device_names(alloc: Global, own: Option<u32>, needs: &[u32]) -> Result<List<u32>, AllocError>
-    ensures { IfOk result (λ names. names ≡ option_to_list own ++ needs.now) }
-{
-    let mut names = Vec::new(alloc);
-    if let Some(own) = own {
-        names.push(own)?;
-    }
-    names.extend_from_slice(needs)?;
-    Ok(List::from_vec(names))
 }
 
 /// Whether a count, with one more for itself, is within the limit.
@@ -64,6 +51,15 @@ impl Graph {
             devices: Vec::new(alloc),
             marks: Vec::new(alloc),
         }
+    }
+
+    /// Makes room for so many more attributes and devices.
+    pub fn reserve(&mut self, attrs: usize, devices: usize) -> Result<(), AllocError>
+        ensures { self.new ≡ self.old }
+    {
+        self.attrs.reserve(attrs)?;
+        self.marks.reserve(attrs)?;
+        self.devices.reserve(devices)
     }
 
     /// Adds an attribute that names earlier ones, of fewer than 65,536, and answers its number. At `TooMany` and
@@ -91,7 +87,7 @@ impl Graph {
         ensures { AddsDevice self.old self.new (option_to_list own ++ needs.now) result }
     {
         let alloc = *self.attrs.allocator();
-        let names = device_names(alloc, own, needs)?;
+        let names = Numbers::behind(alloc, own, needs)?;
         let entry = match device_entry(alloc, &self.attrs, &mut self.marks, names) {
             Ok(entry) => entry,
             Err(stop) => return Err(stop),

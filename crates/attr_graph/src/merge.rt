@@ -1,5 +1,5 @@
-ghost use Rattle.std.specs.Prelude.{◌≡◌, ℕ, ◌≤◌, ◌<◌, [], ◌∷◌, ◌++◌, false, length, flat_map, All, OnOk, OnErr};
-ghost use Rattle.std.specs.List.{slice_index_or};
+ghost use Rattle.std.specs.Prelude.{◌≡◌, ℕ, ◌≤◌, ◌<◌, [], ◌∷◌, ◌++◌, false, not, true, length, flat_map, All, IsTrue, OnOk, OnErr};
+ghost use Rattle.std.specs.List.{list_all, slice_index_or};
 ghost use Rattle.cf_types.specs.Gather.{with_new, with_all};
 ghost use Rattle.attr_graph.specs.Reach.{AreMarks, reach_at};
 
@@ -7,6 +7,7 @@ use crate::entry::AttrEntry;
 use std::alloc::AllocError;
 
 /// Appends a number that is not marked, and marks it.
+#[inline(always)]
 pub fn add_new(list: &mut Vec<u32>, marks: &mut Vec<bool>, number: u32) -> Result<(), AllocError>
     requires within { number < length marks.old.items }
     requires marked { AreMarks list.old.items marks.old.items }
@@ -17,13 +18,19 @@ pub fn add_new(list: &mut Vec<u32>, marks: &mut Vec<bool>, number: u32) -> Resul
     if marks[number as usize] {
         return Ok(());
     }
-    list.push(number)?;
+    list.reserve(1)?;
+    list.push_reserved(number);
     marks[number as usize] = true;
     Ok(())
 }
 
 /// Appends those of the numbers that are not there.
-fn add_all(list: &mut Vec<u32>, marks: &mut Vec<bool>, numbers: &[u32]) -> Result<(), AllocError>
+#[inline(always)]
+pub fn add_all(
+    list: &mut Vec<u32>,
+    marks: &mut Vec<bool>,
+    numbers: &[u32],
+) -> Result<(), AllocError>
     requires within { All (λ x. x < length marks.old.items) numbers.now }
     requires marked { AreMarks list.old.items marks.old.items }
     ensures ok { OnOk result (list.new.items ≡ with_all list.old.items numbers.now) }
@@ -56,7 +63,22 @@ pub fn add_reach(
     Ok(())
 }
 
+/// Whether none of these numbers is marked.
+#[inline(always)]
+pub fn are_unmarked(marks: &[bool], numbers: &[u32]) -> bool
+    requires { All (λ x. x < length marks.now) numbers.now }
+    ensures { IsTrue result → list_all (λ x. not (slice_index_or marks.now x false)) numbers.now ≡ true }
+{
+    for number in numbers {
+        if marks[*number as usize] {
+            return false;
+        }
+    }
+    true
+}
+
 /// Takes the marks of a list away.
+#[inline(always)]
 pub fn unmark(list: &[u32], marks: &mut Vec<bool>)
     requires { AreMarks list.now marks.old.items }
     ensures marked { AreMarks [] marks.new.items }

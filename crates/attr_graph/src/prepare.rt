@@ -4,7 +4,7 @@ ghost use Rattle.std.specs.Option.{option_to_list};
 ghost use Rattle.cf_types.specs.Offers.{interfaces_of};
 ghost use Rattle.attr_graph.specs.Reach.{AreMarks, CountsReach, KeptAttrs, MakesAttr, MakesDevice, nodes_of};
 
-use crate::entry::{AttrEntry, DeviceEntry};
+use crate::entry::{AttrEntry, DeviceEntry, Numbers};
 use crate::gather::{GraphStop, gather};
 use cf_types::List;
 use std::alloc::{AllocError, Global};
@@ -50,10 +50,10 @@ pub fn attr_entry(
         Ok(reach) => reach,
         Err(stop) => return Err(stop),
     };
-    let needs = Vec::from_slice(alloc, needs)?;
+    let needs = Numbers::behind(alloc, None, needs)?;
     Ok(AttrEntry {
         iface,
-        needs: List::from_vec(needs),
+        needs,
         reach: List::from_vec(reach),
     })
 }
@@ -63,7 +63,7 @@ pub fn device_entry(
     alloc: Global,
     attrs: &[AttrEntry],
     marks: &mut Vec<bool>,
-    names: List<u32>,
+    names: Numbers,
 ) -> Result<DeviceEntry, GraphStop>
     requires known { All (λ a. a < length attrs.now) names }
     requires kept { KeptAttrs attrs.now marks.old.items }

@@ -119,6 +119,15 @@ fn room_for(alloc: Global, survive: &[bool]) -> Result<List<Instance>, Memory>
     Ok(List::from_vec(Vec::with_capacity(alloc, count)?))
 }
 
+/// Nothing is declared, with room for what these statements declare.
+fn no_declarations(alloc: Global, placed: &[Placed]) -> Result<Declarations, Memory>
+    ensures { IfOk result (λ declared. declared ≡ record { attrs = []; devices = []; attaches = [] }) }
+{
+    let mut declarations = Declarations::make(alloc, placed);
+    declarations.reserve(placed)?;
+    Ok(declarations)
+}
+
 /// Judges the placed statements one after the other, each behind what those before it declare, up to the first code.
 pub fn judge(
     alloc: Global,
@@ -131,8 +140,9 @@ pub fn judge(
     ensures { IfOk result (Judges files.now placed.now) }
 {
     let instances = room_for(alloc, survive)?;
+    let declarations = no_declarations(alloc, placed)?;
     let mut standing = Standing {
-        declarations: Declarations::make(alloc, placed),
+        declarations,
         instances,
     };
     let mut count = 0;

@@ -9,7 +9,7 @@ ghost use Rattle.cf_declare.specs.Limits.{HasFewLocators};
 use crate::grow::{declares, grow};
 use crate::join::join;
 use crate::judge::code_of;
-use crate::names::name_hash;
+use crate::names::{name_hash, room_of};
 use attr_graph::Graph;
 use cf_names::Catalog;
 use cf_types::{AtSpec, Declared, GivenLoc, Joined, Memory, Name, Placed, Stmt};
@@ -46,6 +46,16 @@ impl Declarations {
             lists: Catalog::make(alloc, name_hash(placed)),
             graph: Graph::make(alloc),
         }
+    }
+
+    /// Makes room for what these statements declare. Where memory runs out, what is declared is as before.
+    pub fn reserve(&mut self, placed: &[Placed]) -> Result<(), Memory>
+        ensures { self.new ≡ self.old }
+    {
+        let room = room_of(placed);
+        self.lists.reserve(room)?;
+        self.graph.reserve(room.attrs, room.devices)?;
+        Ok(())
     }
 
     /// The first code of a statement behind what is declared and so many instances; `None` where it

@@ -3,7 +3,7 @@ ghost use Rattle.std.specs.Option.{option_copied};
 ghost use Rattle.cf_names.specs.Hash.{Holds, hash_of};
 ghost use Rattle.cf_declare.specs.Names.{declared_name, declared_line, declared_lines};
 
-use cf_names::{HashKey, NameHash};
+use cf_names::{HashKey, NameHash, Room};
 use cf_types::{Name, Placed, Stmt};
 
 /// The name that a statement declares, if it declares one.
@@ -31,6 +31,29 @@ fn add_declared(key: &mut HashKey, stmt: &Stmt)
         Some(name) => key.add(name.bytes()),
         None => {}
     }
+}
+
+/// How much room the statements take that declare something.
+pub fn room_of(placed: &[Placed]) -> Room {
+    let mut room = Room {
+        attrs: 0,
+        devices: 0,
+        attaches: 0,
+    };
+    for statement in placed {
+        match &statement.stmt {
+            Stmt::Define { .. } | Stmt::DefPseudo { .. } | Stmt::Class { .. } => {
+                room.attrs = room.attrs.saturating_add(1);
+            }
+            Stmt::Device { locs, .. } => {
+                room.attrs = room.attrs.saturating_add(usize::from(locs.is_some()));
+                room.devices = room.devices.saturating_add(1);
+            }
+            Stmt::Attach { .. } => room.attaches = room.attaches.saturating_add(1),
+            _ => {}
+        }
+    }
+    room
 }
 
 /// The hash of the names that statements declare.

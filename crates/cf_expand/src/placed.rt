@@ -120,7 +120,8 @@ impl PlacedList {
         ensures { OnOk result (self.new ≡ self.old ++ placed ∷ []) }
     {
         let is_condition = matches!(placed.stmt, Stmt::Cond { .. });
-        self.items.push(placed)?;
+        self.items.reserve(1)?;
+        self.items.push_reserved(placed);
         if is_condition {
             self.note_all()?;
         }

@@ -9,5 +9,6 @@ pub mod LeftOutLemmas
 pub mod CheckedLemmas
 pub mod FormLemmas
 pub mod FaultLemmas
+pub mod FileLemmas
 pub mod GrammarLemmas
 pub mod CutWithin

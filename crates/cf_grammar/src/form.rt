@@ -15,7 +15,7 @@ use cf_types::{Keyword, Memory, Stmt};
 use cf_words::{Known, Word};
 
 /// The greatest length of a token, in bytes.
-const MAX_TOKEN: usize = 1023;
+pub const MAX_TOKEN: usize = 1023;
 
 /// Whether no word is longer than a token may be.
 #[inline(always)]

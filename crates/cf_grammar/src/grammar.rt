@@ -6,6 +6,7 @@ ghost use Rattle.cf_grammar.specs.Keywords.{first_keyword};
 ghost use Rattle.cf_grammar.specs.Statement.{AreWithin, IsFaultOf, IsWithin, unread_code};
 
 use crate::fault::is_left_out;
+use crate::file::file;
 use crate::form::form_of;
 use crate::keyword::first_keyword;
 use cf_types::code::configuration as code;
@@ -135,6 +136,9 @@ pub fn statement<'a>(
     ensures form { IfOk result (λ s. Form (pieces text.now tokens.now) s) }
     ensures fault { IfErr result (λ stop. IsFaultOf (pieces text.now tokens.now) stop) }
 {
+    if let Some(stmt) = file(known, text, tokens)? {
+        return Ok(stmt);
+    }
     put_words(words, text, tokens)?;
     read(known, words)
 }

@@ -6,6 +6,7 @@ mod checked;
 mod define;
 mod directive;
 mod fault;
+mod file;
 mod form;
 mod grammar;
 mod instance;

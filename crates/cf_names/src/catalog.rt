@@ -5,7 +5,7 @@ ghost use Rattle.cf_names.specs.Indexed.{IsIndexOf, with_attach, with_attr, with
 ghost use Rattle.cf_names.specs.Spots.{all_spots, first_spot, is_at};
 
 use crate::hash::{HashKey, NameHash};
-use crate::index::{Index, add_number};
+use crate::index::{Index, Room, add_number};
 use crate::numbers::{add_name, number_in};
 use crate::spots::{FirstSpot, SpotKey};
 use cf_types::{Attach, Attr, Declared, Device, List, Memory, Name};
@@ -29,6 +29,15 @@ impl Model for Catalog {
     ghost view = { λ it. it.lists };
 
     ghost invariant = { λ it. IsIndexOf it.lists it.index };
+}
+
+/// Makes room for so many more attributes, devices and attachments.
+fn reserve_lists(lists: &mut Declared, more: Room) -> Result<(), Memory>
+    ensures { lists.new ≡ lists.old }
+{
+    lists.attrs.reserve(more.attrs)?;
+    lists.devices.reserve(more.devices)?;
+    lists.attaches.reserve(more.attaches)
 }
 
 /// Notes the name of an attribute behind the others.
@@ -135,6 +144,14 @@ impl Catalog {
             lists: no_lists(alloc),
             index: Index::make(alloc, hash),
         }
+    }
+
+    /// Makes room for so many more attributes, devices and attachments. Where memory runs out, what is declared is as before.
+    pub fn reserve(&mut self, more: Room) -> Result<(), Memory>
+        ensures { self.new ≡ self.old }
+    {
+        reserve_lists(&mut self.lists, more)?;
+        self.index.reserve(more)
     }
 
     /// The attributes.

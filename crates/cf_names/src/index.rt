@@ -1,10 +1,12 @@
 ghost use Rattle.std.specs.Prelude.{◌≡◌, ◌==◌, ◌<◌, ℕ, [], ◌∷◌, ◌++◌, OnOk, length, if◌then◌else◌};
+ghost use Rattle.cf_types.specs.declared.declared.Declared.{Declared};
 ghost use Rattle.cf_names.specs.Attaches.{numbers_at};
+ghost use Rattle.cf_names.specs.Indexed.{IsIndexOf};
 ghost use Rattle.cf_names.specs.Numbers.{AreNumbers};
 ghost use Rattle.cf_names.specs.Spots.{AreSpots};
 
 use crate::hash::NameHash;
-use crate::numbers::{Numbers, no_numbers};
+use crate::numbers::{Numbers, no_numbers, reserve_names};
 use crate::spots::Spots;
 use cf_types::{List, Memory};
 use std::alloc::Global;
@@ -23,7 +25,24 @@ pub struct Index {
     pub spots: Spots,
 }
 
+/// How many attributes, devices and attachments there is to be room for.
+#[derive(Clone, Copy)]
+pub struct Room {
+    pub attrs: usize,
+    pub devices: usize,
+    pub attaches: usize,
+}
+
 impl Index {
+    /// Makes room for the names of so many more.
+    pub fn reserve(&mut self, more: Room) -> Result<(), Memory>
+        ensures { (d : Declared) → IsIndexOf d self.old → IsIndexOf d self.new }
+    {
+        reserve_names(&mut self.attrs, more.attrs)?;
+        reserve_names(&mut self.devices, more.devices)?;
+        reserve_names(&mut self.attaches, more.attaches)
+    }
+
     /// No number.
     pub fn make(alloc: Global, hash: NameHash) -> Index
         ensures attrs { AreNumbers result.attrs [] }

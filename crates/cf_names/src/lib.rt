@@ -9,5 +9,6 @@ mod spots;
 
 pub use catalog::Catalog;
 pub use hash::{HashKey, NameHash};
+pub use index::Room;
 pub use numbers::{Numbers, add_name, no_numbers, number_in};
 pub use spots::{FirstSpot, SpotKey};

@@ -16,6 +16,14 @@ pub fn no_numbers(alloc: Global, hash: NameHash) -> Numbers
     IndexMap::with_hasher(alloc, hash)
 }
 
+/// Makes room for so many more names.
+pub fn reserve_names(numbers: &mut Numbers, more: usize) -> Result<(), Memory>
+    ensures { (names : List (List ℕ)) → AreNumbers numbers.old names → AreNumbers numbers.new names }
+{
+    numbers.reserve(more)?;
+    Ok(())
+}
+
 /// The number of a name.
 pub fn number_in(numbers: &Numbers, name: &Name) -> Option<usize>
     ensures { result ≡ number_in numbers.now name.now }

@@ -4,7 +4,7 @@ ghost use Rattle.cf_types.specs.declared.tables.WarnKind.TheVariants as warns;
 ghost use Rattle.config_rules.specs.Meaning.{warning, warnings};
 ghost use Rattle.cf_rows.specs.Idle.{ArePlacesOfNegations, ArePlacesOfNames, AreInOrder};
 
-use cf_types::{Instance, List, Memory, Placed, Text, WarnKind, Warning};
+use cf_types::{Instance, List, Memory, Placed, SharedText, Text, WarnKind, Warning};
 use std::alloc::Global;
 
 /// A copy of the name under which a file was loaded, by its place; empty where there is none.
@@ -17,17 +17,40 @@ pub fn file_name(alloc: Global, files: &[Text], file: u32) -> Result<Text, Memor
     }
 }
 
+/// The names of files, which warnings share.
+fn shared_names(alloc: Global, files: &[Text]) -> Result<List<SharedText>, Memory>
+    ensures { IfOk result (λ names. names ≡ files.now) }
+{
+    let mut names = Vec::with_capacity(alloc, files.len())?;
+    for file in files {
+        names.push(SharedText::copied(alloc, file.items())?)?;
+    }
+    Ok(List::from_vec(names))
+}
+
+/// The name under which a file was loaded, by its place; empty where there is none.
+#[inline(always)]
+fn shared_name(alloc: Global, files: &[SharedText], file: u32) -> Result<SharedText, Memory>
+    ensures { IfOk result (λ name. name ≡ slice_index_or files.now file []) }
+{
+    match files.get(file as usize) {
+        Some(name) => Ok(name.clone()?),
+        None => SharedText::copied(alloc, &[]),
+    }
+}
+
 /// A warning at the file and line of a statement.
+#[inline(always)]
 fn make_warning(
     alloc: Global,
-    files: &[Text],
+    files: &[SharedText],
     statement: &Placed,
     kind: WarnKind,
 ) -> Result<Warning, Memory>
     ensures { IfOk result (λ made. made ≡ warning files.now statement.now kind) }
 {
     Ok(Warning {
-        file: file_name(alloc, files, statement.file)?,
+        file: shared_name(alloc, files, statement.file)?,
         line: statement.line,
         kind,
     })
@@ -37,7 +60,7 @@ fn make_warning(
 fn push_warnings(
     alloc: Global,
     out: &mut List<Warning>,
-    files: &[Text],
+    files: &[SharedText],
     statement: &Placed,
     kind: WarnKind,
     count: usize,
@@ -84,7 +107,7 @@ fn orphan_count(orphans: &[Instance], place: usize) -> usize
 fn push_front<'a>(
     alloc: Global,
     out: &mut List<Warning>,
-    files: &[Text],
+    files: &[SharedText],
     statement: &Placed,
     place: usize,
     places: &'a [u32],
@@ -104,7 +127,7 @@ fn push_front<'a>(
 fn push_orphan<'a>(
     alloc: Global,
     out: &mut List<Warning>,
-    files: &[Text],
+    files: &[SharedText],
     statement: &Placed,
     place: usize,
     orphans: &'a [Instance],
@@ -120,12 +143,10 @@ fn push_orphan<'a>(
     Ok(&orphans[count..])
 }
 
-/// The warnings of a configuration in the order of its statements: one for each negation of instances and for each name
-/// in a negation of items that takes back nothing, and one for each orphan. The places are those of such negations, in
-/// order; one of items stands once for each such name. See config(5).
-pub fn warnings(
+/// The warnings of statements in their order, at the places that these lists give.
+fn merged(
     alloc: Global,
-    files: &[Text],
+    files: &[SharedText],
     placed: &[Placed],
     idle_instances: &[u32],
     idle_items: &[u32],
@@ -146,4 +167,31 @@ pub fn warnings(
         left = push_orphan(alloc, &mut made, files, statement, place, left)?;
     }
     Ok(made)
+}
+
+/// The warnings of a configuration in the order of its statements: one for each negation of instances and for each name
+/// in a negation of items that takes back nothing, and one for each orphan. The places are those of such negations, in
+/// order; one of items stands once for each such name. See config(5).
+pub fn warnings(
+    alloc: Global,
+    files: &[Text],
+    placed: &[Placed],
+    idle_instances: &[u32],
+    idle_items: &[u32],
+    orphans: &[Instance],
+) -> Result<List<Warning>, Memory>
+    requires instances { ArePlacesOfNegations idle_instances.now placed.now }
+    requires items { ArePlacesOfNames idle_items.now placed.now }
+    requires orphans { AreInOrder orphans.now }
+    ensures { IfOk result (λ made. made ≡ warnings files.now orphans.now [] placed.now) }
+{
+    let names = shared_names(alloc, files)?;
+    merged(
+        alloc,
+        names.items(),
+        placed,
+        idle_instances,
+        idle_items,
+        orphans,
+    )
 }

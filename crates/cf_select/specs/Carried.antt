@@ -19,8 +19,11 @@ abbrev pub inst_of : Inst → select.Inst
 inst_of i = record { device = i.device; mark = mark_of i; place = i.place; parent = i.parent }
 
 -- what a device offers, as the graph has it
+abbrev pub interfaces_in : Shape → ℕ → List ℕ
+interfaces_in graph device = interfaces_of graph.attrs (slice_index_or graph.devices device [])
+
 abbrev pub offered_in : Shape → ℕ → ℕ → Bool
-offered_in graph device a = is_in a (interfaces_of graph.attrs (slice_index_or graph.devices device []))
+offered_in graph device a = is_in a (interfaces_in graph device)
 
 -- one truth value for each instance, true exactly where a chain of carriers leads to the root
 abbrev pub RootedIn : Shape → List select.Inst → List Bool → Type 0

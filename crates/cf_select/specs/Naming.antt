@@ -12,6 +12,7 @@ use Rattle.cf_types.specs.declared.stmt.UnitMark.TheVariants.{Fixed, Star}
 use Rattle.config_rules.specs.Select.{names}
 use Rattle.cf_select.specs.contracts.named.NamedPartialEq.TheImpl as block
 use Rattle.cf_select.specs.Places.{holds}
+use Rattle.cf_select.specs.Selected.{is_negation, names_one}
 use Rattle.cf_select.specs.declared.named.Attachment.{Attachment}
 use Rattle.cf_select.specs.declared.named.Attachment.TheVariants as attached
 use Rattle.cf_select.specs.declared.named.Named.{Named}
@@ -47,6 +48,10 @@ AreShort lists free = (q : Named) (x : ℕ) → is_listed lists q x ≡ true →
 -- of those that are free, exactly those that a key names are in its list
 abbrev pub AreListed : {S : Type 0} → (Named → ℕ → Bool) → HashMap Named (List ℕ) S → List Bool → Type 0
 AreListed named_by lists free = (q : Named) (x : ℕ) → slice_index_or free x false ≡ true → is_listed lists q x ≡ named_by q x
+
+-- the flag tells that a statement is a negation that takes back nothing
+abbrev pub TellsIdle : {S : Type 0} → Stmt → HashMap Named (List ℕ) S → List Bool → Bool → Type 0
+TellsIdle s lists free idle = (stmts : List Stmt) → length free ≡ length stmts → AreListed (names_at stmts) lists free → idle ≡ (is_negation s && not (names_one s stmts free))
 
 -- those that are named are no longer free, and the flag tells whether one was
 pub record TakesBack (test : ℕ → Bool) (free free_new : List Bool) (found : Bool) : Type 0 where

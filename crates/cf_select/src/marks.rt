@@ -4,8 +4,7 @@ ghost use Rattle.config_rules.specs.Declared.{Declared};
 ghost use Rattle.config_rules.specs.Select.{AreRooted, RootedInsts, carries_at, is_at_root, is_at_root_at};
 ghost use Rattle.attr_graph.specs.Graphs.{IsGraphOf};
 ghost use Rattle.cf_types.specs.Gather.{is_in};
-ghost use Rattle.cf_types.specs.Offers.{interfaces_of};
-ghost use Rattle.cf_select.specs.Carried.{RootedIn, inst_of, offered_in};
+ghost use Rattle.cf_select.specs.Carried.{RootedIn, inst_of, interfaces_in, offered_in};
 ghost use Rattle.cf_select.specs.Reached.{AllRooted, AreMarked, AreWaiting, AreWithin, Marks, Serves};
 ghost use Rattle.cf_select.specs.Wanted.{carriers_of, wants_at, wants_of};
 ghost use Rattle.cf_select.specs.declared.want.Want.{Want as Wanted};
@@ -101,7 +100,7 @@ fn serve(
 ) -> Result<(), Memory>
     requires known { inst.now.device < length graph.now.devices }
     requires within { AreWithin waiting.old.lists marks.old.items }
-    ensures { OnOk result (Serves waiting.old.lists marks.old.items order.old.items waiting.new.lists marks.new.items order.new.items (wants_of (inst_of inst.now) (interfaces_of graph.now.attrs (slice_index_or graph.now.devices inst.now.device [])))) }
+    ensures { OnOk result (Serves waiting.old.lists marks.old.items order.old.items waiting.new.lists marks.new.items order.new.items (wants_of (inst_of inst.now) (interfaces_in graph.now inst.now.device))) }
 {
     for attr in graph.interfaces(inst.device) {
         serve_attr(alloc, waiting, marks, order, *attr, inst)?;

@@ -1,13 +1,15 @@
-ghost use Rattle.std.specs.Prelude.{◌≡◌, ℕ, Bool, List as Items, ◌<◌, ◌≤◌, ◌&&◌, not, true, false, [], ◌∷◌, ◌++◌, if◌then◌else◌, length, map, All, IfOk, OnOk};
+ghost use Rattle.std.specs.Prelude.{◌≡◌, None, ℕ, Bool, List as Items, ◌<◌, ◌≤◌, ◌&&◌, not, true, false, [], ◌∷◌, ◌++◌, if◌then◌else◌, length, map, All, IfOk, OnOk};
 ghost use Rattle.std.specs.List.{list_any, slice_index_or};
 ghost use Rattle.cf_types.specs.Gather.{is_in};
 ghost use Rattle.cf_types.specs.declared.stmt.Stmt.{Stmt as Statement};
 ghost use Rattle.config_rules.specs.Fault.{is_instance, stmts_of};
 ghost use Rattle.config_rules.specs.Meaning.{idle_insts};
 ghost use Rattle.config_rules.specs.Select.{kept};
-ghost use Rattle.cf_select.specs.Naming.{AreListed, AreShort, TakesBack, names_at};
+ghost use Rattle.cf_select.specs.Naming.{AreListed, AreShort, TakesBack, TellsIdle, names_at};
+ghost use Rattle.std.specs.HashMap.{get};
+ghost use Rattle.cf_select.specs.contracts.named.NamedPartialEq.TheImpl as block;
 ghost use Rattle.cf_select.specs.declared.named.Named.{Named as Key};
-ghost use Rattle.cf_select.specs.Selected.{instances, is_negation, names_one, without};
+ghost use Rattle.cf_select.specs.Selected.{instances, is_negation, without};
 
 use crate::lists::take_places;
 use crate::named::Named;
@@ -80,7 +82,7 @@ fn take_back<'a>(
     ensures short { AreShort lists.new free.new.items }
     ensures listed { (stmts : Items Statement) → AreListed (names_at stmts) lists.old free.old.items → AreListed (names_at stmts) lists.new free.new.items }
     ensures free { (stmts : Items Statement) → length free.old.items ≡ length stmts → AreListed (names_at stmts) lists.old free.old.items → free.new.items ≡ without stmt.now stmts free.old.items }
-    ensures idle { (stmts : Items Statement) → length free.old.items ≡ length stmts → AreListed (names_at stmts) lists.old free.old.items → result ≡ (is_negation stmt.now && not (names_one stmt.now stmts free.old.items)) }
+    ensures idle { TellsIdle stmt.now lists.old free.old.items result }
 {
     match named_by(stmt) {
         Some(key) => !take_named(alloc, free, lists, &key),
@@ -103,7 +105,7 @@ fn instances(alloc: Global, placed: &[Placed], free: &[bool]) -> Result<List<boo
     requires { length free.now ≡ length placed.now }
     ensures { IfOk result (λ kept. kept ≡ instances (stmts_of placed.now) free.now) }
 {
-    let mut kept = List::make(alloc);
+    let mut kept = List::from_vec(Vec::with_capacity(alloc, placed.len())?);
     for (i, p) in placed.iter().enumerate() {
         kept.push(is_instance(&p.stmt) & free[i])?;
     }
@@ -130,6 +132,20 @@ fn all_instances(alloc: Global, placed: &[Placed]) -> Result<List<bool>, Memory>
     Ok(List::from_vec(kept))
 }
 
+/// No list, with room for all that instances are listed by.
+fn lists_for<'a>(
+    alloc: Global,
+    placed: &[Placed],
+) -> Result<HashMap<Named<'a>, List<usize>>, Memory>
+    ensures { IfOk result (λ lists. (q : Key) → get block.ghosts.eq lists q ≡ None) }
+{
+    let instances = placed
+        .iter()
+        .filter(|statement| is_instance(&statement.stmt))
+        .count();
+    Ok(HashMap::with_capacity(alloc, instances.saturating_mul(3))?)
+}
+
 /// Which of at most 65,536 placed statements are instances that survive, and which negations of instances take back
 /// nothing. The only error is want of memory. See config(5).
 pub fn survivors(alloc: Global, placed: &[Placed]) -> Result<Kept, Memory>
@@ -143,8 +159,8 @@ pub fn survivors(alloc: Global, placed: &[Placed]) -> Result<Kept, Memory>
             idle: List::make(alloc),
         });
     }
-    let mut free = Vec::new(alloc);
-    let mut lists = HashMap::new(alloc);
+    let mut free = Vec::with_capacity(alloc, placed.len())?;
+    let mut lists = lists_for(alloc, placed)?;
     let mut idle = List::make(alloc);
     for (i, p) in placed.iter().enumerate() {
         let is_idle = take_back(alloc, &mut free, &mut lists, &p.stmt);

@@ -1,11 +1,12 @@
--- Tokens in one text, with one more.
-use Rattle.std.proofs.Common.{◌≡◌, ℕ, List, [], ◌∷◌, ◌++◌, length, map, take, drop, refl, ap, ◌∙◌, arith}
-use Rattle.std.specs.Prelude.{All}
-use Rattle.std.proofs.lemmas.List.{drop_at, map-append, take-append-le, take_all}
-use Rattle.std.proofs.lemmas.List.Elements.{All-head, All-tail}
-use Rattle.cf_types.specs.Pieces.{IsWithin, piece_at}
+-- Tokens in one text, with one more; and those of a part of a text.
+use Rattle.std.proofs.Common.{◌≡◌, ℕ, ◌+◌, ◌-◌, ◌≤◌, List, [], ◌∷◌, ◌++◌, length, get_or, map, take, drop, refl, ap, ◌∙◌, arith}
+use Rattle.std.specs.Prelude.{All, slice_range}
+use Rattle.std.proofs.lemmas.List.{drop_at, drop-drop, drop-take, map-append, take-append-le, take-take, take_all}
+use Rattle.std.proofs.lemmas.List.Elements.{All-head, All-map, All-tail}
+use Rattle.cf_types.specs.Pieces.{AreBetween, IsBetween, IsWithin, piece_at, span_from, token_in}
 use Rattle.cf_types.specs.declared.pieces.PieceSpan.{PieceSpan}
 use Rattle.cf_types.specs.declared.stmt.Piece.{Piece}
+use Rattle.cf_types.specs.declared.stmt.Token.{Token}
 use Rattle.cf_types.specs.declared.stmt.TokenKind.{TokenKind}
 
 -- the span of a token behind a text
@@ -42,3 +43,40 @@ pieces_pushed old new bytes kind spans more s within grown is pushed =
     ∙ ap (λ (x : PieceSpan). map (piece_at new) (spans ++ x ∷ [])) is
     ∙ ap (λ (t : List ℕ). map (piece_at t) (spans ++ record { kind = kind; start = length old; end = length t } ∷ [])) grown
     ∙ pieces_push old bytes kind spans within
+
+-- ---- the tokens of a part of a text
+
+-- a range within a part is one of the text
+range_in_part : (text : List ℕ) (b n s e : ℕ) → b ≤ s → s ≤ e → e ≤ b + n → drop (s - b) (take (e - b) (take n (drop b text))) ≡ take (e - s) (drop s text)
+range_in_part text b n s e from ordered within =
+    let size : e - b ≡ (s - b) + (e - s) = omega arith in
+    let place : b + (s - b) ≡ s = omega arith in
+    ap (drop (s - b)) (take-take (e - b) n (drop b text) (omega arith))
+    ∙ ap (λ k. drop (s - b) (take k (drop b text))) size
+    ∙ drop-take (s - b) (e - s) (drop b text)
+    ∙ ap (take (e - s)) (drop-drop (s - b) b text)
+    ∙ ap (λ k. take (e - s) (drop k text)) place
+
+token_in_part : (text : List ℕ) (b n : ℕ) (t : Token) → IsBetween b (b + n) t → piece_at (take n (drop b text)) (span_from b t) ≡ token_in text t
+token_in_part text b n t between =
+    ap (λ (bytes : List ℕ). record { kind = t.kind; text = bytes }) (range_in_part text b n t.start t.end between.0 between.1.0 between.1.1)
+
+tokens_from : (text : List ℕ) (b n : ℕ) (tokens : List Token) → AreBetween b (b + n) tokens → map (piece_at (take n (drop b text))) (map (span_from b) tokens) ≡ map (token_in text) tokens
+tokens_from text b n [] between = refl
+tokens_from text b n (t ∷ tokens) between =
+    ap (λ (p : Piece). p ∷ map (piece_at (take n (drop b text))) (map (span_from b) tokens)) (token_in_part text b n t (All-head (IsBetween b (b + n)) t tokens between))
+    ∙ ap (λ (ps : List Piece). token_in text t ∷ ps) (tokens_from text b n tokens (All-tail (IsBetween b (b + n)) t tokens between))
+
+-- the tokens in a part of a text are those in the text
+pub tokens_in_part : (text part : List ℕ) (b : ℕ) (tokens : List Token) → AreBetween b (b + length part) tokens → part ≡ slice_range text b (b + length part) → map (piece_at part) (map (span_from b) tokens) ≡ map (token_in text) tokens
+tokens_in_part text part b tokens between is =
+    let size : (b + length part) - b ≡ length part = omega arith in
+    ap (λ (t : List ℕ). map (piece_at t) (map (span_from b) tokens)) (is ∙ ap (λ k. take k (drop b text)) size)
+    ∙ tokens_from text b (length part) tokens between
+
+-- and stand within it
+pub spans_in_part : (n b : ℕ) (tokens : List Token) → AreBetween b (b + n) tokens → All (IsWithin n) (map (span_from b) tokens)
+spans_in_part n b tokens between = All-map (IsWithin n) (span_from b) tokens (λ k d p. within (get_or tokens k d) (between k d p))
+  where
+    within : (t : Token) → IsBetween b (b + n) t → IsWithin n (span_from b t)
+    within t h = let (from, (ordered, end)) = h in (omega arith, omega arith)

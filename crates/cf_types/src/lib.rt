@@ -13,6 +13,7 @@ mod memory;
 mod name;
 mod pieces;
 mod put;
+mod shared;
 mod stmt;
 mod tables;
 mod tree;
@@ -27,6 +28,7 @@ pub use memory::Memory;
 pub use name::Name;
 pub use pieces::{PieceSpan, Pieces};
 pub use put::{put_bytes, put_decimal};
+pub use shared::SharedText;
 pub use stmt::{
     AtSpec, CondWord, Expanded, GivenLoc, Item, ItemKind, Piece, Placed, Stmt, Token, TokenKind,
     UnitMark,

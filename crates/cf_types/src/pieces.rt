@@ -1,8 +1,8 @@
 //! The tokens of a statement, in one text.
-ghost use Rattle.std.specs.Prelude.{◌≡◌, ◌≤◌, [], ◌∷◌, ◌++◌, length, IfOk, OnErr, OnOk};
-ghost use Rattle.cf_types.specs.Pieces.{IsWithin, piece_at};
+ghost use Rattle.std.specs.Prelude.{◌≡◌, ◌+◌, ◌≤◌, [], ◌∷◌, ◌++◌, length, map, slice_range, All, IfOk, OnErr, OnOk};
+ghost use Rattle.cf_types.specs.Pieces.{AreBetween, AreIn, IsFrom, IsWithin, piece_at, span_from, token_in};
 
-use crate::{List, Memory, Piece, Text, TokenKind};
+use crate::{List, Memory, Piece, Text, Token, TokenKind};
 use std::alloc::Global;
 use std::marker::Model;
 
@@ -50,6 +50,42 @@ fn add_bytes(text: &mut Vec<u8>, kind: TokenKind, bytes: &[u8]) -> Result<PieceS
     Ok(PieceSpan { kind, start, end })
 }
 
+/// The part of a text in which these tokens stand, and where it begins.
+#[inline(always)]
+fn part_of<'a>(text: &'a [u8], tokens: &[Token]) -> (u32, &'a [u8])
+    requires { AreIn (length text.now) tokens.now }
+    ensures between { AreBetween result.0 (result.0 + length result.1.now) tokens.now }
+    ensures part { result.1.now ≡ slice_range text.now result.0 (result.0 + length result.1.now) }
+{
+    let Some(first) = tokens.first() else {
+        return (0, &text[..0]);
+    };
+    let mut start = first.start;
+    let mut end = first.end;
+    for token in tokens {
+        start = start.min(token.start);
+        end = end.max(token.end);
+    }
+    (start, &text[start as usize..end as usize])
+}
+
+/// Where the tokens of a text stand in the part of it that begins there.
+#[inline(always)]
+fn spans_from(alloc: Global, start: u32, tokens: &[Token]) -> Result<Vec<PieceSpan>, Memory>
+    requires { All (IsFrom start) tokens.now }
+    ensures { IfOk result (λ spans. spans.items ≡ map (span_from start) tokens.now) }
+{
+    let mut spans = Vec::with_capacity(alloc, tokens.len())?;
+    for token in tokens {
+        spans.push_reserved(PieceSpan {
+            kind: token.kind,
+            start: token.start - start,
+            end: token.end - start,
+        });
+    }
+    Ok(spans)
+}
+
 /// The token that stands there, with bytes of its own.
 fn piece_at(alloc: Global, text: &[u8], span: PieceSpan) -> Result<Piece, Memory>
     requires { IsWithin (length text.now) span }
@@ -71,6 +107,18 @@ impl Pieces {
             text: Vec::with_capacity(alloc, bytes)?,
             spans: Vec::with_capacity(alloc, tokens)?,
         })
+    }
+
+    /// The tokens of a text. The part of it in which they stand is copied at once.
+    #[inline(always)]
+    pub fn of_tokens(alloc: Global, text: &[u8], tokens: &[Token]) -> Result<Pieces, Memory>
+        requires { AreIn (length text.now) tokens.now }
+        ensures { IfOk result (λ pieces. pieces ≡ map (token_in text.now) tokens.now) }
+    {
+        let (start, part) = part_of(text, tokens);
+        let spans = spans_from(alloc, start, tokens)?;
+        let copy = Vec::from_slice(alloc, part)?;
+        Ok(Pieces { text: copy, spans })
     }
 
     /// How many tokens there are.

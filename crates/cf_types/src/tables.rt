@@ -1,4 +1,4 @@
-use crate::{Item, List, Locs, Name, Text};
+use crate::{Item, List, Locs, Name, SharedText, Text};
 
 /// A locator of an attribute, with its default; an instance need not write it where it is optional.
 #[derive(Drop)]
@@ -92,7 +92,8 @@ pub enum WarnKind {
 /// A statement that was accepted and had no effect.
 #[derive(Drop)]
 pub struct Warning {
-    pub file: Text,
+    /// The name of the file, which all warnings of it share.
+    pub file: SharedText,
     pub line: u32,
     pub kind: WarnKind,
 }

@@ -9,13 +9,13 @@ fn put_default(out: &mut Vec<u8>, locator: &Locator, default: i64) -> Result<(),
     ensures { OnOk result (out.new.items ≡ out.old.items ++ default_text locator.now default) }
 {
     if locator.optional {
-        out.extend_from_slice(b"[")?;
+        out.push(b'[')?;
     }
     out.extend_from_slice(locator.name.bytes())?;
-    out.extend_from_slice(b"=")?;
+    out.push(b'=')?;
     put_decimal(out, default)?;
     if locator.optional {
-        out.extend_from_slice(b"]")?;
+        out.push(b']')?;
     }
     Ok(())
 }
@@ -32,7 +32,7 @@ fn put_locator(out: &mut Vec<u8>, locator: &Locator) -> Result<(), Memory>
 fn put_spaced_locator(out: &mut Vec<u8>, locator: &Locator) -> Result<(), Memory>
     ensures { OnOk result (out.new.items ≡ out.old.items ++ (codes " " ++ locator_text locator.now)) }
 {
-    out.extend_from_slice(b" ")?;
+    out.push(b' ')?;
     put_locator(out, locator)
 }
 
@@ -61,7 +61,7 @@ pub fn put_attr(out: &mut Vec<u8>, attr: &Attr) -> Result<(), Memory>
 fn put_spaced_attr(out: &mut Vec<u8>, tables: &Tables, attr: u32) -> Result<(), Memory>
     ensures { OnOk result (out.new.items ≡ out.old.items ++ (codes " " ++ attr_name tables.now attr)) }
 {
-    out.extend_from_slice(b" ")?;
+    out.push(b' ')?;
     put_attr_name(out, tables, attr)
 }
 
@@ -96,7 +96,7 @@ pub fn put_device(
 fn put_spaced_place(out: &mut Vec<u8>, tables: &Tables, place: Place) -> Result<(), Memory>
     ensures { OnOk result (out.new.items ≡ out.old.items ++ (codes " " ++ place_name tables.now place)) }
 {
-    out.extend_from_slice(b" ")?;
+    out.push(b' ')?;
     put_place(out, tables, place)
 }
 

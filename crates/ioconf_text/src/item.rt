@@ -8,7 +8,7 @@ pub fn put_pseudo(out: &mut Vec<u8>, pseudo: &Pseudo) -> Result<(), Memory>
 {
     out.extend_from_slice(b"pseudo ")?;
     out.extend_from_slice(pseudo.name.bytes())?;
-    out.extend_from_slice(b" ")?;
+    out.push(b' ')?;
     put_decimal(out, i64::from(pseudo.count))
 }
 
@@ -19,9 +19,9 @@ fn put_value(out: &mut Vec<u8>, item: &Item) -> Result<(), Memory>
         return Ok(());
     };
     if item.plus {
-        out.extend_from_slice(b"+")?;
+        out.push(b'+')?;
     }
-    out.extend_from_slice(b"=")?;
+    out.push(b'=')?;
     out.extend_from_slice(value.items())?;
     Ok(())
 }
@@ -31,7 +31,7 @@ pub fn put_item(out: &mut Vec<u8>, word: &[u8], item: &Item) -> Result<(), Memor
     ensures { OnOk result (out.new.items ≡ out.old.items ++ item_line word.now item.now) }
 {
     out.extend_from_slice(word)?;
-    out.extend_from_slice(b" ")?;
+    out.push(b' ')?;
     out.extend_from_slice(item.name.bytes())?;
     put_value(out, item)
 }
@@ -58,8 +58,8 @@ pub fn put_warning(out: &mut Vec<u8>, warning: &Warning) -> Result<(), Memory>
 {
     out.extend_from_slice(b"warning ")?;
     out.extend_from_slice(warning.file.items())?;
-    out.extend_from_slice(b":")?;
+    out.push(b':')?;
     put_decimal(out, i64::from(warning.line))?;
-    out.extend_from_slice(b" ")?;
+    out.push(b' ')?;
     put_kind(out, warning.kind)
 }

@@ -29,7 +29,7 @@ fn put_parent(
 {
     let Some(parent) = parent else {
         put_attr_name(out, tables, attr)?;
-        return Ok(out.extend_from_slice(b"?")?);
+        return Ok(out.push(b'?')?);
     };
     put_device_name(out, tables, parent.device)?;
     put_unit(out, parent.unit)
@@ -57,7 +57,7 @@ fn put_value(out: &mut Vec<u8>, locators: &[Locator], n: usize, value: i64) -> R
     ensures { OnOk result (out.new.items ≡ out.old.items ++ value_text locators.now (n, value)) }
 {
     put_locator_name(out, locators, n)?;
-    out.extend_from_slice(b"=")?;
+    out.push(b'=')?;
     put_decimal(out, value)
 }
 
@@ -71,7 +71,7 @@ fn put_spaced_value(
     requires { n < length values.now }
     ensures { OnOk result (out.new.items ≡ out.old.items ++ (codes " " ++ value_text locators.now (n, slice_index_or values.now n (pos 0)))) }
 {
-    out.extend_from_slice(b" ")?;
+    out.push(b' ')?;
     put_value(out, locators, n, values[n])
 }
 
@@ -89,7 +89,7 @@ fn put_row_head(out: &mut Vec<u8>, tables: &Tables, n: usize, row: &Row) -> Resu
 {
     out.extend_from_slice(b"row ")?;
     put_number(out, n)?;
-    out.extend_from_slice(b" ")?;
+    out.push(b' ')?;
     put_row_name(out, tables, row)?;
     out.extend_from_slice(b" at ")?;
     put_at(out, tables, row)

@@ -45,7 +45,7 @@ pub fn put_unit(out: &mut Vec<u8>, unit: Option<u32>) -> Result<(), Memory>
 {
     match unit {
         Some(unit) => put_decimal(out, i64::from(unit)),
-        None => Ok(out.extend_from_slice(b"?")?),
+        None => Ok(out.push(b'?')?),
     }
 }
 

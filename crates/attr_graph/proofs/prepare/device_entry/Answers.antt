@@ -3,7 +3,7 @@ use Rattle.std.specs.Prelude.{flat_map}
 use Rattle.cf_types.specs.Gather.{with_all}
 use Rattle.attr_graph.specs.declared.gather.TheConstants.{MAX_INTERFACES}
 use Rattle.attr_graph.specs.Reach.{reach_at}
-use Rattle.attr_graph.proofs.ReachLemmas.{device_list, device_stops}
+use Rattle.attr_graph.proofs.ReachLemmas.{device_list, device_stops, lists_once}
 use Rattle.attr_graph.proofs.prepare.device_entry.Goals as goal
 
 pub returns-in-Ok-clause-entry : goal.returns-in-Ok-clause-entry
@@ -22,3 +22,6 @@ returns-in-Err-clause-entry c =
     (ap (λ xs. with_all [] (flat_map (reach_at c.args.attrs.now) xs)) c.items.ensures
     ∙ device_list c.args.attrs.now c.args.marks.now.items c.args.names c.requires.kept c.requires.known)
     c.in-Err.ensures.gathers
+
+pub gather-requires-clause-once : goal.gather-requires-clause-once
+gather-requires-clause-once c = lists_once c.args.attrs.now c.args.marks.now.items c.requires.kept

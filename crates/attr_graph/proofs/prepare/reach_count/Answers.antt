@@ -4,7 +4,7 @@ use Rattle.cf_types.specs.Gather.{with_all}
 use Rattle.cf_types.specs.Offers.{interfaces_of}
 use Rattle.attr_graph.specs.declared.gather.TheConstants.{MAX_INTERFACES}
 use Rattle.attr_graph.specs.Reach.{nodes_of, reach_at}
-use Rattle.attr_graph.proofs.ReachLemmas.{device_list}
+use Rattle.attr_graph.proofs.ReachLemmas.{device_list, lists_once}
 use Rattle.attr_graph.proofs.prepare.reach_count.Goals as goal
 
 pub returns-in-Ok-clause-counted : goal.returns-in-Ok-clause-counted
@@ -20,3 +20,6 @@ returns-in-Err-TooMany-clause-counted c =
     let list : with_all [] (flat_map (reach_at c.args.attrs.now) c.args.names.now) ≡ interfaces_of (nodes_of c.args.attrs.now) c.args.names.now =
     device_list c.args.attrs.now c.args.marks.now.items c.args.names.now c.requires.kept c.requires.known in
     subst (λ (xs : List ℕ). MAX_INTERFACES < length xs) list (rw c.in-Err-TooMany.field-0-is at c.in-Err-TooMany.ensures.gathers)
+
+pub gather-requires-clause-once : goal.gather-requires-clause-once
+gather-requires-clause-once c = lists_once c.args.attrs.now c.args.marks.now.items c.requires.kept

@@ -11,7 +11,7 @@ use Rattle.cf_compile.proofs.judge.judge.Goals as goal
 
 pub loop-place-init : goal.loop-place-init
 loop-place-init c =
-    walked_begins c.args.files.now c.args.placed.now c.make.result c.in_ok-instances.instances c.make.ensures c.in_ok-instances.ensures
+    walked_begins c.args.files.now c.args.placed.now c.in_ok-declarations.declarations c.in_ok-instances.instances c.in_ok-declarations.ensures c.in_ok-instances.ensures
 
 pub judge_statement-requires : goal.judge_statement-requires
 judge_statement-requires c =

@@ -13,12 +13,11 @@ use Rattle.cf_select.proofs.standing.survivors.Goals as goal
 
 pub loop-i-init : goal.loop-i-init
 loop-i-init c = record {
-  marks = c.new-free.ensures.items ∙ sym free_none;
+  marks = c.in_ok-free.ensures.items ∙ sym free_none;
   short = λ q x h.
-      let none : get block.ghosts.eq c.new-lists.result q ≡ None = search rules in
-      let no_way : false ≡ true = sym (ap (λ (o : Option (List ℕ)). is_in x (unwrap_or o [])) none) ∙ h in
+      let no_way : false ≡ true = sym (ap (λ (o : Option (List ℕ)). is_in x (unwrap_or o [])) (c.in_ok-lists.ensures q)) ∙ h in
       absurd (cc);
-  listed = λ q x h. let no_way : false ≡ true = sym (ap (λ (bs : List Bool). get_or bs x false) c.new-free.ensures.items) ∙ h in absurd (cc);
+  listed = λ q x h. let no_way : false ≡ true = sym (ap (λ (bs : List Bool). get_or bs x false) c.in_ok-free.ensures.items) ∙ h in absurd (cc);
   places = ap (λ (xs : List ℕ). xs ++ idle_insts [] (stmts_of c.args.placed.now)) c.make-idle.ensures;
 }
 

@@ -1,7 +1,7 @@
 use Rattle.std.proofs.Common.{refl}
 use Rattle.std.proofs.lemmas.List.{drop_all}
 use Rattle.cf_rows.proofs.WarnLemmas.{merged_first, merged_step, merged_last}
-use Rattle.cf_rows.proofs.idle.warnings.Goals as goal
+use Rattle.cf_rows.proofs.idle.merged.Goals as goal
 
 pub loop-place-init : goal.loop-place-init
 loop-place-init c =
