@@ -1,6 +1,6 @@
-ghost use Rattle.std.specs.Prelude.{◌≡◌, ◌≤◌, ◌<◌, ◌==◌, ◌++◌, ◌∷◌, ◌⊎◌, [], ℕ, not, filter, IfOk, OnOk, OnErr};
+ghost use Rattle.std.specs.Prelude.{◌≡◌, ◌≢◌, ◌≤◌, ◌<◌, ◌==◌, ◌++◌, ◌∷◌, ◌⊎◌, [], ℕ, false, true, IfOk, IfSome, OnOk, OnErr, Some, position};
 ghost use Rattle.cf_types.specs.Gather.{is_in};
-ghost use Rattle.unit_alloc.specs.Taken.{IsLeastFree, PassesFew};
+ghost use Rattle.unit_alloc.specs.Taken.{IsLeastFree, IsWithout, PassesFew};
 
 use crate::least::least_free;
 use cf_types::Memory;
@@ -8,12 +8,14 @@ use std::alloc::Global;
 use std::marker::Model;
 
 /// The units of one device that are taken. All below one number are, and none from another one on is, so that devices which
-/// come one after the other get their units at one look.
+/// come one after the other get their units at one look; so does one that comes where another has gone.
 #[derive(Drop)]
 pub struct UnitList {
     units: Vec<u32>,
     all_below: u64,
     none_from: u64,
+    /// A unit that is not taken, where one is known.
+    free: Option<u64>,
 }
 
 impl Model for UnitList {
@@ -24,7 +26,7 @@ impl Model for UnitList {
 
     ghost view = { λ list. list.units.items };
 
-    ghost invariant = { λ list. AreBetween list.all_below list.none_from list.units.items };
+    ghost invariant = { λ list. AreBetween list.all_below list.none_from list.free list.units.items };
 }
 
 /// The number that follows one where the unit is that one.
@@ -38,6 +40,23 @@ fn raised(all_below: u64, unit: u32) -> u64
     }
 }
 
+/// The place of a unit in a list.
+fn place_of(units: &[u32], unit: u32) -> Option<usize>
+    ensures { result ≡ position (λ y. y == unit) units.now }
+{
+    units.iter().position(|taken| *taken == unit)
+}
+
+/// A unit that is known to be free, unless it is the one that is taken now.
+fn but(free: Option<u64>, unit: u32) -> Option<u64>
+    ensures { IfSome result (λ n. (free ≡ Some n) × (unit ≢ n)) }
+{
+    match free {
+        Some(known) if known != u64::from(unit) => Some(known),
+        _ => None,
+    }
+}
+
 impl UnitList {
     /// No units. It takes no memory.
     pub fn make(alloc: Global) -> UnitList
@@ -47,6 +66,17 @@ impl UnitList {
             units: Vec::new(alloc),
             all_below: 0,
             none_from: 0,
+            free: None,
+        }
+    }
+
+    /// Whether a unit is known to be free.
+    fn is_known_free(&self, unit: u64) -> bool
+        ensures { result ≡ true → is_in unit self.now ≡ false }
+    {
+        match self.free {
+            Some(known) => known == unit,
+            None => false,
         }
     }
 
@@ -57,29 +87,36 @@ impl UnitList {
         ensures { IsLeastFree (λ n. is_in n self.now) first result }
     {
         let from = u64::from(first).max(self.all_below);
-        if self.none_from <= from {
+        if self.none_from <= from || self.is_known_free(from) {
             from as u32
         } else {
             least_free(&self.units, first)
         }
     }
 
-    /// Takes a unit. At `Memory` all is as before.
+    /// Takes a unit that is not taken. At `Memory` all is as before.
     pub fn take(&mut self, unit: u32) -> Result<(), Memory>
+        requires { is_in unit self.old ≡ false }
         ensures ok { OnOk result (self.new ≡ self.old ++ unit ∷ []) }
         ensures err { OnErr result (self.new ≡ self.old) }
     {
         self.units.push(unit)?;
         self.all_below = raised(self.all_below, unit);
         self.none_from = self.none_from.max(u64::from(unit) + 1);
+        self.free = but(self.free, unit);
         Ok(())
     }
 
-    /// Gives a unit back. It takes no memory.
+    /// Gives back a unit that is taken. It takes no memory.
     pub fn give(&mut self, unit: u32)
-        ensures { self.new ≡ filter (λ y. not (y == unit)) self.old }
+        requires { is_in unit self.old ≡ true }
+        ensures { IsWithout unit self.old self.new }
     {
-        self.units.retain(|taken| *taken != unit);
+        let Some(place) = place_of(&self.units, unit) else {
+            unreachable!();
+        };
+        self.units.swap_remove(place);
         self.all_below = self.all_below.min(u64::from(unit));
+        self.free = Some(u64::from(unit));
     }
 }

@@ -1,4 +1,4 @@
-use Rattle.std.proofs.Common.{◌≡◌, ◌≤◌, ◌<◌, ℕ, ap, sym, ◌∙◌, arith}
+use Rattle.std.proofs.Common.{◌≤◌, ap, sym, ◌∙◌, arith}
 use Rattle.cf_types.specs.Gather.{is_in}
 use Rattle.unit_alloc.proofs.FreeLaws.{all_pass}
 use Rattle.unit_alloc.proofs.list.UnitList.pick.Goals as goal
