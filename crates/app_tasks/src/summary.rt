@@ -12,7 +12,7 @@ use std::alloc::Global;
 fn attaches(event: &Event) -> bool
     ensures { result ≡ attaches event.now }
 {
-    match &event.act {
+    match event.act.get() {
         Act::Found { got, .. } => got.is_some(),
         Act::Final {
             shown: Some(shown),
@@ -26,7 +26,7 @@ fn attaches(event: &Event) -> bool
 fn is_unconfigured(event: &Event) -> bool
     ensures { result ≡ is_unconfigured event.now }
 {
-    matches!(&event.act, Act::Found { got: None, .. })
+    matches!(event.act.get(), Act::Found { got: None, .. })
 }
 
 /// How many events attached a device.

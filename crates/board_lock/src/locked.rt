@@ -157,7 +157,7 @@ impl<N: Naming> Locked<N> {
         if place >= self.board.events() {
             return true;
         }
-        may_end_wait(&self.board.event(place).act)
+        may_end_wait(self.board.event(place).act.get())
     }
 
     /// The board, the slots and the books.

@@ -46,7 +46,7 @@ pub fn ends_caller(event: &Event) -> bool
     requires { event.now.caller ≢ 0 }
     ensures { result ≡ closes_script event.now }
 {
-    matches!(event.act, Act::End)
+    matches!(event.act.get(), Act::End)
 }
 
 impl<N: Naming> Shares<N> {

@@ -1,5 +1,5 @@
 -- What the event of a deed is made of.
-use Rattle.std.specs.Prelude.{◌≡◌, ◌<◌, ⊤, ℕ, true, false, length, IfSome, List, Option, Some, None}
+use Rattle.std.specs.Prelude.{◌≡◌, ◌<◌, ⊤, ℕ, Bool, true, false, length, IfSome, List, Option, Some, None}
 use Rattle.std.specs.Option.{option_map_or}
 use Rattle.cf_types.specs.declared.machine.Command.{Command}
 use Rattle.cf_types.specs.declared.machine.Command.TheVariants as command
@@ -17,7 +17,29 @@ use Rattle.run_rules.specs.declared.world.Setup.{Setup}
 use Rattle.run_rules.specs.World.{World}
 use Rattle.run_rules.specs.Next.{command_of, is_power}
 use Rattle.run_rules.specs.Run.{reply_of}
-use Rattle.run_world.specs.Events.{IsLive}
+use Rattle.run_world.specs.declared.parts.Core.{Core}
+use Rattle.run_world.specs.Events.{HaveRows, IsLive}
+use Rattle.run_world.specs.Input.{Bounded}
+use Rattle.run_world.specs.Recent.{AreRecent}
+
+-- by what the names of devices are told
+pub record HaveNames (s : Setup) (c : Core) : Type 0 where
+  pub bounded : Bounded s
+  pub rows : HaveRows s c.tree.live
+  pub recent : AreRecent s c.recent
+
+-- nothing changes but what is kept of the acts that were told
+pub record TellsAside (s : Setup) (old new : Core) : Type 0 where
+  pub same : new ≡ record old { recent = new.recent }
+  pub recent : AreRecent s new.recent
+
+-- the deeds whose acts, or the names in them, are kept
+abbrev pub is_kept : Deed → Bool
+is_kept (Search p spot to got) = true
+is_kept (Finalise s shown got listed anew) = true
+is_kept (Sleep s) = true
+is_kept (Wake s) = true
+is_kept _ = false
 
 -- the reply of a command: that of a refusal, or that it had its effect
 abbrev pub answer_by : World → Option Refusal → Reply
@@ -59,8 +81,6 @@ abbrev pub device_told : Deed → Option ℕ
 device_told (Drop s) = Some s
 device_told (Done ticket) = Some ticket.serial
 device_told (Free s) = Some s
-device_told (Sleep s) = Some s
-device_told (Wake s) = Some s
 device_told _ = None
 
 -- what comes has a row

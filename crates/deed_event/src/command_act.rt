@@ -6,9 +6,7 @@ ghost use Rattle.run_rules.specs.declared.event.Reply.{Reply};
 ghost use Rattle.run_rules.specs.Next as next;
 ghost use Rattle.run_rules.specs.Run as run;
 ghost use Rattle.run_rules.specs.World.{World};
-ghost use Rattle.run_world.specs.Events.{HaveRows};
-ghost use Rattle.run_world.specs.Input.{Bounded};
-ghost use Rattle.deed_event.specs.Sayings.{AnswersLive, EndsLive, RefusesLive, answer_by, name_given};
+ghost use Rattle.deed_event.specs.Sayings.{HaveNames, AnswersLive, EndsLive, RefusesLive, answer_by, name_given};
 ghost use Rattle.run_world.specs.View.{world_of};
 
 use crate::listed_names::{list_names, live_name, tree_names};
@@ -31,8 +29,7 @@ pub fn answer_for(ticket: Ticket) -> IoAnswer
 
 /// The reply of a refusal.
 fn reply_of(alloc: Global, setup: &Setup, core: &Core, why: Refusal) -> Result<Reply, Memory>
-    requires bounded { Bounded setup.now }
-    requires rows { HaveRows setup.now core.now.tree.live }
+    requires names { HaveNames setup.now core.now }
     requires live { RefusesLive core.now.tree.live why }
     ensures { IfOk result (λ r. r ≡ run.reply_of (world_of setup.now core.now) why) }
 {
@@ -62,8 +59,7 @@ fn answer_by(
     core: &Core,
     refused: Option<Refusal>,
 ) -> Result<Reply, Memory>
-    requires bounded { Bounded setup.now }
-    requires rows { HaveRows setup.now core.now.tree.live }
+    requires names { HaveNames setup.now core.now }
     requires live { AnswersLive core.now.tree.live refused }
     ensures { IfOk result (λ r. r ≡ answer_by (world_of setup.now core.now) refused) }
 {
@@ -75,8 +71,7 @@ fn answer_by(
 
 /// The reply with which a power command ends.
 fn end_of(alloc: Global, setup: &Setup, core: &Core, end: PowerEnd) -> Result<Reply, Memory>
-    requires bounded { Bounded setup.now }
-    requires rows { HaveRows setup.now core.now.tree.live }
+    requires names { HaveNames setup.now core.now }
     requires live { EndsLive core.now.tree.live end }
     ensures { IfOk result (λ r. r ≡ run.end_of (world_of setup.now core.now) end) }
 {
@@ -102,8 +97,7 @@ fn answered(
     name: &Name,
     refused: Option<Refusal>,
 ) -> Result<(Name, Reply), Memory>
-    requires bounded { Bounded setup.now }
-    requires rows { HaveRows setup.now core.now.tree.live }
+    requires names { HaveNames setup.now core.now }
     requires live { AnswersLive core.now.tree.live refused }
     ensures { IfOk result (λ told. told ≡ (name.now, answer_by (world_of setup.now core.now) refused)) }
 {
@@ -127,8 +121,7 @@ fn name_or_none(name: &Option<Name>) -> Result<Option<Name>, Memory>
 
 /// A list with its names.
 fn list_act(alloc: Global, setup: &Setup, core: &Core, name: &Option<Name>) -> Result<Act, Memory>
-    requires bounded { Bounded setup.now }
-    requires rows { HaveRows setup.now core.now.tree.live }
+    requires names { HaveNames setup.now core.now }
     ensures { IfOk result (λ a. a ≡ act.ListDev name.now (run.list_names (world_of setup.now core.now) name.now)) }
 {
     let device = name_or_none(name)?;
@@ -138,8 +131,7 @@ fn list_act(alloc: Global, setup: &Setup, core: &Core, name: &Option<Name>) -> R
 
 /// A tree with its names.
 fn tree_act(alloc: Global, setup: &Setup, core: &Core, name: &Option<Name>) -> Result<Act, Memory>
-    requires bounded { Bounded setup.now }
-    requires rows { HaveRows setup.now core.now.tree.live }
+    requires names { HaveNames setup.now core.now }
     requires few { length core.now.tree.live + 1 < 2 ^ 32 }
     ensures { IfOk result (λ a. a ≡ act.TreeDev name.now (run.tree_names (world_of setup.now core.now) name.now)) }
 {
@@ -150,8 +142,7 @@ fn tree_act(alloc: Global, setup: &Setup, core: &Core, name: &Option<Name>) -> R
 
 /// The names that a list or a tree tells.
 fn listing_act(alloc: Global, setup: &Setup, core: &Core, said: &Command) -> Result<Act, Memory>
-    requires bounded { Bounded setup.now }
-    requires rows { HaveRows setup.now core.now.tree.live }
+    requires names { HaveNames setup.now core.now }
     requires few { length core.now.tree.live + 1 < 2 ^ 32 }
     requires listing { name_given said.now ≡ None }
     ensures { (r : Reply) → IfOk result (λ a. a ≡ run.told (world_of setup.now core.now) said.now r) }
@@ -237,8 +228,7 @@ fn command_act(
     said: &Command,
     refused: Option<Refusal>,
 ) -> Result<Act, Memory>
-    requires bounded { Bounded setup.now }
-    requires rows { HaveRows setup.now core.now.tree.live }
+    requires names { HaveNames setup.now core.now }
     requires few { length core.now.tree.live + 1 < 2 ^ 32 }
     requires live { AnswersLive core.now.tree.live refused }
     ensures { IfOk result (λ a. a ≡ run.told (world_of setup.now core.now) said.now (answer_by (world_of setup.now core.now) refused)) }
@@ -260,8 +250,7 @@ pub fn answered_act(
     caller: u8,
     refused: Option<Refusal>,
 ) -> Result<Act, Memory>
-    requires bounded { Bounded setup.now }
-    requires rows { HaveRows setup.now core.now.tree.live }
+    requires names { HaveNames setup.now core.now }
     requires few { length core.now.tree.live + 1 < 2 ^ 32 }
     requires caller { caller < length core.now.callers.items }
     requires live { AnswersLive core.now.tree.live refused }
@@ -294,8 +283,7 @@ pub fn power_end_act(
     caller: u8,
     end: PowerEnd,
 ) -> Result<Act, Memory>
-    requires bounded { Bounded setup.now }
-    requires rows { HaveRows setup.now core.now.tree.live }
+    requires names { HaveNames setup.now core.now }
     requires live { EndsLive core.now.tree.live end }
     requires caller { caller < length core.now.callers.items }
     requires power { option_map_or next.is_power (next.command_of (world_of setup.now core.now) caller) false ≡ true }

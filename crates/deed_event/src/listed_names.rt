@@ -4,8 +4,8 @@ ghost use Rattle.run_rules.specs.Run as run;
 ghost use Rattle.run_rules.specs.Tree.{tree_below};
 ghost use Rattle.run_rules.specs.World as world;
 ghost use Rattle.dev_tree.specs.Branching.{AreBranches};
-ghost use Rattle.run_world.specs.Events.{HaveRows, IsLive, name_live};
-ghost use Rattle.run_world.specs.Input.{Bounded};
+ghost use Rattle.run_world.specs.Events.{IsLive, name_live};
+ghost use Rattle.deed_event.specs.Sayings.{HaveNames};
 ghost use Rattle.run_world.specs.View.{world_of};
 
 use crate::names::{device_name, parent_name};
@@ -18,8 +18,7 @@ use std::alloc::Global;
 /// The name of a live device.
 #[inline(always)]
 pub fn live_name(alloc: Global, setup: &Setup, core: &Core, serial: u64) -> Result<Name, Memory>
-    requires bounded { Bounded setup.now }
-    requires rows { HaveRows setup.now core.now.tree.live }
+    requires names { HaveNames setup.now core.now }
     requires live { IsLive core.now.tree.live serial }
     ensures { IfOk result (λ n. n ≡ name_live setup.now core.now.tree.live serial) }
 {
@@ -28,8 +27,7 @@ pub fn live_name(alloc: Global, setup: &Setup, core: &Core, serial: u64) -> Resu
 
 /// The names of the children of a device, or of the root for 0, by serial.
 fn child_names(alloc: Global, setup: &Setup, core: &Core, serial: u64) -> Result<List<Name>, Memory>
-    requires bounded { Bounded setup.now }
-    requires rows { HaveRows setup.now core.now.tree.live }
+    requires names { HaveNames setup.now core.now }
     ensures { IfOk result (λ names. names ≡ map (world.name_of setup.now) (world.children core.now.tree.live serial)) }
 {
     let mut names = List::make(alloc);
@@ -51,8 +49,7 @@ pub fn list_names(
     core: &Core,
     name: &Option<Name>,
 ) -> Result<Option<List<Name>>, Memory>
-    requires bounded { Bounded setup.now }
-    requires rows { HaveRows setup.now core.now.tree.live }
+    requires names { HaveNames setup.now core.now }
     ensures { IfOk result (λ names. names ≡ run.list_names (world_of setup.now core.now) name.now) }
 {
     match name {
@@ -78,7 +75,7 @@ fn depth_name(
     depth: u32,
     device: &Dev,
 ) -> Result<DepthName, Memory>
-    requires bounded { Bounded setup.now }
+    requires names { HaveNames setup.now core.now }
     requires row { device.now.row < length setup.now.tables.rows }
     ensures { IfOk result (λ d. d ≡ run.depth_name setup.now (depth, device.now)) }
 {
@@ -97,8 +94,7 @@ fn push_names(
     parent: u64,
     names: &mut List<DepthName>,
 ) -> Result<(), Memory>
-    requires bounded { Bounded setup.now }
-    requires rows { HaveRows setup.now core.now.tree.live }
+    requires names { HaveNames setup.now core.now }
     requires branches { AreBranches core.now.tree.live branches.now }
     requires shallow { depth + levels < 2 ^ 32 }
     ensures { OnOk result (names.new ≡ names.old ++ map (run.depth_name setup.now) (tree_below levels core.now.tree.live depth parent)) }
@@ -131,8 +127,7 @@ fn names_from(
     core: &Core,
     top: Dev,
 ) -> Result<List<DepthName>, Memory>
-    requires bounded { Bounded setup.now }
-    requires rows { HaveRows setup.now core.now.tree.live }
+    requires names { HaveNames setup.now core.now }
     requires row { top.row < length setup.now.tables.rows }
     requires few { length core.now.tree.live + 1 < 2 ^ 32 }
     ensures { IfOk result (λ names. names ≡ map (run.depth_name setup.now) ((0, top) ∷ tree_below (length core.now.tree.live) core.now.tree.live 1 top.serial)) }
@@ -156,8 +151,7 @@ fn names_from(
 
 /// The names of all that stands below the root, depth first.
 fn names_of_all(alloc: Global, setup: &Setup, core: &Core) -> Result<List<DepthName>, Memory>
-    requires bounded { Bounded setup.now }
-    requires rows { HaveRows setup.now core.now.tree.live }
+    requires names { HaveNames setup.now core.now }
     requires few { length core.now.tree.live + 1 < 2 ^ 32 }
     ensures { IfOk result (λ names. names ≡ map (run.depth_name setup.now) (tree_below (length core.now.tree.live) core.now.tree.live 0 0)) }
 {
@@ -184,8 +178,7 @@ pub fn tree_names(
     core: &Core,
     name: &Option<Name>,
 ) -> Result<Option<List<DepthName>>, Memory>
-    requires bounded { Bounded setup.now }
-    requires rows { HaveRows setup.now core.now.tree.live }
+    requires names { HaveNames setup.now core.now }
     requires few { length core.now.tree.live + 1 < 2 ^ 32 }
     ensures { IfOk result (λ names. names ≡ run.tree_names (world_of setup.now core.now) name.now) }
 {

@@ -4,12 +4,11 @@ ghost use Rattle.cf_text.specs.Shapes.{is_written};
 ghost use Rattle.run_rules.specs.Run as run;
 ghost use Rattle.run_rules.specs.World as world;
 ghost use Rattle.run_world.specs.Input.{Bounded};
-ghost use Rattle.run_world.specs.Events.{HaveRows};
-ghost use Rattle.deed_event.specs.Sayings.{HasRow};
+ghost use Rattle.deed_event.specs.Sayings.{HasRow, HaveNames, TellsAside};
 
 use cf_types::{Memory, Name, put_decimal};
-use run_rules::{Act, Arrival, Dev, Event, Got, Setup, Shown};
-use run_world::{Core, driver_name, driver_of, is_called};
+use run_rules::{Arrival, Dev, Got, Setup, Shown};
+use run_world::{Called, Core, driver_name, driver_of};
 use std::alloc::Global;
 
 /// How many bytes a name may have.
@@ -35,43 +34,16 @@ pub fn unit_name(alloc: Global, setup: &Setup, row: u32, unit: u32) -> Result<Na
     joined(alloc, driver_name(setup, driver_of(setup, row)), unit)
 }
 
-/// The name that an event tells of a device that came.
-#[inline(always)]
-fn told_name(event: &Event) -> Option<&Name> {
-    match &event.act {
-        Act::Found { got: Some(got), .. } => Some(&got.name),
-        Act::Final {
-            shown: Some(Shown { got: Some(got), .. }),
-            ..
-        } => Some(&got.name),
-        _ => None,
-    }
-}
-
-/// The name that was told when a device came to a spot last. Whoever takes it compares it first.
-#[inline(always)]
-fn last_name(core: &Core, spot: u16) -> Option<&Name> {
-    let place = core.came.get(spot as usize)?;
-    let event = core.events.get(*place as usize)?;
-    told_name(event)
-}
-
-/// The name of a device. It is shared with the event that told the device when it came; where that tells another one, the
-/// name is made anew.
+/// The name of a device. It is shared with the event that told the device when it came; where that is not kept, the name is
+/// made anew.
 #[inline(always)]
 pub fn device_name(alloc: Global, setup: &Setup, core: &Core, device: &Dev) -> Result<Name, Memory>
-    requires bounded { Bounded setup.now }
+    requires names { HaveNames setup.now core.now }
     requires row { device.now.row < length setup.now.tables.rows }
     ensures { IfOk result (λ n. n ≡ world.name_of setup.now device.now) }
 {
-    match last_name(core, device.spot) {
-        Some(name) => {
-            if is_called(setup, device, name.bytes()) {
-                Ok(name.clone()?)
-            } else {
-                unit_name(alloc, setup, device.row, device.unit)
-            }
-        }
+    match core.recent.name(Called::of(device), device.spot) {
+        Some(name) => Ok(name.clone()?),
         None => unit_name(alloc, setup, device.row, device.unit),
     }
 }
@@ -80,8 +52,7 @@ pub fn device_name(alloc: Global, setup: &Setup, core: &Core, device: &Dev) -> R
 #[tactic(auto, unfolding(run_rules::specs::World::parent_name, run_rules::specs::World::root_name))]
 #[inline(always)]
 pub fn parent_name(alloc: Global, setup: &Setup, core: &Core, serial: u64) -> Result<Name, Memory>
-    requires bounded { Bounded setup.now }
-    requires rows { HaveRows setup.now core.now.tree.live }
+    requires names { HaveNames setup.now core.now }
     ensures { IfOk result (λ n. n ≡ world.parent_name setup.now core.now.tree.live serial) }
 {
     match core.tree.get(serial) {
@@ -102,18 +73,44 @@ pub fn spot_name(setup: &Setup, spot: u16) -> Result<Name, Memory>
     }
 }
 
+/// The name and the row of what came. The name is kept for later events.
+pub fn arrival_got(
+    alloc: Global,
+    setup: &Setup,
+    core: &mut Core,
+    arrival: Arrival,
+) -> Result<Got, Memory>
+    requires names { HaveNames setup.now core.old }
+    requires row { arrival.row < length setup.now.tables.rows }
+    ensures got { IfOk result (λ got. got ≡ record { name = world.unit_name setup.now arrival.row arrival.unit; row = arrival.row }) }
+    ensures aside { TellsAside setup.now core.old core.new }
+{
+    let name = unit_name(alloc, setup, arrival.row, arrival.unit)?;
+    let of = Called {
+        row: arrival.row,
+        unit: arrival.unit,
+    };
+    core.recent.keep_name(of, arrival.spot, name.clone()?);
+    Ok(Got {
+        name,
+        row: arrival.row,
+    })
+}
+
 /// The name and the row of what came, if anything did.
-#[inline(always)]
-pub fn got_of(alloc: Global, setup: &Setup, got: Option<Arrival>) -> Result<Option<Got>, Memory>
-    requires bounded { Bounded setup.now }
+fn got_of(
+    alloc: Global,
+    setup: &Setup,
+    core: &mut Core,
+    got: Option<Arrival>,
+) -> Result<Option<Got>, Memory>
+    requires names { HaveNames setup.now core.old }
     requires row { HasRow setup.now got }
-    ensures { IfOk result (λ named. named ≡ run.got_of setup.now got) }
+    ensures got { IfOk result (λ named. named ≡ run.got_of setup.now got) }
+    ensures aside { TellsAside setup.now core.old core.new }
 {
     match got {
-        Some(a) => {
-            let name = unit_name(alloc, setup, a.row, a.unit)?;
-            Ok(Some(Got { name, row: a.row }))
-        }
+        Some(arrival) => Ok(Some(arrival_got(alloc, setup, core, arrival)?)),
         None => Ok(None),
     }
 }
@@ -122,18 +119,20 @@ pub fn got_of(alloc: Global, setup: &Setup, got: Option<Arrival>) -> Result<Opti
 pub fn shown_of(
     alloc: Global,
     setup: &Setup,
+    core: &mut Core,
     shown: Option<u16>,
     got: Option<Arrival>,
 ) -> Result<Option<Shown>, Memory>
-    requires bounded { Bounded setup.now }
+    requires names { HaveNames setup.now core.old }
     requires spot { IfSome shown (λ x. x < length setup.now.machine.spots) }
     requires row { HasRow setup.now got }
-    ensures { IfOk result (λ told. told ≡ run.shown_of setup.now shown got) }
+    ensures shown { IfOk result (λ told. told ≡ run.shown_of setup.now shown got) }
+    ensures aside { TellsAside setup.now core.old core.new }
 {
     match shown {
         Some(spot) => {
             let spot = spot_name(setup, spot)?;
-            let got = got_of(alloc, setup, got)?;
+            let got = got_of(alloc, setup, core, got)?;
             Ok(Some(Shown { spot, got }))
         }
         None => Ok(None),

@@ -2,8 +2,7 @@
 ghost use Rattle.std.specs.Prelude.{◌≡◌, ◌<◌, ◌+◌, ◌++◌, ◌^◌, IfOk, OnOk, length, map};
 ghost use Rattle.run_rules.specs.Tree as rule;
 ghost use Rattle.dev_tree.specs.Branching.{AreBranches};
-ghost use Rattle.run_world.specs.Events.{HaveRows};
-ghost use Rattle.run_world.specs.Input.{Bounded};
+ghost use Rattle.deed_event.specs.Sayings.{HaveNames};
 ghost use Rattle.run_world.specs.View.{world_of};
 
 use crate::names::{device_name, parent_name};
@@ -22,8 +21,7 @@ fn line_of(
     depth: u32,
     device: &Dev,
 ) -> Result<DevLine, Memory>
-    requires bounded { Bounded setup.now }
-    requires rows { HaveRows setup.now core.now.tree.live }
+    requires names { HaveNames setup.now core.now }
     requires row { device.now.row < length setup.now.tables.rows }
     ensures { IfOk result (λ line. line ≡ rule.dev_line (world_of setup.now core.now) (depth, device.now)) }
 {
@@ -52,8 +50,7 @@ fn push_below(
     parent: u64,
     lines: &mut List<DevLine>,
 ) -> Result<(), Memory>
-    requires bounded { Bounded setup.now }
-    requires rows { HaveRows setup.now core.now.tree.live }
+    requires names { HaveNames setup.now core.now }
     requires branches { AreBranches core.now.tree.live branches.now }
     requires shallow { depth + levels < 2 ^ 32 }
     ensures { OnOk result (lines.new ≡ lines.old ++ map (rule.dev_line (world_of setup.now core.now)) (rule.tree_below levels core.now.tree.live depth parent)) }
@@ -81,8 +78,7 @@ fn push_below(
 
 /// The whole tree.
 pub fn tree_of(alloc: Global, setup: &Setup, core: &Core) -> Result<List<DevLine>, Memory>
-    requires bounded { Bounded setup.now }
-    requires rows { HaveRows setup.now core.now.tree.live }
+    requires names { HaveNames setup.now core.now }
     requires few { length core.now.tree.live < 2 ^ 32 }
     ensures { IfOk result (λ lines. lines ≡ rule.tree_lines (world_of setup.now core.now)) }
 {

@@ -1,6 +1,7 @@
 -- A step of a caller keeps what a board keeps.
 use Rattle.std.proofs.Common.{◌≡◌, ◌≤◌, ◌+◌, ◌&&◌, ℕ, Bool, true, false, not, find, None, List, [], ◌∷◌, ◌++◌, length, refl, sym, ap, subst, inl, inr, arith, length-append}
 use Rattle.std.specs.List.{AllByRecursion}
+use Rattle.std.specs.Prelude.{OnOk, Result, Ok, Err}
 use Rattle.run_rules.specs.declared.event.Event.{Event}
 use Rattle.run_rules.specs.declared.world.Activity.{Activity}
 use Rattle.run_rules.specs.declared.world.Activity.TheVariants as activity
@@ -23,7 +24,8 @@ use Rattle.run_sound.specs.Kept.{Kept}
 use Rattle.dev_board.specs.declared.answer.LeaseStep.{LeaseStep}
 use Rattle.dev_board.specs.declared.answer.LeaseStep.TheVariants.{Keep}
 use Rattle.run_world.specs.declared.parts.Core.{Core}
-use Rattle.dev_board.specs.Commits.{Performed}
+use Rattle.deed_event.specs.Sayings.{TellsAside}
+use Rattle.dev_board.specs.Commits.{HasRoom, Performed}
 use Rattle.dev_board.specs.Shown.{Shown}
 use Rattle.dev_board.specs.Stepping.{DoesNext}
 use Rattle.run_world.specs.View.{Books, world_of}
@@ -74,6 +76,28 @@ kept_shown s old new same books kept = record {
   formed = subst (λ (b : Shown). AllByRecursion IsFormed b.events) (sym same) kept.formed;
   next_high = subst (λ (b : Shown). b.world.next ≤ length b.events + 1) (sym same) kept.next_high;
 }
+
+-- and what keeps an act that was told
+
+pub books_told : (s : Setup) (old new : Core) → TellsAside s old new → Books s old → Books s new
+books_told s old new aside b =
+    subst (Books s) (sym aside.same) (record { marks = b.marks; units = b.units; drivers = b.drivers; recent = aside.recent })
+
+pub kept_told : (s : Setup) (old new : Core) → TellsAside s old new → CoreKept s old → CoreKept s new
+kept_told s old new aside kept = kept_shown s old new (ap (shown_of s) aside.same) (books_told s old new aside kept.books) kept
+
+pub room_told : (s : Setup) (old new : Core) (k : ℕ) (d : Deed) → TellsAside s old new → HasRoom old k d → HasRoom new k d
+room_told s old new k d aside room =
+    subst (λ (c : Core). HasRoom c k d) (sym aside.same) (record { frames = room.frames; calls = room.calls; events = room.events })
+
+pub performed_told : (s : Setup) (old told new : Core) (k : ℕ) (d : Deed) → TellsAside s old told → Performed s told new k d → Performed s old new k d
+performed_told s old told new k d aside did =
+    let so : Performed s (record old { recent = told.recent }) new k d = subst (λ (c : Core). Performed s c new k d) aside.same did in
+    record { world = so.world; events = so.events; formed = so.formed; stops = so.stops; stopped = so.stopped }
+
+pub on_ok : {T E : Type 0} {A B : Type 0} (r : Result T E) → (A → B) → OnOk r A → OnOk r B
+on_ok (Ok t) f a = f a
+on_ok (Err e) f a = tt
 
 -- ---- the witness
 

@@ -31,7 +31,7 @@ begins s c may scripts f =
       calls = subst CallsDevices (sym f.world) (calls_first s);
       may = may;
       scripts = scripts;
-      books = record { marks = rw (f.rows, live) (first_marks s); units = rw live (first_units s c.units f.units); drivers = rw (f.drivers, live) refl };
+      books = record { marks = rw (f.rows, live) (first_marks s); units = rw live (first_units s c.units f.units); drivers = rw (f.drivers, live) refl; recent = f.recent };
       formed = rw f.events tt;
       next_high = omega (arith, next);
     }

@@ -8,7 +8,7 @@ use run_rules::{Act, Event};
 fn closes_script(event: &Event) -> bool
     ensures { result ≡ count.closes_script event.now }
 {
-    event.caller != 0 && matches!(&event.act, Act::End)
+    event.caller != 0 && matches!(event.act.get(), Act::End)
 }
 
 /// The ends of callers other than 0.

@@ -18,7 +18,7 @@ ghost use Rattle.run_world.specs.Sites.{world_at};
 
 use crate::history::append_event;
 use crate::lease::lease_of;
-use crate::slots::{Halt, got_of, run_deed};
+use crate::slots::{Halt, run_deed};
 use crate::stepped::Stepped;
 use crate::told::Told;
 use cf_types::Memory;
@@ -41,16 +41,6 @@ fn frames_for(core: &Core, deed: &Deed) -> usize
         Deed::Search { .. } => 2,
         Deed::Finalise { .. } => 2,
         _ => 0,
-    }
-}
-
-/// Notes for the spot of the device that comes by a deed, if one does, the place of the event that tells it.
-#[inline(always)]
-fn note_coming(came: &mut Vec<u64>, deed: &Deed, place: u64) {
-    if let Some(arrival) = got_of(deed) {
-        if let Some(noted) = came.get_mut(arrival.spot as usize) {
-            *noted = place;
-        }
     }
 }
 
@@ -81,8 +71,6 @@ fn reserve(setup: &Setup, core: &mut Core, caller: u8, deed: &Deed) -> Result<()
     core.callers[caller as usize].stack.reserve(frames)?;
     make_room(&mut core.finalisers)?;
     make_room(&mut core.events)?;
-    let place = core.events.len() as u64;
-    note_coming(&mut core.came, deed, place);
     Ok(())
 }
 

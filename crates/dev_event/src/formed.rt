@@ -252,5 +252,5 @@ pub fn is_formed(event: &Event) -> bool
     ensures { IsTrue result ↔ rule.IsFormed event.now }
 {
     let _number = event.number;
-    event.caller <= MAX_CALLER && is_formed_act(&event.act)
+    event.caller <= MAX_CALLER && is_formed_act(event.act.get())
 }

@@ -12,6 +12,7 @@ mod read_names;
 mod read_reply;
 mod word;
 
+pub use act::put_act;
 pub use line::{put_event, put_event_1};
 pub use read::{read_caller, read_event};
-pub use run_rules::{Act, DepthName, Event, Got, IoAnswer, PowerKind, Reply, Shown};
+pub use run_rules::{Act, DepthName, Event, Got, IoAnswer, PowerKind, Reply, SharedAct, Shown};

@@ -3,7 +3,7 @@ ghost use Rattle.run_rules.specs.Lines.{line_of, line_of_1};
 
 use crate::act::{put_act, put_act_1};
 use crate::parts::put_marked;
-use cf_types::Memory;
+use cf_types::{Memory, put_bytes};
 use run_rules::Event;
 
 /// How many bytes serve for most lines.
@@ -25,7 +25,10 @@ fn put_line(out: &mut Vec<u8>, event: &Event) -> Result<(), Memory>
     ensures { OnOk result (out.new.items ≡ out.old.items ++ line_of event.now) }
 {
     put_head(out, event)?;
-    put_act(out, &event.act)
+    match event.act.text() {
+        Some(text) => put_bytes(out, text),
+        None => put_act(out, event.act.get()),
+    }
 }
 
 /// Puts the line of an event where nothing stands. Where memory runs out, nothing stands there.
@@ -68,7 +71,7 @@ pub fn put_event_1(event: &Event, out: &mut Vec<u8>) -> Result<(), Memory>
 {
     let mut line = Vec::with_capacity(*out.allocator(), USUAL)?;
     put_head(&mut line, event)?;
-    put_act_1(&mut line, &event.act)?;
+    put_act_1(&mut line, event.act.get())?;
     out.extend_from_slice(&line)?;
     Ok(())
 }

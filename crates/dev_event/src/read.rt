@@ -7,7 +7,7 @@ use crate::formed::is_formed;
 use crate::line::put_event;
 use crate::read_act::act_in;
 use cf_types::Memory;
-use run_rules::Event;
+use run_rules::{Event, SharedAct};
 use std::alloc::Global;
 
 /// The greatest caller.
@@ -27,7 +27,7 @@ fn event_in(alloc: Global, line: &[u8]) -> Result<Option<Event>, Memory>
     Ok(Some(Event {
         caller,
         number,
-        act,
+        act: SharedAct::make(alloc, act)?,
     }))
 }
 

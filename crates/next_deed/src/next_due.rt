@@ -1,10 +1,10 @@
 //! Where a scan goes on behind a turn that is not due.
-ghost use Rattle.std.specs.Prelude.{◌≡◌, ◌≤◌, ◌<◌, ℕ, Some, true, false, length, option_map, IfSome};
+ghost use Rattle.std.specs.Prelude.{◌≡◌, ◌≤◌, ◌<◌, ℕ, true, false, length, IfSome};
 ghost use Rattle.run_rules.specs.Search as rule;
 ghost use Rattle.run_rules.specs.declared.world.Position as places;
 ghost use Rattle.run_world.specs.View.{Books};
-ghost use Rattle.next_deed.specs.Pairs.{IsIdle, at_pair};
-ghost use Rattle.next_deed.specs.Turns.{is_due_at, is_open_at};
+ghost use Rattle.next_deed.specs.Pairs.{IsIdle, IsPassed, IsWhereDue};
+ghost use Rattle.next_deed.specs.Turns.{is_open_at};
 
 use crate::due::is_open;
 use crate::search::winner_at;
@@ -55,7 +55,7 @@ fn due_position(
 ) -> Option<Position>
     requires books { Books site.now.setup core.now }
     ensures place { IfSome result (λ p. (p.attr ≡ turn.at.attr) × (p.spot ≡ spot)) }
-    ensures due { (r : ℕ) → turn.indirect ≡ true → rule.is_child site.now.setup.machine parent turn.place spot ≡ true → is_due_at site.now core.now serial filter.now (at_pair turn r spot) ≡ true → option_map (λ p. p.row) result ≡ Some r }
+    ensures due { IsWhereDue site.now core.now serial filter.now parent turn spot result }
 {
     if !is_child(&site.setup.machine, parent, turn.place, spot)
         || !is_open(&site.setup, core, filter, spot)
@@ -131,7 +131,7 @@ fn next_open(
 ) -> u16
     requires few { length setup.now.machine.spots ≤ 1024 }
     ensures behind { from ≤ result }
-    ensures passed { (x : ℕ) → from ≤ x → x < result → x < length setup.now.machine.spots → rule.is_child setup.now.machine parent place x ≡ true → is_open_at setup.now core.now filter.now x ≡ false }
+    ensures passed { (x : ℕ) → from ≤ x → x < result → IsPassed setup.now core.now filter.now parent place x }
 {
     for spot in from..setup.machine.spots.len() as u16 {
         if !is_passed(setup, core, filter, parent, place, spot) {
@@ -154,7 +154,7 @@ fn next_on_bus(
     requires spot { turn.at.spot < 1024 }
     ensures here { (result.attr ≡ turn.at.attr) × (result.row ≡ turn.at.row) }
     ensures behind { turn.at.spot < result.spot }
-    ensures passed { (x : ℕ) → turn.at.spot < x → x < result.spot → x < length setup.now.machine.spots → rule.is_child setup.now.machine parent turn.place x ≡ true → is_open_at setup.now core.now filter.now x ≡ false }
+    ensures passed { (x : ℕ) → turn.at.spot < x → x < result.spot → IsPassed setup.now core.now filter.now parent turn.place x }
 {
     let from = turn.at.spot + 1;
     Position {

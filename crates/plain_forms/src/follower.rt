@@ -237,7 +237,7 @@ impl<'a> Follower<'a> {
 
     /// Whether plain looks would have this event here; it takes effect.
     fn would_have(&mut self, event: &Event) -> Result<bool, Memory> {
-        match &event.act {
+        match event.act.get() {
             Act::Found { parent, spot, got } => self.finds_below(parent, spot, got),
             Act::Final {
                 device,

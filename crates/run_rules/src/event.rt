@@ -1,3 +1,4 @@
+use crate::shared_act::SharedAct;
 use cf_types::{List, Name};
 
 /// An event: one line of a history. See `Lines` for its spelling.
@@ -8,7 +9,7 @@ pub struct Event {
     /// The number of the command that it belongs to, counted from 1; 0 for the boot, and one more than there are
     /// commands once they are over.
     pub number: u32,
-    pub act: Act,
+    pub act: SharedAct,
 }
 
 /// What happened. A device is named by its external name, the root by `root`.

@@ -3,10 +3,12 @@
 
 mod deed;
 mod event;
+mod shared_act;
 mod world;
 
 pub use deed::{Choice, Deed, PowerEnd, Refusal};
 pub use event::{Act, DepthName, Event, Format, Got, IoAnswer, PowerKind, Reply, Shown};
+pub use shared_act::SharedAct;
 pub use world::{
     Activity, Arrival, Deferred, Dev, Frame, Key, ParentRef, Placing, Position, Ref, Setup, Turn,
     Wait, Wanted,

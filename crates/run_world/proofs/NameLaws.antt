@@ -1,5 +1,5 @@
 -- Which digits spell a number, and which name a device has.
-use Rattle.std.proofs.Common.{◌≡◌, ◌≢◌, ◌<◌, ◌≤◌, ◌+◌, ◌-◌, ◌%◌, ◌/◌, ◌^◌, ◌∙◌, ℕ, zero, suc, Bool, true, false, ◌&&◌, ◌==◌, List, [], ◌∷◌, ◌++◌, length, get_or, take, drop, bytes_eq, decimal, refl, sym, ap, arith, inl, inr, eq-eqb, ne_eqb, length-append, drop-cons}
+use Rattle.std.proofs.Common.{◌≡◌, ◌≢◌, ◌<◌, ◌≤◌, ◌+◌, ◌-◌, ◌%◌, ◌/◌, ◌^◌, ◌∙◌, ℕ, zero, suc, Bool, true, false, ◌&&◌, ◌==◌, List, [], ◌∷◌, ◌++◌, length, get_or, take, drop, bytes_eq, decimal, refl, sym, ap, arith, inl, inr, eq-eqb, ne_eqb, append_assoc, length-append, drop-cons}
 use Rattle.std.proofs.lemmas.Bool.{and_parts, cases_lt, eqb-true}
 use Rattle.std.proofs.lemmas.Fmt.{decimal_digit, decimal_step, decimal_nonempty}
 use Rattle.std.proofs.lemmas.List.{take-append-drop}
@@ -38,10 +38,11 @@ by_ends xs ys x y =
     (λ e. let parts = and_parts (y == x) (bytes_eq xs ys) e in
     equal_from _ _ (ap (λ (zs : List ℕ). zs ++ x ∷ []) (equal_to xs ys parts.1) ∙ ap (λ (z : ℕ). ys ++ z ∷ []) (sym (eqb-true y x parts.0))))
 
--- ---- decimal numbers
+-- ---- a text with a decimal number behind it
 
-pub none_spelled : (v : ℕ) (ds : List ℕ) → v < 2 ^ 32 → length ds < 1 → bytes_eq (decimal v) ds ≡ false
-none_spelled v ds low few = not_equal (decimal v) ds (λ e. omega (arith, few, ap length e, decimal_nonempty v (omega (arith, low))))
+pub none_named : (front : List ℕ) (v : ℕ) (name : List ℕ) → v < 2 ^ 32 → length name < 1 → bytes_eq (front ++ decimal v) name ≡ false
+none_named front v name low few =
+    not_equal (front ++ decimal v) name (λ e. omega (arith, few, ap length e, length-append front (decimal v), decimal_nonempty v (omega (arith, low))))
 
 over_all : {A : Type 0} (xs : List A) (n : ℕ) → length xs ≤ n → drop n xs ≡ []
 over_all [] zero h = refl
@@ -57,38 +58,46 @@ by_last ds some =
     let end : drop n ds ≡ get_or ds n 0 ∷ [] = drop-cons ds n 0 (omega (arith, some)) ∙ ap (λ (xs : List ℕ). get_or ds n 0 ∷ xs) over in
     ap (λ (xs : List ℕ). take n ds ++ xs) (sym end) ∙ take-append-drop n ds
 
-pub last_digit : (v : ℕ) (ds : List ℕ) → v < 10 → 1 ≤ length ds → get_or ds (length ds - 1) 0 ≡ 48 + v % 10 → bytes_eq (decimal v) ds ≡ (length (take (length ds - 1) ds) == 0)
-last_digit v ds low some is =
-    let front : List ℕ = take (length ds - 1) ds in
-    let here : get_or ds (length ds - 1) 0 ≡ 48 + v = is ∙ omega (arith, low) in
-    ap (bytes_eq (decimal v)) (sym (by_last ds some)) ∙ ap (λ (xs : List ℕ). bytes_eq xs (front ++ get_or ds (length ds - 1) 0 ∷ [])) (decimal_digit v low)
-    ∙ by_ends [] front (48 + v) (get_or ds (length ds - 1) 0) ∙ ap (λ b. b && bytes_eq [] front) (eq-eqb _ _ here) ∙ empty front
+pub last_digit : (front : List ℕ) (v : ℕ) (name : List ℕ) → v < 10 → 1 ≤ length name → get_or name (length name - 1) 0 ≡ 48 + v % 10
+    → bytes_eq (front ++ decimal v) name ≡ bytes_eq front (take (length name - 1) name)
+last_digit front v name low some is =
+    let rest : List ℕ = take (length name - 1) name in
+    let here : get_or name (length name - 1) 0 ≡ 48 + v = is ∙ omega (arith, low) in
+    ap (bytes_eq (front ++ decimal v)) (sym (by_last name some))
+    ∙ ap (λ (xs : List ℕ). bytes_eq (front ++ xs) (rest ++ get_or name (length name - 1) 0 ∷ [])) (decimal_digit v low)
+    ∙ by_ends front rest (48 + v) (get_or name (length name - 1) 0)
+    ∙ ap (λ b. b && bytes_eq front rest) (eq-eqb _ _ here)
+
+named_by_last : (front : List ℕ) (v : ℕ) (name : List ℕ) → 10 ≤ v → v < 2 ^ 32 → 1 ≤ length name
+    → bytes_eq (front ++ decimal v) name ≡ ((get_or name (length name - 1) 0 == 48 + v % 10) && bytes_eq (front ++ decimal (v / 10)) (take (length name - 1) name))
+named_by_last front v name high low some =
+    let rest : List ℕ = take (length name - 1) name in
+    ap (bytes_eq (front ++ decimal v)) (sym (by_last name some))
+    ∙ ap (λ (xs : List ℕ). bytes_eq xs (rest ++ get_or name (length name - 1) 0 ∷ []))
+    (ap (λ (xs : List ℕ). front ++ xs) (decimal_step v high (omega (arith, low))) ∙ sym (append_assoc front (decimal (v / 10)) ((48 + v % 10) ∷ [])))
+    ∙ by_ends (front ++ decimal (v / 10)) rest (48 + v % 10) (get_or name (length name - 1) 0)
+
+pub more_digits : (front : List ℕ) (v : ℕ) (name : List ℕ) → 10 ≤ v → v < 2 ^ 32 → 1 ≤ length name → get_or name (length name - 1) 0 ≡ 48 + v % 10
+    → bytes_eq (front ++ decimal v) name ≡ bytes_eq (front ++ decimal (v / 10)) (take (length name - 1) name)
+more_digits front v name high low some is =
+    named_by_last front v name high low some ∙ ap (λ b. b && bytes_eq (front ++ decimal (v / 10)) (take (length name - 1) name)) (eq-eqb _ _ is)
+
+not_last : (front : List ℕ) (v : ℕ) (name : List ℕ) → v < 2 ^ 32 → 1 ≤ length name → get_or name (length name - 1) 0 ≢ 48 + v % 10 → front ++ decimal v ≢ name
+not_last front v name low some isnt = elim (cases_lt v 10) [ inl one ↦ λ e. isnt (alone one e) | inr more ↦ λ e. isnt (last more e) ]
   where
-    empty : (xs : List ℕ) → bytes_eq [] xs ≡ (length xs == 0)
-    empty [] = refl
-    empty (x ∷ xs) = sym (ne_eqb (suc (length xs)) 0 (λ e. omega (arith, e)))
+    alone : v < 10 → front ++ decimal v ≡ name → get_or name (length name - 1) 0 ≡ 48 + v % 10
+    alone one e =
+        let ends : (get_or name (length name - 1) 0 == 48 + v) && bytes_eq front (take (length name - 1) name) ≡ true =
+        sym (ap (bytes_eq (front ++ decimal v)) (sym (by_last name some))
+        ∙ ap (λ (xs : List ℕ). bytes_eq (front ++ xs) (take (length name - 1) name ++ get_or name (length name - 1) 0 ∷ [])) (decimal_digit v one)
+        ∙ by_ends front (take (length name - 1) name) (48 + v) (get_or name (length name - 1) 0))
+        ∙ equal_from (front ++ decimal v) name e in
+        eqb-true _ _ (and_parts _ _ ends).0 ∙ omega (arith, one)
 
-spelled_by_last : (v : ℕ) (ds : List ℕ) → 10 ≤ v → v < 2 ^ 32 → 1 ≤ length ds
-    → bytes_eq (decimal v) ds ≡ ((get_or ds (length ds - 1) 0 == 48 + v % 10) && bytes_eq (decimal (v / 10)) (take (length ds - 1) ds))
-spelled_by_last v ds high low some =
-    ap (bytes_eq (decimal v)) (sym (by_last ds some))
-    ∙ ap (λ (xs : List ℕ). bytes_eq xs (take (length ds - 1) ds ++ get_or ds (length ds - 1) 0 ∷ [])) (decimal_step v high (omega (arith, low)))
-    ∙ by_ends (decimal (v / 10)) (take (length ds - 1) ds) (48 + v % 10) (get_or ds (length ds - 1) 0)
+    last : 10 ≤ v → front ++ decimal v ≡ name → get_or name (length name - 1) 0 ≡ 48 + v % 10
+    last more e = eqb-true _ _ (and_parts _ _ (sym (named_by_last front v name more low some) ∙ equal_from (front ++ decimal v) name e)).0
 
-pub more_digits : (v : ℕ) (ds : List ℕ) → 10 ≤ v → v < 2 ^ 32 → 1 ≤ length ds → get_or ds (length ds - 1) 0 ≡ 48 + v % 10
-    → bytes_eq (decimal v) ds ≡ bytes_eq (decimal (v / 10)) (take (length ds - 1) ds)
-more_digits v ds high low some is = spelled_by_last v ds high low some ∙ ap (λ b. b && bytes_eq (decimal (v / 10)) (take (length ds - 1) ds)) (eq-eqb _ _ is)
-
-not_last : (v : ℕ) (ds : List ℕ) → v < 2 ^ 32 → 1 ≤ length ds → get_or ds (length ds - 1) 0 ≢ 48 + v % 10 → decimal v ≢ ds
-not_last v ds low some isnt = elim (cases_lt v 10) [ inl one ↦ λ e. isnt (alone one e) | inr more ↦ λ e. isnt (last more e) ]
-  where
-    alone : v < 10 → decimal v ≡ ds → get_or ds (length ds - 1) 0 ≡ 48 + v % 10
-    alone one e = rw (← e, decimal_digit v one) (omega (arith, one))
-
-    last : 10 ≤ v → decimal v ≡ ds → get_or ds (length ds - 1) 0 ≡ 48 + v % 10
-    last more e = eqb-true _ _ (and_parts _ _ (sym (spelled_by_last v ds more low some) ∙ equal_from (decimal v) ds e)).0
-
-pub other_digit : (v last zero_digit : ℕ) (ds : List ℕ) → v < 2 ^ 32 → 1 ≤ length ds → last ≡ get_or ds (length ds - 1) 0 → zero_digit ≡ 48 → last ≢ zero_digit + v % 10
-    → bytes_eq (decimal v) ds ≡ (last == zero_digit + v % 10)
-other_digit v last zero_digit ds low some here is isnt =
-    not_equal (decimal v) ds (not_last v ds low some (λ e. isnt (here ∙ e ∙ ap (λ z. z + v % 10) (sym is)))) ∙ sym (ne_eqb last (zero_digit + v % 10) isnt)
+pub other_digit : (front : List ℕ) (v last zero_digit : ℕ) (name : List ℕ) → v < 2 ^ 32 → 1 ≤ length name → last ≡ get_or name (length name - 1) 0 → zero_digit ≡ 48
+    → last ≢ zero_digit + v % 10 → bytes_eq (front ++ decimal v) name ≡ (last == zero_digit + v % 10)
+other_digit front v last zero_digit name low some here is isnt =
+    not_equal (front ++ decimal v) name (not_last front v name low some (λ e. isnt (here ∙ e ∙ ap (λ z. z + v % 10) (sym is)))) ∙ sym (ne_eqb last (zero_digit + v % 10) isnt)

@@ -2,6 +2,7 @@ pub mod Input
 pub mod Events
 pub mod Callers
 pub mod UnitsOf
+pub mod Recent
 pub mod View
 pub mod Sites
 pub mod Arrivals

@@ -5,6 +5,7 @@ use Rattle.run_rules.specs.World.{World, Caller, driver_of, opening}
 use Rattle.run_world.specs.declared.caller.CallerState.{CallerState}
 use Rattle.run_world.specs.declared.parts.Core.{Core}
 use Rattle.match_search.specs.Best.{live_rows}
+use Rattle.run_world.specs.Recent.{AreRecent}
 use Rattle.run_world.specs.UnitsOf.{AreUnitsOf}
 use Rattle.unit_alloc.specs.Taken.{NoneTaken}
 
@@ -33,11 +34,13 @@ world_of s c = record {
   callers = callers_of c.callers.items;
 }
 
--- the rows are marked as they are live, exactly the units of live devices are taken, and the tree knows their drivers
+-- the rows are marked as they are live, exactly the units of live devices are taken, the tree knows their drivers, and what is
+-- kept of the acts that were told tells so
 pub record Books (s : Setup) (c : Core) : Type 0 where
   pub marks : c.rows ≡ live_rows s c.tree.live
   pub units : AreUnitsOf s c.tree.live c.units
   pub drivers : c.tree.drivers ≡ map (λ d. driver_of s d.row) c.tree.live
+  pub recent : AreRecent s c.recent
 
 -- what no event of a caller touches
 pub record SameAside (old new : Core) : Type 0 where
@@ -54,3 +57,4 @@ pub record IsFirst (s : Setup) (c : Core) : Type 0 where
   pub stops : c.stops ≡ 0
   pub stopped : c.stopped ≡ None
   pub events : c.events.items ≡ []
+  pub recent : AreRecent s c.recent

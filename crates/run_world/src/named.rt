@@ -6,33 +6,21 @@ use crate::parts::Core;
 use crate::spots::{driver_name, driver_of};
 use run_rules::{Dev, Setup};
 
-/// Whether digits are the decimal spelling of a number.
-fn spells(digits: &[u8], value: u32) -> bool
-    ensures { bytes_eq (decimal value) digits.now ≡ result }
-{
-    match digits {
-        [] => false,
-        [rest @ .., last] => {
-            let ends = u32::from(*last) == u32::from(b'0') + value % 10;
-            if value < 10 {
-                ends && rest.is_empty()
-            } else {
-                ends && spells(rest, value / 10)
-            }
-        }
-    }
-}
-
-/// Whether a name is a beginning with the digits of a number behind it. Names are short, so bytes are compared one by one.
+/// Whether a name is a beginning with the digits of a number behind it. Names of devices differ mostly in their last digit, so
+/// they are compared from there.
 fn is_unit_name(name: &[u8], front: &[u8], unit: u32) -> bool
     ensures { bytes_eq (front.now ++ decimal unit) name.now ≡ result }
 {
-    match front {
-        [] => spells(name, unit),
-        [first, front @ ..] => match name {
-            [] => false,
-            [byte, name @ ..] => byte == first && is_unit_name(name, front, unit),
-        },
+    match name {
+        [] => false,
+        [rest @ .., last] => {
+            let ends = u32::from(*last) == u32::from(b'0') + unit % 10;
+            if unit < 10 {
+                ends && front == rest
+            } else {
+                ends && is_unit_name(rest, front, unit / 10)
+            }
+        }
     }
 }
 

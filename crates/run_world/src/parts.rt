@@ -4,6 +4,7 @@ ghost use Rattle.run_rules.specs.World as world;
 ghost use Rattle.run_world.specs.View.{IsFirst, callers_of};
 
 use crate::caller::{CallerState, new_scan};
+use crate::recent::Recent;
 use crate::spots::{is_absent, is_late};
 use cf_types::Memory;
 use defer_queue::Deferred;
@@ -41,9 +42,8 @@ pub struct Core {
     pub stops: u64,
     pub stopped: Option<u8>,
     pub events: Vec<Event>,
-    /// For each spot the place of the event that told the device which came there last, if any did. It saves making a name
-    /// anew, and no clause speaks of it: whoever takes a name from there compares it first.
-    pub came: Vec<u64>,
+    /// What was told last of each spot. It saves making it anew, and the world does not show it.
+    pub recent: Recent,
 }
 
 /// The late spots.
@@ -100,7 +100,7 @@ pub fn opening_core(alloc: Global, setup: &Setup) -> Result<Core, Memory>
     let rows = LiveRows::make(alloc, &setup.tables)?;
     let units = Units::make(alloc, setup.tables.devices.len() as u32)?;
     let callers = beginning(alloc, setup)?;
-    let came = vec![in alloc; 0; setup.machine.spots.len()]?;
+    let recent = Recent::make(alloc, setup.machine.spots.len())?;
     Ok(Core {
         tree: DevTree::make(alloc),
         rows,
@@ -118,7 +118,7 @@ pub fn opening_core(alloc: Global, setup: &Setup) -> Result<Core, Memory>
         stops: 0,
         stopped: None,
         events: Vec::new(alloc),
-        came,
+        recent,
     })
 }
 

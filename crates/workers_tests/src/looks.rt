@@ -70,7 +70,7 @@ fn look_around<N: Naming, R: Wait>(
 
 // Whether a device was freed by the event at a place.
 fn is_free(board: &Board, place: u64) -> bool {
-    place < board.events() && matches!(board.event(place).act, Act::Free { device: _ })
+    place < board.events() && matches!(board.event(place).act.get(), Act::Free { device: _ })
 }
 
 // Whether a device was freed by the event at a place, in a run that is over.

@@ -34,7 +34,7 @@ impl<N: Naming> Locked<N> {
     // Whether a device was freed by the event at a place.
     fn has_freed(&self, place: u64) -> bool {
         place < self.board.events()
-            && matches!(self.board.event(place).act, Act::Free { device: _ })
+            && matches!(self.board.event(place).act.get(), Act::Free { device: _ })
     }
 }
 

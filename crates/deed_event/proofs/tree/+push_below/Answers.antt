@@ -16,7 +16,7 @@ blank = record { serial = 0; row = 0; unit = 0; parent = 0; spot = 0; asleep = f
 
 pub line_of-requires-clause-row : goal.line_of-requires-clause-row
 line_of-requires-clause-row t c =
-    child_has (λ d. d.row < length c.args.setup.now.tables.rows) c.args.core.now.tree.live c.below-children.result.now c.args.parent c.loop-device.device-index blank c.requires.rows c.below-children.ensures c.loop-device-test.true
+    child_has (λ d. d.row < length c.args.setup.now.tables.rows) c.args.core.now.tree.live c.below-children.result.now c.args.parent c.loop-device.device-index blank c.requires.names.rows c.below-children.ensures c.loop-device-test.true
 
 pub loop-device-preserved : goal.loop-device-preserved
 loop-device-preserved t c =

@@ -51,6 +51,7 @@ returns-clause-books c = record {
   marks = c.list.ensures.books.marks;
   units = c.list.ensures.books.units;
   drivers = c.list.ensures.books.drivers;
+  recent = c.list.ensures.books.recent;
 }
 
 pub returns-clause-aside : goal.returns-clause-aside

@@ -71,6 +71,7 @@ returns-in-Ok-clause-books c =
       marks = more_marks s core.tree.live d core.rows c.set_rows.new.rows c.requires.books.marks (rw c.driver_of-driver.ensures at c.set_rows.ensures);
       units = more_units s core.tree.live d core.units c.take.new.self c.requires.books.units (rw c.driver_of-driver.ensures at c.in_ok-take.ensures.ok);
       drivers = rw (c.requires.books.drivers, c.driver_of-driver.ensures, map-append (λ d. driver_of s d.row) core.tree.live (d ∷ [])) refl;
+      recent = c.requires.books.recent;
     })
 
 -- ---- where memory runs out, what was taken is given back
@@ -91,6 +92,7 @@ returns-then-is_err-clause-books c =
       marks = c.requires.books.marks;
       units = same_units s core.tree.live core.units c.take.new.self c.give.new.self d n c.requires.books.units free c.in_ok-take.ensures.ok c.give.ensures;
       drivers = c.requires.books.drivers;
+      recent = c.requires.books.recent;
     }
 
 pub returns-in-Err-clause-err : goal.returns-in-Err-clause-err
@@ -112,4 +114,5 @@ returns-in-Err-clause-books c =
       marks = c.requires.books.marks;
       units = same_units s core.tree.live core.units c.take.new.self c.give-in-Err.new.self d n c.requires.books.units free c.in_ok-take.ensures.ok c.give-in-Err.ensures;
       drivers = c.requires.books.drivers;
+      recent = c.requires.books.recent;
     })

@@ -98,6 +98,7 @@ returns-in-Some-clause-books c = record {
   marks = c.arrive.ensures.books.marks;
   units = c.arrive.ensures.books.units;
   drivers = c.arrive.ensures.books.drivers;
+  recent = c.arrive.ensures.books.recent;
 }
 
 pub returns-in-Some-clause-aside : goal.returns-in-Some-clause-aside
@@ -112,6 +113,7 @@ returns-then-is_none-clause-books c = record {
   marks = c.arrive.ensures.books.marks;
   units = c.arrive.ensures.books.units;
   drivers = c.arrive.ensures.books.drivers;
+  recent = c.arrive.ensures.books.recent;
 }
 
 pub returns-then-is_none-clause-aside : goal.returns-then-is_none-clause-aside
@@ -126,6 +128,7 @@ returns-else-is_none-clause-books c = record {
   marks = c.arrive.ensures.books.marks;
   units = c.arrive.ensures.books.units;
   drivers = c.arrive.ensures.books.drivers;
+  recent = c.arrive.ensures.books.recent;
 }
 
 pub returns-else-is_none-clause-aside : goal.returns-else-is_none-clause-aside

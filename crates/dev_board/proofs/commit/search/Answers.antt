@@ -101,6 +101,7 @@ arrive-requires-clause-books c = record {
   marks = c.requires.books.marks;
   units = c.requires.books.units;
   drivers = c.requires.books.drivers;
+  recent = c.requires.books.recent;
 }
 
 pub returns-clause-books : goal.returns-clause-books
@@ -118,6 +119,7 @@ returns-then-is_err-clause-books c = record {
   marks = c.arrive.ensures.books.marks;
   units = c.arrive.ensures.books.units;
   drivers = c.arrive.ensures.books.drivers;
+  recent = c.arrive.ensures.books.recent;
 }
 
 pub returns-then-is_err-clause-aside : goal.returns-then-is_err-clause-aside

@@ -11,6 +11,7 @@ returns-clause-books c = λ s b.
       marks = marks_marked s (with_condemner c.args.core.now.tree.live c.args.caller c.args.of) (condemner_plain c.args.core.now.tree.live c.args.caller c.args.of) live c.args.core.now.rows b.marks;
       units = units_marked s (with_condemner c.args.core.now.tree.live c.args.caller c.args.of) (condemner_plain c.args.core.now.tree.live c.args.caller c.args.of) live c.args.core.now.units b.units;
       drivers = drivers_condemned s c.args.core.now.tree c.args.of c.args.caller b.drivers;
+      recent = b.recent;
     })))
 
 pub returns-clause-world : goal.returns-clause-world

@@ -11,4 +11,5 @@ returns-clause-books c = λ s b.
       marks = marks_marked s (with_sleep c.args.of c.args.asleep) (sleep_plain c.args.of c.args.asleep) live c.args.core.now.rows b.marks;
       units = units_marked s (with_sleep c.args.of c.args.asleep) (sleep_plain c.args.of c.args.asleep) live c.args.core.now.units b.units;
       drivers = drivers_asleep s c.args.core.now.tree c.args.of c.args.asleep b.drivers;
+      recent = b.recent;
     }))

@@ -12,6 +12,7 @@ returns-in-Some-clause-books c = λ s b.
       marks = marks_marked s (with_condemner live c.args.caller of) (condemner_plain live c.args.caller of) live c.args.core.now.rows b.marks;
       units = units_marked s (with_condemner live c.args.caller of) (condemner_plain live c.args.caller of) live c.args.core.now.units b.units;
       drivers = drivers_condemned s c.args.core.now.tree of c.args.caller b.drivers;
+      recent = b.recent;
     })))
 
 pub returns-in-Some-clause-ok : goal.returns-in-Some-clause-ok

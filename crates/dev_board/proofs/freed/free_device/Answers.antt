@@ -35,4 +35,5 @@ returns-clause-books c =
       marks = marks_gone s live c.args.of d core.rows c.set_rows.new.rows c.requires.sound.apart at c.requires.books.marks (rw c.driver_of-driver.ensures at c.set_rows.ensures);
       units = units_gone s live c.args.of d core.units c.give.new.self c.requires.sound.apart at c.requires.books.units (rw c.driver_of-driver.ensures at c.give.ensures);
       drivers = drivers_without s core.tree c.args.of c.requires.books.drivers;
+      recent = c.requires.books.recent;
     })

@@ -59,6 +59,7 @@ returns-in-Ok-clause-books g c = record {
   marks = c.run_deed.ensures.books.marks;
   units = c.run_deed.ensures.books.units;
   drivers = c.run_deed.ensures.books.drivers;
+  recent = c.run_deed.ensures.books.recent;
 }
 
 pub returns-in-Err-clause-books : goal.returns-in-Err-clause-books

@@ -6,11 +6,12 @@ use Rattle.run_world.proofs.parts.opening_core.Goals as goal
 pub returns : goal.returns
 unfolding opening
 returns c = record {
-  world = rw (c.make-3.ensures, c.make-4.ensures, c.in_ok-absent.ensures, c.in_ok-hidden.ensures, c.make-5.ensures, c.new.ensures.items, c.in_ok-callers.ensures) refl;
+  world = rw (c.make-4.ensures, c.make-5.ensures, c.in_ok-absent.ensures, c.in_ok-hidden.ensures, c.make-6.ensures, c.new.ensures.items, c.in_ok-callers.ensures) refl;
   rows = c.in_ok-rows.ensures;
   units = rw c.len.ensures at c.in_ok-units.ensures;
-  drivers = ap (λ (t : Devices). t.drivers) c.make-3.ensures;
+  drivers = ap (λ (t : Devices). t.drivers) c.make-4.ensures;
   stops = refl;
   stopped = refl;
   events = c.new-2.ensures.items;
+  recent = c.in_ok-recent.ensures c.args.setup.now;
 }

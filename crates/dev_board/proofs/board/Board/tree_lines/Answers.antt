@@ -8,8 +8,12 @@ use Rattle.run_rules.specs.Tree.{tree_lines}
 use Rattle.run_world.specs.View.{world_of}
 use Rattle.dev_board.proofs.board.Board.tree_lines.Goals as goal
 
-pub tree_of-requires-clause-bounded : goal.tree_of-requires-clause-bounded
-tree_of-requires-clause-bounded c = c.self.inside.site.bounded
+pub tree_of-requires-clause-names : goal.tree_of-requires-clause-names
+tree_of-requires-clause-names c = record {
+  bounded = c.self.inside.site.bounded;
+  rows = c.self.invariant.kept.ranges.rows;
+  recent = c.self.invariant.books.recent;
+}
 
 -- lines that are those of the tree tell what the history tells
 told_lines : {E : Type 0} (lines : List DevLine) (h : List Event) (r : Result (List DevLine) E) → TellsTree h lines → IfOk r (λ ls. ls ≡ lines) → IfOk r (λ ls. TellsTree h ls)

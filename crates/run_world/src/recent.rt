@@ -1,0 +1,138 @@
+//! What is kept of the events that were told, so that later events share it.
+ghost use Rattle.std.specs.Prelude.{◌≡◌, ◌≤◌, IfOk, IfSome, None};
+ghost use Rattle.std.specs.List.{AllByRecursion};
+ghost use Rattle.run_rules.specs.declared.world.Setup.{Setup};
+ghost use Rattle.run_world.specs.Recent.{AreRecent, act_telling, called, name_called};
+
+use cf_types::{Memory, Name};
+use run_rules::{Dev, SharedAct};
+use std::alloc::Global;
+
+/// How a device is called: by the driver of a row, and a unit.
+#[derive(Clone, Copy, PartialEq, Eq)]
+pub struct Called {
+    pub row: u32,
+    pub unit: u32,
+}
+
+impl Called {
+    /// How this device is called.
+    #[inline(always)]
+    pub fn of(device: &Dev) -> Called
+        ensures { result ≡ called device.now }
+    {
+        Called {
+            row: device.row,
+            unit: device.unit,
+        }
+    }
+}
+
+/// What an act tells that is told again and again: a search below a device, or below the root, which found nothing, or that a
+/// device fell asleep or woke.
+#[derive(Clone, Copy, PartialEq, Eq)]
+pub enum Telling {
+    NothingFound { parent: Option<Called>, spot: u16 },
+    Sleeps(Called),
+    Wakes(Called),
+}
+
+/// An act, with what it tells.
+#[derive(Drop)]
+struct KeptAct {
+    telling: Telling,
+    act: SharedAct,
+}
+
+/// The name of a device, with how it is called.
+#[derive(Drop)]
+struct KeptName {
+    of: Called,
+    name: Name,
+}
+
+/// The acts and names that were told last of each spot. They save making them anew; whoever asks says what for.
+#[derive(Drop)]
+pub struct Recent {
+    acts: Vec<Option<KeptAct>>,
+    names: Vec<Option<KeptName>>,
+}
+
+/// How many acts are kept of a spot: one for each kind of `Telling`.
+const KINDS: usize = 3;
+
+/// Where an act is kept that tells this of a spot, or of the device there.
+#[inline(always)]
+fn place_of(telling: &Telling, spot: u16) -> usize {
+    let kind = match telling {
+        Telling::NothingFound { .. } => 0,
+        Telling::Sleeps(_) => 1,
+        Telling::Wakes(_) => 2,
+    };
+    KINDS * spot as usize + kind
+}
+
+/// So many places, in which nothing is kept.
+fn empty<T: Drop>(alloc: Global, places: usize) -> Result<Vec<Option<T>>, Memory>
+    ensures { IfOk result (λ kept. AllByRecursion (λ place. place ≡ None) kept.items) }
+{
+    let mut kept = Vec::with_capacity(alloc, places)?;
+    for _place in 0..places {
+        kept.push(None)?;
+    }
+    Ok(kept)
+}
+
+impl Recent {
+    /// Room for what will be told of so many spots; nothing was told.
+    pub fn make(alloc: Global, spots: usize) -> Result<Recent, Memory>
+        requires { spots ≤ 1024 }
+        ensures { (s : Setup) → IfOk result (AreRecent s) }
+    {
+        let acts = empty(alloc, KINDS * spots)?;
+        let names = empty(alloc, spots)?;
+        Ok(Recent { acts, names })
+    }
+
+    /// The act that tells this of a spot, or of the device there, if it is kept.
+    #[inline(always)]
+    pub fn act(&self, telling: Telling, spot: u16) -> Option<&SharedAct>
+        ensures { (s : Setup) → AreRecent s self.now → IfSome result (λ a. a.now ≡ act_telling s telling) }
+    {
+        match self.acts.get(place_of(&telling, spot)) {
+            Some(Some(kept)) if kept.telling == telling => Some(&kept.act),
+            _ => None,
+        }
+    }
+
+    /// Keeps an act that tells this of a spot, or of the device there.
+    pub fn keep_act(&mut self, telling: Telling, spot: u16, act: SharedAct)
+        ensures { (s : Setup) → AreRecent s self.old → act ≡ act_telling s telling → AreRecent s self.new }
+    {
+        let place = place_of(&telling, spot);
+        if place < self.acts.len() {
+            self.acts[place] = Some(KeptAct { telling, act });
+        }
+    }
+
+    /// The name of the device on a spot that is called so, if it is kept.
+    #[inline(always)]
+    pub fn name(&self, of: Called, spot: u16) -> Option<&Name>
+        ensures { (s : Setup) → AreRecent s self.now → IfSome result (λ n. n.now ≡ name_called s of) }
+    {
+        match self.names.get(spot as usize) {
+            Some(Some(kept)) if kept.of == of => Some(&kept.name),
+            _ => None,
+        }
+    }
+
+    /// Keeps the name of a device that is called so, for the spot on which it stands.
+    pub fn keep_name(&mut self, of: Called, spot: u16, name: Name)
+        ensures { (s : Setup) → AreRecent s self.old → name ≡ name_called s of → AreRecent s self.new }
+    {
+        let place = spot as usize;
+        if place < self.names.len() {
+            self.names[place] = Some(KeptName { of, name });
+        }
+    }
+}
