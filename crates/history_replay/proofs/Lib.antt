@@ -1,3 +1,4 @@
+pub mod Joined
 pub mod Cuts
 pub mod Readings
 pub mod Readers

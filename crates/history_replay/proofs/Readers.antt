@@ -5,7 +5,7 @@ use Rattle.run_rules.specs.declared.event.Format.{Format}
 use Rattle.plain_world.specs.declared.rules.Rules.{Rules}
 use Rattle.plain_world.specs.declared.world.Plain.{Plain}
 use Rattle.plain_world.specs.Rules.{AreFit, setup_by}
-use Rattle.history_replay.specs.declared.reader.Reader.{Reader}
+use Rattle.history_replay.specs.declared.means.Reader.{Reader}
 use Rattle.history_replay.specs.Going.{IsGoing}
 use Rattle.history_replay.specs.Readers.{IsSame, setup_in}
 use Rattle.history_replay.specs.Steps.{TellsStep}

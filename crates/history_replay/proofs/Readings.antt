@@ -6,12 +6,14 @@ use Rattle.std.specs.declared.result.Result.TheVariants.{Ok, Err}
 use Rattle.run_rules.specs.declared.deed.Choice.{Choice}
 use Rattle.run_rules.specs.declared.deed.Choice.TheVariants.{Does, Ended, Waits}
 use Rattle.run_rules.specs.declared.deed.Deed.{Deed}
+use Rattle.run_rules.specs.declared.event.Act.{Act}
 use Rattle.run_rules.specs.declared.event.Event.{Event}
 use Rattle.run_rules.specs.declared.event.Format.{Format}
+use Rattle.run_rules.specs.declared.event.Format.TheVariants.{Second}
 use Rattle.run_rules.specs.declared.world.Setup.{Setup}
 use Rattle.run_rules.specs.After.{after}
 use Rattle.run_rules.specs.Next.{next}
-use Rattle.run_rules.specs.Run.{event_of}
+use Rattle.run_rules.specs.Run.{event_of, printed}
 use Rattle.run_rules.specs.World.{World}
 use Rattle.run_rules.specs.Reread.{caller_of, format_of, line_in, lines_of, reread, reread_from, reread_lines, step_by, told_by, with_event}
 use Rattle.plain_world.specs.declared.world.Plain.{Plain}
@@ -19,7 +21,7 @@ use Rattle.plain_world.specs.Plain.{world_of}
 use Rattle.history_replay.specs.declared.history.ReplayStop.TheVariants.{Bad}
 use Rattle.history_replay.specs.Going.{GoesOn, IsGoing}
 use Rattle.history_replay.specs.Lines.{IsCut}
-use Rattle.history_replay.specs.Steps.{TellsDeed, TellsNext, TellsStep, event_in, given}
+use Rattle.history_replay.specs.Steps.{TellsDeed, TellsNext, TellsStep, event_as, event_in, given}
 use Rattle.history_replay.specs.Stops.{IsStop, behind}
 use Rattle.history_replay.proofs.Goes.{no_more}
 
@@ -34,6 +36,11 @@ idle_told f w k line (Does d) never = absurd (never d refl)
 -- the event of a deed in place of one that is the same
 pub same_event : (f : Format) (w : World) (k : ℕ) (d : Deed) (line : List ℕ) (e : Event) (o : Option Event) → e ≡ event_of w k d → given (bytes_eq (line_in f e) line) e ≡ o → event_in f w k d line ≡ o
 same_event f w k d line e o is told = ap (λ (x : Event). given (bytes_eq (line_in f x) line) x) (sym is) ∙ told
+
+-- the event of a deed by the act that is told of it, in format 2
+pub same_act : (f : Format) (w : World) (k : ℕ) (d : Deed) (a : Act) (line : List ℕ) (o : Option Event) → f ≡ Second → a ≡ printed w k d → event_as w k a line ≡ o → event_in f w k d line ≡ o
+unfolding event_of
+same_act f w k d a line o second is told = ap (λ (x : Format). event_in x w k d line) second ∙ ap (λ (x : Act). event_as w k x line) (sym is) ∙ told
 
 -- the event that a line tells, with the world after the deed
 by_test : {A B : Type 0} (b : Bool) (a : A) (x y : B) (e : A) → cond {A = Option A} b (Some a) None ≡ Some e → y ≡ x → cond {A = Option (A × B)} b (Some (a, x)) None ≡ Some (e, y)

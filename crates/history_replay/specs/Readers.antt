@@ -2,7 +2,7 @@
 use Rattle.std.specs.Prelude.{◌≡◌}
 use Rattle.run_rules.specs.declared.world.Setup.{Setup}
 use Rattle.run_rules.specs.World.{World}
-use Rattle.history_replay.specs.declared.reader.Reader.{Reader}
+use Rattle.history_replay.specs.declared.means.Reader.{Reader}
 use Rattle.plain_world.specs.declared.world.Plain.{Plain}
 use Rattle.plain_world.specs.Plain.{world_of}
 use Rattle.plain_world.specs.Rules.{setup_by}

@@ -3,15 +3,18 @@ use Rattle.std.specs.Prelude.{◌≡◌, ◌≤◌, ◌+◌, ℕ, Bool, if◌the
 use Rattle.std.specs.declared.result.Result.{Result}
 use Rattle.run_rules.specs.declared.deed.Choice.TheVariants.{Does}
 use Rattle.run_rules.specs.declared.deed.Deed.{Deed}
+use Rattle.run_rules.specs.declared.event.Act.{Act}
 use Rattle.run_rules.specs.declared.event.Event.{Event}
 use Rattle.run_rules.specs.declared.event.Format.{Format}
 use Rattle.run_rules.specs.declared.world.Setup.{Setup}
 use Rattle.run_rules.specs.Next.{next}
 use Rattle.run_rules.specs.Reread.{line_in, lines_of, reread, reread_lines, step_by, told_by}
+use Rattle.run_rules.specs.Lines.{line_of}
 use Rattle.run_rules.specs.Run.{event_of}
 use Rattle.run_rules.specs.World.{World}
 use Rattle.plain_world.specs.declared.world.Plain.{Plain}
 use Rattle.plain_world.specs.Plain.{world_of}
+use Rattle.plain_event.specs.Told.{event_with}
 use Rattle.history_replay.specs.declared.history.ReplayStop.{ReplayStop}
 use Rattle.history_replay.specs.Going.{IsGoing}
 use Rattle.history_replay.specs.Stops.{IsRead}
@@ -19,6 +22,10 @@ use Rattle.history_replay.specs.Stops.{IsRead}
 -- an event where the test has passed
 abbrev pub given : Bool → Event → Option Event
 given is e = if is then Some e else None
+
+-- the event by which a caller tells an act, if a line of format 2 is that of it
+abbrev pub event_as : World → ℕ → Act → List ℕ → Option Event
+event_as w k a line = given (bytes_eq (line_of (event_with w k a)) line) (event_with w k a)
 
 -- the event of a deed, if a line is that of it
 abbrev pub event_in : Format → World → ℕ → Deed → List ℕ → Option Event

@@ -2,7 +2,9 @@
 #![tactic(auto)]
 
 mod cut;
+mod head;
 mod history;
+mod means;
 mod reader;
 
 pub use history::{ReplayStop, Replayed, replay, reread};

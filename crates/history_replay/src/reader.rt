@@ -1,46 +1,27 @@
 //! The lines of a history, each compared with that of the event that its caller does next.
 ghost use Rattle.std.specs.Prelude.{◌≡◌, ◌<◌, ◌≤◌, ◌+◌, ◌-◌, ◌^◌, ◌++◌, IfOk, OnOk, length, bytes_eq};
+ghost use Rattle.run_rules.specs.Next as rules;
 ghost use Rattle.run_rules.specs.Reread as rule;
-ghost use Rattle.plain_world.specs.Plain.{world_of};
+ghost use Rattle.run_rules.specs.declared.event.Format.TheVariants.{Second};
+ghost use Rattle.run_rules.specs.declared.world.Setup.{Setup};
+ghost use Rattle.plain_world.specs.Plain.{HasCaller, IsReady, world_of};
 ghost use Rattle.plain_world.specs.Rules.{AreFit, setup_by};
 ghost use Rattle.history_replay.specs.Going.{GoesOn, IsDue, IsGoing};
 ghost use Rattle.history_replay.specs.Readers.{IsSame, setup_in, world_in};
-ghost use Rattle.history_replay.specs.Steps.{ReadsHistory, ReadsLines, TellsDeed, TellsNext, TellsStep, event_in, given};
+ghost use Rattle.history_replay.specs.Steps.{ReadsHistory, ReadsLines, TellsDeed, TellsNext, TellsStep, event_as, event_in, given};
 
 use crate::cut::{first_line, format_of, is};
+use crate::head::Heads;
 use crate::history::ReplayStop;
+use crate::means::{Reader, reader_by};
 use cf_types::{List, Memory};
 use dev_event::{put_event, put_event_1, read_caller};
-use plain_choice::next;
+use plain_choice::{Seeker, next};
 use plain_effect::apply;
-use plain_event::{Teller, event_of};
+use plain_event::{Again, Kept, Key, Teller, event_of, number_of, told_before};
 use plain_world::{Plain, Rules};
 use run_rules::{Choice, Deed, Event, Format};
 use std::alloc::Global;
-
-/// How many bytes serve for most lines.
-const USUAL: usize = 96;
-
-/// By what lines are read: who tells events, the format, and room for the line that is due.
-#[derive(Drop)]
-struct Reader<'a> {
-    teller: Teller<'a>,
-    format: Format,
-    due: Vec<u8>,
-}
-
-/// A reader of lines of a format.
-fn reader_by<'a>(alloc: Global, rules: &'a Rules<'a>, format: Format) -> Result<Reader<'a>, Memory>
-    ensures { IfOk result (λ r. (r.teller.rules.now ≡ rules.now) × (r.format ≡ format)) }
-{
-    let teller = Teller::make(alloc, rules)?;
-    let due = Vec::with_capacity(alloc, USUAL)?;
-    Ok(Reader {
-        teller,
-        format,
-        due,
-    })
-}
 
 /// Appends the line of an event.
 fn put_line(format: Format, event: &Event, out: &mut Vec<u8>) -> Result<(), Memory>
@@ -90,8 +71,8 @@ fn event_if(
     }
 }
 
-/// The event of what a caller does next, if a line is that of it.
-fn event_told(
+/// The event of what a caller does next, if a line is that of it: the line is put for that.
+fn event_anew(
     reader: &mut Reader,
     plain: &Plain,
     caller: u8,
@@ -107,6 +88,86 @@ fn event_told(
     match event_of(&mut reader.teller, plain, caller, deed) {
         Ok(event) => event_if(&mut reader.due, reader.format, event, line),
         Err(memory) => Err(memory),
+    }
+}
+
+/// The event of an act that was told before, if a line is that of it: only its head is looked at anew.
+fn event_again(
+    heads: &mut Heads,
+    plain: &Plain,
+    caller: u8,
+    kept: &Kept,
+    line: &[u8],
+) -> Result<Option<Event>, Memory>
+    requires { HasCaller plain.now caller 500 }
+    ensures { (s : Setup) → IfOk result (λ e. event_as (world_of s plain.now) caller kept.now.act line.now ≡ e) }
+{
+    let number = number_of(plain, caller);
+    if !heads.is_line(caller, number, &kept.text, line)? {
+        return Ok(None);
+    }
+    let act = kept.act.clone()?;
+    Ok(Some(Event {
+        caller,
+        number,
+        act,
+    }))
+}
+
+/// Notes what is known of a spot that was searched again in vain.
+fn learn(seeker: &mut Seeker, alloc: Global, key: Key)
+    requires { AreFit seeker.old.rules.now }
+    ensures { seeker.new.rules.now ≡ seeker.old.rules.now }
+{
+    match key.again {
+        Again::Nothing => seeker.learn(alloc, key.row, key.unit, key.spot),
+        Again::Asleep => {}
+        Again::Awake => {}
+    }
+}
+
+/// The event of what a caller does next, if a line of format 2 is that of it.
+fn event_by_text(
+    reader: &mut Reader,
+    plain: &Plain,
+    caller: u8,
+    deed: &Deed,
+    line: &[u8],
+) -> Result<Option<Event>, Memory>
+    requires fit { AreFit reader.old.teller.rules.now }
+    requires going { IsGoing (setup_in reader.old) plain.now }
+    requires due { IsDue (setup_in reader.old) plain.now caller deed.now }
+    requires format { reader.old.format ≡ Second }
+    ensures told { IfOk result (λ e. event_in reader.old.format (world_in reader.old plain.now) caller deed.now line.now ≡ e) }
+    ensures same { IsSame reader.old reader.new }
+{
+    let alloc = reader.teller.alloc;
+    match told_before(&reader.teller, plain, deed) {
+        Some(kept) => {
+            learn(&mut reader.seeker, alloc, kept.key);
+            event_again(&mut reader.heads, plain, caller, kept, line)
+        }
+        None => event_anew(reader, plain, caller, deed, line),
+    }
+}
+
+/// The event of what a caller does next, if a line is that of it.
+fn event_told(
+    reader: &mut Reader,
+    plain: &Plain,
+    caller: u8,
+    deed: &Deed,
+    line: &[u8],
+) -> Result<Option<Event>, Memory>
+    requires fit { AreFit reader.old.teller.rules.now }
+    requires going { IsGoing (setup_in reader.old) plain.now }
+    requires due { IsDue (setup_in reader.old) plain.now caller deed.now }
+    ensures told { IfOk result (λ e. event_in reader.old.format (world_in reader.old plain.now) caller deed.now line.now ≡ e) }
+    ensures same { IsSame reader.old reader.new }
+{
+    match reader.format {
+        Format::First => event_anew(reader, plain, caller, deed, line),
+        Format::Second => event_by_text(reader, plain, caller, deed, line),
     }
 }
 
@@ -149,6 +210,15 @@ fn take(
     }
 }
 
+/// What a caller does next.
+fn next_by(reader: &Reader, plain: &Plain, caller: u8) -> Result<Choice, Memory>
+    requires fit { AreFit reader.now.teller.rules.now }
+    requires ready { IsReady plain.now }
+    ensures { IfOk result (λ does. rules.next (world_in reader.now plain.now) caller ≡ does) }
+{
+    next(reader.teller.alloc, &reader.seeker, plain, caller)
+}
+
 /// The event of a caller, if a line is that of what it does next: the world is then the one after it.
 fn told_by(
     reader: &mut Reader,
@@ -162,7 +232,7 @@ fn told_by(
     ensures told { IfOk result (TellsNext (setup_in reader.old) reader.old.format plain.old caller line.now plain.new) }
     ensures same { IsSame reader.old reader.new }
 {
-    match next(reader.teller.alloc, reader.teller.rules, plain, caller) {
+    match next_by(reader, plain, caller) {
         Ok(Choice::Does(deed)) => take(reader, plain, caller, &deed, line),
         Ok(_) => Ok(None),
         Err(memory) => Err(memory),

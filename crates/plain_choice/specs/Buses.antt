@@ -1,15 +1,20 @@
 -- The turns of a scan, place by place.
-use Rattle.std.specs.Prelude.{ℕ, Bool, not, ◌&&◌, List, Option, flat_map, length, map}
+use Rattle.std.specs.Prelude.{◌≡◌, ℕ, Bool, not, ◌&&◌, List, Option, flat_map, length, map}
 use Rattle.std.specs.List.{enumerate_from}
 use Rattle.cf_types.specs.Numbers.{below}
 use Rattle.cf_types.specs.declared.tables.Place.TheVariants.{At}
 use Rattle.run_rules.specs.declared.world.Turn.{Turn}
+use Rattle.run_rules.specs.World.{device_at}
 use Rattle.run_rules.specs.Search.{bus_turns, child_spots, is_before, is_due, turns_at}
 use Rattle.plain_world.specs.declared.rules.Rules.{Rules}
 use Rattle.plain_choice.specs.declared.turns.Bus.{Bus}
 use Rattle.plain_choice.specs.declared.turns.Going.{Going}
 use Rattle.plain_world.specs.declared.world.Plain.{Plain}
 use Rattle.plain_world.specs.Rules.{setup_by}
+
+-- a scan has the live device of its serial
+abbrev pub IsOfDevice : Plain → Going → Type 0
+IsOfDevice p g = g.device ≡ device_at p.live.devices g.serial
 
 -- a scan takes a turn that is due and not before its position
 abbrev pub takes : Rules → Plain → Going → Turn → Bool

@@ -1,3 +1,4 @@
+pub mod Bare
 pub mod Buses
 pub mod Commands
 pub mod Late

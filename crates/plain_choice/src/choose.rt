@@ -9,6 +9,7 @@ ghost use Rattle.plain_world.specs.Rules.{AreFit, setup_by};
 use crate::command::command_deed;
 use crate::late::finalise;
 use crate::power::{closing, freeing, powering};
+use crate::seeker::Seeker;
 use crate::turns::next_scan;
 use cf_types::{Command, Memory};
 use plain_world::{Caller, Plain, Rules, command_at, has_ended};
@@ -123,10 +124,11 @@ fn next_command(
 }
 
 /// What a frame on top leads to.
-fn next_frame(rules: &Rules, plain: &Plain, frame: &Frame) -> Deed
-    requires fit { AreFit rules.now }
+#[inline(always)]
+fn next_frame(seeker: &Seeker, plain: &Plain, frame: &Frame) -> Deed
+    requires fit { AreFit seeker.now.rules.now }
     requires few { length plain.now.live.devices ≤ 1024 }
-    ensures { (k : ℕ) (rest : List frames.Frame) → next.on_top (world_of (setup_by rules.now) plain.now) k (frame.now ∷ rest) ≡ Does result }
+    ensures { (k : ℕ) (rest : List frames.Frame) → next.on_top (world_of (setup_by seeker.now.rules.now) plain.now) k (frame.now ∷ rest) ≡ Does result }
 {
     match frame {
         Frame::Scan {
@@ -134,65 +136,68 @@ fn next_frame(rules: &Rules, plain: &Plain, frame: &Frame) -> Deed
             only,
             filter,
             position,
-        } => next_scan(rules, plain, *serial, *only, filter.items(), *position),
-        Frame::Finaliser { serial } => finalise(rules, plain, *serial, None, false),
+        } => next_scan(seeker, plain, *serial, *only, filter.items(), *position),
+        Frame::Finaliser { serial } => finalise(seeker.rules, plain, *serial, None, false),
     }
 }
 
 /// What a caller does that is in no transfer, detachment or power command: its frames go first.
+#[inline(always)]
 fn on_top(
     alloc: Global,
-    rules: &Rules,
+    seeker: &Seeker,
     plain: &Plain,
     caller: u8,
     state: &Caller,
 ) -> Result<Choice, Memory>
-    requires fit { AreFit rules.now }
+    requires fit { AreFit seeker.now.rules.now }
     requires ready { IsReady plain.now }
     requires state { state.now ≡ state_at plain.now.callers.items caller }
-    ensures { IfOk result (λ does. next.on_top (world_of (setup_by rules.now) plain.now) caller state.now.stack ≡ does) }
+    ensures { IfOk result (λ does. next.on_top (world_of (setup_by seeker.now.rules.now) plain.now) caller state.now.stack ≡ does) }
 {
     match state.stack() {
-        [frame, ..] => Ok(Choice::Does(next_frame(rules, plain, frame))),
+        [frame, ..] => Ok(Choice::Does(next_frame(seeker, plain, frame))),
         [] => {
             if caller == 0 {
-                Ok(next_boot(rules, plain))
+                Ok(next_boot(seeker.rules, plain))
             } else {
-                next_command(alloc, rules, plain, caller, state.over())
+                next_command(alloc, seeker.rules, plain, caller, state.over())
             }
         }
     }
 }
 
 /// What a caller does that is in the middle of something.
+#[inline(always)]
 fn by_activity(
     alloc: Global,
-    rules: &Rules,
+    seeker: &Seeker,
     plain: &Plain,
     caller: u8,
     state: &Caller,
 ) -> Result<Choice, Memory>
-    requires fit { AreFit rules.now }
+    requires fit { AreFit seeker.now.rules.now }
     requires ready { IsReady plain.now }
     requires state { state.now ≡ state_at plain.now.callers.items caller }
-    ensures { IfOk result (λ does. next.by_activity (world_of (setup_by rules.now) plain.now) caller state.now.doing ≡ does) }
+    ensures { IfOk result (λ does. next.by_activity (world_of (setup_by seeker.now.rules.now) plain.now) caller state.now.doing ≡ does) }
 {
     match state.doing() {
         Activity::Ended => Ok(Choice::Ended),
         Activity::Transfer(ticket) => Ok(Choice::Does(Deed::Done(ticket))),
         Activity::Frees(_) => Ok(freeing(plain, caller)),
-        Activity::Power(kind, target) => Ok(powering(rules, plain, kind, target)),
-        Activity::Scans => on_top(alloc, rules, plain, caller, state),
-        Activity::Idle => on_top(alloc, rules, plain, caller, state),
+        Activity::Power(kind, target) => Ok(powering(seeker.rules, plain, kind, target)),
+        Activity::Scans => on_top(alloc, seeker, plain, caller, state),
+        Activity::Idle => on_top(alloc, seeker, plain, caller, state),
     }
 }
 
 /// What a caller does next.
+#[inline(always)]
 #[tactic(auto, unfolding(run_rules::specs::Next::next))]
-pub fn next(alloc: Global, rules: &Rules, plain: &Plain, caller: u8) -> Result<Choice, Memory>
-    requires fit { AreFit rules.now }
+pub fn next(alloc: Global, seeker: &Seeker, plain: &Plain, caller: u8) -> Result<Choice, Memory>
+    requires fit { AreFit seeker.now.rules.now }
     requires ready { IsReady plain.now }
-    ensures { IfOk result (λ does. next.next (world_of (setup_by rules.now) plain.now) caller ≡ does) }
+    ensures { IfOk result (λ does. next.next (world_of (setup_by seeker.now.rules.now) plain.now) caller ≡ does) }
 {
     if has_ended(&plain.callers, caller) {
         return Ok(Choice::Ended);
@@ -201,7 +206,7 @@ pub fn next(alloc: Global, rules: &Rules, plain: &Plain, caller: u8) -> Result<C
         return Ok(Choice::Waits(Wait::Boot));
     }
     match plain.callers.get(caller as usize) {
-        Some(state) => by_activity(alloc, rules, plain, caller, state),
+        Some(state) => by_activity(alloc, seeker, plain, caller, state),
         None => Ok(Choice::Ended),
     }
 }

@@ -7,7 +7,9 @@ mod late;
 mod matches;
 mod power;
 mod rescan;
+mod seeker;
 mod turns;
 mod units;
 
 pub use choose::next;
+pub use seeker::Seeker;

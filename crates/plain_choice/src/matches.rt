@@ -1,11 +1,12 @@
 //! The row that takes a spot: the best match of autoconf(9), by a search through all rows.
-ghost use Rattle.std.specs.Prelude.{◌≡◌, ◌≤◌, ◌+◌, ◌<◌, ◌==◌, ◌&&◌, not, is_some, find, reverse, length, nat_lt, true};
+ghost use Rattle.std.specs.Prelude.{◌≡◌, ◌≤◌, ◌+◌, ◌<◌, ◌==◌, ◌&&◌, not, is_some, find, reverse, length, nat_lt, None, true};
 ghost use Rattle.std.specs.Option.{option_map_or};
 ghost use Rattle.cf_types.specs.Locators as shared;
 ghost use Rattle.cf_types.specs.Offers as offer;
 ghost use Rattle.run_rules.specs.Next as next;
 ghost use Rattle.run_rules.specs.Search as rule;
 ghost use Rattle.run_rules.specs.World as world;
+ghost use Rattle.plain_choice.specs.Bare.{HasNoCandidate};
 ghost use Rattle.plain_world.specs.Rules.{AreFit, setup_by};
 
 use crate::units::free_from;
@@ -181,9 +182,10 @@ fn is_above(rules: &Rules, row: u32, best: Option<u32>, spot: u16) -> bool
 }
 
 /// The row that takes a spot below a parent: of the candidates the one of greatest match value, the earliest among equals.
-fn winner(rules: &Rules, live: &Live, parent: ParentRef, place: Place, spot: u16) -> Option<u32>
+pub fn winner(rules: &Rules, live: &Live, parent: ParentRef, place: Place, spot: u16) -> Option<u32>
     requires { AreFit rules.now }
-    ensures { rule.winner (setup_by rules.now) live.now.devices parent place spot ≡ result }
+    ensures row { rule.winner (setup_by rules.now) live.now.devices parent place spot ≡ result }
+    ensures none { result ≡ None → HasNoCandidate (setup_by rules.now) live.now.devices parent place spot }
 {
     let offers = parent_offers(rules, parent, place);
     let mut best = None;

@@ -1,5 +1,5 @@
 //! The due turn of a scan, by a search through all turns. See autoconf(9).
-ghost use Rattle.std.specs.Prelude.{◌≡◌, ◌≤◌, ◌<◌, ◌==◌, ◌&&◌, ℕ, false, true, find, map, reverse, length, slice_get};
+ghost use Rattle.std.specs.Prelude.{◌≡◌, ◌≤◌, ◌<◌, ◌==◌, ◌&&◌, ℕ, false, true, find, map, option_map, reverse, length, slice_get};
 ghost use Rattle.cf_types.specs.declared.tables.Place.TheVariants.{At};
 ghost use Rattle.std.specs.Option.{option_map_or};
 ghost use Rattle.std.specs.Ordering.{int_eq};
@@ -7,15 +7,16 @@ ghost use Rattle.run_rules.specs.Next as next;
 ghost use Rattle.run_rules.specs.Search as rule;
 ghost use Rattle.run_rules.specs.World as world;
 ghost use Rattle.plain_world.specs.Rules.{AreFit, setup_by};
-ghost use Rattle.plain_choice.specs.Buses.{row_turns, takes, turn_on, turns_among, turns_on};
+ghost use Rattle.plain_choice.specs.Buses.{IsOfDevice, row_turns, takes, turn_on, turns_among, turns_on};
 
-use crate::matches::{arrival, winner_at};
+use crate::matches::winner_at;
+use crate::seeker::Seeker;
 use cf_types::{Place, StyleLine};
 use plain_world::{
-    Plain, Rules, attach_at, driver_at, found_at, has_spot, is_occupied, offered, same_place,
-    spot_of, stretch_at,
+    Plain, Rules, attach_of, device_at, driver_of, found_at, has_spot, is_occupied, offered,
+    same_place, stretch_at,
 };
-use run_rules::{Deed, Position, Turn, Wanted};
+use run_rules::{Deed, Dev, Position, Turn, Wanted};
 
 /// Whether a spot has the locator value that is wanted.
 fn has_value(found: &[i64], wanted: Wanted) -> bool
@@ -35,6 +36,7 @@ fn passes_filter(found: &[i64], filter: &[Wanted]) -> bool
 }
 
 /// Whether a spot is open to search: present, not hidden, free, and with the locator values that are wanted.
+#[inline(always)]
 #[tactic(auto, unfolding(run_rules::specs::Search::is_open))]
 fn is_open(rules: &Rules, plain: &Plain, filter: &[Wanted], spot: u16) -> bool
     ensures { result ≡ rule.is_open rules.now.machine.now plain.now.live.devices plain.now.absent.items plain.now.hidden.items filter.now spot }
@@ -67,6 +69,7 @@ fn wins(rules: &Rules, plain: &Plain, serial: u64, turn: Turn) -> bool
 }
 
 /// Whether a turn is due: its spot is open, and on an indirect bus its row is the winner there.
+#[inline(always)]
 #[tactic(auto, unfolding(run_rules::specs::Search::is_due))]
 fn is_due(rules: &Rules, plain: &Plain, serial: u64, filter: &[Wanted], turn: Turn) -> bool
     requires { AreFit rules.now }
@@ -84,15 +87,18 @@ fn is_before(a: Position, b: Position) -> bool
     a.attr < b.attr || (a.attr == b.attr && (a.row < b.row || (a.row == b.row && a.spot < b.spot)))
 }
 
-/// A scan that goes on: of which device, with the locator values that its spots have to have, and from where.
+/// A scan that goes on: of which serial, the live device of that one, the locator values that its spots have to have, and from
+/// where.
 #[derive(Drop)]
 struct Going<'a> {
     serial: u64,
+    device: Option<Dev>,
     filter: &'a [Wanted],
     from: Position,
 }
 
 /// Whether a turn is the one that a scan takes, if none before it is.
+#[inline(always)]
 fn is_next(rules: &Rules, plain: &Plain, scan: &Going, turn: Turn) -> bool
     requires { AreFit rules.now }
     ensures { result ≡ takes rules.now plain.now scan.now turn }
@@ -149,6 +155,7 @@ fn first_spot(scan: &Going, bus: Bus, row: u32) -> u16
 }
 
 /// The turn that a scan takes among those of a row.
+#[inline(always)]
 fn row_turn(
     rules: &Rules,
     plain: &Plain,
@@ -191,6 +198,7 @@ fn indirect_turn(
 }
 
 /// The turn that a scan takes on a bus.
+#[inline(always)]
 fn bus_turn(
     rules: &Rules,
     plain: &Plain,
@@ -240,23 +248,47 @@ fn is_indirect(rules: &Rules, attach: Option<u32>, place: Place) -> bool
     }
 }
 
+/// The attachment of a device; none for the root.
+fn attach_of_device(rules: &Rules, device: Option<Dev>) -> Option<u32>
+    ensures { result ≡ option_map (λ d. world.attach_of (setup_by rules.now) d.row) device }
+{
+    match device {
+        Some(device) => Some(attach_of(rules, device.row)),
+        None => None,
+    }
+}
+
+/// The spot of a device; none for the root.
+fn spot_of_device(device: Option<Dev>) -> Option<u16>
+    ensures { result ≡ option_map (λ d. d.spot) device }
+{
+    match device {
+        Some(device) => Some(device.spot),
+        None => None,
+    }
+}
+
 /// The turn that a scan takes at a place of this number.
+#[inline(always)]
 fn place_turn(rules: &Rules, plain: &Plain, scan: &Going, attr: u16, place: Place) -> Option<Turn>
-    requires { AreFit rules.now }
+    requires fit { AreFit rules.now }
+    requires device { IsOfDevice plain.now scan.now }
     ensures { find (takes rules.now plain.now scan.now) (rule.turns_at (setup_by rules.now) plain.now.live.devices scan.now.serial (attr, place)) ≡ result }
 {
-    let attach = attach_at(rules, &plain.live, scan.serial);
+    let attach = attach_of_device(rules, scan.device);
     let bus = Bus {
         attr,
         place,
         indirect: is_indirect(rules, attach, place),
     };
-    bus_turn(rules, plain, scan, spot_of(&plain.live, scan.serial), bus)
+    bus_turn(rules, plain, scan, spot_of_device(scan.device), bus)
 }
 
 /// The turn that a scan takes at these attributes.
+#[inline(always)]
 fn turn_among(rules: &Rules, plain: &Plain, scan: &Going, attrs: &[u32]) -> Option<Turn>
     requires fit { AreFit rules.now }
+    requires device { IsOfDevice plain.now scan.now }
     requires few { length attrs.now ≤ 64 }
     ensures { find (takes rules.now plain.now scan.now) (turns_among rules.now plain.now scan.now.serial 0 attrs.now) ≡ result }
 {
@@ -271,20 +303,27 @@ fn turn_among(rules: &Rules, plain: &Plain, scan: &Going, attrs: &[u32]) -> Opti
 }
 
 /// The turn that a scan takes at all places that its device offers, or at the root.
+#[inline(always)]
 fn turn_of_all(rules: &Rules, plain: &Plain, scan: &Going) -> Option<Turn>
-    requires { AreFit rules.now }
+    requires fit { AreFit rules.now }
+    requires device { IsOfDevice plain.now scan.now }
     ensures { find (takes rules.now plain.now scan.now) (rule.turns (setup_by rules.now) plain.now.live.devices scan.now.serial None) ≡ result }
 {
-    match driver_at(rules, &plain.live, scan.serial) {
-        Some(driver) => turn_among(rules, plain, scan, offered(rules, driver)),
+    match scan.device {
+        Some(device) => {
+            let offered = offered(rules, driver_of(rules, device.row));
+            turn_among(rules, plain, scan, offered)
+        }
         None => place_turn(rules, plain, scan, 0, Place::Root),
     }
 }
 
 /// The first due turn of a scan from a position on. See autoconf(9).
+#[inline(always)]
 #[tactic(auto, unfolding(run_rules::specs::Search::due))]
 fn due_turn(rules: &Rules, plain: &Plain, scan: &Going, only: Option<u32>) -> Option<Turn>
-    requires { AreFit rules.now }
+    requires fit { AreFit rules.now }
+    requires device { IsOfDevice plain.now scan.now }
     ensures { rule.due (setup_by rules.now) plain.now.live.devices plain.now.absent.items plain.now.hidden.items scan.now.serial only scan.now.filter.now scan.now.from ≡ result }
 {
     match only {
@@ -315,30 +354,32 @@ fn after_turn(turn: Turn) -> Position
 }
 
 /// What is done next on a scan.
+#[inline(always)]
 #[tactic(auto, unfolding(run_rules::specs::Next::next_scan))]
 pub fn next_scan(
-    rules: &Rules,
+    seeker: &Seeker,
     plain: &Plain,
     serial: u64,
     only: Option<u32>,
     filter: &[Wanted],
     from: Position,
 ) -> Deed
-    requires fit { AreFit rules.now }
+    requires fit { AreFit seeker.now.rules.now }
     requires few { length plain.now.live.devices ≤ 1024 }
-    ensures { next.next_scan (setup_by rules.now) plain.now.live.devices plain.now.absent.items plain.now.hidden.items serial only filter.now from ≡ result }
+    ensures { next.next_scan (setup_by seeker.now.rules.now) plain.now.live.devices plain.now.absent.items plain.now.hidden.items serial only filter.now from ≡ result }
 {
     let scan = Going {
         serial,
+        device: device_at(&plain.live, serial),
         filter,
         from,
     };
-    match due_turn(rules, plain, &scan, only) {
+    match due_turn(seeker.rules, plain, &scan, only) {
         Some(turn) => Deed::Search {
             parent: serial,
             spot: turn.at.spot,
             moved: after_turn(turn),
-            got: arrival(rules, &plain.live, serial, turn.place, turn.at.spot),
+            got: seeker.arrival(&plain.live, serial, turn.place, turn.at.spot),
         },
         None => Deed::EndScan { of: serial },
     }

@@ -244,6 +244,7 @@ fn attach(
 }
 
 /// A device comes, if one was found.
+#[inline(always)]
 fn arrive(
     alloc: Global,
     rules: &Rules,

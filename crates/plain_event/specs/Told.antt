@@ -9,11 +9,17 @@ use Rattle.run_rules.specs.declared.deed.PowerEnd.{PowerEnd}
 use Rattle.run_rules.specs.declared.deed.PowerEnd.TheVariants as ends
 use Rattle.run_rules.specs.declared.deed.Refusal.{Refusal}
 use Rattle.run_rules.specs.declared.deed.Refusal.TheVariants as refusal
+use Rattle.run_rules.specs.declared.event.Act.{Act}
+use Rattle.run_rules.specs.declared.event.Event.{Event}
 use Rattle.run_rules.specs.declared.event.Reply.{Reply}
 use Rattle.run_rules.specs.declared.event.Reply.TheVariants as reply
 use Rattle.run_rules.specs.World.{World, is_live}
 use Rattle.run_rules.specs.Next.{command_of, is_power}
-use Rattle.run_rules.specs.Run.{reply_of}
+use Rattle.run_rules.specs.Run.{number_of, reply_of}
+
+-- the event by which a caller tells an act
+abbrev pub event_with : World → ℕ → Act → Event
+event_with w k a = record { caller = k; number = number_of w k; act = a }
 
 -- the reply of a command: that of a refusal, or that it had its effect
 abbrev pub answer_by : World → Option Refusal → Reply

@@ -11,7 +11,8 @@ ghost use Rattle.plain_event.specs.Told.{AnswersLive, EndsLive, RefusesLive, ans
 ghost use Rattle.plain_world.specs.Plain.{state_at};
 ghost use Rattle.plain_world.specs.Rules.{AreFit};
 
-use crate::teller::{Teller, live_name};
+use crate::teller::Teller;
+use crate::telling::live_name;
 use cf_types::{Command, Memory, Name};
 use plain_world::{Plain, command_at, list_names, tree_names};
 use run_rules::{Act, PowerEnd, PowerKind, Refusal, Reply};

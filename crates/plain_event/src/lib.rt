@@ -1,10 +1,15 @@
 //! The event that a deed is in a world of plain lists.
 #![tactic(auto)]
 
+mod act;
 mod command_act;
+mod kept;
 mod names;
 mod teller;
+mod telling;
 mod told;
 
+pub use act::{Again, Kept, Key};
 pub use teller::Teller;
-pub use told::event_of;
+pub use telling::told_before;
+pub use told::{event_of, number_of};

@@ -7,16 +7,18 @@ ghost use Rattle.run_rules.specs.World as world;
 ghost use Rattle.run_rules.specs.World.{World};
 ghost use Rattle.run_rules.specs.declared.world.Setup.{Setup};
 ghost use Rattle.plain_event.specs.Tellers.{KeepsRules, setup_in, world_in};
-ghost use Rattle.plain_event.specs.Told.{MayBeTold, device_told};
+ghost use Rattle.plain_event.specs.Told.{MayBeTold, device_told, event_with};
 ghost use Rattle.plain_world.specs.Names.{name_live};
 ghost use Rattle.plain_world.specs.Plain.{HasCaller, world_of};
 ghost use Rattle.plain_world.specs.Rules.{AreFit};
 
+use crate::act::Kept;
 use crate::command_act::{answered_act, over_of, power_end_act};
-use crate::teller::{Teller, live_name, parent_name};
+use crate::teller::Teller;
+use crate::telling::{keep, live_name, parent_name, told_before};
 use cf_types::{Memory, Name, Ticket};
 use plain_world::{Live, Plain, got_of, shown_of, spot_name};
-use run_rules::{Act, Arrival, Deed, Event, IoAnswer};
+use run_rules::{Act, Arrival, Deed, Event, IoAnswer, SharedAct};
 
 /// What a transfer brings.
 #[tactic(auto, unfolding(run_rules::specs::Run::answer_of))]
@@ -150,7 +152,7 @@ fn act_of(teller: &mut Teller, plain: &Plain, caller: u8, deed: &Deed) -> Result
 }
 
 /// The number of a caller's next event.
-fn number_of(plain: &Plain, caller: u8) -> u32
+pub fn number_of(plain: &Plain, caller: u8) -> u32
     requires { HasCaller plain.now caller 500 }
     ensures { (s : Setup) → result ≡ run.number_of (world_of s plain.now) caller }
 {
@@ -161,7 +163,58 @@ fn number_of(plain: &Plain, caller: u8) -> u32
     }
 }
 
-/// The event of what a caller does next. Names that it tells of devices are shared with those that were told before.
+/// What happens by a deed, which was not kept before.
+fn act_anew(
+    teller: &mut Teller,
+    plain: &Plain,
+    caller: u8,
+    deed: &Deed,
+) -> Result<SharedAct, Memory>
+    requires fit { AreFit teller.old.rules.now }
+    requires few { length plain.now.live.devices ≤ 1024 }
+    requires there { caller < length plain.now.callers.items }
+    requires may { MayBeTold (world_in teller.old plain.now) caller deed.now }
+    ensures act { IfOk result (λ a. a ≡ run.printed (world_in teller.old plain.now) caller deed.now) }
+    ensures rules { KeepsRules teller.old teller.new }
+{
+    let act = act_of(teller, plain, caller, deed)?;
+    let shared = SharedAct::make(teller.alloc, act)?;
+    keep(teller, plain, caller, deed, &shared)?;
+    Ok(shared)
+}
+
+/// The event of a deed that was told before.
+fn event_again(plain: &Plain, caller: u8, kept: &Kept) -> Result<Event, Memory>
+    requires caller { HasCaller plain.now caller 500 }
+    ensures { (s : Setup) → IfOk result (λ e. e ≡ event_with (world_of s plain.now) caller kept.now.act) }
+{
+    let act = kept.act.clone()?;
+    Ok(Event {
+        caller,
+        number: number_of(plain, caller),
+        act,
+    })
+}
+
+/// The event of a deed that was not kept before.
+#[tactic(auto, unfolding(run_rules::specs::Run::event_of))]
+fn event_anew(teller: &mut Teller, plain: &Plain, caller: u8, deed: &Deed) -> Result<Event, Memory>
+    requires fit { AreFit teller.old.rules.now }
+    requires few { length plain.now.live.devices ≤ 1024 }
+    requires caller { HasCaller plain.now caller 500 }
+    requires may { MayBeTold (world_in teller.old plain.now) caller deed.now }
+    ensures event { IfOk result (λ e. e ≡ run.event_of (world_in teller.old plain.now) caller deed.now) }
+    ensures rules { KeepsRules teller.old teller.new }
+{
+    let act = act_anew(teller, plain, caller, deed)?;
+    Ok(Event {
+        caller,
+        number: number_of(plain, caller),
+        act,
+    })
+}
+
+/// The event of what a caller does next. What it tells of devices is shared with what was told before.
 #[tactic(auto, unfolding(run_rules::specs::Run::event_of))]
 pub fn event_of(
     teller: &mut Teller,
@@ -176,10 +229,8 @@ pub fn event_of(
     ensures event { IfOk result (λ e. e ≡ run.event_of (world_in teller.old plain.now) caller deed.now) }
     ensures rules { KeepsRules teller.old teller.new }
 {
-    let act = act_of(teller, plain, caller, deed)?;
-    Ok(Event {
-        caller,
-        number: number_of(plain, caller),
-        act,
-    })
+    match told_before(teller, plain, deed) {
+        Some(kept) => event_again(plain, caller, kept),
+        None => event_anew(teller, plain, caller, deed),
+    }
 }

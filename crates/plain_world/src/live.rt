@@ -46,6 +46,7 @@ fn place_by_halves(devices: &[Dev], serial: u64) -> Option<usize>
 }
 
 /// The place of the device of a serial. While none has gone it is one below the serial.
+#[inline(always)]
 fn place_of(devices: &[Dev], serial: u64) -> Option<usize>
     requires { EachLater (λ d e. d.serial < e.serial) devices.now }
     ensures { MatchOption result (world.is_live devices.now serial ≡ false) (λ i. (i < length devices.now) × ((d : Dev) → (slice_index_or devices.now i d).serial ≡ serial)) }
@@ -58,6 +59,7 @@ fn place_of(devices: &[Dev], serial: u64) -> Option<usize>
 }
 
 /// The device of a serial.
+#[inline(always)]
 fn find_at(devices: &[Dev], serial: u64) -> Option<Dev>
     requires { EachLater (λ d e. d.serial < e.serial) devices.now }
     ensures { result ≡ world.device_at devices.now serial }
@@ -177,6 +179,7 @@ impl Live {
     }
 
     /// The device of a serial.
+    #[inline(always)]
     pub fn get(&self, serial: u64) -> Option<Dev>
         ensures { result ≡ world.device_at self.now.devices serial }
     {

@@ -15,6 +15,7 @@ use crate::world::Plain;
 use run_rules::{Deferred, Dev, Frame, Ref};
 
 /// The live device of a serial.
+#[inline(always)]
 pub fn device_at(live: &Live, serial: u64) -> Option<Dev>
     ensures { result ≡ world.device_at live.now.devices serial }
 {

@@ -1,5 +1,5 @@
 //! The external names of devices, and which device has a name.
-ghost use Rattle.std.specs.Prelude.{◌≡◌, ◌<◌, ◌++◌, IfOk, IfSome, OnOk, length, bytes_eq};
+ghost use Rattle.std.specs.Prelude.{◌≡◌, ◌<◌, ◌++◌, ℕ, List, false, IfOk, IfSome, OnOk, length, bytes_eq, decimal};
 ghost use Rattle.run_rules.specs.Run as run;
 ghost use Rattle.run_rules.specs.World as world;
 ghost use Rattle.plain_world.specs.Rules.{AreFit, setup_by};
@@ -104,10 +104,24 @@ pub fn shown_of(
     }
 }
 
+/// Whether a name ends with the last digit of a unit, as that of a device with the unit does.
+fn ends_with(name: &[u8], unit: u32) -> bool
+    ensures { result ≡ false → (front : List ℕ) → bytes_eq (front ++ decimal unit) name.now ≡ false }
+{
+    match name.last() {
+        Some(last) => *last == b'0' + (unit % 10) as u8,
+        None => false,
+    }
+}
+
 /// Whether a device has a name.
+#[tactic(auto, unfolding(run_rules::specs::World::unit_name))]
 fn is_called(text: &mut Vec<u8>, rules: &Rules, device: &Dev, name: &[u8]) -> Result<bool, Memory>
     ensures { IfOk result (λ is. is ≡ bytes_eq (world.name_of (setup_by rules.now) device.now) name.now) }
 {
+    if !ends_with(name, device.unit) {
+        return Ok(false);
+    }
     text.clear();
     put_unit_name(text, rules, device.row, device.unit)?;
     Ok(text.as_slice() == name)

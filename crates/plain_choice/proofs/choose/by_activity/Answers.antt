@@ -6,4 +6,4 @@ use Rattle.plain_choice.proofs.choose.by_activity.Goals as goal
 
 pub returns-in-Power : goal.returns-in-Power
 returns-in-Power c =
-    ap (next.by_activity (world_of (setup_by c.args.rules.now) c.args.plain.now) c.args.caller) (sym c.in-Power.ensures) ∙ c.powering.ensures c.args.caller
+    ap (next.by_activity (world_of (setup_by c.args.seeker.now.rules.now) c.args.plain.now) c.args.caller) (sym c.in-Power.ensures) ∙ c.powering.ensures c.args.caller

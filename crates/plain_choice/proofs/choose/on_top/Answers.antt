@@ -13,4 +13,4 @@ top_is (f ∷ frames) top some is = ap (λ (g : Frame). g ∷ frames) (sym is)
 pub returns-in-len1-up : goal.returns-in-len1-up
 returns-in-len1-up c =
     let stack = sym c.stack.ensures ∙ top_is c.stack.result.now c.frame-item.result (omega (arith, c.in-len1-up.len_at_least)) c.frame-item.is in
-    ap (next.on_top (world_of (setup_by c.args.rules.now) c.args.plain.now) c.args.caller) stack ∙ c.next_frame.ensures c.args.caller (drop 1 c.stack.result.now)
+    ap (next.on_top (world_of (setup_by c.args.seeker.now.rules.now) c.args.plain.now) c.args.caller) stack ∙ c.next_frame.ensures c.args.caller (drop 1 c.stack.result.now)

@@ -8,5 +8,5 @@ after_turn-requires c =
     omega (
       arith,
       c.requires.fit.may.machine.few_spots,
-      due_inside (setup_by c.args.rules.now) c.args.plain.now.live.devices c.args.plain.now.absent.items c.args.plain.now.hidden.items c.args.serial c.args.only c.args.filter.now c.args.from c.in-Some.turn c.in-Some.ensures,
+      due_inside (setup_by c.args.seeker.now.rules.now) c.args.plain.now.live.devices c.args.plain.now.absent.items c.args.plain.now.hidden.items c.args.serial c.args.only c.args.filter.now c.args.from c.in-Some.turn c.in-Some.ensures,
     )

@@ -2,7 +2,7 @@ use Rattle.plain_world.proofs.Ready.{few_devices, has_caller}
 use Rattle.plain_event.proofs.TellLaws.{may_be_told}
 use Rattle.history_replay.specs.Readers.{setup_in, world_in}
 use Rattle.history_replay.proofs.Readings.{ok_more, same_event}
-use Rattle.history_replay.proofs.reader.event_told.Goals as goal
+use Rattle.history_replay.proofs.reader.event_anew.Goals as goal
 
 pub event_of-requires : goal.event_of-requires
 event_of-requires c =

@@ -1,0 +1,33 @@
+//! An act that is told again and again, with its text.
+ghost use Rattle.std.specs.Prelude.{◌≡◌};
+ghost use Rattle.run_rules.specs.Lines.{act_text};
+
+use run_rules::SharedAct;
+
+/// What is told again and again of a device: that a spot below it was searched and nothing came, that it fell asleep, that it
+/// woke.
+#[derive(Clone, Copy, PartialEq, Eq)]
+pub enum Again {
+    Nothing,
+    Asleep,
+    Awake,
+}
+
+/// Which act it is: what it tells, the row and the unit of the device that it names, and the spot that was searched, or on which
+/// the device stands.
+#[derive(Clone, Copy, PartialEq, Eq)]
+pub struct Key {
+    pub again: Again,
+    pub row: u32,
+    pub unit: u32,
+    pub spot: u16,
+}
+
+/// An act that was told, with its text.
+#[derive(Drop)]
+pub struct Kept {
+    pub key: Key,
+    pub act: SharedAct,
+    pub text: Vec<u8>,
+    pub ghost spelled: { text.items ≡ act_text act },
+}

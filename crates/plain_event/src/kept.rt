@@ -1,0 +1,129 @@
+//! Acts that are told again and again, kept with their texts.
+ghost use Rattle.std.specs.Prelude.{◌≡◌, ℕ, IfOk, IfSome, IsTrue, None, Some};
+ghost use Rattle.std.specs.List.{slice_index_or};
+ghost use Rattle.run_rules.specs.Run as run;
+ghost use Rattle.run_rules.specs.World as world;
+ghost use Rattle.run_rules.specs.declared.event.Act.TheVariants as act;
+ghost use Rattle.run_rules.specs.declared.world.Setup.{Setup};
+ghost use Rattle.plain_event.specs.Kept.{act_by};
+ghost use Rattle.plain_world.specs.Names.{name_live};
+ghost use Rattle.plain_world.specs.Plain.{world_of};
+
+use crate::act::{Again, Kept, Key};
+use cf_types::Memory;
+use dev_event::put_act;
+use plain_world::{Live, Plain, device_at};
+use run_rules::{Deed, SharedAct};
+use std::alloc::Global;
+
+/// How many bytes serve for most texts.
+const USUAL: usize = 48;
+
+/// How many kinds of acts are kept of a spot.
+const KINDS: usize = 3;
+
+/// At most how many acts are kept of so many spots.
+pub fn places(spots: usize) -> usize {
+    spots.min(u16::MAX as usize) * KINDS
+}
+
+/// Where the act of a key is kept.
+#[inline(always)]
+pub fn place_of(key: Key) -> usize {
+    let kind = match key.again {
+        Again::Nothing => 0,
+        Again::Asleep => 1,
+        Again::Awake => 2,
+    };
+    key.spot as usize * KINDS + kind
+}
+
+/// What is kept at a place.
+#[inline(always)]
+pub fn kept_at(kept: &[Option<Kept>], place: usize) -> Option<&Kept>
+    ensures { IfSome result (λ k. slice_index_or kept.now place None ≡ Some k.now) }
+{
+    match kept.get(place) {
+        Some(Some(kept)) => Some(kept),
+        _ => None,
+    }
+}
+
+/// An act with its text.
+pub fn with_text(alloc: Global, key: Key, act: &SharedAct) -> Result<Kept, Memory>
+    ensures { IfOk result (λ k. (k.key ≡ key) × (k.act ≡ act.now)) }
+{
+    let mut text = Vec::with_capacity(alloc, USUAL)?;
+    put_act(&mut text, act.get())?;
+    Ok(Kept {
+        key,
+        act: act.clone()?,
+        text,
+    })
+}
+
+/// The key of a search below a parent that finds nothing.
+#[inline(always)]
+#[tactic(auto, unfolding(run_rules::specs::World::parent_name))]
+fn search_key(live: &Live, parent: u64, spot: u16) -> Option<Key>
+    ensures { IfSome result (λ key. (s : Setup) → act.Found (world.parent_name s live.now.devices parent) (run.spot_name s spot) None ≡ act_by s key) }
+{
+    match device_at(live, parent) {
+        Some(device) => Some(Key {
+            again: Again::Nothing,
+            row: device.row,
+            unit: device.unit,
+            spot,
+        }),
+        None => None,
+    }
+}
+
+/// The key of a device that falls asleep.
+fn sleep_key(live: &Live, of: u64) -> Option<Key>
+    ensures { IfSome result (λ key. (s : Setup) → act.Sleep (name_live s live.now.devices of) ≡ act_by s key) }
+{
+    match device_at(live, of) {
+        Some(device) => Some(Key {
+            again: Again::Asleep,
+            row: device.row,
+            unit: device.unit,
+            spot: device.spot,
+        }),
+        None => None,
+    }
+}
+
+/// The key of a device that wakes.
+fn wake_key(live: &Live, of: u64) -> Option<Key>
+    ensures { IfSome result (λ key. (s : Setup) → act.Wake (name_live s live.now.devices of) ≡ act_by s key) }
+{
+    match device_at(live, of) {
+        Some(device) => Some(Key {
+            again: Again::Awake,
+            row: device.row,
+            unit: device.unit,
+            spot: device.spot,
+        }),
+        None => None,
+    }
+}
+
+/// The key of what is told of a deed, if it is told again and again.
+#[inline(always)]
+#[tactic(auto, unfolding(run_rules::specs::Run::printed))]
+pub fn key_of(plain: &Plain, deed: &Deed) -> Option<Key>
+    ensures { IfSome result (λ key. (s : Setup) (k : ℕ) → run.printed (world_of s plain.now) k deed.now ≡ act_by s key) }
+{
+    match *deed {
+        Deed::Search {
+            parent,
+            spot,
+            got: None,
+            ..
+        } => search_key(&plain.live, parent, spot),
+        Deed::Sleep { of } => sleep_key(&plain.live, of),
+        Deed::Wake { of } => wake_key(&plain.live, of),
+        _ => None,
+    }
+}
