@@ -1,5 +1,5 @@
 //! What is kept of the events that were told, so that later events share it.
-ghost use Rattle.std.specs.Prelude.{◌≡◌, ◌≤◌, IfOk, IfSome, None};
+ghost use Rattle.std.specs.Prelude.{◌≡◌, ◌≤◌, true, IfOk, IfSome, None};
 ghost use Rattle.std.specs.List.{AllByRecursion};
 ghost use Rattle.run_rules.specs.declared.world.Setup.{Setup};
 ghost use Rattle.run_world.specs.Recent.{AreRecent, act_telling, called, name_called};
@@ -9,7 +9,7 @@ use run_rules::{Dev, SharedAct};
 use std::alloc::Global;
 
 /// How a device is called: by the driver of a row, and a unit.
-#[derive(Clone, Copy, PartialEq, Eq)]
+#[derive(Clone, Copy)]
 pub struct Called {
     pub row: u32,
     pub unit: u32,
@@ -30,7 +30,7 @@ impl Called {
 
 /// What an act tells that is told again and again: a search below a device, or below the root, which found nothing, or that a
 /// device fell asleep or woke.
-#[derive(Clone, Copy, PartialEq, Eq)]
+#[derive(Clone, Copy)]
 pub enum Telling {
     NothingFound { parent: Option<Called>, spot: u16 },
     Sleeps(Called),
@@ -61,6 +61,43 @@ pub struct Recent {
 /// How many acts are kept of a spot: one for each kind of `Telling`.
 const KINDS: usize = 3;
 
+/// Whether two devices are called alike.
+#[inline(always)]
+fn are_alike(a: Called, b: Called) -> bool
+    ensures { result ≡ true → a ≡ b }
+{
+    a.row == b.row && a.unit == b.unit
+}
+
+/// Whether two acts tell the same.
+#[inline(always)]
+fn tell_the_same(a: Telling, b: Telling) -> bool
+    ensures { result ≡ true → a ≡ b }
+{
+    match (a, b) {
+        (
+            Telling::NothingFound {
+                parent: Some(one),
+                spot,
+            },
+            Telling::NothingFound {
+                parent: Some(other),
+                spot: again,
+            },
+        ) => are_alike(one, other) && spot == again,
+        (
+            Telling::NothingFound { parent: None, spot },
+            Telling::NothingFound {
+                parent: None,
+                spot: again,
+            },
+        ) => spot == again,
+        (Telling::Sleeps(one), Telling::Sleeps(other)) => are_alike(one, other),
+        (Telling::Wakes(one), Telling::Wakes(other)) => are_alike(one, other),
+        _ => false,
+    }
+}
+
 /// Where an act is kept that tells this of a spot, or of the device there.
 #[inline(always)]
 fn place_of(telling: &Telling, spot: u16) -> usize {
@@ -78,7 +115,7 @@ fn empty<T: Drop>(alloc: Global, places: usize) -> Result<Vec<Option<T>>, Memory
 {
     let mut kept = Vec::with_capacity(alloc, places)?;
     for _place in 0..places {
-        kept.push(None)?;
+        kept.push_reserved(None);
     }
     Ok(kept)
 }
@@ -100,7 +137,7 @@ impl Recent {
         ensures { (s : Setup) → AreRecent s self.now → IfSome result (λ a. a.now ≡ act_telling s telling) }
     {
         match self.acts.get(place_of(&telling, spot)) {
-            Some(Some(kept)) if kept.telling == telling => Some(&kept.act),
+            Some(Some(kept)) if tell_the_same(kept.telling, telling) => Some(&kept.act),
             _ => None,
         }
     }
@@ -121,7 +158,7 @@ impl Recent {
         ensures { (s : Setup) → AreRecent s self.now → IfSome result (λ n. n.now ≡ name_called s of) }
     {
         match self.names.get(spot as usize) {
-            Some(Some(kept)) if kept.of == of => Some(&kept.name),
+            Some(Some(kept)) if are_alike(kept.of, of) => Some(&kept.name),
             _ => None,
         }
     }
