@@ -24,8 +24,9 @@ use crate::names::{arrival_got, device_name, parent_name, shown_of, spot_name};
 use cf_types::{Memory, Name};
 use dev_event::put_act;
 use run_rules::{Act, Arrival, Deed, Dev, Event, Setup, SharedAct};
-use run_world::{Called, Core, Telling};
+use run_world::{Called, Core, Recent, Telling};
 use std::alloc::Global;
+use std::mem::drop;
 
 /// The number of a caller's next event.
 #[inline(always)]
@@ -326,23 +327,52 @@ fn other_act(
     }
 }
 
-/// The act of a deed of which nothing is kept.
+/// Keeps the act of a tree for later events.
+fn keep_tree(recent: &mut Recent, tree: SharedAct) -> Result<SharedAct, Memory>
+    ensures act { IfOk result (λ a. a ≡ tree) }
+    ensures recent { (s : Setup) → AreRecent s recent.old → AreRecent s recent.new }
+{
+    recent.keep_tree(tree.clone()?);
+    Ok(tree)
+}
+
+/// A tree. It shares what was told last of a tree, where that is the same; told twice, it has its text.
+fn tree_told(alloc: Global, recent: &mut Recent, tree: Act) -> Result<SharedAct, Memory>
+    ensures act { IfOk result (λ a. a ≡ tree) }
+    ensures recent { (s : Setup) → AreRecent s recent.old → AreRecent s recent.new }
+{
+    match recent.tree(&tree) {
+        Some(told) if told.text().is_some() => {
+            let act: Result<_, _> = told.clone();
+            drop(tree);
+            Ok(act?)
+        }
+        Some(_) => keep_tree(recent, spelled(alloc, tree)?),
+        None => keep_tree(recent, SharedAct::make(alloc, tree)?),
+    }
+}
+
+/// The act of a deed of which nothing is kept for its spot.
 fn other_told(
     alloc: Global,
     setup: &Setup,
-    core: &Core,
+    core: &mut Core,
     caller: u8,
     deed: &Deed,
 ) -> Result<SharedAct, Memory>
-    requires names { HaveNames setup.now core.now }
-    requires few { length core.now.tree.live + 1 < 2 ^ 32 }
-    requires caller { caller < length core.now.callers.items }
-    requires may { MayBeTold (world_of setup.now core.now) caller deed.now }
+    requires names { HaveNames setup.now core.old }
+    requires few { length core.old.tree.live + 1 < 2 ^ 32 }
+    requires caller { caller < length core.old.callers.items }
+    requires may { MayBeTold (world_of setup.now core.old) caller deed.now }
     requires other { is_kept deed.now ≡ false }
-    ensures { IfOk result (λ a. a ≡ run.printed (world_of setup.now core.now) caller deed.now) }
+    ensures act { IfOk result (λ a. a ≡ run.printed (world_of setup.now core.old) caller deed.now) }
+    ensures aside { TellsAside setup.now core.old core.new }
 {
     let act = other_act(alloc, setup, core, caller, deed)?;
-    SharedAct::make(alloc, act)
+    match act {
+        Act::TreeDev { .. } => tree_told(alloc, &mut core.recent, act),
+        _ => SharedAct::make(alloc, act),
+    }
 }
 
 /// What happens by a deed.

@@ -7,13 +7,14 @@ mod named;
 mod parts;
 mod recent;
 mod rescan_filter;
+mod same_tree;
 mod script;
 mod site;
 mod spots;
 
 pub use activity::{begin, begin_scan, finish, is_ended};
 pub use caller::CallerState;
-pub use named::{attr_named, device_named, is_called, spot_named};
+pub use named::{attr_named, device_named, spot_named};
 pub use parts::{Core, append, opening_core};
 pub use recent::{Called, Recent, Telling};
 pub use rescan_filter::{locator_place, wanted_by};

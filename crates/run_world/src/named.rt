@@ -27,7 +27,7 @@ fn is_unit_name(name: &[u8], front: &[u8], unit: u32) -> bool
 /// Whether a device has the name.
 #[tactic(auto, unfolding(run_rules::specs::World::unit_name))]
 #[inline(always)]
-pub fn is_called(setup: &Setup, device: &Dev, name: &[u8]) -> bool
+fn is_called(setup: &Setup, device: &Dev, name: &[u8]) -> bool
     ensures { result ≡ bytes_eq (world.name_of setup.now device.now) name.now }
 {
     is_unit_name(

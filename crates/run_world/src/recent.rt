@@ -4,8 +4,9 @@ ghost use Rattle.std.specs.List.{AllByRecursion};
 ghost use Rattle.run_rules.specs.declared.world.Setup.{Setup};
 ghost use Rattle.run_world.specs.Recent.{AreRecent, act_telling, called, name_called};
 
+use crate::same_tree::tell_one_tree;
 use cf_types::{Memory, Name};
-use run_rules::{Dev, SharedAct};
+use run_rules::{Act, Dev, SharedAct};
 use std::alloc::Global;
 
 /// How a device is called: by the driver of a row, and a unit.
@@ -51,11 +52,13 @@ struct KeptName {
     name: Name,
 }
 
-/// The acts and names that were told last of each spot. They save making them anew; whoever asks says what for.
+/// The acts and names that were told last of each spot, and the tree that was told last. They save making them anew; whoever asks
+/// says what for.
 #[derive(Drop)]
 pub struct Recent {
     acts: Vec<Option<KeptAct>>,
     names: Vec<Option<KeptName>>,
+    tree: Option<SharedAct>,
 }
 
 /// How many acts are kept of a spot: one for each kind of `Telling`.
@@ -128,7 +131,11 @@ impl Recent {
     {
         let acts = empty(alloc, KINDS * spots)?;
         let names = empty(alloc, spots)?;
-        Ok(Recent { acts, names })
+        Ok(Recent {
+            acts,
+            names,
+            tree: None,
+        })
     }
 
     /// The act that tells this of a spot, or of the device there, if it is kept.
@@ -171,5 +178,22 @@ impl Recent {
         if place < self.names.len() {
             self.names[place] = Some(KeptName { of, name });
         }
+    }
+
+    /// The act that was told last of a tree, if it tells this one.
+    pub fn tree(&self, tree: &Act) -> Option<&SharedAct>
+        ensures { IfSome result (λ a. a.now ≡ tree.now) }
+    {
+        match &self.tree {
+            Some(kept) if tell_one_tree(kept.get(), tree) => Some(kept),
+            _ => None,
+        }
+    }
+
+    /// Keeps an act that tells a tree.
+    pub fn keep_tree(&mut self, tree: SharedAct)
+        ensures { (s : Setup) → AreRecent s self.old → AreRecent s self.new }
+    {
+        self.tree = Some(tree);
     }
 }
