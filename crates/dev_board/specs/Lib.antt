@@ -11,6 +11,7 @@ pub mod Posting
 pub mod Playing
 pub mod Publishing
 pub mod KeptCore
+pub mod Steps
 pub mod BoardView
 pub use Rattle.config_rules.specs.Formed
 pub use Rattle.config_rules.specs.ScriptText

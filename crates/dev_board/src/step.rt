@@ -12,6 +12,7 @@ ghost use Rattle.dev_board.specs.Commits as commits;
 ghost use Rattle.dev_board.specs.Commits.{HasRoom, Performed, TellsDeed};
 ghost use Rattle.dev_board.specs.SlotDeeds.{HaltIs};
 ghost use Rattle.dev_board.specs.Stepping.{StepIs, IsDid, IsOfBoot, DenialsAre};
+ghost use Rattle.dev_board.specs.Steps.{HasStepped, MayStep};
 ghost use Rattle.run_world.specs.View.{Books};
 ghost use Rattle.dev_board.specs.KeptCore.{CoreKept, BootFalls, shown_at, shown_of};
 ghost use Rattle.run_world.specs.Sites.{world_at};
@@ -23,7 +24,7 @@ use crate::stepped::Stepped;
 use crate::told::Told;
 use cf_types::Memory;
 use deed_event::deed_event;
-use next_deed::{choose, goes_by_frames, next_on_scan};
+use next_deed::{choose, goes_by_frames, next_in_power, next_on_scan};
 use ref_ledger::Slots;
 use run_rules::{Choice, Deed, Event, Key, Setup};
 use run_world::{Core, Site, is_ended};
@@ -181,17 +182,11 @@ fn step_with_room<S: Slots>(
     deed: &Deed,
     slots: &mut S,
 ) -> Stepped
-    requires kept { CoreKept site.now.setup core.old }
-    requires caller { caller < length core.old.callers.items }
-    requires agree { S.states slots.old ≡ slots_of (world_at site.now core.old) }
-    requires goes_on { core.old.stopped ≡ None }
+    requires may { MayStep site.now core.old caller (S.states slots.old) }
     requires chosen { next (world_at site.now core.old) caller ≡ Does deed.now }
     requires other { (ticket : Ticket) → deed.now ≢ Done ticket }
-    ensures step { StepIs (shown_at site.now core.old) caller result (shown_at site.now core.new) }
-    ensures kept { CoreKept site.now.setup core.new }
-    ensures agree { S.states slots.new ≡ slots_of (world_at site.now core.new) }
+    ensures stepped { HasStepped site.now core.old core.new caller result (S.states slots.new) }
     ensures denials { DenialsAre core.old.tree.live (S.denials slots.old) (S.last_denial slots.old) result (S.denials slots.new) (S.last_denial slots.new) }
-    ensures falls { IsDid result → caller ≡ 0 → BootFalls site.now core.old core.new }
 {
     match reserve(&site.setup, core, caller, deed) {
         Ok(()) => step_in_room(alloc, site, core, caller, deed, slots),
@@ -199,33 +194,7 @@ fn step_with_room<S: Slots>(
     }
 }
 
-/// What a caller chose is done, of whatever kind it is.
-#[inline(never)]
-fn step_of_any_kind<S: Slots>(
-    alloc: Global,
-    site: &Site,
-    core: &mut Core,
-    caller: u8,
-    deed: &Deed,
-    slots: &mut S,
-) -> Stepped
-    requires kept { CoreKept site.now.setup core.old }
-    requires caller { caller < length core.old.callers.items }
-    requires agree { S.states slots.old ≡ slots_of (world_at site.now core.old) }
-    requires goes_on { core.old.stopped ≡ None }
-    requires chosen { next (world_at site.now core.old) caller ≡ Does deed.now }
-    requires other { (ticket : Ticket) → deed.now ≢ Done ticket }
-    ensures step { StepIs (shown_at site.now core.old) caller result (shown_at site.now core.new) }
-    ensures kept { CoreKept site.now.setup core.new }
-    ensures agree { S.states slots.new ≡ slots_of (world_at site.now core.new) }
-    ensures denials { DenialsAre core.old.tree.live (S.denials slots.old) (S.last_denial slots.old) result (S.denials slots.new) (S.last_denial slots.new) }
-    ensures falls { IsDid result → caller ≡ 0 → BootFalls site.now core.old core.new }
-{
-    step_with_room(alloc, site, core, caller, deed, slots)
-}
-
-/// What a caller chose is done, but for the end of a transfer, whose result it waits for. The deeds of power commands, of
-/// which there are many, go their own way, as searches do.
+/// What a caller chose is done, but for the end of a transfer, whose result it waits for.
 #[inline(never)]
 fn step_deed<S: Slots>(
     alloc: Global,
@@ -235,31 +204,17 @@ fn step_deed<S: Slots>(
     deed: &Deed,
     slots: &mut S,
 ) -> Stepped
-    requires kept { CoreKept site.now.setup core.old }
-    requires caller { caller < length core.old.callers.items }
-    requires agree { S.states slots.old ≡ slots_of (world_at site.now core.old) }
-    requires goes_on { core.old.stopped ≡ None }
+    requires may { MayStep site.now core.old caller (S.states slots.old) }
     requires chosen { next (world_at site.now core.old) caller ≡ Does deed.now }
-    ensures step { StepIs (shown_at site.now core.old) caller result (shown_at site.now core.new) }
-    ensures kept { CoreKept site.now.setup core.new }
-    ensures agree { S.states slots.new ≡ slots_of (world_at site.now core.new) }
+    ensures stepped { HasStepped site.now core.old core.new caller result (S.states slots.new) }
     ensures denials { DenialsAre core.old.tree.live (S.denials slots.old) (S.last_denial slots.old) result (S.denials slots.new) (S.last_denial slots.new) }
-    ensures falls { IsDid result → caller ≡ 0 → BootFalls site.now core.old core.new }
 {
     match *deed {
         Deed::Done(ticket) => Stepped::Transfer(
             ticket,
             Told::of_transfer(&site.setup, caller, ticket),
         ),
-        Deed::Sleep { of } => {
-            step_with_room(alloc, site, core, caller, &Deed::Sleep { of }, slots)
-        }
-        Deed::Wake { of } => step_with_room(alloc, site, core, caller, &Deed::Wake { of }, slots),
-        _ => {
-            // It has a name, so that what the other arms answer is not put into the memory of this call's answer first.
-            let stepped = step_of_any_kind(alloc, site, core, caller, deed, slots);
-            stepped
-        }
+        _ => step_with_room(alloc, site, core, caller, deed, slots),
     }
 }
 
@@ -272,16 +227,10 @@ fn chosen_step<S: Slots>(
     caller: u8,
     slots: &mut S,
 ) -> Stepped
-    requires kept { CoreKept site.now.setup core.old }
-    requires caller { caller < length core.old.callers.items }
-    requires agree { S.states slots.old ≡ slots_of (world_at site.now core.old) }
-    requires goes_on { core.old.stopped ≡ None }
+    requires may { MayStep site.now core.old caller (S.states slots.old) }
     requires lasts { has_ended (world_at site.now core.old) caller ≡ false }
-    ensures step { StepIs (shown_at site.now core.old) caller result (shown_at site.now core.new) }
-    ensures kept { CoreKept site.now.setup core.new }
-    ensures agree { S.states slots.new ≡ slots_of (world_at site.now core.new) }
+    ensures stepped { HasStepped site.now core.old core.new caller result (S.states slots.new) }
     ensures denials { DenialsAre core.old.tree.live (S.denials slots.old) (S.last_denial slots.old) result (S.denials slots.new) (S.last_denial slots.new) }
-    ensures falls { IsDid result → caller ≡ 0 → BootFalls site.now core.old core.new }
 {
     match choose(alloc, site, core, caller) {
         Err(_) => Stepped::Memory,
@@ -301,17 +250,11 @@ fn framed_step<S: Slots>(
     caller: u8,
     slots: &mut S,
 ) -> Stepped
-    requires kept { CoreKept site.now.setup core.old }
-    requires caller { caller < length core.old.callers.items }
-    requires agree { S.states slots.old ≡ slots_of (world_at site.now core.old) }
-    requires goes_on { core.old.stopped ≡ None }
+    requires may { MayStep site.now core.old caller (S.states slots.old) }
     requires lasts { has_ended (world_at site.now core.old) caller ≡ false }
     requires goes { next (world_at site.now core.old) caller ≡ on_top (world_at site.now core.old) caller (caller_at (world_at site.now core.old) caller).stack }
-    ensures step { StepIs (shown_at site.now core.old) caller result (shown_at site.now core.new) }
-    ensures kept { CoreKept site.now.setup core.new }
-    ensures agree { S.states slots.new ≡ slots_of (world_at site.now core.new) }
+    ensures stepped { HasStepped site.now core.old core.new caller result (S.states slots.new) }
     ensures denials { DenialsAre core.old.tree.live (S.denials slots.old) (S.last_denial slots.old) result (S.denials slots.new) (S.last_denial slots.new) }
-    ensures falls { IsDid result → caller ≡ 0 → BootFalls site.now core.old core.new }
 {
     match next_on_scan(site, core, caller) {
         Some(
@@ -331,7 +274,37 @@ fn framed_step<S: Slots>(
             step_with_room(alloc, site, core, caller, &search, slots)
         }
         _ => {
-            // A name for it, as in `step_deed`.
+            // It has a name, so that what the other arm answers is not put into the memory of this call's answer first.
+            let stepped = chosen_step(alloc, site, core, caller, slots);
+            stepped
+        }
+    }
+}
+
+/// The next event of a caller that goes on by no frame. That a device falls asleep or wakes, as goes on in power commands, goes its own
+/// way, as a search does.
+#[inline(never)]
+fn powered_step<S: Slots>(
+    alloc: Global,
+    site: &Site,
+    core: &mut Core,
+    caller: u8,
+    slots: &mut S,
+) -> Stepped
+    requires may { MayStep site.now core.old caller (S.states slots.old) }
+    requires lasts { has_ended (world_at site.now core.old) caller ≡ false }
+    ensures stepped { HasStepped site.now core.old core.new caller result (S.states slots.new) }
+    ensures denials { DenialsAre core.old.tree.live (S.denials slots.old) (S.last_denial slots.old) result (S.denials slots.new) (S.last_denial slots.new) }
+{
+    match next_in_power(site, core, caller) {
+        Some(Deed::Sleep { of }) => {
+            step_with_room(alloc, site, core, caller, &Deed::Sleep { of }, slots)
+        }
+        Some(Deed::Wake { of }) => {
+            step_with_room(alloc, site, core, caller, &Deed::Wake { of }, slots)
+        }
+        _ => {
+            // A name for it, as in `framed_step`.
             let stepped = chosen_step(alloc, site, core, caller, slots);
             stepped
         }
@@ -347,15 +320,9 @@ fn next_step<S: Slots>(
     caller: u8,
     slots: &mut S,
 ) -> Stepped
-    requires kept { CoreKept site.now.setup core.old }
-    requires caller { caller < length core.old.callers.items }
-    requires agree { S.states slots.old ≡ slots_of (world_at site.now core.old) }
-    requires goes_on { core.old.stopped ≡ None }
-    ensures step { StepIs (shown_at site.now core.old) caller result (shown_at site.now core.new) }
-    ensures kept { CoreKept site.now.setup core.new }
-    ensures agree { S.states slots.new ≡ slots_of (world_at site.now core.new) }
+    requires may { MayStep site.now core.old caller (S.states slots.old) }
+    ensures stepped { HasStepped site.now core.old core.new caller result (S.states slots.new) }
     ensures denials { DenialsAre core.old.tree.live (S.denials slots.old) (S.last_denial slots.old) result (S.denials slots.new) (S.last_denial slots.new) }
-    ensures falls { IsDid result → caller ≡ 0 → BootFalls site.now core.old core.new }
 {
     if is_ended(core, caller) {
         return Stepped::Closed;
@@ -363,7 +330,7 @@ fn next_step<S: Slots>(
     if goes_by_frames(core, caller) {
         framed_step(alloc, site, core, caller, slots)
     } else {
-        chosen_step(alloc, site, core, caller, slots)
+        powered_step(alloc, site, core, caller, slots)
     }
 }
 

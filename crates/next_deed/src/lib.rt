@@ -14,4 +14,4 @@ mod rescan;
 mod search;
 mod unit;
 
-pub use next::{choose, goes_by_frames, next_on_scan};
+pub use next::{choose, goes_by_frames, next_in_power, next_on_scan};

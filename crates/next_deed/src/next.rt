@@ -203,6 +203,25 @@ pub fn next_on_scan(site: &Site, core: &Core, caller: u8) -> Option<Deed>
     }
 }
 
+/// What a caller does next that is in the middle of a power command; none where `choose` has to tell.
+#[inline(always)]
+pub fn next_in_power(site: &Site, core: &Core, caller: u8) -> Option<Deed>
+    requires kept { Kept (world_at site.now core.now) }
+    requires caller { caller < length core.now.callers.items }
+    ensures { IfSome result (λ deed. next.next (world_at site.now core.now) caller ≡ Does deed) }
+{
+    if waits_for_boot(core, caller) {
+        return None;
+    }
+    let Activity::Power(kind, target) = core.callers[caller as usize].doing else {
+        return None;
+    };
+    match plan_power(&site.setup, core, kind, target) {
+        Choice::Does(deed) => Some(deed),
+        _ => None,
+    }
+}
+
 /// What a caller does next.
 #[tactic(auto, unfolding(run_rules::specs::Next::next))]
 #[inline(never)]
