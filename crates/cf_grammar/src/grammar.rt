@@ -72,7 +72,7 @@ fn put_words<'a>(
     words.clear();
     words.reserve(tokens.len())?;
     for &token in tokens {
-        words.push(word_of(text, token))?;
+        words.push_reserved(word_of(text, token));
     }
     Ok(())
 }

@@ -1,9 +1,9 @@
-ghost use Rattle.std.specs.Prelude.{◌≡◌, ◌+◌, ◌<◌, ◌++◌, ◌^◌, length, IfSome, OnOk};
+ghost use Rattle.std.specs.Prelude.{◌≡◌, ◌+◌, ◌<◌, ◌∷◌, [], ◌++◌, ◌^◌, length, IfSome, OnOk};
 ghost use Rattle.config_rules.specs.Cut.{parts_of};
 ghost use Rattle.cf_lexer.specs.Line.{Leaves, span_tokens, with_line};
 
 use crate::front::{Span, front_part};
-use cf_types::{List, Memory as NoMemory, Token};
+use cf_types::{Memory as NoMemory, Token};
 use thiserror::Error;
 
 /// Why a text can't be cut into tokens.
@@ -29,38 +29,46 @@ impl From<NoMemory> for LexStop {
     }
 }
 
+/// Appends a token. Room is asked for only where there is none.
+#[inline(always)]
+pub fn push_token(tokens: &mut Vec<Token>, token: Token) -> Result<(), NoMemory>
+    ensures { OnOk result (tokens.new.items ≡ tokens.old.items ++ token ∷ []) }
+{
+    if tokens.len() >= tokens.capacity() {
+        tokens.reserve(1)?;
+    }
+    tokens.push_reserved(token);
+    Ok(())
+}
+
 /// Appends the token of a part that begins at this place of the text, if it has one.
 #[inline(always)]
 fn push_span(
-    tokens: &mut List<Token>,
+    tokens: &mut Vec<Token>,
     line: u32,
     at: u32,
     span: Option<Span>,
 ) -> Result<(), NoMemory>
     requires { IfSome span (λ s. (at + s.start < 2 ^ 32) × (at + s.end < 2 ^ 32)) }
-    ensures { OnOk result (tokens.new ≡ tokens.old ++ span_tokens line at span) }
+    ensures { OnOk result (tokens.new.items ≡ tokens.old.items ++ span_tokens line at span) }
 {
     if let Some(span) = span {
-        tokens.push(Token {
+        let token = Token {
             kind: span.kind,
             start: at + span.start as u32,
             end: at + span.end as u32,
             line,
-        })?;
+        };
+        push_token(tokens, token)?;
     }
     Ok(())
 }
 
 /// Appends the tokens of the line with this number, which begins at this place of the text.
 #[inline]
-pub fn cut_line(
-    tokens: &mut List<Token>,
-    line: u32,
-    start: u32,
-    bytes: &[u8],
-) -> Result<(), LexStop>
+pub fn cut_line(tokens: &mut Vec<Token>, line: u32, start: u32, bytes: &[u8]) -> Result<(), LexStop>
     requires { start + length bytes.now < 2 ^ 32 }
-    ensures { Leaves (with_line tokens.old line start (parts_of bytes.now)) line result tokens.new }
+    ensures { Leaves (with_line tokens.old.items line start (parts_of bytes.now)) line result tokens.new.items }
 {
     let mut rest = bytes;
     let mut at = start;

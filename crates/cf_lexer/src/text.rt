@@ -2,7 +2,7 @@ ghost use Rattle.std.specs.Prelude.{◌≡◌, ◌<◌, [], ◌∷◌, ◌++◌,
 ghost use Rattle.config_rules.specs.Cut.{Cut, cut_of, lines_of, stop_behind};
 ghost use Rattle.cf_lexer.specs.Line.{begins, IsFaultOf, lines_left, Shows};
 
-use crate::line::{LexStop, cut_line};
+use crate::line::{LexStop, cut_line, push_token};
 use cf_text::is_space;
 use cf_types::{List, Memory as NoMemory, Token, TokenKind};
 use memchr::memchr;
@@ -32,25 +32,25 @@ fn begins(line: &[u8]) -> bool
 
 /// Appends a stop behind the last token, if there is one.
 #[inline]
-fn push_stop(tokens: &mut List<Token>) -> Result<(), NoMemory>
-    ensures { OnOk result (tokens.new ≡ tokens.old ++ stop_behind tokens.old) }
+fn push_stop(tokens: &mut Vec<Token>) -> Result<(), NoMemory>
+    ensures { OnOk result (tokens.new.items ≡ tokens.old.items ++ stop_behind tokens.old.items) }
 {
-    if let Some(last) = tokens.items().last() {
+    if let Some(last) = tokens.last() {
         let stop = Token {
             kind: TokenKind::Stop,
             start: last.end,
             end: last.end,
             line: last.line,
         };
-        tokens.push(stop)?;
+        push_token(tokens, stop)?;
     }
     Ok(())
 }
 
 /// Ends the statement so far where this line begins another.
 #[inline]
-fn end_statement(tokens: &mut List<Token>, line: &[u8]) -> Result<(), NoMemory>
-    ensures { OnOk result (tokens.new ≡ cond (begins line.now) (tokens.old ++ stop_behind tokens.old) tokens.old) }
+fn end_statement(tokens: &mut Vec<Token>, line: &[u8]) -> Result<(), NoMemory>
+    ensures { OnOk result (tokens.new.items ≡ cond (begins line.now) (tokens.old.items ++ stop_behind tokens.old.items) tokens.old.items) }
 {
     if begins(line) {
         push_stop(tokens)?;
@@ -60,10 +60,10 @@ fn end_statement(tokens: &mut List<Token>, line: &[u8]) -> Result<(), NoMemory>
 
 /// No token, with room for those of so many bytes in most files, so that few are moved as their list grows. What no
 /// token comes to lie in is never touched.
-fn room_for(alloc: Global, bytes: usize) -> Result<List<Token>, NoMemory>
-    ensures { IfOk result (λ tokens. tokens ≡ []) }
+fn room_for(alloc: Global, bytes: usize) -> Result<Vec<Token>, NoMemory>
+    ensures { IfOk result (λ tokens. tokens.items ≡ []) }
 {
-    Ok(List::from_vec(Vec::with_capacity(alloc, bytes / 2)?))
+    Ok(Vec::with_capacity(alloc, bytes / 2)?)
 }
 
 /// The tokens of a configuration file of at most 1,048,576 bytes, with a `Stop` behind those of each statement, or the
@@ -87,5 +87,5 @@ pub fn cut(alloc: Global, text: &[u8]) -> Result<List<Token>, LexStop>
         left = behind;
     }
     push_stop(&mut tokens)?;
-    Ok(tokens)
+    Ok(List::from_vec(tokens))
 }

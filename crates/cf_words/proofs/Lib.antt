@@ -1,4 +1,5 @@
 pub mod ListLemmas
+pub mod SameLemmas
 pub mod LocatorLemmas
 pub mod ValueLemmas
 pub mod MarkLemmas

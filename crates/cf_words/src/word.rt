@@ -1,4 +1,4 @@
-ghost use Rattle.std.specs.Prelude.{◌≡◌, ◌<◌, ◌∷◌, IfSome, codes, drop, length, map, not, option_map, take_while};
+ghost use Rattle.std.specs.Prelude.{◌≡◌, ◌<◌, ◌∷◌, IfSome, bytes_eq, codes, drop, length, map, not, option_map, take_while};
 ghost use Rattle.std.specs.List.{after_first, before_first};
 ghost use Rattle.config_rules.specs.Form.{is_mark, parted, parted_at};
 ghost use Rattle.cf_words.specs.Words.{parts_left, piece_of};
@@ -10,6 +10,18 @@ use cf_types::TokenKind;
 pub struct Word<'a> {
     pub kind: TokenKind,
     pub text: &'a [u8],
+}
+
+/// Whether two texts are the same. Those of other lengths, and those of one byte, are told apart without a call.
+#[tactic(auto, using(crate::proofs::SameLemmas::long_differs))]
+#[inline(always)]
+fn is_same(text: &[u8], other: &[u8]) -> bool
+    ensures { result ≡ bytes_eq text.now other.now }
+{
+    match (text, other) {
+        ([byte], [wanted]) => *byte == *wanted,
+        _ => text.len() == other.len() && text == other,
+    }
 }
 
 impl<'a> Word<'a> {
@@ -36,7 +48,7 @@ impl<'a> Word<'a> {
     pub fn is_mark(self, mark: &[u8]) -> bool
         ensures { result ≡ is_mark mark.now (piece_of self.entry) }
     {
-        self.kind == TokenKind::Mark && self.text == mark
+        self.kind == TokenKind::Mark && is_same(self.text, mark)
     }
 
     /// Whether it is a chunk with this spelling.
@@ -44,7 +56,7 @@ impl<'a> Word<'a> {
     pub fn is_word(self, spelling: &[u8]) -> bool
         ensures { result ≡ is_word spelling.now (piece_of self.entry) }
     {
-        self.is_chunk() && self.text == spelling
+        self.is_chunk() && is_same(self.text, spelling)
     }
 }
 

@@ -1,7 +1,12 @@
-use Rattle.std.proofs.Common.{◌≡◌, map, take}
+use Rattle.std.proofs.Common.{◌≡◌, ◌≤◌, length, map, take}
+use Rattle.std.specs.Vec.{vec_capacity, vec_len}
 use Rattle.config_rules.specs.Cut.{pieces}
 use Rattle.cf_words.specs.Words.{piece_of}
 use Rattle.cf_grammar.proofs.grammar.put_words.Given as goal
 
 abbrev pub invariant-loop-token : goal.invariant-loop-token
-invariant-loop-token l = map piece_of l.words.items ≡ pieces l.text (take l.token-index l.tokens)
+invariant-loop-token l = record {
+  words : map piece_of l.words.items ≡ pieces l.text (take l.token-index l.tokens);
+  count : vec_len l.words ≡ l.token-index;
+  room : length l.tokens ≤ vec_capacity l.words;
+}

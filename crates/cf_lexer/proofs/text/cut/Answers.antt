@@ -36,9 +36,9 @@ returns-in_err-cut_line-clause-fault c =
     let left : lines_left c.loop-left.left ≡ c.first_line.result.0.now ∷ lines_left c.first_line.result.1 = ap lines_left c.in-Some.is ∙ c.first_line.ensures.lines in
     let p = err_from_is_err_and c.from_residual-in_err-cut_line.result c.from_residual-in_err-cut_line.ensures.1 in
     let shown : Shows (cut_of c.args.text.now) c.from_residual-in_err-cut_line.result =
-    rw (p.1, p.2) (line_fails c.args.text.now c.loop-left.tokens c.end_statement.new.tokens c.cut_line.new.tokens c.loop-left.number c.loop-left.at c.first_line.result.0.now (lines_left c.first_line.result.1) _
+    rw (p.1, p.2) (line_fails c.args.text.now c.loop-left.tokens.items c.end_statement.new.tokens.items c.cut_line.new.tokens.items c.loop-left.number c.loop-left.at c.first_line.result.0.now (lines_left c.first_line.result.1) _
     c.in_err-cut_line.ensures
-    (ap (finish c.loop-left.tokens c.loop-left.number c.loop-left.at) (sym left) ∙ c.loop-left.invariant.so_far)) in
+    (ap (finish c.loop-left.tokens.items c.loop-left.number c.loop-left.at) (sym left) ∙ c.loop-left.invariant.so_far)) in
     fault_is c.args.text.now c.from_residual-in_err-cut_line.result shown
 
 pub returns-in_err-cut_line-clause-exact : goal.returns-in_err-cut_line-clause-exact
@@ -46,9 +46,9 @@ returns-in_err-cut_line-clause-exact c =
     let left : lines_left c.loop-left.left ≡ c.first_line.result.0.now ∷ lines_left c.first_line.result.1 = ap lines_left c.in-Some.is ∙ c.first_line.ensures.lines in
     let p = err_from_is_err_and c.from_residual-in_err-cut_line.result c.from_residual-in_err-cut_line.ensures.1 in
     let shown : Shows (cut_of c.args.text.now) c.from_residual-in_err-cut_line.result =
-    rw (p.1, p.2) (line_fails c.args.text.now c.loop-left.tokens c.end_statement.new.tokens c.cut_line.new.tokens c.loop-left.number c.loop-left.at c.first_line.result.0.now (lines_left c.first_line.result.1) _
+    rw (p.1, p.2) (line_fails c.args.text.now c.loop-left.tokens.items c.end_statement.new.tokens.items c.cut_line.new.tokens.items c.loop-left.number c.loop-left.at c.first_line.result.0.now (lines_left c.first_line.result.1) _
     c.in_err-cut_line.ensures
-    (ap (finish c.loop-left.tokens c.loop-left.number c.loop-left.at) (sym left) ∙ c.loop-left.invariant.so_far)) in
+    (ap (finish c.loop-left.tokens.items c.loop-left.number c.loop-left.at) (sym left) ∙ c.loop-left.invariant.so_far)) in
     shown
 
 pub loop-left-preserved : goal.loop-left-preserved
@@ -56,9 +56,9 @@ loop-left-preserved c =
     let left : lines_left c.loop-left.left ≡ c.first_line.result.0.now ∷ lines_left c.first_line.result.1 = ap lines_left c.in-Some.is ∙ c.first_line.ensures.lines in
     record {
       so_far =
-          text_goes_on c.loop-left.tokens c.end_statement.new.tokens c.cut_line.new.tokens c.loop-left.number c.loop-left.at c.first_line.result.0.now (lines_left c.first_line.result.1)
+          text_goes_on c.loop-left.tokens.items c.end_statement.new.tokens.items c.cut_line.new.tokens.items c.loop-left.number c.loop-left.at c.first_line.result.0.now (lines_left c.first_line.result.1)
           c.in_ok-end_statement.ensures c.in_ok-cut_line.ensures
-          ∙ ap (finish c.loop-left.tokens c.loop-left.number c.loop-left.at) (sym left)
+          ∙ ap (finish c.loop-left.tokens.items c.loop-left.number c.loop-left.at) (sym left)
           ∙ c.loop-left.invariant.so_far;
       place = omega (arith, c.loop-left.invariant.place, ap total left);
       count = omega (arith, c.loop-left.invariant.count);
@@ -66,14 +66,14 @@ loop-left-preserved c =
 
 pub returns-clause-cut : goal.returns-clause-cut
 returns-clause-cut c =
-    let whole : cut_of c.args.text.now ≡ Ok c.push_stop.new.tokens =
-    lines_end c.args.text.now c.loop-left.tokens c.push_stop.new.tokens c.loop-left.number c.loop-left.at c.in_ok-push_stop.ensures
-    (ap (λ left. finish c.loop-left.tokens c.loop-left.number c.loop-left.at (lines_left left)) (sym c.in_default.is) ∙ c.loop-left.invariant.so_far) in
-    cut_is c.args.text.now (Ok c.push_stop.new.tokens) whole
+    let whole : cut_of c.args.text.now ≡ Ok c.push_stop.new.tokens.items =
+    lines_end c.args.text.now c.loop-left.tokens.items c.push_stop.new.tokens.items c.loop-left.number c.loop-left.at c.in_ok-push_stop.ensures
+    (ap (λ left. finish c.loop-left.tokens.items c.loop-left.number c.loop-left.at (lines_left left)) (sym c.in_default.is) ∙ c.loop-left.invariant.so_far) in
+    cut_is c.args.text.now (Ok c.from_vec.result) (whole ∙ ap Ok (sym c.from_vec.ensures))
 
 pub returns-clause-exact : goal.returns-clause-exact
 returns-clause-exact c =
-    let whole : cut_of c.args.text.now ≡ Ok c.push_stop.new.tokens =
-    lines_end c.args.text.now c.loop-left.tokens c.push_stop.new.tokens c.loop-left.number c.loop-left.at c.in_ok-push_stop.ensures
-    (ap (λ left. finish c.loop-left.tokens c.loop-left.number c.loop-left.at (lines_left left)) (sym c.in_default.is) ∙ c.loop-left.invariant.so_far) in
-    whole
+    let whole : cut_of c.args.text.now ≡ Ok c.push_stop.new.tokens.items =
+    lines_end c.args.text.now c.loop-left.tokens.items c.push_stop.new.tokens.items c.loop-left.number c.loop-left.at c.in_ok-push_stop.ensures
+    (ap (λ left. finish c.loop-left.tokens.items c.loop-left.number c.loop-left.at (lines_left left)) (sym c.in_default.is) ∙ c.loop-left.invariant.so_far) in
+    whole ∙ ap Ok (sym c.from_vec.ensures)

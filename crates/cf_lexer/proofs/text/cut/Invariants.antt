@@ -6,7 +6,7 @@ use Rattle.cf_lexer.proofs.text.cut.Given as goal
 
 abbrev pub invariant-loop-left : goal.invariant-loop-left
 invariant-loop-left l = record {
-  so_far : finish l.tokens l.number l.at (lines_left l.left) ≡ finish [] 1 0 (lines_of l.text);
+  so_far : finish l.tokens.items l.number l.at (lines_left l.left) ≡ finish [] 1 0 (lines_of l.text);
   place : l.at + total (lines_left l.left) ≡ total (lines_of l.text);
   count : l.number ≤ l.at + 1;
 }
