@@ -5,3 +5,4 @@ pub mod ReaderLemmas
 pub mod PathLemmas
 pub mod ReadLemmas
 pub mod NameLemmas
+pub mod UnreadLemmas

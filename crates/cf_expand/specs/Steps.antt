@@ -5,6 +5,7 @@ use Rattle.cf_types.specs.declared.stmt.Stmt.TheVariants as stmt
 use Rattle.cf_grammar.specs.Statement.{AreWithin}
 use Rattle.config_rules.specs.Reading.{Files, Here, Level, Statement, Reader, Reading, include, statements_in, place, pop_prefix, read_statements, reader, refused, under_prefix}
 use Rattle.cf_expand.specs.declared.source.Include.{Include}
+use Rattle.cf_expand.specs.declared.source.Opened.{Opened}
 use Rattle.cf_expand.specs.declared.source.Source.{Source}
 
 -- the file that is read, with so many conditions open around it
@@ -29,9 +30,10 @@ turned here s (Some path) r =
     place here s (stmt.Prefix (Some path)) (record r { prefixes = under_prefix r.prefixes path ∷ r.prefixes })
 
 -- where a file was opened, its statements are still to be read
-abbrev pub entered : Files → ℕ → Option Source → Reading → Reading
+abbrev pub entered : Files → ℕ → Option Opened → Reading → Reading
 entered files around None r = r
-entered files around (Some s) r = read_statements files (reader s.levels files) (here_of around s) [] (statements_in s.text s.tokens) r
+entered files around (Some o) r =
+    read_statements files (reader o.source.levels files) (here_of around o.source) [] (statements_in o.source.text o.tokens) r
 
 -- an include on this line whose file is absent
 abbrev pub when_absent : Source → ℕ → List ℕ → Bool → Reading → Reading
@@ -48,6 +50,6 @@ abbrev pub expanded : Reading → Expanded
 expanded r = record { placed = r.placed; files = r.files; fault = r.fault }
 
 -- a file that was opened has so much room for conditions and so many levels below it, and its tokens lie within it
-abbrev pub IsBelow : ℕ → ℕ → Option Source → Type 0
+abbrev pub IsBelow : ℕ → ℕ → Option Opened → Type 0
 IsBelow room levels None = ⊤
-IsBelow room levels (Some s) = (s.room ≡ room) × (s.levels ≡ levels) × AreWithin s.text s.tokens
+IsBelow room levels (Some o) = (o.source.room ≡ room) × (o.source.levels ≡ levels) × AreWithin o.source.text o.tokens

@@ -11,6 +11,7 @@ mod reading;
 mod source;
 mod steps;
 mod stop;
+mod unread;
 
 pub use reading::expand;
 pub use stop::ExpandStop;

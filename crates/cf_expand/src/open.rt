@@ -8,7 +8,7 @@ ghost use Rattle.cf_expand.specs.Steps.{IsBelow, WhereTold, entered, here_of, wh
 
 use crate::conditions::Conditions;
 use crate::progress::Progress;
-use crate::source::{Include, Source};
+use crate::source::{Include, Opened, Source};
 use crate::stop::ExpandStop;
 use cf_io::{Files, Load};
 use cf_lexer::{LexStop, cut};
@@ -77,7 +77,7 @@ fn open(
     text: Vec<u8>,
     room: usize,
     levels: u32,
-) -> Result<Option<Source>, Memory>
+) -> Result<Option<Opened>, Memory>
     requires short { length text.items ≤ 1048576 }
     requires few { length progress.old.files < 4096 }
     ensures below { IfOk result (λ opened. IsBelow room levels opened) }
@@ -87,13 +87,15 @@ fn open(
     let number = progress.files_len() as u32;
     progress.push_file(alloc, name.items())?;
     match cut(alloc, &text) {
-        Ok(tokens) => Ok(Some(Source {
-            name,
-            number,
-            text: List::from_vec(text),
+        Ok(tokens) => Ok(Some(Opened {
+            source: Source {
+                name,
+                number,
+                text: List::from_vec(text),
+                room,
+                levels,
+            },
             tokens,
-            room,
-            levels,
         })),
         Err(LexStop::Fault { line, code }) => {
             progress.refuse(alloc, name.items(), line, code)?;
@@ -109,7 +111,7 @@ pub fn open_first<F: Files>(
     files: &mut F,
     progress: &mut Progress,
     name: &[u8],
-) -> Result<Option<Source>, ExpandStop>
+) -> Result<Option<Opened>, ExpandStop>
     requires { progress.old ≡ nothing_read }
     ensures told { F.told files.new ≡ F.told files.old }
     ensures counted { Counted (F.faults files.old) (F.faults files.new) result }
@@ -160,7 +162,7 @@ pub fn open_include<F: Files>(
     conditions: &Conditions,
     line: u32,
     wanted: Include,
-) -> Result<Option<Source>, ExpandStop>
+) -> Result<Option<Opened>, ExpandStop>
     requires { length progress.old.placed < 65536 }
     ensures told { F.told files.new ≡ F.told files.old }
     ensures counted { Counted (F.faults files.old) (F.faults files.new) result }

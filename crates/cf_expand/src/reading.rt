@@ -9,15 +9,16 @@ ghost use Rattle.cf_expand.specs.Stop.{Counted};
 ghost use Rattle.cf_expand.specs.Steps.{WhereTold, entered, expanded, here_of};
 
 use crate::conditions::Conditions;
-use crate::lines::{condition_word, first_statement, line_number};
+use crate::lines::{condition_word, line_number};
 use crate::open::{open_first, open_include};
 use crate::progress::Progress;
-use crate::source::Source;
+use crate::source::{Opened, Source};
 use crate::steps::{holds, read_statement};
 use crate::stop::ExpandStop;
+use crate::unread::Unread;
 use cf_io::Files;
 use cf_types::code::configuration as code;
-use cf_types::{Expanded, Memory, Token};
+use cf_types::{Expanded, List, Memory, Token};
 use cf_words::Word;
 use std::alloc::Global;
 
@@ -64,28 +65,35 @@ fn read_with_include<'a, F: Files>(
     let Some(below) = open_include(alloc, files, progress, source, conditions, line, wanted)? else {
         return Ok(());
     };
-    read_source(alloc, files, progress, &below)
+    let Opened {
+        source: inner,
+        tokens: unread,
+    } = below;
+    read_source(alloc, files, progress, &inner, unread)
 }
 
-/// Reads the statements of a file that was opened, up to the first fault.
+/// Reads the statements of these tokens of a file, up to the first fault.
 #[cycle(statements)]
 fn read_source<F: Files>(
     alloc: Global,
     files: &mut F,
     progress: &mut Progress,
     source: &Source,
+    tokens: List<Token>,
 ) -> Result<(), ExpandStop>
-    requires { AreWithin source.now.text source.now.tokens }
+    requires { AreWithin source.now.text tokens }
     ensures told { F.told files.new ≡ F.told files.old }
     ensures counted { Counted (F.faults files.old) (F.faults files.new) result }
     ensures read { WhereTold (F.told files.old) (λ named. OnOk result ((around : ℕ) → source.now.room ≡ 16 - around
-        → progress.new ≡ entered named around (Some source.now) progress.old)) }
-    ensures asked { AsksIn (F.told files.old) source.now progress.old (λ named around. entered named around (Some source.now) progress.old) result (F.asked files.old) (F.asked files.new) }
+        → progress.new ≡ entered named around (Some (record { source = source.now; tokens = tokens })) progress.old)) }
+    ensures asked { AsksIn (F.told files.old) source.now progress.old
+        (λ named around. entered named around (Some (record { source = source.now; tokens = tokens })) progress.old)
+        result (F.asked files.old) (F.asked files.new) }
 {
     let mut conditions = Conditions::make(alloc);
     let mut words = Vec::new(alloc);
-    let mut tokens = source.tokens.items();
-    while let Some((statement, rest)) = first_statement(tokens) {
+    let mut left = Unread::make(tokens);
+    while let Some((statement, rest)) = left.first() {
         let word = condition_word(source.text.items(), statement);
         let condition_holds = holds(progress, word, source.text.items(), statement);
         read_with_include(
@@ -101,7 +109,8 @@ fn read_source<F: Files>(
             return Ok(());
         }
         conditions.follow(word, line_number(statement), condition_holds)?;
-        tokens = rest;
+        let count = rest.len();
+        left.keep_last(count);
     }
     read_end(alloc, progress, source, &conditions)?;
     Ok(())
@@ -119,10 +128,11 @@ fn read_named<F: Files>(
     ensures read { WhereTold (F.told files.old) (λ named. OnOk result (progress.new ≡ reading named name.now)) }
     ensures asked { WhereTold (F.told files.old) (λ named. Asks (reading named name.now).asked result (F.asked files.old) (F.asked files.new)) }
 {
-    let Some(source) = open_first(alloc, files, progress, name)? else {
+    let Some(opened) = open_first(alloc, files, progress, name)? else {
         return Ok(());
     };
-    read_source(alloc, files, progress, &source)
+    let Opened { source, tokens } = opened;
+    read_source(alloc, files, progress, &source, tokens)
 }
 
 /// Reads the named configuration file with all that it includes, as config(5) has it: the statements that stand in no

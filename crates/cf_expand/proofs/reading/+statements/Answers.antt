@@ -1,6 +1,9 @@
-use Rattle.std.proofs.Common.{◌+◌, ◌∙◌, ℕ, List, length, ap, sym, Some}
-use Rattle.config_rules.specs.Reading.{Reading, condition_of, holds, names_declared, read_statement, reader, statements_in}
+use Rattle.std.proofs.Common.{◌≡◌, ◌+◌, ◌∙◌, ℕ, List, length, ap, refl, sym, subst, Some}
+use Rattle.cf_types.specs.declared.stmt.Token.{Token}
+use Rattle.cf_grammar.specs.Statement.{AreWithin}
+use Rattle.config_rules.specs.Reading.{Reading, condition_of, holds, names_declared, read_statement, read_statements, reader, statements_in}
 use Rattle.cf_expand.proofs.AskedLemmas.{all_grown, asked_still, at_end, at_fault, asks_same, beyond, follows, front_grown, front_same, reader_grows, rest_grows, rest_within, statement_grows, stopped_all, whole_grows}
+use Rattle.cf_expand.proofs.UnreadLemmas.{last_kept}
 use Rattle.cf_expand.proofs.ReadLemmas.{included, included_whole, on_ok, room_below}
 use Rattle.cf_expand.specs.Lines.{statement_of}
 use Rattle.cf_expand.specs.Steps.{entered, here_of}
@@ -49,29 +52,29 @@ pub read_source-returns-in_err-read_with_include-clause-asked : goal.read_source
 read_source-returns-in_err-read_with_include-clause-asked g t c = λ named e start around room before.
     let source = c.args.source.now in
     let so_far = c.loop-statement.invariant in
-    let whole = entered named around (Some source) c.args.progress.now in
+    let whole = entered named around (Some (record { source = source; tokens = c.args.tokens })) c.args.progress.now in
     stopped_all _ whole.asked _ _ _ c.from_residual.ensures.1
     (front_grown (read_statement named (reader source.levels named) (here_of around source) c.loop-statement.conditions (statement_of source.text c.in-Some.statement.now) c.loop-statement.progress) whole _ _
-    (rest_grows named (reader source.levels named) (reader_grows source.levels named) (here_of around source) c.loop-statement.conditions source.text c.loop-statement.tokens.now c.in-Some.statement.now c.in-Some.rest.now c.loop-statement.progress whole c.in-Some.ensures.splits (so_far.so_far named e around room))
+    (rest_grows named (reader source.levels named) (reader_grows source.levels named) (here_of around source) c.loop-statement.conditions source.text c.loop-statement.left c.in-Some.statement.now c.in-Some.rest.now c.loop-statement.progress whole c.in-Some.ensures.splits (so_far.so_far named e around room))
     (c.in_err-read_with_include.ensures.asked named (so_far.told ∙ e) start around room (so_far.asked named e start around room before)))
 
 pub read_source-returns-in_err-follow-clause-asked : goal.read_source-returns-in_err-follow-clause-asked
 read_source-returns-in_err-follow-clause-asked g t c = λ named e start around room before.
     let source = c.args.source.now in
     let so_far = c.loop-statement.invariant in
-    let whole = entered named around (Some source) c.args.progress.now in
+    let whole = entered named around (Some (record { source = source; tokens = c.args.tokens })) c.args.progress.now in
     stopped_all _ whole.asked _ _ _ c.from_residual-in_err-follow.ensures.1
     (all_grown (read_statement named (reader source.levels named) (here_of around source) c.loop-statement.conditions (statement_of source.text c.in-Some.statement.now) c.loop-statement.progress) whole _ _
-    (rest_grows named (reader source.levels named) (reader_grows source.levels named) (here_of around source) c.loop-statement.conditions source.text c.loop-statement.tokens.now c.in-Some.statement.now c.in-Some.rest.now c.loop-statement.progress whole c.in-Some.ensures.splits (so_far.so_far named e around room))
+    (rest_grows named (reader source.levels named) (reader_grows source.levels named) (here_of around source) c.loop-statement.conditions source.text c.loop-statement.left c.in-Some.statement.now c.in-Some.rest.now c.loop-statement.progress whole c.in-Some.ensures.splits (so_far.so_far named e around room))
     (c.in_ok-read_with_include.ensures.asked named (so_far.told ∙ e) start around room (so_far.asked named e start around room before)))
 
 pub read_source-returns-in_err-read_end-clause-asked : goal.read_source-returns-in_err-read_end-clause-asked
 read_source-returns-in_err-read_end-clause-asked g t c = λ named e start around room before.
     let source = c.args.source.now in
     let so_far = c.loop-statement.invariant in
-    let whole = entered named around (Some source) c.args.progress.now in
+    let whole = entered named around (Some (record { source = source; tokens = c.args.tokens })) c.args.progress.now in
     stopped_all _ whole.asked _ _ _ c.from_residual-in_err-read_end.ensures.1
-    (all_grown c.loop-statement.progress whole _ _ (whole_grows named (reader source.levels named) (reader_grows source.levels named) (here_of around source) c.loop-statement.conditions (statements_in source.text c.loop-statement.tokens.now) c.loop-statement.progress whole (so_far.so_far named e around room)) (so_far.asked named e start around room before))
+    (all_grown c.loop-statement.progress whole _ _ (whole_grows named (reader source.levels named) (reader_grows source.levels named) (here_of around source) c.loop-statement.conditions (statements_in source.text c.loop-statement.left) c.loop-statement.progress whole (so_far.so_far named e around room)) (so_far.asked named e start around room before))
 
 pub read_with_include-returns-in_default-clause-asked : goal.read_with_include-returns-in_default-clause-asked
 read_with_include-returns-in_default-clause-asked g t c = λ named e start around room before.
@@ -93,7 +96,7 @@ pub read_source-returns-then-has_fault-clause-read : goal.read_source-returns-th
 read_source-returns-then-has_fault-clause-read g t c = λ named e around room.
     let source = c.args.source.now in
     let so_far = c.loop-statement.invariant in
-    at_fault named (reader source.levels named) (here_of around source) c.loop-statement.conditions source.text c.loop-statement.tokens.now c.in-Some.statement.now c.in-Some.rest.now c.loop-statement.progress c.read_with_include.new.progress _
+    at_fault named (reader source.levels named) (here_of around source) c.loop-statement.conditions source.text c.loop-statement.left c.in-Some.statement.now c.in-Some.rest.now c.loop-statement.progress c.read_with_include.new.progress _
     c.in-Some.ensures.splits (so_far.so_far named e around room) (c.in_ok-read_with_include.ensures.read named (so_far.told ∙ e) around room) (sym c.has_fault.ensures ∙ c.if-has_fault.true)
 
 pub read_source-returns-then-has_fault-clause-asked : goal.read_source-returns-then-has_fault-clause-asked
@@ -101,7 +104,7 @@ read_source-returns-then-has_fault-clause-asked g t c = λ named e start around 
     let source = c.args.source.now in
     let so_far = c.loop-statement.invariant in
     let read = c.in_ok-read_with_include.ensures.read named (so_far.told ∙ e) around room in
-    let whole = at_fault named (reader source.levels named) (here_of around source) c.loop-statement.conditions source.text c.loop-statement.tokens.now c.in-Some.statement.now c.in-Some.rest.now c.loop-statement.progress c.read_with_include.new.progress _
+    let whole = at_fault named (reader source.levels named) (here_of around source) c.loop-statement.conditions source.text c.loop-statement.left c.in-Some.statement.now c.in-Some.rest.now c.loop-statement.progress c.read_with_include.new.progress _
     c.in-Some.ensures.splits (so_far.so_far named e around room) read (sym c.has_fault.ensures ∙ c.if-has_fault.true) in
     asked_still _ _ start _ (ap (λ (r : Reading). r.asked) (sym whole ∙ read)) (c.in_ok-read_with_include.ensures.asked named (so_far.told ∙ e) start around room (so_far.asked named e start around room before))
 
@@ -110,7 +113,7 @@ read_source-returns-clause-asked g t c = λ named e start around room before.
     let source = c.args.source.now in
     let so_far = c.loop-statement.invariant in
     let ends = c.in_ok-read_end.ensures in
-    let whole = at_end named (reader source.levels named) (here_of around source) c.loop-statement.conditions source.text c.loop-statement.tokens.now c.loop-statement.progress c.read_end.new.progress _ c.in_default.ensures (so_far.so_far named e around room) (ends.read around) in
+    let whole = at_end named (reader source.levels named) (here_of around source) c.loop-statement.conditions source.text c.loop-statement.left c.loop-statement.progress c.read_end.new.progress _ c.in_default.ensures (so_far.so_far named e around room) (ends.read around) in
     asked_still _ _ start _ (ap (λ (r : Reading). r.asked) (sym whole) ∙ ends.asked) (so_far.asked named e start around room before)
 
 pub read_source-loop-statement-preserved : goal.read_source-loop-statement-preserved
@@ -118,14 +121,16 @@ read_source-loop-statement-preserved g t c =
     let source = c.args.source.now in
     let so_far = c.loop-statement.invariant in
     let done = c.in_ok-read_with_include.ensures in
+    let kept : c.keep_last.new.self ≡ c.in-Some.rest.now = last_kept c.loop-statement.left c.in-Some.rest.now _ (length c.in-Some.rest.now) refl c.in-Some.ensures.behind c.keep_last.ensures.left in
     record {
       told = done.told ∙ so_far.told;
       counted = done.counted ∙ so_far.counted;
-      within = rest_within source.text c.loop-statement.tokens.now c.in-Some.rest.now so_far.within c.in-Some.ensures.behind;
+      within = subst (AreWithin source.text) (sym kept) (rest_within source.text c.loop-statement.left c.in-Some.rest.now so_far.within c.in-Some.ensures.behind);
       asked = λ named e start around room before.
           asked_still _ _ start _ (ap (λ (r : Reading). r.asked) (done.read named (so_far.told ∙ e) around room)) (done.asked named (so_far.told ∙ e) start around room (so_far.asked named e start around room before));
       so_far = λ named e around room.
-          beyond named (reader source.levels named) (here_of around source) c.loop-statement.conditions c.follow.new.self source.text c.loop-statement.tokens.now c.in-Some.statement.now c.in-Some.rest.now c.loop-statement.progress c.read_with_include.new.progress _
+          ap (λ (ts : List Token). read_statements named (reader source.levels named) (here_of around source) c.follow.new.self (statements_in source.text ts) c.read_with_include.new.progress) kept
+          ∙ beyond named (reader source.levels named) (here_of around source) c.loop-statement.conditions c.follow.new.self source.text c.loop-statement.left c.in-Some.statement.now c.in-Some.rest.now c.loop-statement.progress c.read_with_include.new.progress _
           c.in-Some.ensures.splits (so_far.so_far named e around room) (done.read named (so_far.told ∙ e) around room) (sym c.has_fault.ensures ∙ c.if-has_fault.false)
           (follows c.loop-statement.conditions c.follow.new.self c.loop-statement.progress.placed (statement_of source.text c.in-Some.statement.now) c.condition_word-word.result c.line_number.result c.holds-condition_holds.result
           c.in_ok-follow.ensures (c.condition_word-word.ensures ∙ ap (λ (text : List ℕ). condition_of (statement_of text c.in-Some.statement.now)) c.items.ensures) c.line_number.ensures

@@ -15,13 +15,13 @@ abbrev pub invariant-read_source-loop-statement : goal.invariant-read_source-loo
 invariant-read_source-loop-statement g l = record {
   told : g.F.Files.told l.files ≡ g.F.Files.told l.fn.files;
   counted : g.F.Files.faults l.files ≡ g.F.Files.faults l.fn.files;
-  within : AreWithin l.source.text l.tokens;
+  within : AreWithin l.source.text l.left;
   asked : (named : Files) → g.F.Files.told l.fn.files ≡ Some named → (start : Option (List (List ℕ))) (around : ℕ) → l.source.room ≡ 16 - around
       → g.F.Files.asked l.fn.files ≡ asked_behind start l.fn.progress.asked → g.F.Files.asked l.files ≡ asked_behind start l.progress.asked;
   so_far : (named : Files) → g.F.Files.told l.fn.files ≡ Some named → (around : ℕ) → l.source.room ≡ 16 - around
-      → read_statements named (reader l.source.levels named) (here_of around l.source) l.conditions (statements_in l.source.text l.tokens) l.progress
-      ≡ read_statements named (reader l.source.levels named) (here_of around l.source) [] (statements_in l.source.text l.source.tokens) l.fn.progress;
+      → read_statements named (reader l.source.levels named) (here_of around l.source) l.conditions (statements_in l.source.text l.left) l.progress
+      ≡ read_statements named (reader l.source.levels named) (here_of around l.source) [] (statements_in l.source.text l.fn.tokens) l.fn.progress;
 }
 
 abbrev pub decreases-read_source-loop-statement : goal.decreases-read_source-loop-statement
-decreases-read_source-loop-statement g l = length l.tokens
+decreases-read_source-loop-statement g l = length l.left
