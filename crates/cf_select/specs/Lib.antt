@@ -1,4 +1,6 @@
+pub mod Alike
 pub mod Carried
+pub mod Hashed
 pub mod Naming
 pub mod Places
 pub mod Reached

@@ -6,6 +6,7 @@ mod lists;
 mod marks;
 mod named;
 mod negations;
+mod places;
 mod standing;
 mod waiting;
 mod want;

@@ -8,7 +8,8 @@ ghost use Rattle.cf_select.specs.declared.named.Named.{Named as Key};
 
 use crate::lists::push_place;
 use crate::named::{Attachment, Named};
-use cf_types::{AtSpec, List, Memory, Stmt, UnitMark};
+use crate::places::Places;
+use cf_types::{AtSpec, Memory, Stmt, UnitMark};
 use std::alloc::Global;
 use std::collections::HashMap;
 
@@ -55,7 +56,7 @@ pub fn named_by(stmt: &Stmt) -> Option<Named<'_>>
 /// Adds an instance to the lists of all that name it.
 pub fn put_instance<'a>(
     alloc: Global,
-    lists: &mut HashMap<Named<'a>, List<usize>>,
+    lists: &mut HashMap<Named<'a>, Places>,
     stmt: &'a Stmt,
     place: usize,
 ) -> Result<(), Memory>

@@ -14,6 +14,7 @@ ghost use Rattle.cf_select.specs.Selected.{instances, is_negation, without};
 use crate::lists::take_places;
 use crate::named::Named;
 use crate::negations::{is_instance, named_by, put_instance};
+use crate::places::Places;
 use cf_types::{List, Memory, Placed, Stmt};
 use std::alloc::Global;
 use std::collections::HashMap;
@@ -55,7 +56,7 @@ fn take_all(free: &mut Vec<bool>, places: &[usize])
 fn take_named<'a>(
     alloc: Global,
     free: &mut Vec<bool>,
-    lists: &mut HashMap<Named<'a>, List<usize>>,
+    lists: &mut HashMap<Named<'a>, Places>,
     key: &Named<'a>,
 ) -> bool
     requires { AreShort lists.old free.old.items }
@@ -74,7 +75,7 @@ fn take_named<'a>(
 fn take_back<'a>(
     alloc: Global,
     free: &mut Vec<bool>,
-    lists: &mut HashMap<Named<'a>, List<usize>>,
+    lists: &mut HashMap<Named<'a>, Places>,
     stmt: &'a Stmt,
 ) -> bool
     requires { AreShort lists.old free.old.items }
@@ -132,18 +133,15 @@ fn all_instances(alloc: Global, placed: &[Placed]) -> Result<List<bool>, Memory>
     Ok(List::from_vec(kept))
 }
 
-/// No list, with room for all that instances are listed by.
-fn lists_for<'a>(
-    alloc: Global,
-    placed: &[Placed],
-) -> Result<HashMap<Named<'a>, List<usize>>, Memory>
+/// No list, with room for what most instances are listed by.
+fn lists_for<'a>(alloc: Global, placed: &[Placed]) -> Result<HashMap<Named<'a>, Places>, Memory>
     ensures { IfOk result (λ lists. (q : Key) → get block.ghosts.eq lists q ≡ None) }
 {
     let instances = placed
         .iter()
         .filter(|statement| is_instance(&statement.stmt))
         .count();
-    Ok(HashMap::with_capacity(alloc, instances.saturating_mul(3))?)
+    Ok(HashMap::with_capacity(alloc, instances.saturating_add(instances / 2))?)
 }
 
 /// Which of at most 65,536 placed statements are instances that survive, and which negations of instances take back

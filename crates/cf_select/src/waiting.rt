@@ -5,15 +5,15 @@ ghost use Rattle.cf_select.specs.Places.{list_at};
 ghost use Rattle.cf_select.specs.Wanted.{AreNoted};
 
 use crate::lists::take_places;
+use crate::places::Places;
 use crate::want::Want;
-use cf_types::List;
 use std::alloc::Global;
 use std::collections::HashMap;
 
 /// Lists of places by what the instances there wait for. An attribute that is not noted is one that nobody waits for.
 #[derive(Drop)]
 pub struct Waiting {
-    pub lists: HashMap<Want, List<usize>>,
+    pub lists: HashMap<Want, Places>,
     pub noted: Vec<bool>,
     pub ghost known: { AreNoted lists noted.items },
 }
@@ -33,7 +33,7 @@ impl Waiting {
     }
 
     /// Takes away the places of those that wait for this.
-    pub fn take(&mut self, alloc: Global, want: &Want) -> List<usize>
+    pub fn take(&mut self, alloc: Global, want: &Want) -> Places
         ensures list { result ≡ list_at block.ghosts.eq self.old.lists want.now }
         ensures rest { (q : Want) → list_at block.ghosts.eq self.new.lists q ≡ (if block.ghosts.eq want.now q then [] else list_at block.ghosts.eq self.old.lists q) }
         ensures same { (q : Want) → block.ghosts.eq want.now q ≡ true → list_at block.ghosts.eq self.old.lists q ≡ result }

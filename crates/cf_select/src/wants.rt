@@ -7,9 +7,10 @@ ghost use Rattle.cf_select.specs.declared.want.Want.{Want as Wanted};
 
 use crate::instance::Inst;
 use crate::lists::push_place;
+use crate::places::Places;
 use crate::waiting::Waiting;
 use crate::want::{Carrier, Want};
-use cf_types::{List, Memory, ParentSpec, Place};
+use cf_types::{Memory, ParentSpec, Place};
 use std::alloc::Global;
 use std::collections::HashMap;
 
@@ -26,7 +27,7 @@ pub fn own_carrier(inst: &Inst) -> Carrier
 /// Adds an instance to those that wait for the carriers that it asks for.
 fn put(
     alloc: Global,
-    waiting: &mut HashMap<Want, List<usize>>,
+    waiting: &mut HashMap<Want, Places>,
     inst: &Inst,
     place: usize,
 ) -> Result<(), Memory>
@@ -56,7 +57,7 @@ fn put(
 }
 
 /// The places of the instances by what they wait for.
-fn lists_of(alloc: Global, insts: &[Inst]) -> Result<HashMap<Want, List<usize>>, Memory>
+fn lists_of(alloc: Global, insts: &[Inst]) -> Result<HashMap<Want, Places>, Memory>
     ensures { IfOk result (λ lists. (q : Want) (x : ℕ) → waits lists q x ≡ wants_at (map inst_of insts.now) q x) }
 {
     let mut lists = HashMap::new(alloc);

@@ -1,12 +1,10 @@
-use Rattle.std.proofs.Common.{◌≡◌, ◌∙◌, ◌++◌, sym, ap, arith, [], length, List, Bool, ℕ, false, true, get_or, rules, take}
-use Rattle.std.specs.Prelude.{None, Option}
-use Rattle.std.specs.HashMap.{get}
+use Rattle.std.proofs.Common.{◌≡◌, ◌∙◌, ◌++◌, sym, ap, arith, [], length, List, Bool, ℕ, false, true, get_or, take}
+use Rattle.std.specs.Prelude.{Option}
 use Rattle.std.specs.Option.{unwrap_or}
 use Rattle.std.proofs.lemmas.List.{length-map, length-take-le}
 use Rattle.cf_types.specs.Gather.{is_in}
 use Rattle.config_rules.specs.Fault.{stmts_of}
 use Rattle.config_rules.specs.Meaning.{idle_insts}
-use Rattle.cf_select.specs.contracts.named.NamedPartialEq.TheImpl as block
 use Rattle.cf_select.proofs.NamingLemmas.{placed_more, short_more}
 use Rattle.cf_select.proofs.StandingLemmas.{free_none, free_more, idle_more, idle_ends, length_front, free_all, kept_all, length_free, all_survive, none_idle}
 use Rattle.cf_select.proofs.standing.survivors.Goals as goal
