@@ -86,6 +86,8 @@ pub fn tables_of(
     ensures { IfOk result (IsMeant files.now placed.now) }
 {
     let Split { rooted, orphans } = split_by_root(alloc, graph, instances)?;
+    let rows = rows_of(alloc, lists.devices.len() as u32, rooted.items())?;
+    drop(rooted);
     let kept = items(alloc, placed)?;
     let warnings = warnings(
         alloc,
@@ -95,7 +97,6 @@ pub fn tables_of(
         kept.idle.items(),
         orphans.items(),
     )?;
-    let rows = rows_of(alloc, lists.devices.len() as u32, rooted.items())?;
     Ok(Tables {
         attrs: lists.attrs,
         devices: lists.devices,

@@ -23,12 +23,12 @@ warnings-requires-clause-instances c =
     places_of_negations c.args.idle.now c.args.placed.now c.requires.idle
 
 pub warnings-requires-clause-items : goal.warnings-requires-clause-items
-warnings-requires-clause-items c = places_of_names c.items-2.result.now c.args.placed.now (c.items-2.ensures ∙ c.in_ok-kept.ensures.idle)
+warnings-requires-clause-items c = places_of_names c.items-3.result.now c.args.placed.now (c.items-3.ensures ∙ c.in_ok-kept.ensures.idle)
 
 pub warnings-requires-clause-orphans : goal.warnings-requires-clause-orphans
 warnings-requires-clause-orphans c =
-    orphans_ordered c.args.placed.now c.args.instances c.items-3.result.now _ c.requires.instances
-    (c.items-3.ensures ∙ (c.in_ok-rooted.ensures c.args.lists c.requires.graph).orphans)
+    orphans_ordered c.args.placed.now c.args.instances c.items-4.result.now _ c.requires.instances
+    (c.items-4.ensures ∙ (c.in_ok-rooted.ensures c.args.lists c.requires.graph).orphans)
 
 pub overflow_cast-len : goal.overflow_cast-len
 overflow_cast-len c =
@@ -38,8 +38,8 @@ overflow_cast-len c =
 
 pub rows_of-requires : goal.rows_of-requires
 rows_of-requires c =
-    marked_fit c.args.placed.now c.args.instances c.items-4.result.now _ c.requires.written c.requires.instances
-    (c.items-4.ensures ∙ (c.in_ok-rooted.ensures c.args.lists c.requires.graph).rooted)
+    marked_fit c.args.placed.now c.args.instances c.items.result.now _ c.requires.written c.requires.instances
+    (c.items.ensures ∙ (c.in_ok-rooted.ensures c.args.lists c.requires.graph).rooted)
 
 pub returns : goal.returns
 returns c =
@@ -50,9 +50,9 @@ returns c =
     let kept = c.in_ok-kept.ensures in
     let shown = tables_are r split.marks c.args.lists c.args.instances c.in_ok-rooted.field-0.rooted c.in_ok-rooted.field-0.orphans _ _ _ _ _ _ c.requires.declared c.requires.instances
     split.rooted split.orphans
-    (c.in_ok-rows.ensures ∙ ap (λ (n : ℕ). rows_of n c.items-4.result.now) c.len.ensures ∙ ap (λ (is : List Instance). rows_of (length c.args.lists.devices) is) c.items-4.ensures)
+    (c.in_ok-rows.ensures ∙ ap (λ (n : ℕ). rows_of n c.items.result.now) c.len.ensures ∙ ap (λ (is : List Instance). rows_of (length c.args.lists.devices) is) c.items.ensures)
     kept.pseudos kept.options kept.makeoptions kept.file_systems
-    (rw c.items-3.ensures at c.in_ok-warnings.ensures) in
+    (rw c.items-4.ensures at c.in_ok-warnings.ensures) in
     record {
       marks = split.marks;
       rooted = subst (λ (d : Declared). RootedInsts d (map meaning.inst_of (surviving [] (stmts_of c.args.placed.now))) split.marks) c.requires.declared rooted;
