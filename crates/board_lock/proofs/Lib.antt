@@ -5,3 +5,4 @@ pub mod Seated
 pub mod Opened
 pub mod Published
 pub mod Spared
+pub mod Turns

@@ -1,5 +1,5 @@
 -- What a call of the lock does to a seat, by its answer.
-use Rattle.std.specs.Prelude.{◌≡◌, ℕ, ◌+◌, Option, Some, None}
+use Rattle.std.specs.Prelude.{◌≡◌, ⊤, ℕ, ◌+◌, List, [], ◌∷◌, Option, Some, None}
 use Rattle.run_rules.specs.World.{World}
 use Rattle.run_rules.specs.declared.event.Event.{Event}
 use Rattle.lease_table.specs.declared.view.View.{View}
@@ -52,3 +52,21 @@ PostIs w s turn.Memory t = t ≡ s
 abbrev pub TryIs : World → SeatShown → Option Turn → SeatShown → Type 0
 TryIs w s None t = t ≡ s
 TryIs w s (Some turn) t = TurnIs w s turn t
+
+abbrev pub IsEvent : Turn → Type 0
+IsEvent (turn.Did p told) = ⊤
+IsEvent _ = ⊥
+
+-- the seat after these turns, the last one first, each of which is an event
+abbrev pub AfterEvents : World → SeatShown → List Turn → SeatShown → Type 0
+AfterEvents w s [] t = t ≡ s
+AfterEvents w s (turn ∷ earlier) t = (middle : SeatShown) × AfterEvents w s earlier middle × IsEvent turn × TurnIs w middle turn t
+
+-- some takings of the lock, in which the caller did some events and then this turn, or none where the board waits
+pub record TriesAre (w : World) (s : SeatShown) (answer : Option Turn) (t : SeatShown) : Type 0 where
+  pub earlier : List Turn
+  pub middle : SeatShown
+  pub events : AfterEvents w s earlier middle
+  pub caller : middle.caller ≡ s.caller
+  pub stops : middle.stops ≡ s.stops
+  pub last : TryIs w middle answer t

@@ -1,11 +1,11 @@
 //! What lies behind the lock.
-ghost use Rattle.std.specs.Prelude.{◌≡◌, ◌≢◌, ◌<◌, ◌≤◌, ◌+◌};
+ghost use Rattle.std.specs.Prelude.{◌≡◌, ◌≢◌, ◌<◌, ◌≤◌, ◌+◌, true};
 ghost use Rattle.dev_board.specs.Shown.{Shown};
 ghost use Rattle.board_lock.specs.Boards.{spots_of, LeaseFits};
 ghost use Rattle.board_lock.specs.Holding.{Settles};
 ghost use Rattle.board_lock.specs.Kept.{LockedKept};
 ghost use Rattle.board_lock.specs.Tallies.{more_in_all};
-ghost use Rattle.board_lock.specs.Turning.{TryIs, PostIs, counted, halted, settled};
+ghost use Rattle.board_lock.specs.Turning.{IsEvent, TriesAre, TryIs, PostIs, counted, halted, settled};
 
 #[cfg(test)]
 mod tests;
@@ -20,6 +20,9 @@ use dev_board::{Board, IoResult, LeaseStep, Posted, Stepped};
 use lease_table::LeaseTable;
 use run_rules::Event;
 use std::marker::Model;
+
+/// How many events of one caller there are in one taking of the lock at most.
+const MANY: u32 = 32;
 
 /// The board, with the slots of its spots and the books of its ledgers. Contracts see the board.
 #[derive(Drop)]
@@ -108,6 +111,30 @@ impl<N: Naming> Locked<N> {
         count_event(books, seat, board.event(place));
         settle(table, seat, told.lease());
         Some(Turn::Did(place, told))
+    }
+
+    /// Whether an answer is an event that ends the wait of no other caller.
+    #[inline(always)]
+    fn is_quiet(&self, turn: &Turn) -> bool
+        ensures { result ≡ true → IsEvent turn.now }
+    {
+        matches!(turn, Turn::Did(..)) && !self.may_end_waits(turn)
+    }
+
+    /// Steps of the seat's caller as long as each is an event that ends no other's wait, so many at most. The last answer; none where
+    /// the board waits.
+    #[inline(always)]
+    pub fn turns(&mut self, table: &LeaseTable, seat: &mut Seat<N>) -> Option<Turn>
+        requires { table.now ≡ N.table }
+        ensures { TriesAre N.opening seat.old result seat.new }
+    {
+        for _ in 1..MANY {
+            let turn = self.turn(table, seat)?;
+            if !self.is_quiet(&turn) {
+                return Some(turn);
+            }
+        }
+        self.turn(table, seat)
     }
 
     /// The end of a transfer of the seat's caller.

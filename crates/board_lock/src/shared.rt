@@ -1,5 +1,5 @@
 //! The board behind its lock.
-ghost use Rattle.std.specs.Prelude.{◌≡◌, ◌<◌, ◌+◌, IfOk, length, sum_by};
+ghost use Rattle.std.specs.Prelude.{◌≡◌, ◌<◌, ◌+◌, IfOk, Some, length, sum_by};
 ghost use Rattle.std.specs.Arc.{arc_value};
 ghost use Rattle.atomic_table.specs.Seated.{TableId};
 ghost use Rattle.run_rules.specs.Counts.{ends_of, dids_of};
@@ -12,7 +12,7 @@ ghost use Rattle.board_lock.specs.Holding.{LookIs};
 ghost use Rattle.board_lock.specs.Kept.{LockedKept};
 ghost use Rattle.board_lock.specs.Names.{AreNames};
 ghost use Rattle.board_lock.specs.Seats.{PartsFit, seats_below};
-ghost use Rattle.board_lock.specs.Turning.{TurnIs, PostIs, halted, settled};
+ghost use Rattle.board_lock.specs.Turning.{PostIs, TriesAre, TurnIs, halted, settled};
 
 use crate::deal::deal_seats;
 use crate::finish::gather_all;
@@ -127,6 +127,28 @@ impl<N: Naming> SharedBoard<N> {
             guard = self.moved.wait(rt, guard);
         }
         unreachable!()
+    }
+
+    /// Steps of the seat's caller, as many in one taking of the lock as are events that end no other's wait, at most 32 of them; the
+    /// answer is that of the last. Where the board waits, it goes on as `step` does.
+    pub fn steps<R: Wait>(&self, rt: &R, seat: &mut Seat<N>) -> Turn
+        ensures { TriesAre N.opening seat.old (Some result) seat.new }
+    {
+        let mut guard = self.lock.lock(rt);
+        match guard.turns(&self.table, seat) {
+            Some(turn) => {
+                let may_end_waits = guard.may_end_waits(&turn);
+                drop(guard);
+                if may_end_waits {
+                    self.moved.notify_all();
+                }
+                turn
+            }
+            None => {
+                drop(guard);
+                self.step(rt, seat)
+            }
+        }
     }
 
     /// Hands in the result of a transfer of the seat's caller. The result is spent at every answer. Nobody is woken, since the end

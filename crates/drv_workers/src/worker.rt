@@ -17,7 +17,7 @@ pub fn work<M: Medium, N: Naming, R: Wait>(
 {
     let mut seat = seat;
     for _ in rt.forever() {
-        let turn = match shared.step(rt, &mut seat) {
+        let turn = match shared.steps(rt, &mut seat) {
             Turn::Transfer(ticket, _) => {
                 let _ = shared.look(&mut seat, &ticket);
                 shared.post(rt, &mut seat, medium.transfer(rt, ticket))
