@@ -19,32 +19,26 @@ pub fn put_number(out: &mut Vec<u8>, number: u32) -> Result<(), Memory>
 }
 
 /// Appends a number in decimal, and a byte behind it. Up to three digits are put in place.
-#[tactic(auto, using(std::proofs::lemmas::Fmt::decimal_digit, crate::proofs::Digits::two_digits, crate::proofs::Digits::three_digits))]
 #[inline(always)]
 pub fn put_marked(out: &mut Vec<u8>, number: u32, mark: u8) -> Result<(), Memory>
     ensures { OnOk result (out.new.items ≡ out.old.items ++ (decimal number ++ mark ∷ [])) }
 {
-    let ones = b'0' + (number % 10) as u8;
-    let tens = number / 10;
-    if number < 10 {
-        put_bytes(out, &[ones, mark])
-    } else if number < 100 {
-        put_bytes(out, &[b'0' + tens as u8, ones, mark])
-    } else if number < 1000 {
-        put_bytes(
-            out,
-            &[
-                b'0' + (tens / 10) as u8,
-                b'0' + (tens % 10) as u8,
-                ones,
-                mark,
-            ],
-        )
-    } else {
+    if number >= 1000 {
         put_decimal(out, i64::from(number))?;
         out.push(mark)?;
-        Ok(())
+        return Ok(());
     }
+    let tens = number / 10;
+    out.reserve(4)?;
+    if number >= 100 {
+        out.push_reserved(b'0' + (tens / 10) as u8);
+    }
+    if number >= 10 {
+        out.push_reserved(b'0' + (tens % 10) as u8);
+    }
+    out.push_reserved(b'0' + (number % 10) as u8);
+    out.push_reserved(mark);
+    Ok(())
 }
 
 /// Appends a word and a name.
