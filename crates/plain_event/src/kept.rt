@@ -27,15 +27,16 @@ pub fn places(spots: usize) -> usize {
     spots.min(u16::MAX as usize) * KINDS
 }
 
-/// Where the act of a key is kept.
+/// Where the act of a key is kept, of so many spots. Acts of a kind stand side by side, since spots are searched one after the
+/// other.
 #[inline(always)]
-pub fn place_of(key: Key) -> usize {
+pub fn place_of(key: Key, spots: usize) -> usize {
     let kind = match key.again {
         Again::Nothing => 0,
         Again::Asleep => 1,
         Again::Awake => 2,
     };
-    key.spot as usize * KINDS + kind
+    kind * spots.min(u16::MAX as usize) + key.spot as usize
 }
 
 /// What is kept at a place.
@@ -79,28 +80,15 @@ fn search_key(live: &Live, parent: u64, spot: u16) -> Option<Key>
     }
 }
 
-/// The key of a device that falls asleep.
-fn sleep_key(live: &Live, of: u64) -> Option<Key>
-    ensures { IfSome result (λ key. (s : Setup) → act.Sleep (name_live s live.now.devices of) ≡ act_by s key) }
+/// The key of a device that falls asleep or wakes.
+#[inline(always)]
+fn power_key(live: &Live, of: u64, again: Again) -> Option<Key>
+    ensures again { IfSome result (λ key. key.again ≡ again) }
+    ensures name { IfSome result (λ key. (s : Setup) → world.unit_name s key.row key.unit ≡ name_live s live.now.devices of) }
 {
     match device_at(live, of) {
         Some(device) => Some(Key {
-            again: Again::Asleep,
-            row: device.row,
-            unit: device.unit,
-            spot: device.spot,
-        }),
-        None => None,
-    }
-}
-
-/// The key of a device that wakes.
-fn wake_key(live: &Live, of: u64) -> Option<Key>
-    ensures { IfSome result (λ key. (s : Setup) → act.Wake (name_live s live.now.devices of) ≡ act_by s key) }
-{
-    match device_at(live, of) {
-        Some(device) => Some(Key {
-            again: Again::Awake,
+            again,
             row: device.row,
             unit: device.unit,
             spot: device.spot,
@@ -122,8 +110,8 @@ pub fn key_of(plain: &Plain, deed: &Deed) -> Option<Key>
             got: None,
             ..
         } => search_key(&plain.live, parent, spot),
-        Deed::Sleep { of } => sleep_key(&plain.live, of),
-        Deed::Wake { of } => wake_key(&plain.live, of),
+        Deed::Sleep { of } => power_key(&plain.live, of, Again::Asleep),
+        Deed::Wake { of } => power_key(&plain.live, of, Again::Awake),
         _ => None,
     }
 }

@@ -52,7 +52,7 @@ impl<'a> Teller<'a> {
     pub fn kept_by(&self, key: Key) -> Option<&Kept>
         ensures { IfSome result (λ k. k.now.act ≡ act_by (setup_by self.now.rules.now) key) }
     {
-        match kept_at(&self.kept, place_of(key)) {
+        match kept_at(&self.kept, place_of(key, self.rules.machine.spots.len())) {
             Some(kept) => { if kept.key == key { Some(kept) } else { None } }
             None => None,
         }
@@ -63,7 +63,7 @@ impl<'a> Teller<'a> {
         requires { IsKept (setup_by self.old.rules.now) kept }
         ensures { self.new.rules.now ≡ self.old.rules.now }
     {
-        let place = place_of(kept.key);
+        let place = place_of(kept.key, self.rules.machine.spots.len());
         if place < self.kept.len() {
             self.kept[place] = Some(kept);
         } else {

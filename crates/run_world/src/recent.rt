@@ -101,15 +101,16 @@ fn tell_the_same(a: Telling, b: Telling) -> bool
     }
 }
 
-/// Where an act is kept that tells this of a spot, or of the device there.
+/// Where an act is kept that tells this of one of so many spots, or of the device there. Acts of a kind stand side by side, since
+/// spots are searched one after the other.
 #[inline(always)]
-fn place_of(telling: &Telling, spot: u16) -> usize {
+fn place_of(telling: &Telling, spot: u16, spots: usize) -> usize {
     let kind = match telling {
         Telling::NothingFound { .. } => 0,
         Telling::Sleeps(_) => 1,
         Telling::Wakes(_) => 2,
     };
-    KINDS * spot as usize + kind
+    kind * spots.min(u16::MAX as usize) + spot as usize
 }
 
 /// So many places, in which nothing is kept.
@@ -143,7 +144,7 @@ impl Recent {
     pub fn act(&self, telling: Telling, spot: u16) -> Option<&SharedAct>
         ensures { (s : Setup) → AreRecent s self.now → IfSome result (λ a. a.now ≡ act_telling s telling) }
     {
-        match self.acts.get(place_of(&telling, spot)) {
+        match self.acts.get(place_of(&telling, spot, self.names.len())) {
             Some(Some(kept)) if tell_the_same(kept.telling, telling) => Some(&kept.act),
             _ => None,
         }
@@ -153,7 +154,7 @@ impl Recent {
     pub fn keep_act(&mut self, telling: Telling, spot: u16, act: SharedAct)
         ensures { (s : Setup) → AreRecent s self.old → act ≡ act_telling s telling → AreRecent s self.new }
     {
-        let place = place_of(&telling, spot);
+        let place = place_of(&telling, spot, self.names.len());
         if place < self.acts.len() {
             self.acts[place] = Some(KeptAct { telling, act });
         }
