@@ -9,6 +9,7 @@ ghost use Rattle.next_deed.specs.Turns.{due_at, is_due_at, searcher_of};
 
 use crate::next_due::next_position;
 use crate::search::winner_at;
+use cf_types::Machine;
 use dev_tree::DevTree;
 use match_search::found_at;
 use run_rules::{ParentRef, Position, Setup, Turn, Wanted};
@@ -59,12 +60,14 @@ fn has_value(found: &[i64], wanted: Wanted) -> bool
     }
 }
 
-/// Whether a spot has all locator values that are wanted.
+/// Whether a spot has all locator values that are wanted. Where none is, the spot is not looked at.
 #[inline(always)]
-fn passes_filter(found: &[i64], filter: &[Wanted]) -> bool
-    ensures { result ≡ rule.passes_filter found.now filter.now }
+fn passes_filter(machine: &Machine, spot: u16, filter: &[Wanted]) -> bool
+    ensures { result ≡ rule.passes_filter (rule.found_at machine.now spot) filter.now }
 {
-    filter.iter().all(|wanted| has_value(found, *wanted))
+    filter
+        .iter()
+        .all(|wanted| has_value(found_at(machine, spot), *wanted))
 }
 
 /// Whether a spot is open to search.
@@ -76,7 +79,7 @@ pub fn is_open(setup: &Setup, core: &Core, filter: &[Wanted], spot: u16) -> bool
     let absent = has_spot(&core.absent, spot);
     let hidden = has_spot(&core.hidden, spot);
     let occupied = is_occupied(&core.tree, spot);
-    let passes = passes_filter(found_at(&setup.machine, spot), filter);
+    let passes = passes_filter(&setup.machine, spot, filter);
     !absent && !hidden && !occupied && passes
 }
 

@@ -28,11 +28,13 @@ fn has_value(found: &[i64], wanted: Wanted) -> bool
     }
 }
 
-/// Whether a spot has all locator values that are wanted.
-fn passes_filter(found: &[i64], filter: &[Wanted]) -> bool
-    ensures { result ≡ rule.passes_filter found.now filter.now }
+/// Whether a spot has all locator values that are wanted. Where none is, the spot is not looked at.
+fn passes_filter(rules: &Rules, spot: u16, filter: &[Wanted]) -> bool
+    ensures { result ≡ rule.passes_filter (rule.found_at rules.now.machine.now spot) filter.now }
 {
-    filter.iter().all(|wanted| has_value(found, *wanted))
+    filter
+        .iter()
+        .all(|wanted| has_value(found_at(rules, spot), *wanted))
 }
 
 /// Whether a spot is open to search: present, not hidden, free, and with the locator values that are wanted.
@@ -44,7 +46,7 @@ fn is_open(rules: &Rules, plain: &Plain, filter: &[Wanted], spot: u16) -> bool
     let absent = has_spot(&plain.absent, spot);
     let hidden = has_spot(&plain.hidden, spot);
     let occupied = is_occupied(&plain.live, spot);
-    let passes = passes_filter(found_at(rules, spot), filter);
+    let passes = passes_filter(rules, spot, filter);
     !absent && !hidden && !occupied && passes
 }
 
