@@ -23,15 +23,15 @@ use Rattle.dev_board.proofs.Agree.{get_map_below, set_map_below, state_free}
 use Rattle.dev_board.proofs.GoneLaws.{later_stay, serial_found, without}
 
 -- on its spot it is found, as no other device stands there
-found_on : (s : Setup) (live : List Dev) (of : ℕ) (x : Dev) → EachLater (IsApart s) live → device_at live of ≡ Some x → device_on live x.spot ≡ Some x
-found_on s [] of x h e = absurd cc
-found_on s (d ∷ ds) of x h e = cases (λ k. found_on s ds of x h.1 k) (d.serial == of) refl e
+pub found_on : (R : Dev → Dev → Type 0) → ((d e : Dev) → R d e → d.spot ≢ e.spot) → (live : List Dev) (of : ℕ) (x : Dev) → EachLater R live → device_at live of ≡ Some x → device_on live x.spot ≡ Some x
+found_on R spots [] of x h e = absurd cc
+found_on R spots (d ∷ ds) of x h e = cases (λ k. found_on R spots ds of x h.1 k) (d.serial == of) refl e
   where
     cases : (device_at ds of ≡ Some x → device_on ds x.spot ≡ Some x) → (b : Bool) → (d.serial == of) ≡ b → cond b (Some d) (device_at ds of) ≡ Some x → cond (d.spot == x.spot) (Some d) (device_on ds x.spot) ≡ Some x
     cases more true k found = let same : d ≡ x = same_Some d x found in rw (eq-eqb d.spot x.spot (ap (λ (y : Dev). y.spot) same)) (ap (λ (y : Dev). Some y) same)
     cases more false k found =
-        let apart : IsApart s d x = found_in (IsApart s d) (λ e. e.serial == of) ds x h.0 found in
-        rw (ne_eqb d.spot x.spot apart.spots) (more found)
+        let apart : R d x = found_in (R d) (λ e. e.serial == of) ds x h.0 found in
+        rw (ne_eqb d.spot x.spot (spots d x apart)) (more found)
 
 none_on : (s : Setup) (d : Dev) (ds : List Dev) → AllByRecursion (IsApart s d) ds → is_occupied ds d.spot ≡ false
 none_on s d [] h = refl
@@ -73,7 +73,7 @@ pub slot_condemned : (w : World) (of : ℕ) (x : Dev) → EachLater (IsApart w.s
     → slice_get (slots_of w) x.spot ≡ Some Condemned
 unfolding slots_of
 slot_condemned w of x apart at marked inside =
-    get_map_below (state_at w.live) (length w.setup.machine.spots) x.spot inside ∙ ap Some (rw (found_on w.setup w.live of x apart at, marked) refl)
+    get_map_below (state_at w.live) (length w.setup.machine.spots) x.spot inside ∙ ap Some (rw (found_on (IsApart w.setup) (λ d e h. h.spots) w.live of x apart at, marked) refl)
 
 -- it is free once the device is gone
 pub slot_freed : (w : World) (of : ℕ) (x : Dev) → EachLater (IsApart w.setup) w.live → device_at w.live of ≡ Some x → x.spot < length w.setup.machine.spots → slice_set (slots_of w) x.spot Free ≡ slots_of (freed w of)

@@ -1,6 +1,7 @@
 pub mod OneField
 pub mod MarkLaws
 pub mod SlotLaws
+pub mod AloneSlots
 pub mod DeedSlots
 pub mod LeaseLaws
 pub mod EffectLaws

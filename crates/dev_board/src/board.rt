@@ -203,6 +203,14 @@ impl Board {
         let _ = &self.core;
     }
 
+    /// Makes room for so many more events, where there is memory for them all: then each comes without a call for it. Nothing that the
+    /// board shows changes.
+    pub(crate) fn make_room(&mut self, more: usize)
+        ensures { self.new ≡ self.old }
+    {
+        let _ = self.core.events.reserve(more);
+    }
+
     /// How many events there were.
     #[inline(always)]
     pub fn events(&self) -> u64

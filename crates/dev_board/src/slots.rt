@@ -31,40 +31,42 @@ pub enum Halt {
     Waits(Wait),
 }
 
-/// Whether a live device is in the subtree of another, which may be known to have no children.
-fn is_below(tree: &DevTree, bare: bool, serial: u64, target: u64) -> bool
-    requires { bare ≡ true → IsAlone tree.now.live target }
-    ensures { world.is_under tree.now.live target serial ≡ result }
-{
-    tree.stands();
-    if bare {
-        serial == target
-    } else {
-        tree.is_under(serial, target)
-    }
-}
-
-/// Whether a spot's device is in the subtree of another, which may be known to have no children.
-fn stands_below(tree: &DevTree, bare: bool, spot: u16, target: u64) -> bool
-    requires { bare ≡ true → IsAlone tree.now.live target }
+/// Whether a spot's device is in the subtree of another.
+fn stands_below(tree: &DevTree, spot: u16, target: u64) -> bool
     ensures { option_map_or (λ d. world.is_under tree.now.live target d.serial) (world.device_on tree.now.live spot) false ≡ result }
 {
     match tree.on_spot(spot) {
-        Some(serial) => is_below(tree, bare, serial, target),
+        Some(serial) => tree.is_under(serial, target),
         None => false,
     }
 }
 
+/// Condemns the slot of a device without children, on a board whose devices were condemned just now.
+fn condemn_slot<S: Slots>(slots: &mut S, site: &Site, core: &Core, target: u64)
+    requires late { LatelyCondemned site.now.setup core.now.tree.live target (S.states slots.old) }
+    requires alone { IsAlone core.now.tree.live target }
+    ensures agree { S.states slots.new ≡ slots_of (world_at site.now core.now) }
+    ensures denials { S.denials slots.new ≡ S.denials slots.old }
+    ensures last { S.last_denial slots.new ≡ S.last_denial slots.old }
+{
+    core.tree.stands();
+    match core.tree.get(target) {
+        Some(device) => if (device.spot as usize) < site.setup.machine.spots.len() {
+            slots.condemn(device.spot);
+        },
+        None => unreachable!(),
+    }
+}
+
 /// Condemns the slots of a device and of all that is below it, on a board whose devices were condemned just now.
-pub fn condemn_slots<S: Slots>(slots: &mut S, site: &Site, core: &Core, target: u64)
+fn condemn_slots<S: Slots>(slots: &mut S, site: &Site, core: &Core, target: u64)
     requires { LatelyCondemned site.now.setup core.now.tree.live target (S.states slots.old) }
     ensures agree { S.states slots.new ≡ slots_of (world_at site.now core.now) }
     ensures denials { S.denials slots.new ≡ S.denials slots.old }
     ensures last { S.last_denial slots.new ≡ S.last_denial slots.old }
 {
-    let bare = core.tree.is_bare(target);
     for spot in 0..site.setup.machine.spots.len() as u16 {
-        if stands_below(&core.tree, bare, spot, target) {
+        if stands_below(&core.tree, spot, target) {
             slots.condemn(spot);
         }
     }
@@ -142,6 +144,7 @@ fn condemn_too<S: Slots>(slots: &mut S, site: &Site, core: &Core, target: Option
     ensures last { S.last_denial slots.new ≡ S.last_denial slots.old }
 {
     match target {
+        Some(target) if core.tree.is_bare(target) => condemn_slot(slots, site, core, target),
         Some(target) => condemn_slots(slots, site, core, target),
         None => {}
     }

@@ -52,9 +52,8 @@ fn turn(board: &mut Board, slots: &mut PlainSlots, caller: u8) -> Result<(), Mem
     }
 }
 
-/// The turns of an order, one after the other; a caller that waits or has ended is passed. Where memory runs out, the
-/// turns up to then stay.
-pub fn run_turns(board: &mut Board, slots: &mut PlainSlots, order: &[u8]) -> Result<(), Memory>
+/// The turns of an order, one after the other.
+fn take_turns(board: &mut Board, slots: &mut PlainSlots, order: &[u8]) -> Result<(), Memory>
     requires agree { slots.old ≡ slots_of board.old.world }
     requires goes_on { board.old.stopped ≡ None }
     requires callers { AllByRecursion (λ k. k ≤ length board.old.world.setup.scripts) order.now }
@@ -66,4 +65,18 @@ pub fn run_turns(board: &mut Board, slots: &mut PlainSlots, order: &[u8]) -> Res
         turn(board, slots, *caller)?;
     }
     Ok(())
+}
+
+/// The turns of an order, one after the other; a caller that waits or has ended is passed. Where memory runs out, the
+/// turns up to then stay. Room for an event of each turn is taken at once, if there is so much.
+pub fn run_turns(board: &mut Board, slots: &mut PlainSlots, order: &[u8]) -> Result<(), Memory>
+    requires agree { slots.old ≡ slots_of board.old.world }
+    requires goes_on { board.old.stopped ≡ None }
+    requires callers { AllByRecursion (λ k. k ≤ length board.old.world.setup.scripts) order.now }
+    ensures played { OnOk result (Plays board.old order.now board.new) }
+    ensures some { OnErr result (PlaysSome board.old order.now board.new) }
+    ensures agree { slots.new ≡ slots_of board.new.world }
+{
+    board.make_room(order.len());
+    take_turns(board, slots, order)
 }

@@ -12,9 +12,6 @@ loop-spot-init g c = record {
   last = refl;
 }
 
-pub stands_below-requires : goal.stands_below-requires
-stands_below-requires g c = λ on. (c.is_bare-bare.ensures.there on, c.is_bare-bare.ensures.children on)
-
 pub condemn-requires : goal.condemn-requires
 condemn-requires g c =
     let h = c.requires in

@@ -1,7 +1,7 @@
 use Rattle.std.proofs.Common.{◌≡◌, take}
 use Rattle.dev_board.specs.Agreement.{slots_of}
 use Rattle.dev_board.specs.Playing.{Plays}
-use Rattle.dev_board.proofs.turns.run_turns.Given as goal
+use Rattle.dev_board.proofs.turns.take_turns.Given as goal
 
 -- the turns before this one were taken
 abbrev pub invariant-loop-caller : goal.invariant-loop-caller
