@@ -17,6 +17,7 @@ use dev_board::Board;
 use file_select::select;
 use history_replay::Replayed;
 use std::alloc::Global;
+use std::mem::forget;
 
 /// What was found for the inputs.
 #[derive(Drop)]
@@ -33,6 +34,15 @@ pub enum Found {
     Tree(List<DevLine>),
     /// What a history tells, with this tree.
     Retold(Replayed),
+}
+
+/// The tree of what a history tells. Its events are not taken apart, since the program ends soon.
+fn tree_alone(told: Replayed) -> List<DevLine>
+    ensures { result ≡ told.tree }
+{
+    let Replayed { events, tree } = told;
+    forget(events);
+    tree
 }
 
 /// Compiles, selects, boots, plays and replays as the inputs ask for. Files are read for the sources alone.
@@ -82,7 +92,7 @@ pub fn found_by<F: Files>(alloc: Global, files: &mut F, inputs: Inputs) -> Resul
             history,
         } => {
             let told = retold(alloc, tables, machine, scripts, history)?;
-            Ok(Found::Tree(told.tree))
+            Ok(Found::Tree(tree_alone(told)))
         }
         Inputs::Upgrade {
             tables,

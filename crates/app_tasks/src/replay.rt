@@ -10,6 +10,7 @@ use app_words::Status;
 use cf_types::{List, Machine, Script, Tables, Text};
 use history_replay::{ReplayStop, Replayed, reread};
 use std::alloc::Global;
+use std::mem::forget;
 
 /// What a history tells of a machine and its scripts, or its first bad line. A file has fewer lines than a status can count.
 fn reread_history(
@@ -34,7 +35,7 @@ fn reread_history(
 }
 
 /// What a history tells of a machine and its scripts: the events and the device tree that they lead to, or its first bad
-/// line. See drvctl(8).
+/// line. What it was given is not taken apart, since the program ends soon. See drvctl(8).
 pub fn retold(
     alloc: Global,
     tables: Tables,
@@ -49,5 +50,9 @@ pub fn retold(
     requires short { length history ≤ MAX_FILE }
     ensures { Retells (setup_of tables machine scripts) history result }
 {
-    reread_history(alloc, &tables, &machine, scripts.items(), history.items())
+    let told = reread_history(alloc, &tables, &machine, scripts.items(), history.items());
+    forget(tables);
+    forget(machine);
+    forget(scripts);
+    told
 }

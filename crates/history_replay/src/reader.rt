@@ -1,5 +1,5 @@
 //! The lines of a history, each compared with that of the event that its caller does next.
-ghost use Rattle.std.specs.Prelude.{◌≡◌, ◌<◌, ◌≤◌, ◌+◌, ◌-◌, ◌^◌, ◌++◌, IfOk, OnOk, length, bytes_eq};
+ghost use Rattle.std.specs.Prelude.{◌≡◌, ◌<◌, ◌≤◌, ◌+◌, ◌-◌, ◌^◌, ◌++◌, [], IfOk, OnOk, length, bytes_eq};
 ghost use Rattle.run_rules.specs.Next as rules;
 ghost use Rattle.run_rules.specs.Reread as rule;
 ghost use Rattle.run_rules.specs.declared.event.Format.TheVariants.{Second};
@@ -253,6 +253,18 @@ fn step(reader: &mut Reader, plain: &mut Plain, line: &[u8]) -> Result<Option<Ev
     }
 }
 
+/// How many bytes most lines have at least.
+const SHORT: usize = 24;
+
+/// No events, with room for those of a text.
+fn room_for(alloc: Global, text: &[u8]) -> Result<List<Event>, Memory>
+    ensures { IfOk result (λ events. events ≡ []) }
+{
+    let mut events = List::make(alloc);
+    events.reserve(text.len() / SHORT)?;
+    Ok(events)
+}
+
 /// The events of the lines up to the next line `tree`, of which the first has this number: the world is then the one that
 /// they lead to.
 fn read_lines(
@@ -268,7 +280,9 @@ fn read_lines(
     ensures read { ReadsLines (setup_in reader.old) reader.old.format plain.old first text.now result plain.new }
     ensures going { OnOk result (IsGoing (setup_in reader.old) plain.new) }
 {
-    let mut events = List::make(reader.teller.alloc);
+    let Ok(mut events) = room_for(reader.teller.alloc, text) else {
+        return Err(ReplayStop::Memory);
+    };
     let mut left = text;
     let mut number = first;
     while let Some((line, rest)) = first_line(left) {

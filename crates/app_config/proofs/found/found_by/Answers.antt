@@ -38,7 +38,7 @@ returns-in_ok-board-in-Play-clause-found g c =
 
 pub returns-in_ok-told-in-Replay-clause-found : goal.returns-in_ok-told-in-Replay-clause-found
 returns-in_ok-told-in-Replay-clause-found g c =
-    tree_retold _ c.args.inputs c.in-Replay.tables c.in-Replay.machine c.in-Replay.scripts c.in-Replay.history c.in_ok-told-in-Replay.told c.in-Replay.is c.in_ok-told-in-Replay.ensures
+    rw c.tree_alone.ensures (tree_retold _ c.args.inputs c.in-Replay.tables c.in-Replay.machine c.in-Replay.scripts c.in-Replay.history c.in_ok-told-in-Replay.told c.in-Replay.is c.in_ok-told-in-Replay.ensures)
 
 pub returns-in_ok-told-in-Upgrade-clause-found : goal.returns-in_ok-told-in-Upgrade-clause-found
 returns-in_ok-told-in-Upgrade-clause-found g c =
