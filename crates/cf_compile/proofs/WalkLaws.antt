@@ -1,17 +1,14 @@
 -- A loop over the placed statements that judges each, joins its instance where it survives, and declares it.
 use Rattle.std.proofs.Common.{◌≡◌, ◌≢◌, ℕ, suc, ◌∷◌, ◌+◌, ◌<◌, ◌≤◌, Some, None, List, [], ◌++◌, length, get_or, take, drop, refl, ap, sym, ◌∙◌, subst, arith}
-use Rattle.std.specs.Prelude.{slice_index_or, false, if◌then◌else◌, Bool, true, nat_le, Option}
+use Rattle.std.specs.Prelude.{slice_index_or, false, if◌then◌else◌, Bool, true, Option}
 use Rattle.std.specs.Option.{option_to_list}
 use Rattle.std.proofs.lemmas.List.{length-map, length-take}
-use Rattle.cf_types.specs.declared.code.configuration.TheConstants.{TOO_MANY_INSTANCES}
-use Rattle.config_rules.proofs.GivenLaws.{no_code}
 use Rattle.cf_types.specs.declared.instance.Instance.{Instance}
 use Rattle.cf_types.specs.declared.stmt.Placed.{Placed}
 use Rattle.cf_types.specs.declared.stmt.Stmt.{Stmt}
 use Rattle.cf_types.specs.declared.stmt.Stmt.TheVariants as stmt
 use Rattle.config_rules.specs.Declared.{Declared, declared}
-use Rattle.config_rules.specs.Fault.{is_instance, code_of, stmts_of, first_code, refusal, err_of}
-use Rattle.config_rules.specs.Joined.{join}
+use Rattle.config_rules.specs.Fault.{is_instance, code_of, stmts_of, first_code, refusal}
 use Rattle.config_rules.specs.Select.{kept}
 use Rattle.config_rules.specs.Written.{AreWritten, IsWritten}
 use Rattle.config_laws.proofs.DeclaredLaws.{few_written}
@@ -32,11 +29,6 @@ at_instance before _ = refl
 -- the places before one are as many as it says
 as_many : (placed : List Placed) (i : ℕ) → i ≤ length placed → length (stmts_of (take i placed)) ≡ i
 as_many placed i h = omega (arith, length-map (take i placed) (λ (q : Placed). q.stmt), length-take i placed)
-
--- a statement without a code has none behind any fewer instances
-pub accepted_alone : (d : Declared) (n : ℕ) (s : Stmt) → code_of d n s ≡ None → code_of d 0 s ≡ None
-accepted_alone d n (stmt.Inst base mark at pairs flags) h = (no_code (nat_le 8192 n) TOO_MANY_INSTANCES (err_of (join d base at pairs)) h).1
-accepted_alone d n _ h = h
 
 -- nothing was walked over
 pub walked_begins : (files : List (List ℕ)) (placed : List Placed) (d : Declared) (insts : List Instance) → d ≡ record { attrs = []; devices = []; attaches = [] } → insts ≡ [] → Walked files placed 0 d insts 0

@@ -1,7 +1,9 @@
 ghost use Rattle.std.specs.Prelude.{◌≡◌, ◌<◌, ◌≤◌, ◌++◌, ◌∷◌, ◌+◌, [], ℕ, List as Items, None, length, IfOk, OnOk, if◌then◌else◌};
 ghost use Rattle.std.specs.Option.{option_to_list};
 ghost use Rattle.cf_types.specs.declared.stmt.Placed.{Placed};
+ghost use Rattle.cf_declare.specs.Declare.{declare};
 ghost use Rattle.cf_declare.specs.Graphs.{FitsDeclared};
+ghost use Rattle.cf_declare.specs.Limits.{HasFewLocators};
 ghost use Rattle.config_rules.specs.Fault.{code_of, is_instance, refusal, stmts_of};
 ghost use Rattle.config_rules.specs.Select.{kept};
 ghost use Rattle.config_rules.specs.Written.{AreWritten};
@@ -57,8 +59,8 @@ fn push_kept(
     Ok(())
 }
 
-/// The first code of a statement behind what is declared and so many instances. An instance without one is appended, if
-/// it survives.
+/// The first code of a statement behind what is declared and so many instances. Where it has none, what it declares is
+/// added, and an instance is appended, if it survives.
 fn judge_statement(
     alloc: Global,
     standing: &mut Standing,
@@ -67,9 +69,12 @@ fn judge_statement(
     stmt: &Stmt,
     is_kept: bool,
 ) -> Result<Option<u8>, Memory>
-    requires { FitsDeclared standing.old.declarations }
+    requires fits { FitsDeclared standing.old.declarations }
+    requires few { HasFewLocators stmt.now }
+    requires attrs { length standing.old.declarations.attrs < 65536 }
+    requires devices { length standing.old.declarations.devices < 65536 }
     ensures code { IfOk result (λ code. code ≡ code_of standing.old.declarations count stmt.now) }
-    ensures same { standing.new.declarations ≡ standing.old.declarations }
+    ensures declared { IfOk result (λ code. code ≡ None → standing.new.declarations ≡ declare standing.old.declarations stmt.now) }
     ensures kept { IfOk result (λ code. code ≡ None → standing.new.instances ≡ standing.old.instances ++ (if is_kept then option_to_list (instance_at standing.old.declarations place stmt.now) else [])) }
 {
     let Stmt::Inst {
@@ -80,7 +85,7 @@ fn judge_statement(
         flags,
     } = stmt
     else {
-        return standing.declarations.code_of(alloc, count, stmt);
+        return standing.declarations.take(alloc, stmt);
     };
     if count >= MAX_INSTANCES {
         return Ok(Some(code::TOO_MANY_INSTANCES));
@@ -167,13 +172,6 @@ pub fn judge(
             }
         }
         count += instance_count(stmt);
-        match standing.declarations.declare(alloc, stmt) {
-            Ok(()) => {}
-            Err(stop) => {
-                drop(standing);
-                return Err(stop);
-            }
-        }
     }
     Ok(Verdict::Accepted(standing))
 }

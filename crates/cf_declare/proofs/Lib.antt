@@ -8,6 +8,7 @@ pub mod GrowLemmas
 pub mod InstanceLaws
 pub mod JoinLaws
 pub mod JoinLemmas
+pub mod JudgeLemmas
 pub mod LimitLaws
 mod LookupLemmas
 pub mod LoopLaws

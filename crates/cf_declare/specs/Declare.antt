@@ -1,5 +1,5 @@
 -- What one more statement adds to what is declared.
-use Rattle.std.specs.Prelude.{ℕ, Bool, true, false, List, ◌++◌, length, Option, Some, None, option_map}
+use Rattle.std.specs.Prelude.{ℕ, Bool, true, false, List, ◌++◌, length, map, Option, Some, None, option_map, unwrap_or}
 use Rattle.std.specs.Option.{option_to_list}
 use Rattle.cf_types.specs.declared.stmt.Stmt.{Stmt}
 use Rattle.cf_types.specs.declared.stmt.Stmt.TheVariants as stmt
@@ -23,6 +23,10 @@ new_device d _ = None
 -- the place of this name
 abbrev pub place_named : Declared → List ℕ → Place
 place_named d = place_by (attr_number d)
+
+-- the attachment of a device under a name
+abbrev pub attach_named : Declared → List ℕ → List (List ℕ) → List ℕ → List (List ℕ) → Attach
+attach_named d device places name needs = record { name = name; device = unwrap_or (device_number d device) 0; places = map (place_named d) places; needs = attr_numbers d needs }
 
 -- the attachment that a statement adds
 abbrev pub new_attach : Declared → Stmt → Option Attach

@@ -8,3 +8,4 @@ pub mod Names
 pub mod Settled
 pub mod SoFar
 pub mod Sound
+pub mod Judging

@@ -1,14 +1,14 @@
-ghost use Rattle.std.specs.Prelude.{◌≡◌, ◌<◌, ◌≤◌, [], None, length, IfOk, OnOk};
-ghost use Rattle.config_rules.specs.Fault.{code_of};
+ghost use Rattle.std.specs.Prelude.{◌≡◌, ◌<◌, ℕ, [], None, false, length, IfOk, IfSome};
+ghost use Rattle.config_rules.specs.Fault.{code_of, is_instance};
 ghost use Rattle.config_rules.specs.Joined.{join};
 ghost use Rattle.cf_declare.specs.Declare.{declare};
 ghost use Rattle.attr_graph.specs.Graphs.{IsGraphOf};
 ghost use Rattle.cf_declare.specs.Graphs.{FitsDeclared};
 ghost use Rattle.cf_declare.specs.Limits.{HasFewLocators};
 
-use crate::grow::{declares, grow};
+use crate::grow::{add, declares};
 use crate::join::join;
-use crate::judge::code_of;
+use crate::judge::{judged, other_fault};
 use crate::names::{name_hash, room_of};
 use attr_graph::Graph;
 use cf_names::Catalog;
@@ -58,21 +58,6 @@ impl Declarations {
         Ok(())
     }
 
-    /// The first code of a statement behind what is declared and so many instances; `None` where it
-    /// is accepted.
-    pub fn code_of(
-        &mut self,
-        alloc: Global,
-        instances: usize,
-        stmt: &Stmt,
-    ) -> Result<Option<u8>, Memory>
-        requires { FitsDeclared self.old }
-        ensures code { IfOk result (λ code. code ≡ code_of self.old instances stmt.now) }
-        ensures same { self.new ≡ self.old }
-    {
-        code_of(alloc, &self.lists, &mut self.graph, instances, stmt)
-    }
-
     /// What an instance joins, or its first code.
     pub fn join(&self, base: &Name, at: &AtSpec, pairs: &[GivenLoc]) -> Result<Joined, u8>
         requires { FitsDeclared self.now }
@@ -81,19 +66,27 @@ impl Declarations {
         join(&self.lists, &self.graph, base, at, pairs)
     }
 
-    /// Declares what an accepted statement adds. Where memory runs out, nothing is declared any more.
-    pub fn declare(&mut self, alloc: Global, stmt: &Stmt) -> Result<(), Memory>
-        requires accepted { code_of self.old 0 stmt.now ≡ None }
+    /// The first code of a statement that is no instance. Where it has none, what it declares is added. Where memory runs
+    /// out, nothing is declared any more.
+    pub fn take(&mut self, alloc: Global, stmt: &Stmt) -> Result<Option<u8>, Memory>
+        requires fits { FitsDeclared self.old }
         requires few { HasFewLocators stmt.now }
         requires attrs { length self.old.attrs < 65536 }
         requires devices { length self.old.devices < 65536 }
-        ensures { OnOk result (self.new ≡ declare self.old stmt.now) }
+        requires instance { is_instance stmt.now ≡ false }
+        ensures code { IfOk result (λ code. (n : ℕ) → code ≡ code_of self.old n stmt.now) }
+        ensures declared { IfOk result (λ code. code ≡ None → self.new ≡ declare self.old stmt.now) }
+        ensures same { IfOk result (λ code. IfSome code (λ _. self.new ≡ self.old)) }
     {
         if !declares(stmt) {
-            return Ok(());
+            return Ok(other_fault(&self.lists, stmt));
         }
-        match grow(alloc, &mut self.lists, &mut self.graph, stmt) {
-            Ok(()) => Ok(()),
+        let added = match judged(alloc, &self.lists, &mut self.graph, stmt)? {
+            Ok(added) => added,
+            Err(code) => return Ok(Some(code)),
+        };
+        match add(alloc, &mut self.lists, &mut self.graph, added) {
+            Ok(()) => Ok(None),
             Err(stop) => {
                 *self = Declarations::make(alloc, &[]);
                 Err(stop)

@@ -1,26 +1,16 @@
-ghost use Rattle.std.specs.Prelude.{◌≡◌, ◌==◌, ◌≤◌, ◌<◌, ◌+◌, ◌&&◌, not, nat_lt, false, length, filter, find, if◌then◌else◌, All, IfOk};
+ghost use Rattle.std.specs.Prelude.{◌≡◌, ◌==◌, ◌≤◌, ◌<◌, ◌+◌, ◌&&◌, not, nat_lt, length, filter, find, if◌then◌else◌, All, IfOk};
 ghost use Rattle.std.specs.List.{list_any};
 ghost use Rattle.cf_types.specs.Offers.{firsts, interfaces_of, nodes_of};
-ghost use Rattle.config_rules.specs.Fault.{attr_numbers, is_class, lacks_attr, define_fault, device_fault};
+ghost use Rattle.config_rules.specs.Fault.{attr_numbers, is_class, define_fault, device_fault};
+ghost use Rattle.cf_declare.specs.Judging.{Judges};
 
-use crate::fault::{attr_numbers, has_attr, has_device, lacks_attr, repeats_locator};
+use crate::fault::{has_attr, has_device, known_numbers, repeats_locator};
 use crate::lookup::is_root;
 use attr_graph::Graph;
 use cf_names::Catalog;
 use cf_types::code::configuration as code;
 use cf_types::{List, Locator, Memory, Name};
 use std::alloc::Global;
-
-/// The numbers of attributes that are all there.
-fn known_numbers(alloc: Global, declared: &Catalog, names: &[Name]) -> Result<List<u32>, Memory>
-    requires few { length declared.now.attrs ≤ 65536 }
-    requires known { lacks_attr declared.now names.now ≡ false }
-    ensures numbers { IfOk result (λ numbers. numbers ≡ attr_numbers declared.now names.now) }
-    ensures within { IfOk result (All (λ a. a < length declared.now.attrs)) }
-{
-    let numbers = attr_numbers(alloc, declared, names)?;
-    Ok(numbers)
-}
 
 /// Whether the interface list of these attributes, with its own where there is one, would have more than 64 entries.
 fn offers_too_much(graph: &mut Graph, own: bool, numbers: &[u32]) -> Result<bool, Memory>
@@ -32,34 +22,33 @@ fn offers_too_much(graph: &mut Graph, own: bool, numbers: &[u32]) -> Result<bool
     Ok(!fits)
 }
 
-/// The first code of an attribute.
-pub fn define_fault(
+/// The numbers of what an attribute names, or its first code.
+pub fn define_numbers(
     alloc: Global,
     declared: &Catalog,
     graph: &mut Graph,
     name: &Name,
     locators: &Option<List<Locator>>,
     needs: &[Name],
-) -> Result<Option<u8>, Memory>
+) -> Result<Result<List<u32>, u8>, Memory>
     requires few { length declared.now.attrs ≤ 65536 }
     requires graph { graph.old.attrs ≡ nodes_of declared.now.attrs }
-    ensures code { IfOk result (λ code. code ≡ define_fault declared.now name.now locators.now needs.now) }
+    ensures found { IfOk result (Judges (define_fault declared.now name.now locators.now needs.now) (attr_numbers declared.now needs.now)) }
     ensures same { graph.new ≡ graph.old }
 {
     if is_root(name.bytes()) || has_attr(declared, name) {
-        return Ok(Some(code::NAME_TAKEN));
+        return Ok(Err(code::NAME_TAKEN));
     }
     if repeats_locator(locators) {
-        return Ok(Some(code::LOCATOR_TWICE));
+        return Ok(Err(code::LOCATOR_TWICE));
     }
-    if lacks_attr(declared, needs) {
-        return Ok(Some(code::UNKNOWN_ATTRIBUTE));
-    }
-    let numbers = known_numbers(alloc, declared, needs)?;
+    let Some(numbers) = known_numbers(alloc, declared, needs)? else {
+        return Ok(Err(code::UNKNOWN_ATTRIBUTE));
+    };
     if offers_too_much(graph, locators.is_some(), numbers.items())? {
-        return Ok(Some(code::TOO_MANY_INTERFACES));
+        return Ok(Err(code::TOO_MANY_INTERFACES));
     }
-    Ok(None)
+    Ok(Ok(numbers))
 }
 
 /// Whether one of these numbers is a device class other than this one.
@@ -99,38 +88,37 @@ fn has_classes(declared: &Catalog, numbers: &[u32]) -> bool
     }
 }
 
-/// The first code of a device.
-pub fn device_fault(
+/// The numbers of what a device names, or its first code.
+pub fn device_numbers(
     alloc: Global,
     declared: &Catalog,
     graph: &mut Graph,
     name: &Name,
     locators: &Option<List<Locator>>,
     needs: &[Name],
-) -> Result<Option<u8>, Memory>
+) -> Result<Result<List<u32>, u8>, Memory>
     requires few { length declared.now.attrs ≤ 65536 }
     requires graph { graph.old.attrs ≡ nodes_of declared.now.attrs }
-    ensures code { IfOk result (λ code. code ≡ device_fault declared.now name.now locators.now needs.now) }
+    ensures found { IfOk result (Judges (device_fault declared.now name.now locators.now needs.now) (attr_numbers declared.now needs.now)) }
     ensures same { graph.new ≡ graph.old }
 {
     if is_root(name.bytes())
         || has_device(declared, name)
         || (locators.is_some() && has_attr(declared, name))
     {
-        return Ok(Some(code::NAME_TAKEN));
+        return Ok(Err(code::NAME_TAKEN));
     }
     if repeats_locator(locators) {
-        return Ok(Some(code::LOCATOR_TWICE));
+        return Ok(Err(code::LOCATOR_TWICE));
     }
-    if lacks_attr(declared, needs) {
-        return Ok(Some(code::UNKNOWN_ATTRIBUTE));
-    }
-    let numbers = known_numbers(alloc, declared, needs)?;
+    let Some(numbers) = known_numbers(alloc, declared, needs)? else {
+        return Ok(Err(code::UNKNOWN_ATTRIBUTE));
+    };
     if has_classes(declared, numbers.items()) {
-        return Ok(Some(code::SECOND_CLASS));
+        return Ok(Err(code::SECOND_CLASS));
     }
     if offers_too_much(graph, locators.is_some(), numbers.items())? {
-        return Ok(Some(code::TOO_MANY_INTERFACES));
+        return Ok(Err(code::TOO_MANY_INTERFACES));
     }
-    Ok(None)
+    Ok(Ok(numbers))
 }

@@ -1,12 +1,13 @@
-ghost use Rattle.std.specs.Prelude.{◌≡◌, ◌≤◌, ◌∷◌, length, map, bytes_eq, unwrap_or, IfOk};
+ghost use Rattle.std.specs.Prelude.{◌≡◌, ◌≤◌, ◌∷◌, true, false, length, map, bytes_eq, IfOk, MatchOption};
 ghost use Rattle.std.specs.List.{list_any};
-ghost use Rattle.config_rules.specs.Declared.{attr_number};
 ghost use Rattle.config_rules.specs.Fault.{repeats, repeats_locator, place_fault, lacks_attr, attr_numbers, has_attr, has_device, places_fault, attach_fault, is_pseudo};
+ghost use Rattle.cf_declare.specs.Declare.{attach_named, place_named};
+ghost use Rattle.cf_declare.specs.Judging.{Judges};
 
-use crate::lookup::{attr_named, is_root};
+use crate::lookup::{attr_named, is_root, numbered_attr};
 use cf_names::Catalog;
 use cf_types::code::configuration as code;
-use cf_types::{List, Locator, Memory, Name};
+use cf_types::{Attach, List, Locator, Memory, Name, Place};
 use std::alloc::Global;
 
 pub fn has_attr(declared: &Catalog, name: &Name) -> bool
@@ -21,31 +22,24 @@ pub fn has_device(declared: &Catalog, name: &Name) -> bool
     declared.device_number(name).is_some()
 }
 
-/// Whether one of these names is no attribute.
-pub fn lacks_attr(declared: &Catalog, names: &[Name]) -> bool
-    ensures { result ≡ lacks_attr declared.now names.now }
-{
-    names.iter().any(|name| !has_attr(declared, name))
-}
-
-/// The number of an attribute, 0 where there is none.
-fn number_or_zero(declared: &Catalog, name: &Name) -> u32
+/// The numbers of these attributes; `None` where one of them is not there.
+pub fn known_numbers(
+    alloc: Global,
+    declared: &Catalog,
+    names: &[Name],
+) -> Result<Option<List<u32>>, Memory>
     requires { length declared.now.attrs ≤ 65536 }
-    ensures { result ≡ unwrap_or (attr_number declared.now name.now) 0 }
+    ensures { IfOk result (λ found. MatchOption found (lacks_attr declared.now names.now ≡ true)
+        (λ numbers. (lacks_attr declared.now names.now ≡ false) × (numbers ≡ attr_numbers declared.now names.now))) }
 {
-    declared.attr_number(name).unwrap_or(0) as u32
-}
-
-/// The numbers of these attributes.
-pub fn attr_numbers(alloc: Global, declared: &Catalog, names: &[Name]) -> Result<List<u32>, Memory>
-    requires { length declared.now.attrs ≤ 65536 }
-    ensures { IfOk result (λ numbers. numbers ≡ attr_numbers declared.now names.now) }
-{
-    let numbers = names
-        .iter()
-        .map(|name| number_or_zero(declared, name))
-        .collect(alloc)?;
-    Ok(List::from_vec(numbers))
+    let mut numbers = Vec::with_capacity(alloc, names.len())?;
+    for name in names {
+        let Some(number) = declared.attr_number(name) else {
+            return Ok(None);
+        };
+        numbers.push(number as u32)?;
+    }
+    Ok(Some(List::from_vec(numbers)))
 }
 
 /// Whether a locator is given twice in a list.
@@ -78,60 +72,78 @@ fn is_named(locators: &[Locator], name: &[u8]) -> bool
     locators.iter().any(|locator| locator.name.bytes() == name)
 }
 
-/// The code of a place: unknown, or no interface attribute.
-fn place_fault(declared: &Catalog, place: &Name) -> Option<u8>
-    ensures { result ≡ place_fault declared.now place.now }
+/// The place of a name, or its code: unknown, or no interface attribute.
+fn place_found(declared: &Catalog, name: &Name) -> Result<Place, u8>
+    requires { length declared.now.attrs ≤ 65536 }
+    ensures { Judges (place_fault declared.now name.now) (place_named declared.now name.now) result }
 {
-    if is_root(place.bytes()) {
-        return None;
+    if is_root(name.bytes()) {
+        return Ok(Place::Root);
     }
-    match attr_named(declared, place) {
-        Some(attr) => {
+    match numbered_attr(declared, name) {
+        Some((number, attr)) => {
             if attr.iface {
-                None
+                Ok(Place::At(number as u32))
             } else {
-                Some(code::NO_INTERFACE)
+                Err(code::NO_INTERFACE)
             }
         }
-        None => Some(code::UNKNOWN_ATTRIBUTE),
+        None => Err(code::UNKNOWN_ATTRIBUTE),
     }
 }
 
-/// The first code of these places.
-fn places_fault(declared: &Catalog, places: &[Name]) -> Option<u8>
-    ensures { result ≡ places_fault declared.now places.now }
+/// The places of these names, or the first code of them.
+fn places_found(
+    alloc: Global,
+    declared: &Catalog,
+    names: &[Name],
+) -> Result<Result<List<Place>, u8>, Memory>
+    requires { length declared.now.attrs ≤ 65536 }
+    ensures { IfOk result (Judges (places_fault declared.now names.now) (map (place_named declared.now) names.now)) }
 {
-    for place in places {
-        if let Some(code) = place_fault(declared, place) {
-            return Some(code);
+    let mut places = Vec::with_capacity(alloc, names.len())?;
+    for name in names {
+        match place_found(declared, name) {
+            Ok(place) => places.push(place)?,
+            Err(code) => return Ok(Err(code)),
         }
     }
-    None
+    Ok(Ok(List::from_vec(places)))
 }
 
-/// The first code of an attachment.
-pub fn attach_fault(
+/// The attachment of a device under a name, or its first code.
+pub fn attached(
+    alloc: Global,
     declared: &Catalog,
     device: &Name,
     places: &[Name],
     name: &Name,
     needs: &[Name],
-) -> Option<u8>
-    ensures { result ≡ attach_fault declared.now device.now places.now name.now needs.now }
+) -> Result<Result<Attach, u8>, Memory>
+    requires attrs { length declared.now.attrs ≤ 65536 }
+    requires devices { length declared.now.devices ≤ 65536 }
+    ensures { IfOk result (Judges (attach_fault declared.now device.now places.now name.now needs.now)
+        (attach_named declared.now device.now places.now name.now needs.now)) }
 {
-    if !has_device(declared, device) {
-        return Some(code::UNKNOWN_DEVICE);
-    }
-    if let Some(code) = places_fault(declared, places) {
-        return Some(code);
-    }
+    let Some(number) = declared.device_number(device) else {
+        return Ok(Err(code::UNKNOWN_DEVICE));
+    };
+    let places = match places_found(alloc, declared, places)? {
+        Ok(places) => places,
+        Err(code) => return Ok(Err(code)),
+    };
     if is_root(name.bytes()) || declared.has_attach(name) {
-        return Some(code::NAME_TAKEN);
+        return Ok(Err(code::NAME_TAKEN));
     }
-    if lacks_attr(declared, needs) {
-        return Some(code::UNKNOWN_ATTRIBUTE);
-    }
-    None
+    let Some(needs) = known_numbers(alloc, declared, needs)? else {
+        return Ok(Err(code::UNKNOWN_ATTRIBUTE));
+    };
+    Ok(Ok(Attach {
+        name: name.clone()?,
+        device: number as u32,
+        places,
+        needs,
+    }))
 }
 
 /// Whether the attribute of this name is that of a pseudo-device.

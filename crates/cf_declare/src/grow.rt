@@ -1,12 +1,10 @@
-ghost use Rattle.std.specs.Prelude.{◌≡◌, None, ◌≤◌, ◌<◌, ◌++◌, ◌∷◌, [], length, All, IfOk, IfSome, OnOk};
+ghost use Rattle.std.specs.Prelude.{◌≡◌, ◌<◌, ◌++◌, ◌∷◌, [], length, All, IfSome, OnOk};
 ghost use Rattle.std.specs.Option.{option_to_list};
 ghost use Rattle.cf_types.specs.Offers.{named_by};
-ghost use Rattle.config_rules.specs.Fault.{code_of};
-ghost use Rattle.cf_declare.specs.Declare.{declare, declares, new_attach, new_attr, new_device};
+ghost use Rattle.cf_declare.specs.Declare.{declares};
 ghost use Rattle.cf_declare.specs.Additions.{with_additions};
 ghost use Rattle.attr_graph.specs.Graphs.{IsGraphOf};
 
-use crate::entry::{new_attach, new_attr, new_device};
 use attr_graph::Graph;
 use cf_names::Catalog;
 use cf_types::{Attach, Attr, Device, Memory, Stmt};
@@ -82,44 +80,14 @@ pub fn declares(stmt: &Stmt) -> bool
 
 /// What a statement declares.
 #[derive(Drop)]
-struct Additions {
-    attr: Option<Attr>,
-    device: Option<Device>,
-    attach: Option<Attach>,
-}
-
-/// What a statement declares behind what is declared.
-fn parts_of(alloc: Global, declared: &Catalog, stmt: &Stmt) -> Result<Additions, Memory>
-    requires attrs { length declared.now.attrs ≤ 65536 }
-    requires devices { length declared.now.devices ≤ 65536 }
-    ensures attr { IfOk result (λ a. a.attr ≡ new_attr declared.now stmt.now) }
-    ensures device { IfOk result (λ a. a.device ≡ new_device declared.now stmt.now) }
-    ensures attach { IfOk result (λ a. a.attach ≡ new_attach declared.now stmt.now) }
-{
-    let attr = new_attr(alloc, declared, stmt)?;
-    let device = match new_device(alloc, declared, stmt) {
-        Ok(device) => device,
-        Err(stop) => {
-            drop(attr);
-            return Err(stop);
-        }
-    };
-    match new_attach(alloc, declared, stmt) {
-        Ok(attach) => Ok(Additions {
-            attr,
-            device,
-            attach,
-        }),
-        Err(stop) => {
-            drop(attr);
-            drop(device);
-            Err(stop)
-        }
-    }
+pub struct Additions {
+    pub attr: Option<Attr>,
+    pub device: Option<Device>,
+    pub attach: Option<Attach>,
 }
 
 /// Adds what an accepted statement declares.
-fn add(
+pub fn add(
     alloc: Global,
     declared: &mut Catalog,
     graph: &mut Graph,
@@ -136,22 +104,4 @@ fn add(
     add_attr(alloc, declared, graph, added.attr)?;
     add_device(alloc, declared, graph, added.device)?;
     add_attach(alloc, declared, added.attach)
-}
-
-/// Adds what an accepted statement declares.
-pub fn grow(
-    alloc: Global,
-    declared: &mut Catalog,
-    graph: &mut Graph,
-    stmt: &Stmt,
-) -> Result<(), Memory>
-    requires graph { IsGraphOf declared.old graph.old }
-    requires accepted { code_of declared.old 0 stmt.now ≡ None }
-    requires attrs { length declared.old.attrs < 65536 }
-    requires devices { length declared.old.devices < 65536 }
-    ensures added { OnOk result (declared.new ≡ declare declared.old stmt.now) }
-    ensures graph { OnOk result (IsGraphOf declared.new graph.new) }
-{
-    let added = parts_of(alloc, declared, stmt)?;
-    add(alloc, declared, graph, added)
 }

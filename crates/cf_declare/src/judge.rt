@@ -1,51 +1,163 @@
-ghost use Rattle.std.specs.Prelude.{◌≡◌, IfOk};
-ghost use Rattle.config_rules.specs.Fault.{class_fault, instance_fault, pseudo_fault, code_of};
+ghost use Rattle.std.specs.Prelude.{◌≡◌, ℕ, [], None, Some, false, is_some, true, option_map, unwrap_or, IfOk, length};
+ghost use Rattle.config_rules.specs.Declared.{attr};
+ghost use Rattle.config_rules.specs.Fault.{attach_fault, attr_numbers, class_fault, code_of, define_fault, device_fault, is_instance, pseudo_fault};
 ghost use Rattle.attr_graph.specs.Graphs.{IsGraphOf};
-ghost use Rattle.cf_declare.specs.Graphs.{FitsDeclared, LocatorsFit};
+ghost use Rattle.cf_declare.specs.Declare.{attach_named, declares};
+ghost use Rattle.cf_declare.specs.Graphs.{FitsDeclared};
+ghost use Rattle.cf_declare.specs.Judging.{Judges, additions};
 
-use crate::define::{define_fault, device_fault};
-use crate::fault::{attach_fault, has_attr, is_pseudo};
-use crate::join::join;
+use crate::define::{define_numbers, device_numbers};
+use crate::entry::{class_attr, defined, device_of, own_attr};
+use crate::fault::{attached, has_attr, is_pseudo};
+use crate::grow::Additions;
 use crate::lookup::is_root;
 use attr_graph::Graph;
 use cf_names::Catalog;
 use cf_types::code::configuration as code;
-use cf_types::{AtSpec, GivenLoc, Memory, Name, Stmt};
+use cf_types::{Attr, List, Locator, Memory, Name, Stmt};
 use std::alloc::Global;
 
 /// How many instance statements there may be.
 pub const MAX_INSTANCES: usize = 8_192;
 
-/// The code of a device class.
-fn class_fault(declared: &Catalog, name: &Name) -> Option<u8>
-    ensures { result ≡ class_fault declared.now name.now }
+/// One attribute alone is added.
+fn one_attr(attr: Attr) -> Additions
+    ensures { result ≡ record { attr = Some attr; device = None; attach = None } }
 {
-    if is_root(name.bytes()) || has_attr(declared, name) {
-        return Some(code::NAME_TAKEN);
+    Additions {
+        attr: Some(attr),
+        device: None,
+        attach: None,
     }
-    None
 }
 
-/// The first code of an instance behind so many others.
-fn instance_fault(
+/// What a device class adds, or its code.
+fn judged_class(
+    alloc: Global,
     declared: &Catalog,
-    graph: &Graph,
-    instances: usize,
-    base: &Name,
-    at: &AtSpec,
-    pairs: &[GivenLoc],
-) -> Option<u8>
-    requires fits { FitsDeclared declared.now }
-    requires graph { IsGraphOf declared.now graph.now }
-    requires locators { LocatorsFit declared.now }
-    ensures { result ≡ instance_fault declared.now instances base.now at.now pairs.now }
+    name: &Name,
+) -> Result<Result<Additions, u8>, Memory>
+    ensures { IfOk result (Judges (class_fault declared.now name.now)
+        (record { attr = Some (attr name.now false true false [] []); device = None; attach = None })) }
 {
-    if instances >= MAX_INSTANCES {
-        return Some(code::TOO_MANY_INSTANCES);
+    if is_root(name.bytes()) || has_attr(declared, name) {
+        return Ok(Err(code::NAME_TAKEN));
     }
-    match join(declared, graph, base, at, pairs) {
-        Ok(_) => None,
-        Err(code) => Some(code),
+    Ok(Ok(one_attr(class_attr(alloc, name)?)))
+}
+
+/// What an attribute adds, or its first code.
+fn judged_define(
+    alloc: Global,
+    declared: &Catalog,
+    graph: &mut Graph,
+    name: &Name,
+    pseudo: bool,
+    locators: &Option<List<Locator>>,
+    needs: &[Name],
+) -> Result<Result<Additions, u8>, Memory>
+    requires fits { FitsDeclared declared.now }
+    requires graph { IsGraphOf declared.now graph.old }
+    ensures found { IfOk result (Judges (define_fault declared.now name.now locators.now needs.now)
+        (record { attr = Some (attr name.now (is_some locators.now) false pseudo (unwrap_or locators.now []) (attr_numbers declared.now needs.now)); device = None; attach = None })) }
+    ensures same { graph.new ≡ graph.old }
+{
+    match define_numbers(alloc, declared, graph, name, locators, needs)? {
+        Ok(numbers) => Ok(Ok(one_attr(defined(alloc, name, pseudo, locators, numbers)?))),
+        Err(code) => Ok(Err(code)),
+    }
+}
+
+/// What a device adds, or its first code.
+fn judged_device(
+    alloc: Global,
+    declared: &Catalog,
+    graph: &mut Graph,
+    name: &Name,
+    locators: &Option<List<Locator>>,
+    needs: &[Name],
+) -> Result<Result<Additions, u8>, Memory>
+    requires fits { FitsDeclared declared.now }
+    requires graph { IsGraphOf declared.now graph.old }
+    ensures found { IfOk result (Judges (device_fault declared.now name.now locators.now needs.now)
+        (additions declared.now (Stmt.Device name.now locators.now needs.now))) }
+    ensures same { graph.new ≡ graph.old }
+{
+    let numbers = match device_numbers(alloc, declared, graph, name, locators, needs)? {
+        Ok(numbers) => numbers,
+        Err(code) => return Ok(Err(code)),
+    };
+    let device = device_of(declared, name, locators, numbers)?;
+    match own_attr(alloc, name, locators) {
+        Ok(attr) => Ok(Ok(Additions {
+            attr,
+            device: Some(device),
+            attach: None,
+        })),
+        Err(stop) => {
+            drop(device);
+            Err(stop)
+        }
+    }
+}
+
+/// What an attachment adds, or its first code.
+fn judged_attach(
+    alloc: Global,
+    declared: &Catalog,
+    device: &Name,
+    places: &[Name],
+    name: &Name,
+    needs: &[Name],
+) -> Result<Result<Additions, u8>, Memory>
+    requires { FitsDeclared declared.now }
+    ensures { IfOk result (Judges (attach_fault declared.now device.now places.now name.now needs.now)
+        (record { attr = None; device = None; attach = Some (attach_named declared.now device.now places.now name.now needs.now) })) }
+{
+    match attached(alloc, declared, device, places, name, needs)? {
+        Ok(attach) => Ok(Ok(Additions {
+            attr: None,
+            device: None,
+            attach: Some(attach),
+        })),
+        Err(code) => Ok(Err(code)),
+    }
+}
+
+/// What a statement that declares something adds behind what is declared, or its first code.
+pub fn judged(
+    alloc: Global,
+    declared: &Catalog,
+    graph: &mut Graph,
+    stmt: &Stmt,
+) -> Result<Result<Additions, u8>, Memory>
+    requires fits { FitsDeclared declared.now }
+    requires graph { IsGraphOf declared.now graph.old }
+    requires declares { declares stmt.now ≡ true }
+    ensures found { IfOk result (λ found. (n : ℕ) → Judges (code_of declared.now n stmt.now) (additions declared.now stmt.now) found) }
+    ensures same { graph.new ≡ graph.old }
+{
+    match stmt {
+        Stmt::Define { name, locs, needs } => {
+            judged_define(alloc, declared, graph, name, false, locs, needs.items())
+        }
+        Stmt::DefPseudo { name, locs, needs } => {
+            judged_define(alloc, declared, graph, name, true, locs, needs.items())
+        }
+        Stmt::Class { name } => judged_class(alloc, declared, name),
+        Stmt::Device { name, locs, needs } => {
+            judged_device(alloc, declared, graph, name, locs, needs.items())
+        }
+        Stmt::Attach {
+            device,
+            places,
+            attach_name,
+            needs,
+        } => {
+            let name = attach_name.as_ref().unwrap_or(device);
+            judged_attach(alloc, declared, device, places.items(), name, needs.items())
+        }
+        _ => unreachable!(),
     }
 }
 
@@ -59,44 +171,14 @@ fn pseudo_fault(declared: &Catalog, name: &Name) -> Option<u8>
     Some(code::UNKNOWN_DEVICE)
 }
 
-/// The first code of a statement behind what is declared and so many instances.
-pub fn code_of(
-    alloc: Global,
-    declared: &Catalog,
-    graph: &mut Graph,
-    instances: usize,
-    stmt: &Stmt,
-) -> Result<Option<u8>, Memory>
-    requires fits { FitsDeclared declared.now }
-    requires graph { IsGraphOf declared.now graph.old }
-    requires locators { LocatorsFit declared.now }
-    ensures code { IfOk result (λ code. code ≡ code_of declared.now instances stmt.now) }
-    ensures same { graph.new ≡ graph.old }
+/// The code of a statement that declares nothing and is no instance.
+pub fn other_fault(declared: &Catalog, stmt: &Stmt) -> Option<u8>
+    requires declares { declares stmt.now ≡ false }
+    requires instance { is_instance stmt.now ≡ false }
+    ensures { (n : ℕ) → result ≡ code_of declared.now n stmt.now }
 {
     match stmt {
-        Stmt::Define { name, locs, needs } | Stmt::DefPseudo { name, locs, needs } => {
-            define_fault(alloc, declared, graph, name, locs, needs.items())
-        }
-        Stmt::Class { name } => Ok(class_fault(declared, name)),
-        Stmt::Device { name, locs, needs } => {
-            device_fault(alloc, declared, graph, name, locs, needs.items())
-        }
-        Stmt::Attach {
-            device,
-            places,
-            attach_name,
-            needs,
-        } => {
-            let name = attach_name.as_ref().unwrap_or(device);
-            Ok(attach_fault(declared, device, places.items(), name, needs.items()))
-        }
-        Stmt::Inst {
-            base,
-            at,
-            pairs,
-            ..
-        } => { Ok(instance_fault(declared, graph, instances, base, at, pairs.items())) }
-        Stmt::PseudoDevice { name, .. } => Ok(pseudo_fault(declared, name)),
-        _ => Ok(None),
+        Stmt::PseudoDevice { name, .. } => pseudo_fault(declared, name),
+        _ => None,
     }
 }

@@ -1,6 +1,6 @@
-ghost use Rattle.std.specs.Prelude.{◌≡◌};
+ghost use Rattle.std.specs.Prelude.{◌≡◌, ◌<◌, length, option_map, IfSome};
 ghost use Rattle.std.specs.Option.{option_copied};
-ghost use Rattle.config_rules.specs.Declared.{is_root, attr_named};
+ghost use Rattle.config_rules.specs.Declared.{is_root, attr_named, attr_number};
 
 use cf_names::Catalog;
 use cf_types::{Attr, Name};
@@ -18,6 +18,18 @@ pub fn attr_named<'a>(declared: &'a Catalog, name: &Name) -> Option<&'a Attr>
 {
     match declared.attr_number(name) {
         Some(number) => Some(&declared.attrs()[number]),
+        None => None,
+    }
+}
+
+/// The attribute of this name with its number.
+pub fn numbered_attr<'a>(declared: &'a Catalog, name: &Name) -> Option<(usize, &'a Attr)>
+    ensures number { option_map (λ found. found.0) result ≡ attr_number declared.now name.now }
+    ensures attr { option_map (λ found. found.1.now) result ≡ attr_named declared.now name.now }
+    ensures within { IfSome result (λ found. found.0 < length declared.now.attrs) }
+{
+    match declared.attr_number(name) {
+        Some(number) => Some((number, &declared.attrs()[number])),
         None => None,
     }
 }
