@@ -8,11 +8,11 @@ use Rattle.ref_ledger.specs.declared.state.SlotState.TheVariants.{Free, Live, Co
 use Rattle.run_rules.specs.declared.world.Dev.{Dev}
 use Rattle.run_rules.specs.World.{World, device_on, is_condemned, is_held}
 use Rattle.run_rules.specs.Search as search_rule
-use Rattle.dev_board.specs.Agreement.{slots_of, state_at}
+use Rattle.deed_effect.specs.Agreement.{slots_of, state_at}
 use Rattle.dev_board.specs.Witness.{lease_step}
 use Rattle.dev_board.specs.declared.answer.LeaseStep.{LeaseStep}
 use Rattle.dev_board.specs.declared.answer.LeaseStep.TheVariants.{Keep, Take, Give}
-use Rattle.dev_board.proofs.Agree.{length_map_below, get_map_below}
+use Rattle.deed_effect.proofs.Agree.{length_map_below, get_map_below}
 use Rattle.board_lock.specs.Boards.{LeaseFits, is_occupied, spots_of}
 
 fits_find : (n : ℕ) (f : ℕ → LeaseStep) → ((s : ℕ) → s < n → LeaseFits n (f s)) → (p : Dev → Bool) (live : List Dev) → AllByRecursion (λ (d : Dev). d.spot < n) live

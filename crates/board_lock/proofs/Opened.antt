@@ -8,7 +8,7 @@ use Rattle.run_rules.specs.World.{World}
 use Rattle.run_sound.specs.Kept.{MayRun}
 use Rattle.history_laws.specs.Calm.{IsCalm}
 use Rattle.history_laws.proofs.Boots.{calm_boot}
-use Rattle.dev_board.specs.Agreement.{slots_of}
+use Rattle.deed_effect.specs.Agreement.{slots_of}
 use Rattle.dev_board.specs.Booting.{IsBooted}
 use Rattle.dev_board.specs.Shown.{Shown, began}
 use Rattle.board_lock.specs.Boards.{scripts_of, spots_of}

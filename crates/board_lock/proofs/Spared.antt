@@ -9,8 +9,8 @@ use Rattle.ref_ledger.specs.declared.state.SlotState.{SlotState}
 use Rattle.ref_ledger.specs.declared.state.SlotState.TheVariants.{Free, Live, Condemned}
 use Rattle.run_rules.specs.declared.world.Dev.{Dev}
 use Rattle.run_rules.specs.World.{World, is_condemned}
-use Rattle.dev_board.specs.Agreement.{slots_of, state_at}
-use Rattle.dev_board.proofs.Agree.{get_map_below, length_map_below}
+use Rattle.deed_effect.specs.Agreement.{slots_of, state_at}
+use Rattle.deed_effect.proofs.Agree.{get_map_below, length_map_below}
 
 abbrev code : SlotState → ℕ
 code Free = 0

@@ -4,7 +4,7 @@ use Rattle.atomic_table.specs.Seated.{TableId}
 use Rattle.lease_table.specs.Shown as lease
 use Rattle.run_rules.specs.Counts.{ends_of, dids_of}
 use Rattle.run_rules.specs.World.{World}
-use Rattle.dev_board.specs.Agreement.{slots_of}
+use Rattle.deed_effect.specs.Agreement.{slots_of}
 use Rattle.dev_board.specs.Shown.{Shown, began}
 use Rattle.board_lock.specs.declared.seat.DoneEnd.{DoneEnd}
 use Rattle.board_lock.specs.Boards.{spots_of, scripts_of}

@@ -7,7 +7,7 @@ use Rattle.lease_table.specs.declared.view.View.{View}
 use Rattle.lease_table.specs.Leases.{caller_view}
 use Rattle.lease_table.specs.Shown as lease
 use Rattle.run_rules.specs.World.{World}
-use Rattle.dev_board.specs.Agreement.{slots_of}
+use Rattle.deed_effect.specs.Agreement.{slots_of}
 use Rattle.dev_board.specs.Shown.{Shown}
 use Rattle.dev_board.specs.Witness.{Witness}
 use Rattle.dev_board.specs.declared.answer.Answer.TheVariants as answer

@@ -3,7 +3,7 @@ ghost use Rattle.std.specs.Prelude.{◌≡◌, ◌≢◌, ◌<◌, ◌+◌, ℕ,
 ghost use Rattle.std.specs.Arc.{arc_value};
 ghost use Rattle.ref_ledger.specs.declared.state.SlotState.TheVariants.{Condemned};
 ghost use Rattle.lease_table.specs.Shown.{states_in};
-ghost use Rattle.dev_board.specs.Agreement.{slots_of};
+ghost use Rattle.deed_effect.specs.Agreement.{slots_of};
 ghost use Rattle.dev_board.specs.Booting.{IsBooted};
 ghost use Rattle.board_lock.specs.Boards.{spots_of};
 ghost use Rattle.board_lock.specs.Seats.{Parts, PartsFit, published_below};

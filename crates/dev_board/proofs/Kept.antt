@@ -25,7 +25,8 @@ use Rattle.dev_board.specs.declared.answer.LeaseStep.{LeaseStep}
 use Rattle.dev_board.specs.declared.answer.LeaseStep.TheVariants.{Keep}
 use Rattle.run_world.specs.declared.parts.Core.{Core}
 use Rattle.deed_event.specs.Sayings.{TellsAside}
-use Rattle.dev_board.specs.Commits.{HasRoom, Performed}
+use Rattle.deed_effect.specs.Commits.{HasRoom}
+use Rattle.dev_board.specs.Performing.{Performed}
 use Rattle.dev_board.specs.Shown.{Shown}
 use Rattle.dev_board.specs.Stepping.{DoesNext}
 use Rattle.run_world.specs.View.{Books, world_of}

@@ -19,7 +19,7 @@ use Rattle.run_sound.proofs.Spots.{other_way}
 use Rattle.dev_board.specs.declared.answer.LeaseStep.{LeaseStep}
 use Rattle.dev_board.specs.declared.answer.LeaseStep.TheVariants.{Keep, Take, Give}
 use Rattle.dev_board.specs.Witness.{lease_step}
-use Rattle.dev_board.proofs.GoneLaws.{found_there}
+use Rattle.deed_effect.proofs.GoneLaws.{found_there}
 
 find_never : (p : Dev → Bool) (live : List Dev) → ((d : Dev) → p d ≡ false) → find p live ≡ None
 find_never p [] h = refl

@@ -37,7 +37,7 @@ use Rattle.dev_board.specs.Shown.{Shown}
 use Rattle.dev_board.specs.Stepping.{DenialsAre, IsOfBoot, StepIs, WaitIs, kept_ticket, ticket_in}
 use Rattle.dev_board.specs.declared.stepped.Stepped.{Stepped}
 use Rattle.dev_board.specs.declared.stepped.Stepped.TheVariants as stepped
-use Rattle.dev_board.proofs.GoneLaws.{found_there, serial_found}
+use Rattle.deed_effect.proofs.GoneLaws.{found_there, serial_found}
 use Rattle.dev_board.proofs.Kept.{boot_idle}
 
 -- ---- a caller that has not ended does something, or waits, but for no leases

@@ -7,7 +7,7 @@ use Rattle.ref_ledger.specs.declared.state.SlotState.{SlotState}
 use Rattle.ref_ledger.specs.declared.state.SlotState.TheVariants.{Free}
 use Rattle.run_rules.specs.World.{World, opening}
 use Rattle.run_rules.specs.declared.world.Setup.{Setup}
-use Rattle.dev_board.specs.Agreement.{slots_of, state_at}
+use Rattle.deed_effect.specs.Agreement.{slots_of, state_at}
 
 free_states : (n : ℕ) → map (state_at []) (below n) ≡ replicate n Free
 free_states zero = refl

@@ -10,7 +10,7 @@ use Rattle.run_world.specs.declared.parts.Core.{Core}
 use Rattle.run_world.specs.Scripted.{FormedScripts}
 use Rattle.run_world.specs.View.{IsFirst}
 use Rattle.dev_board.specs.KeptCore.{CoreKept}
-use Rattle.dev_board.proofs.MarkLaws.{first_marks}
+use Rattle.deed_effect.proofs.MarkLaws.{first_marks}
 use Rattle.run_world.proofs.UnitLaws.{first_units}
 
 no_devices : (s : Setup) → (opening s).live ≡ []

@@ -8,7 +8,7 @@ use Rattle.run_rules.specs.declared.world.Setup.{Setup}
 use Rattle.run_rules.specs.Run as run
 use Rattle.run_rules.specs.World.{World, opening}
 use Rattle.run_rules.proofs.Setups.{run_setup}
-use Rattle.dev_board.specs.Agreement.{slots_of}
+use Rattle.deed_effect.specs.Agreement.{slots_of}
 use Rattle.dev_board.specs.Booting.{Boots, IsNew, IsStarted}
 use Rattle.dev_board.specs.Shown.{Shown}
 use Rattle.dev_board.proofs.Began.{opening_setup}

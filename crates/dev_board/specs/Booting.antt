@@ -7,7 +7,7 @@ use Rattle.run_rules.specs.declared.event.Event.{Event}
 use Rattle.run_rules.specs.declared.world.Setup.{Setup}
 use Rattle.run_rules.specs.Run.{Run, Boot}
 use Rattle.run_rules.specs.World.{opening}
-use Rattle.dev_board.specs.Agreement.{slots_of}
+use Rattle.deed_effect.specs.Agreement.{slots_of}
 use Rattle.dev_board.specs.Shown.{Shown, began}
 
 -- the board did these events and no other; all of them are of caller 0

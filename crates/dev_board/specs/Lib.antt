@@ -1,15 +1,10 @@
-pub mod Commits
-pub mod Marks
-pub mod Effects
-pub mod SlotDeeds
+pub mod Performing
 pub mod Witness
-pub mod Agreement
 pub mod Shown
 pub mod Stepping
 pub mod Booting
 pub mod Posting
 pub mod Playing
-pub mod Publishing
 pub mod KeptCore
 pub mod Steps
 pub mod BoardView

@@ -15,7 +15,7 @@ use Rattle.run_rules.specs.Next.{next}
 use Rattle.run_rules.specs.After.{after}
 use Rattle.run_rules.specs.Run.{event_of}
 use Rattle.dev_board.specs.Witness.{Witness, told_did, told_stop, told_transfer, lease_step}
-use Rattle.dev_board.specs.SlotDeeds.{WaitsForLeases}
+use Rattle.deed_effect.specs.SlotDeeds.{WaitsForLeases}
 use Rattle.dev_board.specs.Shown.{Shown, began}
 use Rattle.dev_board.specs.declared.stepped.Stepped.{Stepped}
 use Rattle.dev_board.specs.declared.stepped.Stepped.TheVariants as stepped

@@ -4,7 +4,7 @@ use Rattle.ref_ledger.specs.declared.state.SlotState.{SlotState}
 use Rattle.run_world.specs.declared.parts.Core.{Core}
 use Rattle.run_world.specs.declared.site.Site.{Site}
 use Rattle.run_world.specs.Sites.{world_at}
-use Rattle.dev_board.specs.Agreement.{slots_of}
+use Rattle.deed_effect.specs.Agreement.{slots_of}
 use Rattle.dev_board.specs.KeptCore.{BootFalls, CoreKept, shown_at}
 use Rattle.dev_board.specs.Stepping.{IsDid, StepIs}
 use Rattle.dev_board.specs.declared.stepped.Stepped.{Stepped}

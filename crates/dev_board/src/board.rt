@@ -14,7 +14,7 @@ ghost use Rattle.run_rules.specs.Search as search;
 ghost use Rattle.run_rules.specs.Sound.{Sound, HaveOwnNames};
 ghost use Rattle.run_rules.specs.Tree as tree;
 ghost use Rattle.run_rules.specs.World.{opening, setup_of};
-ghost use Rattle.dev_board.specs.Agreement.{slots_of};
+ghost use Rattle.deed_effect.specs.Agreement.{slots_of};
 ghost use Rattle.run_sound.specs.Kept.{MayRun};
 ghost use Rattle.run_sound.specs.Left.{boot_left};
 ghost use Rattle.attr_graph.specs.Graphs.{FitGraph};

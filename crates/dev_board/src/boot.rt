@@ -1,5 +1,5 @@
 ghost use Rattle.std.specs.Prelude.{◌≡◌, [], OnOk, OnErr, None};
-ghost use Rattle.dev_board.specs.Agreement.{slots_of};
+ghost use Rattle.deed_effect.specs.Agreement.{slots_of};
 ghost use Rattle.dev_board.specs.Booting.{Boots, GoesOn};
 ghost use Rattle.history_laws.specs.Calm.{IsCalm};
 

@@ -1,24 +1,17 @@
 //! The board: a world and its history, one event at a time. It boots formed tables on each machine that fits them; then the callers of scripts take their turns.
 #![tactic(auto)]
 
-mod absent;
 mod answer;
-mod attach;
 mod board;
 mod boot;
 mod booted;
 mod closed;
-mod commit;
-mod effect;
-mod freed;
 mod history;
 mod io_result;
 mod lease;
 mod post;
 mod posted;
-mod row_liveness;
 mod seen;
-mod slots;
 mod step;
 mod stepped;
 mod told;

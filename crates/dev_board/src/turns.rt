@@ -4,7 +4,7 @@ ghost use Rattle.std.specs.List.{AllByRecursion};
 ghost use Rattle.run_rules.specs.declared.deed.Choice.TheVariants.{Does};
 ghost use Rattle.run_rules.specs.declared.deed.Deed.TheVariants.{Done};
 ghost use Rattle.run_rules.specs.Next.{next};
-ghost use Rattle.dev_board.specs.Agreement.{slots_of};
+ghost use Rattle.deed_effect.specs.Agreement.{slots_of};
 ghost use Rattle.dev_board.specs.Playing.{Plays, PlaysSome};
 
 use crate::board::Board;

@@ -1,5 +1,5 @@
 use Rattle.std.proofs.Common.{◌≡◌, None}
-use Rattle.dev_board.specs.Agreement.{slots_of}
+use Rattle.deed_effect.specs.Agreement.{slots_of}
 use Rattle.dev_board.specs.Booting.{GoesOn}
 use Rattle.dev_board.specs.Left.{boot_left}
 use Rattle.dev_board.proofs.boot.run_boot.Given as goal

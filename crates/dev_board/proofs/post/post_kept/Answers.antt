@@ -2,11 +2,11 @@ use Rattle.std.proofs.Common.{◌≡◌, ◌∙◌, ap, arith, length, refl}
 use Rattle.run_rules.specs.World.{World}
 use Rattle.run_rules.specs.declared.deed.Deed.TheVariants.{Done}
 use Rattle.run_sound.proofs.Holding.{refs_same}
-use Rattle.dev_board.specs.Agreement.{slots_of}
+use Rattle.deed_effect.specs.Agreement.{slots_of}
 use Rattle.run_world.specs.View.{world_of}
 use Rattle.dev_board.proofs.Kept.{kept_step, does_next, no_lease}
 use Rattle.dev_board.proofs.NextLaws.{kept_next}
-use Rattle.dev_board.proofs.DeedSlots.{slots_done}
+use Rattle.deed_effect.proofs.DeedSlots.{slots_done}
 use Rattle.dev_board.proofs.post.post_kept.Goals as goal
 
 pub end_transfer-requires-clause-chosen : goal.end_transfer-requires-clause-chosen

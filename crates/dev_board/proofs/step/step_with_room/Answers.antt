@@ -5,7 +5,7 @@ use Rattle.run_sound.proofs.Callers.{doing_so}
 use Rattle.run_sound.specs.Left.{boot_left}
 use Rattle.run_world.proofs.TellLaws.{doer_there}
 use Rattle.run_world.specs.View.{world_of}
-use Rattle.dev_board.specs.Agreement.{slots_of}
+use Rattle.deed_effect.specs.Agreement.{slots_of}
 use Rattle.dev_board.specs.KeptCore.{shown_of}
 use Rattle.dev_board.specs.Shown.{Shown}
 use Rattle.dev_board.specs.Stepping.{StepIs, DenialsAre}

@@ -1,6 +1,6 @@
 use Rattle.std.proofs.Common.{sym, ap, ◌∙◌, arith}
 use Rattle.run_rules.specs.Counts.{ends_of, dids_of}
-use Rattle.dev_board.specs.Agreement.{slots_of}
+use Rattle.deed_effect.specs.Agreement.{slots_of}
 use Rattle.board_lock.proofs.Opened.{same_scripts}
 use Rattle.board_lock.proofs.locked.Locked.halt.Goals as goal
 

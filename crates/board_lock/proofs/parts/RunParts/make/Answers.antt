@@ -4,7 +4,7 @@ use Rattle.lease_table.specs.Leases.{free_slot}
 use Rattle.lease_table.specs.declared.view.SlotRecord.{SlotRecord}
 use Rattle.lease_table.specs.Shown.{states_in}
 use Rattle.board_lock.proofs.Published.{none_published}
-use Rattle.dev_board.specs.Agreement.{slots_of}
+use Rattle.deed_effect.specs.Agreement.{slots_of}
 use Rattle.board_lock.proofs.Fits.{slots_long}
 use Rattle.board_lock.proofs.Opened.{calm_of}
 use Rattle.board_lock.proofs.Spared.{spared_slots}

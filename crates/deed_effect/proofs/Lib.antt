@@ -1,0 +1,12 @@
+pub mod MarkLaws
+pub mod GoneLaws
+pub mod Agree
+pub mod SlotLaws
+pub mod GoneSpots
+pub mod AloneSlots
+pub mod SlotSteps
+pub mod DeedSlots
+pub mod ArriveLaws
+pub mod AttachLaws
+pub mod EffectLaws
+pub mod CommitLaws

@@ -1,0 +1,6 @@
+pub mod Agreement
+pub mod Marks
+pub mod Effects
+pub mod Commits
+pub mod Publishing
+pub mod SlotDeeds

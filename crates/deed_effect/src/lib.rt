@@ -1,0 +1,13 @@
+//! What a deed changes: the parts of a board, and the slots of the spots whose devices come and go.
+#![tactic(auto)]
+
+mod absent;
+mod attach;
+mod commit;
+mod effect;
+mod freed;
+mod row_liveness;
+mod slots;
+
+pub use effect::finish_transfer;
+pub use slots::{Halt, run_deed};

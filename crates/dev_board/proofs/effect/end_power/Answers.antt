@@ -1,6 +1,0 @@
-use Rattle.run_rules.specs.After.{after}
-use Rattle.dev_board.proofs.effect.end_power.Goals as goal
-
-pub returns-clause-world : goal.returns-clause-world
-unfolding after
-returns-clause-world c = λ s end. c.finish.ensures.world s

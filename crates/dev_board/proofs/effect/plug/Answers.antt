@@ -1,6 +1,0 @@
-use Rattle.run_rules.specs.After.{after}
-use Rattle.dev_board.proofs.effect.plug.Goals as goal
-
-pub returns-clause-world : goal.returns-clause-world
-unfolding after
-returns-clause-world c = λ s. (rw c.remove_spot.ensures.items at c.finish.ensures.world s)
