@@ -3,4 +3,3 @@ pub mod Names
 pub mod Shapes
 pub mod Spelling
 pub mod Callers
-pub mod Digits

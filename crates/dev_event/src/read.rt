@@ -4,9 +4,9 @@ ghost use Rattle.dev_event.specs.Spelled.{IsSpelling, Keeps, NamesCaller, Spells
 
 use crate::cut::{before, behind, is, number_in};
 use crate::formed::is_formed;
-use crate::line::put_event;
 use crate::read_act::act_in;
 use cf_types::Memory;
+use event_line::put_event;
 use run_rules::{Event, SharedAct};
 use std::alloc::Global;
 

@@ -13,7 +13,8 @@ ghost use Rattle.history_replay.specs.Stops.{IsReliableTree, IsReplay, Replays, 
 use crate::reader::read_history;
 use attr_graph::graph_of;
 use cf_types::{DevLine, List, Machine, Script, Tables};
-use plain_world::{Plain, Rules, opening, stretches_of, tree_lines};
+use plain_names::tree_lines;
+use plain_world::{Plain, Rules, opening, stretches_of};
 use run_rules::Event;
 use std::alloc::Global;
 use thiserror::Error;

@@ -3,8 +3,8 @@ ghost use Rattle.std.specs.Prelude.{◌≡◌, IfOk};
 
 use crate::head::Heads;
 use cf_types::Memory;
-use plain_choice::Seeker;
 use plain_event::Teller;
+use plain_search::Seeker;
 use plain_world::Rules;
 use run_rules::Format;
 use std::alloc::Global;

@@ -11,9 +11,10 @@ ghost use Rattle.plain_world.specs.Rules.{AreFit, setup_by};
 
 use crate::rescan::rescanning;
 use cf_types::{Command, Given, Memory, Name, Ticket};
+use plain_names::device_named;
 use plain_world::{
-    Plain, Rules, count, device_named, device_on, holds, is_bad, is_pinned, is_sole, is_under,
-    policy_of, refers, spot_named,
+    Plain, Rules, count, device_on, holds, is_bad, is_pinned, is_sole, is_under, policy_of, refers,
+    spot_named,
 };
 use run_rules::{Deed, Dev, PowerKind, Refusal};
 use std::alloc::Global;

@@ -6,8 +6,8 @@ ghost use Rattle.plain_choice.specs.Late.{is_late_below, shown_by};
 ghost use Rattle.plain_world.specs.Plain.{world_of};
 ghost use Rattle.plain_world.specs.Rules.{AreFit, setup_by};
 
-use crate::matches::arrival;
 use cf_types::Place;
+use plain_search::arrival;
 use plain_world::{
     Plain, Rules, device_at, driver_of, has, has_spot, is_number, offered, place_of,
 };

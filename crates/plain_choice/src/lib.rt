@@ -4,12 +4,7 @@
 mod choose;
 mod command;
 mod late;
-mod matches;
 mod power;
 mod rescan;
-mod seeker;
-mod turns;
-mod units;
 
 pub use choose::next;
-pub use seeker::Seeker;

@@ -14,7 +14,8 @@ ghost use Rattle.plain_world.specs.Rules.{AreFit};
 use crate::teller::Teller;
 use crate::telling::live_name;
 use cf_types::{Command, Memory, Name};
-use plain_world::{Plain, command_at, list_names, tree_names};
+use plain_names::{list_names, tree_names};
+use plain_world::{Plain, command_at};
 use run_rules::{Act, PowerEnd, PowerKind, Refusal, Reply};
 
 /// The reply of a refusal.

@@ -6,7 +6,7 @@ ghost use Rattle.run_rules.specs.World as world;
 ghost use Rattle.run_rules.specs.declared.event.Act.TheVariants as act;
 ghost use Rattle.run_rules.specs.declared.world.Setup.{Setup};
 ghost use Rattle.plain_event.specs.Kept.{act_by};
-ghost use Rattle.plain_world.specs.Names.{name_live};
+ghost use Rattle.plain_names.specs.Names.{name_live};
 ghost use Rattle.plain_world.specs.Plain.{world_of};
 
 use crate::act::{Again, Kept, Key};

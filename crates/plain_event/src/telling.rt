@@ -3,14 +3,15 @@ ghost use Rattle.std.specs.Prelude.{◌≡◌, ℕ, true, IfOk, IfSome};
 ghost use Rattle.run_rules.specs.Run as run;
 ghost use Rattle.run_rules.specs.World as world;
 ghost use Rattle.plain_event.specs.Tellers.{KeepsRules, setup_in, world_in};
-ghost use Rattle.plain_world.specs.Names.{name_live};
+ghost use Rattle.plain_names.specs.Names.{name_live};
 ghost use Rattle.plain_world.specs.Rules.{AreFit, setup_by};
 
 use crate::act::Kept;
 use crate::kept::{key_of, with_text};
 use crate::teller::Teller;
 use cf_types::{Memory, Name};
-use plain_world::{Live, Plain, Rules, device_at, driver_of, unit_name};
+use plain_names::unit_name;
+use plain_world::{Live, Plain, Rules, device_at, driver_of};
 use run_rules::{Deed, Dev, SharedAct};
 
 /// The name of a row's driver, if there is one.

@@ -8,7 +8,7 @@ ghost use Rattle.run_rules.specs.World.{World};
 ghost use Rattle.run_rules.specs.declared.world.Setup.{Setup};
 ghost use Rattle.plain_event.specs.Tellers.{KeepsRules, setup_in, world_in};
 ghost use Rattle.plain_event.specs.Told.{MayBeTold, device_told, event_with};
-ghost use Rattle.plain_world.specs.Names.{name_live};
+ghost use Rattle.plain_names.specs.Names.{name_live};
 ghost use Rattle.plain_world.specs.Plain.{HasCaller, world_of};
 ghost use Rattle.plain_world.specs.Rules.{AreFit};
 
@@ -17,7 +17,8 @@ use crate::command_act::{answered_act, over_of, power_end_act};
 use crate::teller::Teller;
 use crate::telling::{keep, live_name, parent_name, told_before};
 use cf_types::{Memory, Name, Ticket};
-use plain_world::{Live, Plain, got_of, shown_of, spot_name};
+use plain_names::{got_of, shown_of, spot_name};
+use plain_world::{Live, Plain};
 use run_rules::{Act, Arrival, Deed, Event, IoAnswer, SharedAct};
 
 /// What a transfer brings.

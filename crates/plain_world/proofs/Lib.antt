@@ -1,4 +1,3 @@
-pub mod NameLaws
 pub mod WantedLaws
 pub mod Ready
 pub mod Kept

@@ -1,7 +1,6 @@
 pub mod Rules
 pub mod Plain
 pub mod Standing
-pub mod Names
 pub mod Noted
 pub mod Wanted
 pub mod Stretches

@@ -1,15 +1,13 @@
-//! A world in plain lists, apart from the board: what stands in it, what it goes by, and its tree.
+//! A world in plain lists, apart from the board: what stands in it, and what it goes by.
 #![tactic(auto)]
 
 mod caller;
 mod live;
 mod look;
-mod names;
 mod rules;
 mod script;
 mod spots;
 mod stretch;
-mod tree;
 mod wanted;
 mod world;
 
@@ -19,13 +17,11 @@ pub use look::{
     attach_at, count, device_at, device_on, driver_at, holds, is_live, is_occupied, is_pinned,
     is_sole, is_under, refers, spot_of,
 };
-pub use names::{device_named, got_of, parent_name, shown_of, spot_name, unit_name};
 pub use rules::{
     Rules, attach_of, attr_named, driver_of, found_at, has, has_spot, is_bad, is_nothing,
     is_number, offered, place_of, policy_of, row_at, same_place, spot_named,
 };
 pub use script::{command_at, command_of, has_ended, over_of};
 pub use stretch::{Stretch, stretch_at, stretches_of};
-pub use tree::{list_names, tree_lines, tree_names};
 pub use wanted::{wanted_by, wanted_of};
 pub use world::{Plain, opening};

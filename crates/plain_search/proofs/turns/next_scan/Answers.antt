@@ -1,0 +1,12 @@
+use Rattle.std.proofs.Common.{arith}
+use Rattle.run_sound.proofs.Arrivals.{due_inside}
+use Rattle.plain_world.specs.Rules.{setup_by}
+use Rattle.plain_search.proofs.turns.next_scan.Goals as goal
+
+pub after_turn-requires : goal.after_turn-requires
+after_turn-requires c =
+    omega (
+      arith,
+      c.requires.fit.may.machine.few_spots,
+      due_inside (setup_by c.args.seeker.now.rules.now) c.args.plain.now.live.devices c.args.plain.now.absent.items c.args.plain.now.hidden.items c.args.serial c.args.only c.args.filter.now c.args.from c.in-Some.turn c.in-Some.ensures,
+    )

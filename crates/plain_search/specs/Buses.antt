@@ -1,0 +1,37 @@
+-- The turns of a scan, place by place.
+use Rattle.std.specs.Prelude.{◌≡◌, ℕ, Bool, not, ◌&&◌, List, Option, flat_map, length, map}
+use Rattle.std.specs.List.{enumerate_from}
+use Rattle.cf_types.specs.Numbers.{below}
+use Rattle.cf_types.specs.declared.tables.Place.TheVariants.{At}
+use Rattle.run_rules.specs.declared.world.Turn.{Turn}
+use Rattle.run_rules.specs.World.{device_at}
+use Rattle.run_rules.specs.Search.{bus_turns, child_spots, is_before, is_due, turns_at}
+use Rattle.plain_world.specs.declared.rules.Rules.{Rules}
+use Rattle.plain_search.specs.declared.turns.Bus.{Bus}
+use Rattle.plain_search.specs.declared.turns.Going.{Going}
+use Rattle.plain_world.specs.declared.world.Plain.{Plain}
+use Rattle.plain_world.specs.Rules.{setup_by}
+
+-- a scan has the live device of its serial
+abbrev pub IsOfDevice : Plain → Going → Type 0
+IsOfDevice p g = g.device ≡ device_at p.live.devices g.serial
+
+-- a scan takes a turn that is due and not before its position
+abbrev pub takes : Rules → Plain → Going → Turn → Bool
+takes r p g t = not (is_before t.at g.from) && is_due (setup_by r) p.live.devices p.absent.items p.hidden.items g.serial g.filter.now t
+
+-- the turn of a bus at a row and a spot
+abbrev pub turn_on : Bus → ℕ → ℕ → Turn
+turn_on b r x = record { at = record { attr = b.attr; row = r; spot = x }; place = b.place; indirect = b.indirect }
+
+-- the turns of an indirect bus
+abbrev pub row_turns : Rules → Option ℕ → Bus → List Turn
+row_turns r parent b = flat_map (λ row. map (turn_on b row) (child_spots r.machine.now parent b.place)) (below (length r.tables.now.rows))
+
+-- and of any bus
+abbrev pub turns_on : Rules → Option ℕ → Bus → List Turn
+turns_on r parent b = bus_turns r.machine.now (length r.tables.now.rows) b.indirect parent (b.attr, b.place)
+
+-- those of these attributes, of which the first has this number
+abbrev pub turns_among : Rules → Plain → ℕ → ℕ → List ℕ → List Turn
+turns_among r p serial n attrs = flat_map (turns_at (setup_by r) p.live.devices serial) (enumerate_from n (map At attrs))

@@ -1,7 +1,0 @@
-use Rattle.std.proofs.Common.{◌≡◌, map, take}
-use Rattle.run_rules.specs.World.{children, name_of}
-use Rattle.plain_world.specs.Rules.{setup_by}
-use Rattle.plain_world.proofs.tree.child_names.Given as goal
-
-abbrev pub invariant-loop-device : goal.invariant-loop-device
-invariant-loop-device l = l.names ≡ map (name_of (setup_by l.rules)) (children (take l.device-index l.live) l.serial)
