@@ -1,5 +1,6 @@
 -- Pairs of words, one after the other.
-use Rattle.std.proofs.Common.{◌≡◌, ℕ, ◌-◌, ◌≤◌, length, get_or, take, drop, true, false, Bool, cond, List, [], ◌∷◌, ◌++◌, append_assoc, refl, ap, sym, ◌∙◌, arith, Result, Ok, Err, ℤ}
+use Rattle.std.proofs.Common.{◌≡◌, ℕ, ◌-◌, ◌≤◌, ◌<◌, ◌==◌, length, get_or, take, drop, true, false, Bool, cond, List, [], ◌∷◌, ◌++◌, append_assoc, append-nil, refl, ap, sym, ◌∙◌, arith, Result, Ok, Err, ℤ}
+use Rattle.std.specs.Borrow.{Bor}
 use Rattle.std.specs.Prelude.{◌&&◌}
 use Rattle.std.proofs.lemmas.List.{take_all}
 use Rattle.cf_types.specs.declared.code.script.TheConstants.{WRONG_WORDS}
@@ -7,18 +8,21 @@ use Rattle.cf_types.specs.declared.machine.Given.{Given}
 use Rattle.cf_text.specs.Shapes.{in_range}
 use Rattle.config_rules.specs.Cut.{◌>>=◌}
 use Rattle.config_rules.proofs.CutLaws.{both_left, both_right}
-use Rattle.config_rules.specs.ScriptText.{are_pairs, given_in, is_number, is_operand, number_within, operand}
+use Rattle.machine_text.specs.Words.{seen}
+use Rattle.config_rules.specs.ScriptText.{are_pairs, given_in, io_form, is_number, is_operand, number_within, operand}
 
 abbrev pub with_given : List Given → Result (List Given) ℕ → Result (List Given) ℕ
 with_given front r = r >>= λ more. Ok (front ++ more)
 
+-- what a slice pattern takes for a reference that is not there
+abbrev pub no_word : Bor (List ℕ)
+no_word = record { ref_ptr = (0, 0); now = [] }
+
 -- a slice pattern's two words and the others
-pub two_words : (ws : List (List ℕ)) (a b da db : List ℕ) → 2 ≤ length ws → a ≡ get_or ws 0 da → b ≡ get_or ws 1 db → a ∷ b ∷ take (length ws - 2) (drop 2 ws) ≡ ws
-two_words [] a b da db h p q = absurd (omega arith)
-two_words (x ∷ []) a b da db h p q = absurd (omega arith)
-two_words (x ∷ y ∷ ws) a b da db h p q =
-    ap (λ w. w ∷ b ∷ take (length (x ∷ y ∷ ws) - 2) ws) p ∙ ap (λ w. x ∷ w ∷ take (length (x ∷ y ∷ ws) - 2) ws) q
-    ∙ ap (λ w. x ∷ y ∷ w) (take_all (length (x ∷ y ∷ ws) - 2) ws (omega arith))
+pub two_words : (ws : List (Bor (List ℕ))) → 2 ≤ length ws → (get_or ws 0 no_word).now ∷ (get_or ws 1 no_word).now ∷ seen (take (length ws - 2) (drop 2 ws)) ≡ seen ws
+two_words [] h = absurd (omega arith)
+two_words (x ∷ []) h = absurd (omega arith)
+two_words (x ∷ y ∷ ws) h = ap (λ rest. x.now ∷ y.now ∷ seen rest) (take_all (length (x ∷ y ∷ ws) - 2) ws (omega arith))
 
 -- ---- pairs of operands and numbers
 
@@ -54,3 +58,28 @@ pub given_more : (front : List Given) (name value : List ℕ) (v : ℤ) (ws : Li
 given_more front name value v ws h =
     front_more front (record { name = name; value = v }) (given_in ws)
     ∙ sym (ap (λ (r : Result ℤ ℕ). with_given front (r >>= λ n. given_in ws >>= λ more. Ok (record { name = name; value = n } ∷ more))) h)
+
+-- ---- no pair is left
+
+pub no_pair : (front : List Given) (ws : List (Bor (List ℕ))) → length ws < 2 → are_pairs (seen ws) ≡ true → with_given front (given_in (seen ws)) ≡ Ok front
+no_pair front [] few h = ap Ok (append-nil front)
+no_pair front (w ∷ []) few h = absurd cc
+no_pair front (v ∷ w ∷ ws) few h = absurd (omega (arith, few))
+
+pub few_pairs : (ws : List (Bor (List ℕ))) → length ws < 2 → (length ws == 0) ≡ are_pairs (seen ws)
+few_pairs [] few = refl
+few_pairs (w ∷ []) few = refl
+few_pairs (v ∷ w ∷ ws) few = absurd (omega (arith, few))
+
+-- ---- `io` wants two words
+
+pub few_io : (ws : List (Bor (List ℕ))) → length ws < 2 → io_form (seen ws) ≡ Err WRONG_WORDS
+few_io [] few = refl
+few_io (w ∷ []) few = refl
+few_io (v ∷ w ∷ ws) few = absurd (omega (arith, few))
+
+pub many_io : (ws : List (Bor (List ℕ))) → 3 ≤ length ws → io_form (seen ws) ≡ Err WRONG_WORDS
+many_io [] many = absurd (omega (arith, many))
+many_io (w ∷ []) many = absurd (omega (arith, many))
+many_io (v ∷ w ∷ []) many = absurd (omega (arith, many))
+many_io (u ∷ v ∷ w ∷ ws) many = refl

@@ -1,5 +1,6 @@
-ghost use Rattle.std.specs.Prelude.{◌≡◌};
+ghost use Rattle.std.specs.Prelude.{◌≡◌, ◌∷◌, []};
 ghost use Rattle.config_rules.specs.ScriptText.{command_of, io_form, open_form, rescan_form, rescan_on, sole_form};
+ghost use Rattle.machine_text.specs.Words.{seen};
 ghost use Rattle.script_text.specs.Left.{Leaves};
 ghost use Rattle.script_text.specs.Verbs.{form_by};
 
@@ -7,7 +8,7 @@ use crate::operand::{one_operand, operand, operand_or_none, transfer_value};
 use crate::pairs::pairs_of;
 use crate::verb::{Verb, verb_of};
 use cf_types::code::script as code;
-use cf_types::{Command, List, Text};
+use cf_types::{Command, List};
 use machine_text::LineStop;
 use std::alloc::Global;
 
@@ -25,33 +26,43 @@ fn sole_command(alloc: Global, option: &[u8], device: &[u8]) -> Result<Command, 
 }
 
 /// Reads what stands behind `open`.
-fn open_command(alloc: Global, words: &[Text]) -> Result<Command, LineStop>
-    ensures { Leaves (open_form words.now) result }
+fn open_command(alloc: Global, words: &[&[u8]]) -> Result<Command, LineStop>
+    ensures { Leaves (open_form (seen words.now)) result }
 {
     match words {
-        [device] => Ok(Command::OpenDev(operand(alloc, device.items())?)),
-        [option, device] => sole_command(alloc, option.items(), device.items()),
+        [device] => Ok(Command::OpenDev(operand(alloc, *device)?)),
+        [option, device] => sole_command(alloc, *option, *device),
         _ => Err(LineStop::Code(code::WRONG_WORDS)),
     }
 }
 
+/// Reads `io D V`.
+fn transfer_command(alloc: Global, device: &[u8], value: &[u8]) -> Result<Command, LineStop>
+    ensures { Leaves (io_form (device.now ∷ value.now ∷ [])) result }
+{
+    let device = operand(alloc, device)?;
+    let value = transfer_value(value)?;
+    Ok(Command::Io(device, value))
+}
+
 /// Reads what stands behind `io`.
-fn io_command(alloc: Global, words: &[Text]) -> Result<Command, LineStop>
-    ensures { Leaves (io_form words.now) result }
+fn io_command(alloc: Global, words: &[&[u8]]) -> Result<Command, LineStop>
+    ensures { Leaves (io_form (seen words.now)) result }
 {
     match words {
-        [device, value] => {
-            let device = operand(alloc, device.items())?;
-            let value = transfer_value(value.items())?;
-            Ok(Command::Io(device, value))
-        }
+        [device, value] => transfer_command(alloc, *device, *value),
         _ => Err(LineStop::Code(code::WRONG_WORDS)),
     }
 }
 
 /// Reads `rescan D A` with the words behind it.
-fn rescan_on(alloc: Global, device: &[u8], attr: &[u8], words: &[Text]) -> Result<Command, LineStop>
-    ensures { Leaves (rescan_on device.now attr.now words.now) result }
+fn rescan_on(
+    alloc: Global,
+    device: &[u8],
+    attr: &[u8],
+    words: &[&[u8]],
+) -> Result<Command, LineStop>
+    ensures { Leaves (rescan_on device.now attr.now (seen words.now)) result }
 {
     let device = operand(alloc, device)?;
     let attr = operand(alloc, attr)?;
@@ -64,26 +75,26 @@ fn rescan_on(alloc: Global, device: &[u8], attr: &[u8], words: &[Text]) -> Resul
 }
 
 /// Reads what stands behind `rescan`.
-fn rescan_command(alloc: Global, words: &[Text]) -> Result<Command, LineStop>
-    ensures { Leaves (rescan_form words.now) result }
+fn rescan_command(alloc: Global, words: &[&[u8]]) -> Result<Command, LineStop>
+    ensures { Leaves (rescan_form (seen words.now)) result }
 {
     match words {
         [device] => {
-            let device = operand(alloc, device.items())?;
+            let device = operand(alloc, *device)?;
             Ok(Command::Rescan {
                 device,
                 attr: None,
                 given: List::make(alloc),
             })
         }
-        [device, attr, more @ ..] => rescan_on(alloc, device.items(), attr.items(), more),
+        [device, attr, more @ ..] => rescan_on(alloc, *device, *attr, more),
         [] => Err(LineStop::Code(code::WRONG_WORDS)),
     }
 }
 
 /// Reads what stands behind a verb.
-fn command_by(alloc: Global, verb: Verb, words: &[Text]) -> Result<Command, LineStop>
-    ensures { Leaves (form_by verb words.now) result }
+fn command_by(alloc: Global, verb: Verb, words: &[&[u8]]) -> Result<Command, LineStop>
+    ensures { Leaves (form_by verb (seen words.now)) result }
 {
     match verb {
         Verb::Open => open_command(alloc, words),
@@ -102,8 +113,8 @@ fn command_by(alloc: Global, verb: Verb, words: &[Text]) -> Result<Command, Line
 }
 
 /// Reads the command of a word with others behind it.
-pub fn command_of(alloc: Global, word: &[u8], words: &[Text]) -> Result<Command, LineStop>
-    ensures { Leaves (command_of word.now words.now) result }
+pub fn command_of(alloc: Global, word: &[u8], words: &[&[u8]]) -> Result<Command, LineStop>
+    ensures { Leaves (command_of word.now (seen words.now)) result }
 {
     match verb_of(word) {
         Some(verb) => command_by(alloc, verb, words),

@@ -2,11 +2,12 @@ ghost use Rattle.std.specs.Prelude.{◌≡◌, ◌≤◌, IsTrue, length, nat_ab
 ghost use Rattle.cf_text.specs.Shapes.{in_range};
 ghost use Rattle.config_rules.specs.Form.{given};
 ghost use Rattle.config_rules.specs.ScriptText.{is_caller, is_number, is_operand, is_value, natural_within, number_within, one_operand, operand, operand_or_none};
+ghost use Rattle.machine_text.specs.Words.{seen};
 ghost use Rattle.script_text.specs.Left.{Leaves};
 
 use cf_text::{NumberRead, is_name, read_number};
+use cf_types::Name;
 use cf_types::code::script as code;
-use cf_types::{Name, Text};
 use machine_text::LineStop;
 use std::alloc::Global;
 
@@ -36,18 +37,18 @@ pub fn operand(alloc: Global, word: &[u8]) -> Result<Name, LineStop>
 }
 
 /// The one operand of a command.
-pub fn one_operand(alloc: Global, words: &[Text]) -> Result<Name, LineStop>
-    ensures { Leaves (one_operand words.now) result }
+pub fn one_operand(alloc: Global, words: &[&[u8]]) -> Result<Name, LineStop>
+    ensures { Leaves (one_operand (seen words.now)) result }
 {
     match words {
-        [word] => operand(alloc, word.items()),
+        [word] => operand(alloc, *word),
         _ => Err(LineStop::Code(code::WRONG_WORDS)),
     }
 }
 
 /// The operand of a command that may have none.
-pub fn operand_or_none(alloc: Global, words: &[Text]) -> Result<Option<Name>, LineStop>
-    ensures { Leaves (operand_or_none words.now) result }
+pub fn operand_or_none(alloc: Global, words: &[&[u8]]) -> Result<Option<Name>, LineStop>
+    ensures { Leaves (operand_or_none (seen words.now)) result }
 {
     if words.is_empty() {
         return Ok(None);

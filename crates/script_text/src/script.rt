@@ -1,12 +1,13 @@
 ghost use Rattle.std.specs.Prelude.{◌≡◌, ◌≤◌, IfOk, length};
 ghost use Rattle.config_rules.specs.ScriptText.{FormedScript, commands_of, line_says, words_say};
+ghost use Rattle.machine_text.specs.Words.{seen};
 ghost use Rattle.script_text.specs.Left.{Adds, Gives, Says};
 
 use crate::command::command_of;
 use crate::stop::ScriptStop;
 use cf_types::code::script as code;
-use cf_types::{Command, List, Text};
-use machine_text::{LineStop, has_bad_byte, words_of};
+use cf_types::{Command, List};
+use machine_text::{LineStop, cut_words, has_bad_byte};
 use std::alloc::Global;
 
 /// The most commands of a script.
@@ -16,31 +17,40 @@ const MAX_COMMANDS: usize = 500;
 const TOO_MANY: u8 = 4;
 
 /// What the words of a line say: `None` where there are none.
-fn words_say(alloc: Global, words: &[Text]) -> Result<Option<Command>, LineStop>
-    ensures { Says (words_say words.now) result }
+fn words_say(alloc: Global, words: &[&[u8]]) -> Result<Option<Command>, LineStop>
+    ensures { Says (words_say (seen words.now)) result }
 {
     match words.split_first() {
-        Some((word, rest)) => Ok(Some(command_of(alloc, word.items(), rest)?)),
+        Some((word, rest)) => Ok(Some(command_of(alloc, *word, rest)?)),
         None => Ok(None),
     }
 }
 
-/// What a line says: `None` where it has no words.
-fn line_says(alloc: Global, line: &[u8]) -> Result<Option<Command>, LineStop>
+/// What a line says: `None` where it has no words. They are lent, and stand in room that is used again.
+fn line_says<'t>(
+    alloc: Global,
+    words: &mut Vec<&'t [u8]>,
+    line: &'t [u8],
+) -> Result<Option<Command>, LineStop>
     ensures { Says (line_says line.now) result }
 {
     if has_bad_byte(line) {
         return Err(LineStop::Code(code::WRONG_WORDS));
     }
-    let words = words_of(alloc, line)?;
-    words_say(alloc, words.items())
+    cut_words(words, line)?;
+    words_say(alloc, words)
 }
 
 /// Adds the command of a line, if it has one, to those before it.
-fn add_line(alloc: Global, commands: &mut List<Command>, line: &[u8]) -> Result<(), LineStop>
+fn add_line<'t>(
+    alloc: Global,
+    words: &mut Vec<&'t [u8]>,
+    commands: &mut List<Command>,
+    line: &'t [u8],
+) -> Result<(), LineStop>
     ensures { Adds (line_says line.now) commands.old commands.new result }
 {
-    let Some(command) = line_says(alloc, line)? else {
+    let Some(command) = line_says(alloc, words, line)? else {
         return Ok(());
     };
     if MAX_COMMANDS <= commands.len() {
@@ -57,10 +67,11 @@ pub fn read_script(alloc: Global, text: &[u8]) -> Result<List<Command>, ScriptSt
     ensures gives { Gives (commands_of text.now) result }
     ensures formed { IfOk result FormedScript }
 {
+    let mut words = Vec::new(alloc);
     let mut commands = List::make(alloc);
     let mut number = 1;
     for line in text.split(|&byte| byte == b'\n') {
-        if let Err(stop) = add_line(alloc, &mut commands, line) {
+        if let Err(stop) = add_line(alloc, &mut words, &mut commands, line) {
             return Err(ScriptStop::at(number, stop));
         }
         number += 1;
