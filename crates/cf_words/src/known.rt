@@ -18,11 +18,14 @@ pub struct Known {
     made: usize,
 }
 
+/// What a number is multiplied by for each byte: a prime that spreads names that differ in a digit or two.
+const SPREAD: u32 = 16_777_619;
+
 /// A number that follows from the bytes of a name.
 fn number_of(bytes: &[u8]) -> u32 {
     let mut number: u32 = 0;
     for byte in bytes {
-        number = number.wrapping_mul(31).wrapping_add(u32::from(*byte));
+        number = number.wrapping_mul(SPREAD).wrapping_add(u32::from(*byte));
     }
     number
 }
@@ -69,9 +72,9 @@ impl Known {
         Ok(())
     }
 
-    /// Puts a name that was made at its place.
+    /// Puts a name that was made at its place. Three quarters of the places are left free, so that few names take another's.
     fn keep(&mut self, place: usize, name: &Name) -> Result<(), Memory> {
-        if self.made >= self.names.len() {
+        if self.made >= self.names.len() / 4 {
             self.grow()?;
         }
         self.made = self.made.saturating_add(1);
