@@ -45,11 +45,6 @@ sized_found ps i h = rw (sized_at ps i, ← h) refl
 pub sized_later : (ps : List Piece) (i : ℕ) → false ≡ begins_text_or_size (drop i ps) → has_text_or_size (drop (i + 1) ps) ≡ has_text_or_size (drop i ps)
 sized_later ps i h = rw (sized_at ps i, ← h) refl
 
--- a first word is an instance's where it is no keyword
-pub begins_by : (p : Piece) (found : Option Keyword) → true ≡ is_chunk p → found ≡ keyword_in p → is_none found ≡ (is_chunk p && is_none (row_of table p))
-begins_by p None chunk e = rw (row_is p None e, ← chunk) refl
-begins_by p (Some k) chunk e = rw (row_is p (Some k) e, ← chunk) refl
-
 left_out_cons : (p : Piece) (ps : List Piece) → is_left_out_statement p ps ≡ is_left_out (p ∷ ps)
 unfolding is_left_out
 left_out_cons p ps = refl

@@ -5,6 +5,7 @@ pub mod InstanceLemmas
 pub mod KeywordLemmas
 pub mod NegationLemmas
 pub mod ItemLemmas
+pub mod LeftOutKeywords
 pub mod LeftOutLemmas
 pub mod CheckedLemmas
 pub mod FormLemmas

@@ -1,6 +1,7 @@
 -- Keywords by their first bytes, and the keyword of a statement.
-use Rattle.std.specs.Prelude.{ℕ, Bool, ◌==◌, List, [], ◌∷◌, Option, None, find, slice_index}
+use Rattle.std.specs.Prelude.{ℕ, Bool, true, false, ◌==◌, List, [], ◌∷◌, Option, None, find, slice_index}
 use Rattle.cf_types.specs.declared.keyword.Keyword.{Keyword}
+use Rattle.cf_types.specs.declared.keyword.Keyword.TheVariants.{Define, DefPseudo, Device}
 use Rattle.cf_types.specs.declared.keyword.TheConstants.{KEYWORDS}
 use Rattle.cf_types.specs.declared.stmt.Piece.{Piece}
 use Rattle.config_rules.specs.Form.{is_word, spelling_of}
@@ -17,3 +18,10 @@ keyword_in p = find (λ k. is_word (spelling_of k) p) KEYWORDS
 abbrev pub first_keyword : List Piece → Option Keyword
 first_keyword [] = None
 first_keyword (p ∷ ps) = keyword_in p
+
+-- the statements of a keyword may have a list of locators
+abbrev pub defines : Keyword → Bool
+defines Define = true
+defines DefPseudo = true
+defines Device = true
+defines _ = false

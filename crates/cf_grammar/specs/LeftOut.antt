@@ -34,13 +34,12 @@ begins_text_or_size (p ∷ ps) = may_name_locator p && begins_size_or_text ps
 abbrev pub is_left_out_word : Piece → Bool
 is_left_out_word p = list_any (λ left_out. is_word (left_out_spelling left_out) p) LEFT_OUT
 
--- an instance gives a locator a string
+-- an instance with this first word gives a locator a string
 abbrev pub gives_text : Piece → List Piece → Bool
-gives_text p ps = is_chunk p && is_none (row_of table p) && has_named_text (drop 2 ps)
-
--- a definition gives a locator a string or a size
-abbrev pub defines_text_or_size : Piece → List Piece → Bool
-defines_text_or_size p ps = is_defining p && has_text_or_size (braced ps)
+gives_text p ps = is_chunk p && has_named_text (drop 2 ps)
 
 abbrev pub is_left_out_statement : Piece → List Piece → Bool
-is_left_out_statement p ps = is_left_out_word p || gives_text p ps || defines_text_or_size p ps
+is_left_out_statement p ps =
+    is_left_out_word p
+    || (is_chunk p && is_none (row_of table p) && has_named_text (drop 2 ps))
+    || (is_defining p && has_text_or_size (braced ps))

@@ -1,8 +1,8 @@
-ghost use Rattle.std.specs.Prelude.{◌≡◌, ◌||◌, ◌&&◌, drop, is_none, map};
-ghost use Rattle.config_rules.specs.Form.{braced, has_named_text, has_text_or_size, is_chunk, is_defining, is_left_out, is_word, may_name_locator, row_of, table};
+ghost use Rattle.std.specs.Prelude.{◌≡◌, ◌||◌, ◌&&◌, drop, map};
+ghost use Rattle.config_rules.specs.Form.{braced, has_named_text, has_text_or_size, is_left_out, is_word, may_name_locator};
 ghost use Rattle.cf_words.specs.Words.{piece_of};
-ghost use Rattle.cf_grammar.specs.Keywords.{first_keyword, keyword_in};
-ghost use Rattle.cf_grammar.specs.LeftOut.{begins_named_text, begins_size_or_text, begins_text, begins_text_or_size, defines_text_or_size, gives_text, is_left_out_statement, is_left_out_word, left_out_spelling};
+ghost use Rattle.cf_grammar.specs.Keywords.{defines, first_keyword, keyword_in};
+ghost use Rattle.cf_grammar.specs.LeftOut.{begins_named_text, begins_size_or_text, begins_text, begins_text_or_size, gives_text, is_left_out_statement, is_left_out_word, left_out_spelling};
 
 use cf_text::is_name;
 use cf_types::Keyword;
@@ -145,46 +145,6 @@ fn braced<'w, 'a>(words: &'w [Word<'a>]) -> &'w [Word<'a>]
     split_before(behind_first(words, b"{"), b"}").0
 }
 
-/// Whether a statement with this first word may have a list of locators.
-#[inline(always)]
-fn is_defining(word: Word) -> bool
-    ensures { result ≡ is_defining (piece_of word.entry) }
-{
-    word.is_word(b"define") || word.is_word(b"defpseudo") || word.is_word(b"device")
-}
-
-/// Whether a word begins an instance: a chunk that is no keyword.
-#[inline(always)]
-fn begins_instance(word: Word, keyword: Option<Keyword>) -> bool
-    requires { keyword ≡ keyword_in (piece_of word) }
-    ensures { result ≡ (is_chunk (piece_of word.entry) && is_none (row_of table (piece_of word.entry))) }
-{
-    if !word.is_chunk() {
-        return false;
-    }
-    match keyword {
-        Some(_) => false,
-        None => true,
-    }
-}
-
-/// Whether an instance gives a locator a string.
-#[inline(always)]
-fn gives_text(first: Word, keyword: Option<Keyword>, rest: &[Word]) -> bool
-    requires { keyword ≡ keyword_in (piece_of first) }
-    ensures { result ≡ gives_text (piece_of first.entry) (map piece_of rest.now) }
-{
-    begins_instance(first, keyword) && has_named_text(behind_two(rest))
-}
-
-/// Whether a definition gives a locator a string or a size.
-#[inline(always)]
-fn defines_text_or_size(first: Word, rest: &[Word]) -> bool
-    ensures { result ≡ defines_text_or_size (piece_of first.entry) (map piece_of rest.now) }
-{
-    is_defining(first) && has_text_or_size(braced(rest))
-}
-
 #[inline(always)]
 fn behind_two<'w, 'a>(words: &'w [Word<'a>]) -> &'w [Word<'a>]
     ensures { map piece_of result.now ≡ drop 2 (map piece_of words.now) }
@@ -195,12 +155,36 @@ fn behind_two<'w, 'a>(words: &'w [Word<'a>]) -> &'w [Word<'a>]
     }
 }
 
+/// Whether the statements of a keyword may have a list of locators.
+#[inline(always)]
+fn defines(keyword: Keyword) -> bool
+    ensures { result ≡ defines keyword }
+{
+    matches!(
+        keyword,
+        Keyword::Define | Keyword::DefPseudo | Keyword::Device
+    )
+}
+
+/// Whether a word that is no keyword begins an instance that gives a locator a string.
+#[inline(always)]
+fn gives_text(first: Word, rest: &[Word]) -> bool
+    ensures { result ≡ gives_text (piece_of first.entry) (map piece_of rest.now) }
+{
+    first.is_chunk() && has_named_text(behind_two(rest))
+}
+
+/// Whether a statement with this first word is left out: by that word where it is no keyword, as an instance gives a locator a
+/// string, or as a definition gives one a string or a size.
 #[inline(always)]
 fn is_left_out_statement(first: Word, keyword: Option<Keyword>, rest: &[Word]) -> bool
     requires { keyword ≡ keyword_in (piece_of first) }
     ensures { result ≡ is_left_out_statement (piece_of first.entry) (map piece_of rest.now) }
 {
-    is_left_out_word(first) || gives_text(first, keyword, rest) || defines_text_or_size(first, rest)
+    match keyword {
+        None => is_left_out_word(first) || gives_text(first, rest),
+        Some(keyword) => defines(keyword) && has_text_or_size(braced(rest)),
+    }
 }
 
 /// Whether the words, of which the first is this keyword or none, are a statement that is left out: by its first word, or
