@@ -17,11 +17,15 @@ abbrev pub went_on : Files → Reader → Here → List Level → Statement → 
 went_on files below here levels s None r = r
 went_on files below here levels s (Some i) r = include files below here levels s i.path i.optional r
 
--- what a call did and what is still to be included come to the whole, whatever the files are
-abbrev pub Steps : {E : Type 0} → Source → List Level → Statement → (Files → Reader → Here → Reading) → Result (Option Include) E → Reading → Type 0
-Steps source levels s whole result new =
+-- what the language makes of a statement within some levels, behind what was read
+abbrev pub Rule : Type 0
+Rule = Files → Reader → Here → List Level → Statement → Reading → Reading
+
+-- a call did what the rule says, up to a file that is still to be included, whatever the files are
+abbrev pub Follows : {E : Type 0} → Rule → Source → List Level → Statement → Reading → Result (Option Include) E → Reading → Type 0
+Follows rule source levels s old result new =
     IfOk result (λ i. (files : Files) (below : Reader) (around : ℕ) → source.room ≡ 16 - around
-    → went_on files below (here_of around source) levels s i new ≡ whole files below (here_of around source))
+    → went_on files below (here_of around source) levels s i new ≡ rule files below (here_of around source) levels s old)
 
 -- a `prefix` with this path, or with none
 abbrev pub turned : Here → Statement → Option (List ℕ) → Reading → Reading

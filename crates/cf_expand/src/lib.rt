@@ -9,6 +9,7 @@ mod prefixes;
 mod progress;
 mod reading;
 mod source;
+mod statement;
 mod steps;
 mod stop;
 mod unread;

@@ -4,16 +4,15 @@ ghost use Rattle.cf_io.specs.Asked.{Asks};
 ghost use Rattle.config_rules.specs.Written.{AreWritten};
 ghost use Rattle.config_rules.specs.Reading.{nothing_read, read_end, read_statement, reader, reading};
 ghost use Rattle.cf_expand.specs.Asked.{AsksIn};
-ghost use Rattle.cf_expand.specs.Lines.{statement_of};
 ghost use Rattle.cf_expand.specs.Stop.{Counted};
 ghost use Rattle.cf_expand.specs.Steps.{WhereTold, entered, expanded, here_of};
 
 use crate::conditions::Conditions;
-use crate::lines::{condition_word, line_number};
 use crate::open::{open_first, open_include};
 use crate::progress::Progress;
 use crate::source::{Opened, Source};
-use crate::steps::{holds, read_statement};
+use crate::statement::Statement;
+use crate::steps::read_statement;
 use crate::stop::ExpandStop;
 use crate::unread::Unread;
 use cf_io::Files;
@@ -44,24 +43,23 @@ fn read_with_include<'a, F: Files>(
     alloc: Global,
     files: &mut F,
     progress: &mut Progress,
-    source: &'a Source,
+    source: &Source,
     conditions: &Conditions,
-    tokens: &[Token],
+    statement: &Statement<'a, '_>,
     words: &mut Vec<Word<'a>>,
 ) -> Result<(), ExpandStop>
-    requires { AreWithin source.now.text tokens.now }
     ensures told { F.told files.new ≡ F.told files.old }
     ensures counted { Counted (F.faults files.old) (F.faults files.new) result }
     ensures read { WhereTold (F.told files.old) (λ named. OnOk result ((around : ℕ) → source.now.room ≡ 16 - around
-        → progress.new ≡ read_statement named (reader source.now.levels named) (here_of around source.now) conditions.now (statement_of source.now.text tokens.now) progress.old)) }
+        → progress.new ≡ read_statement named (reader source.now.levels named) (here_of around source.now) conditions.now statement.now progress.old)) }
     ensures asked { AsksIn (F.told files.old) source.now progress.old
-        (λ named around. read_statement named (reader source.now.levels named) (here_of around source.now) conditions.now (statement_of source.now.text tokens.now) progress.old)
+        (λ named around. read_statement named (reader source.now.levels named) (here_of around source.now) conditions.now statement.now progress.old)
         result (F.asked files.old) (F.asked files.new) }
 {
-    let Some(wanted) = read_statement(alloc, progress, source, conditions, tokens, words)? else {
+    let Some(wanted) = read_statement(alloc, progress, source, conditions, statement, words)? else {
         return Ok(());
     };
-    let line = line_number(tokens);
+    let line = statement.line();
     let Some(below) = open_include(alloc, files, progress, source, conditions, line, wanted)? else {
         return Ok(());
     };
@@ -93,22 +91,22 @@ fn read_source<F: Files>(
     let mut conditions = Conditions::make(alloc);
     let mut words = Vec::new(alloc);
     let mut left = Unread::make(tokens);
-    while let Some((statement, rest)) = left.first() {
-        let word = condition_word(source.text.items(), statement);
-        let condition_holds = holds(progress, word, source.text.items(), statement);
+    while let Some((first, rest)) = left.first() {
+        let statement = source.statement(first);
+        let condition_holds = statement.holds(progress);
         read_with_include(
             alloc,
             files,
             progress,
             source,
             &conditions,
-            statement,
+            &statement,
             &mut words,
         )?;
         if progress.has_fault() {
             return Ok(());
         }
-        conditions.follow(word, line_number(statement), condition_holds)?;
+        conditions.follow(statement.word(), statement.line(), condition_holds)?;
         let count = rest.len();
         left.keep_last(count);
     }

@@ -1,3 +1,8 @@
+ghost use Rattle.std.specs.Prelude.{◌≡◌};
+ghost use Rattle.cf_grammar.specs.Statement.{AreWithin};
+ghost use Rattle.cf_expand.specs.Lines.{statement_of};
+
+use crate::statement::Statement;
 use cf_types::{List, Text, Token};
 
 /// A file that is being read.
@@ -11,6 +16,17 @@ pub struct Source {
     pub room: usize,
     /// How many levels of files may stand below it.
     pub levels: u32,
+}
+
+impl Source {
+    /// The statement of these tokens of it.
+    #[inline(always)]
+    pub fn statement<'a, 't>(&'a self, tokens: &'t [Token]) -> Statement<'a, 't>
+        requires { AreWithin self.now.text tokens.now }
+        ensures { result ≡ statement_of self.now.text tokens.now }
+    {
+        Statement::make(self.text.items(), tokens)
+    }
 }
 
 /// A file that was opened, with the tokens of its text.

@@ -1,75 +1,42 @@
 ghost use Rattle.std.specs.Prelude.{◌≡◌, ℕ, ◌-◌, ◌<◌, IfOk, IfSome, OnOk, length};
-ghost use Rattle.cf_grammar.specs.Statement.{AreWithin};
-ghost use Rattle.config_rules.specs.Reading.{condition_of, holds, is_misplaced, is_placed, names_declared, read_statement, read_placed, treat};
+ghost use Rattle.config_rules.specs.Reading.{condition_of, is_misplaced, read_statement, read_placed, treat};
 ghost use Rattle.config_rules.specs.Written.{IsWritten};
-ghost use Rattle.cf_expand.specs.Lines.{statement_of};
-ghost use Rattle.cf_expand.specs.Steps.{Steps, here_of, turned};
+ghost use Rattle.cf_expand.specs.Steps.{Follows, here_of, turned};
 
 use crate::conditions::Conditions;
-use crate::lines::{condition_word, line_number};
 use crate::progress::Progress;
 use crate::source::{Include, Source};
-use cf_grammar::{GrammarStop, word_of};
+use crate::statement::Statement;
+use cf_grammar::GrammarStop;
 use cf_types::code::configuration as code;
-use cf_types::{CondWord, Memory, Stmt, Text, Token};
+use cf_types::{Memory, Stmt, Text};
 use cf_words::Word;
 use std::alloc::Global;
 
 /// The most statements that are placed.
 const MAX_PLACED: usize = 65_536;
 
-fn names_declared(progress: &Progress, text: &[u8], tokens: &[Token]) -> bool
-    requires { AreWithin text.now tokens.now }
-    ensures { result ≡ names_declared progress.now.placed (statement_of text.now tokens.now) }
-{
-    match tokens {
-        [_, name, ..] => progress.is_declared(word_of(text, *name).text),
-        _ => false,
-    }
-}
-
-/// Whether the condition that a statement with this word names holds.
 #[inline(always)]
-pub fn holds(progress: &Progress, word: Option<CondWord>, text: &[u8], tokens: &[Token]) -> bool
-    requires { AreWithin text.now tokens.now }
-    ensures { result ≡ holds word (names_declared progress.now.placed (statement_of text.now tokens.now)) }
+fn is_misplaced(source: &Source, conditions: &Conditions, statement: &Statement) -> bool
+    ensures { (around : ℕ) → source.now.room ≡ 16 - around
+        → result ≡ is_misplaced (16 - around) (condition_of statement.now) conditions.now }
 {
-    match word {
-        Some(CondWord::IfDef | CondWord::ElifDef) => names_declared(progress, text, tokens),
-        Some(CondWord::IfNDef | CondWord::ElifNDef) => !names_declared(progress, text, tokens),
-        Some(CondWord::Else) => true,
-        Some(CondWord::EndIf) | None => false,
-    }
-}
-
-#[inline(always)]
-fn is_placed(source: &Source, conditions: &Conditions, tokens: &[Token]) -> bool
-    requires { AreWithin source.now.text tokens.now }
-    ensures { result ≡ is_placed (condition_of (statement_of source.now.text tokens.now)) conditions.now }
-{
-    conditions.is_placed(condition_word(source.text.items(), tokens))
-}
-
-#[inline(always)]
-fn is_misplaced(source: &Source, conditions: &Conditions, tokens: &[Token]) -> bool
-    requires { AreWithin source.now.text tokens.now }
-    ensures { (around : ℕ) → source.now.room ≡ 16 - around → result ≡ is_misplaced (16 - around) (condition_of (statement_of source.now.text tokens.now)) conditions.now }
-{
-    conditions.is_misplaced(source.room, condition_word(source.text.items(), tokens))
+    conditions.is_misplaced(source.room, statement.word())
 }
 
 fn turn_prefix(
     alloc: Global,
     progress: &mut Progress,
     source: &Source,
-    tokens: &[Token],
+    statement: &Statement,
     path: Option<Text>,
 ) -> Result<(), Memory>
     requires { length progress.old.placed < 65536 }
     ensures asked { OnOk result (progress.new.asked ≡ progress.old.asked) }
-    ensures turned { OnOk result ((around : ℕ) → progress.new ≡ turned (here_of around source.now) (statement_of source.now.text tokens.now) path progress.old) }
+    ensures turned { OnOk result ((around : ℕ)
+        → progress.new ≡ turned (here_of around source.now) statement.now path progress.old) }
 {
-    let line = line_number(tokens);
+    let line = statement.line();
     match path {
         Some(path) => {
             progress.push_prefix(path.items())?;
@@ -90,21 +57,21 @@ fn treat(
     progress: &mut Progress,
     source: &Source,
     conditions: &Conditions,
-    tokens: &[Token],
+    statement: &Statement,
     stmt: Stmt,
 ) -> Result<Option<Include>, Memory>
-    requires within { AreWithin source.now.text tokens.now }
     requires few { length progress.old.placed < 65536 }
     requires written { IsWritten stmt }
     ensures few { IfOk result (λ wanted. IfSome wanted (λ _. length progress.new.placed < 65536)) }
     ensures asked { OnOk result (progress.new.asked ≡ progress.old.asked) }
-    ensures steps { Steps source.now conditions.now (statement_of source.now.text tokens.now) (λ files below here. treat files below here conditions.now (statement_of source.now.text tokens.now) stmt progress.old) result progress.new }
+    ensures steps { Follows (λ files below here levels s. treat files below here levels s stmt)
+        source.now conditions.now statement.now progress.old result progress.new }
 {
-    let line = line_number(tokens);
+    let line = statement.line();
     match stmt {
         Stmt::Include { path, optional } => return Ok(Some(Include { path, optional })),
-        Stmt::Prefix { path } => turn_prefix(alloc, progress, source, tokens, path)?,
-        Stmt::Cond { word, name } => if is_misplaced(source, conditions, tokens) {
+        Stmt::Prefix { path } => turn_prefix(alloc, progress, source, statement, path)?,
+        Stmt::Cond { word, name } => if is_misplaced(source, conditions, statement) {
             progress.refuse(alloc, source.name.items(), line, code::BAD_NESTING)?
         } else {
             progress.place(source.number, line, Stmt::Cond { word, name })?
@@ -119,29 +86,29 @@ fn treat(
 fn read_placed<'a>(
     alloc: Global,
     progress: &mut Progress,
-    source: &'a Source,
+    source: &Source,
     conditions: &Conditions,
-    tokens: &[Token],
+    statement: &Statement<'a, '_>,
     words: &mut Vec<Word<'a>>,
 ) -> Result<Option<Include>, Memory>
-    requires { AreWithin source.now.text tokens.now }
     ensures few { IfOk result (λ wanted. IfSome wanted (λ _. length progress.new.placed < 65536)) }
     ensures asked { OnOk result (progress.new.asked ≡ progress.old.asked) }
-    ensures steps { Steps source.now conditions.now (statement_of source.now.text tokens.now) (λ files below here. read_placed files below here conditions.now (statement_of source.now.text tokens.now) progress.old) result progress.new }
+    ensures steps { Follows read_placed source.now conditions.now statement.now
+        progress.old result progress.new }
 {
     if progress.placed_len() >= MAX_PLACED {
         progress.refuse(
             alloc,
             source.name.items(),
-            line_number(tokens),
+            statement.line(),
             code::TOO_MANY_STATEMENTS,
         )?;
         return Ok(None);
     }
-    match progress.read(words, source.text.items(), tokens) {
-        Ok(stmt) => treat(alloc, progress, source, conditions, tokens, stmt),
+    match statement.read(progress, words) {
+        Ok(stmt) => treat(alloc, progress, source, conditions, statement, stmt),
         Err(GrammarStop::Fault { code }) => {
-            progress.refuse(alloc, source.name.items(), line_number(tokens), code)?;
+            progress.refuse(alloc, source.name.items(), statement.line(), code)?;
             Ok(None)
         }
         Err(GrammarStop::Memory) => Err(Memory),
@@ -154,24 +121,24 @@ fn read_placed<'a>(
 pub fn read_statement<'a>(
     alloc: Global,
     progress: &mut Progress,
-    source: &'a Source,
+    source: &Source,
     conditions: &Conditions,
-    tokens: &[Token],
+    statement: &Statement<'a, '_>,
     words: &mut Vec<Word<'a>>,
 ) -> Result<Option<Include>, Memory>
-    requires { AreWithin source.now.text tokens.now }
     ensures few { IfOk result (λ wanted. IfSome wanted (λ _. length progress.new.placed < 65536)) }
     ensures asked { OnOk result (progress.new.asked ≡ progress.old.asked) }
-    ensures steps { Steps source.now conditions.now (statement_of source.now.text tokens.now) (λ files below here. read_statement files below here conditions.now (statement_of source.now.text tokens.now) progress.old) result progress.new }
+    ensures steps { Follows read_statement source.now conditions.now statement.now
+        progress.old result progress.new }
 {
-    if is_placed(source, conditions, tokens) {
-        return read_placed(alloc, progress, source, conditions, tokens, words);
+    if conditions.is_placed(statement.word()) {
+        return read_placed(alloc, progress, source, conditions, statement, words);
     }
-    if is_misplaced(source, conditions, tokens) {
+    if is_misplaced(source, conditions, statement) {
         progress.refuse(
             alloc,
             source.name.items(),
-            line_number(tokens),
+            statement.line(),
             code::BAD_NESTING,
         )?;
     }

@@ -1,7 +1,7 @@
 use Rattle.std.proofs.Common.{◌≡◌, ◌+◌, ◌∙◌, ℕ, List, length, ap, refl, sym, subst, Some}
 use Rattle.cf_types.specs.declared.stmt.Token.{Token}
 use Rattle.cf_grammar.specs.Statement.{AreWithin}
-use Rattle.config_rules.specs.Reading.{Reading, condition_of, holds, names_declared, read_statement, read_statements, reader, statements_in}
+use Rattle.config_rules.specs.Reading.{Reading, Statement, holds, levels_behind, names_declared, read_statement, read_statements, reader, statements_in}
 use Rattle.cf_expand.proofs.AskedLemmas.{all_grown, asked_still, at_end, at_fault, asks_same, beyond, follows, front_grown, front_same, reader_grows, rest_grows, rest_within, statement_grows, stopped_all, whole_grows}
 use Rattle.cf_expand.proofs.UnreadLemmas.{last_kept}
 use Rattle.cf_expand.proofs.ReadLemmas.{included, included_whole, on_ok, room_below}
@@ -13,14 +13,14 @@ pub read_with_include-returns-clause-read : goal.read_with_include-returns-claus
 read_with_include-returns-clause-read g t c = λ named e.
     on_ok c.read_source.result (c.read_source.ensures.read named (c.in_ok-below.ensures.told ∙ e))
     (λ h. λ around room.
-    included named c.args.source.now c.in-Some-2.below around c.line_number-line.result c.args.conditions.now (statement_of c.args.source.now.text c.args.tokens.now) c.in-Some.wanted c.in_ok-wanted.field-0 c.in_ok-below.field-0
+    included named c.args.source.now c.in-Some-2.below around c.line-line.result c.args.conditions.now c.args.statement.now c.in-Some.wanted c.in_ok-wanted.field-0 c.in_ok-below.field-0
     c.args.progress.now c.read_statement.new.progress c.open_include.new.progress c.read_source.new.progress
-    c.in-Some.is c.in-Some-2.is (sym c.line_number-line.ensures) room c.in_ok-wanted.ensures.steps (c.in_ok-below.ensures.read named e) c.in_ok-below.ensures.below.1 h)
+    c.in-Some.is c.in-Some-2.is (sym c.line-line.ensures) room c.in_ok-wanted.ensures.steps (c.in_ok-below.ensures.read named e) c.in_ok-below.ensures.below.1 h)
 
 pub read_with_include-returns-in_err-wanted-clause-asked : goal.read_with_include-returns-in_err-wanted-clause-asked
 read_with_include-returns-in_err-wanted-clause-asked g t c = λ named e start around room before.
     let source = c.args.source.now in
-    let s = statement_of source.text c.args.tokens.now in
+    let s = c.args.statement.now in
     let whole = read_statement named (reader source.levels named) (here_of around source) c.args.conditions.now s c.args.progress.now in
     stopped_all _ whole.asked _ _ _ c.from_residual.ensures.1
     (all_grown c.args.progress.now whole _ _ (statement_grows named (reader source.levels named) (reader_grows source.levels named) (here_of around source) c.args.conditions.now s c.args.progress.now) before)
@@ -28,53 +28,53 @@ read_with_include-returns-in_err-wanted-clause-asked g t c = λ named e start ar
 pub read_with_include-returns-in_err-below-clause-asked : goal.read_with_include-returns-in_err-below-clause-asked
 read_with_include-returns-in_err-below-clause-asked g t c = λ named e start around room before.
     let source = c.args.source.now in
-    let s = statement_of source.text c.args.tokens.now in
+    let s = c.args.statement.now in
     let whole = read_statement named (reader source.levels named) (here_of around source) c.args.conditions.now s c.args.progress.now in
     let since = asked_still _ _ start _ c.in_ok-wanted.ensures.asked before in
     stopped_all _ whole.asked _ _ _ c.from_residual-in_err-below.ensures.1
     (front_same _ whole _ _ (rw c.in-Some.is at (c.in_ok-wanted.ensures.steps named (reader source.levels named) around room))
-    (c.in_err-below.ensures.asked named e start around s (sym c.line_number-line.ensures) since))
+    (c.in_err-below.ensures.asked named e start around s (sym c.line-line.ensures) since))
 
 pub read_with_include-returns-clause-asked : goal.read_with_include-returns-clause-asked
 read_with_include-returns-clause-asked g t c = λ named e start around room before.
     let source = c.args.source.now in
     let levels = c.args.conditions.now in
-    let s = statement_of source.text c.args.tokens.now in
+    let s = c.args.statement.now in
     let inner = c.open_include.new.progress in
     let since = asked_still _ _ start _ c.in_ok-wanted.ensures.asked before in
     let room' = room_below source c.in-Some-2.below around levels c.in_ok-below.field-0 c.in-Some-2.is room c.in_ok-below.ensures.below.1 in
-    let whole = included_whole named source around c.line_number-line.result levels s c.in-Some.wanted c.in_ok-wanted.field-0 c.in_ok-below.field-0 c.args.progress.now c.read_statement.new.progress inner
-    c.in-Some.is (sym c.line_number-line.ensures) room c.in_ok-wanted.ensures.steps (c.in_ok-below.ensures.read named e) in
+    let whole = included_whole named source around c.line-line.result levels s c.in-Some.wanted c.in_ok-wanted.field-0 c.in_ok-below.field-0 c.args.progress.now c.read_statement.new.progress inner
+    c.in-Some.is (sym c.line-line.ensures) room c.in_ok-wanted.ensures.steps (c.in_ok-below.ensures.read named e) in
     asks_same (entered named (around + length levels) (Some c.in-Some-2.below) inner) _ _ _ _ (rw c.in-Some-2.is at whole)
-    (c.read_source.ensures.asked named (c.in_ok-below.ensures.told ∙ e) start (around + length levels) room' (c.in_ok-below.ensures.asked named e start around s (sym c.line_number-line.ensures) since))
+    (c.read_source.ensures.asked named (c.in_ok-below.ensures.told ∙ e) start (around + length levels) room' (c.in_ok-below.ensures.asked named e start around s (sym c.line-line.ensures) since))
 
 pub read_source-returns-in_err-read_with_include-clause-asked : goal.read_source-returns-in_err-read_with_include-clause-asked
 read_source-returns-in_err-read_with_include-clause-asked g t c = λ named e start around room before.
     let source = c.args.source.now in
-    let so_far = c.loop-statement.invariant in
+    let so_far = c.loop-first.invariant in
     let whole = entered named around (Some (record { source = source; tokens = c.args.tokens })) c.args.progress.now in
     stopped_all _ whole.asked _ _ _ c.from_residual.ensures.1
-    (front_grown (read_statement named (reader source.levels named) (here_of around source) c.loop-statement.conditions (statement_of source.text c.in-Some.statement.now) c.loop-statement.progress) whole _ _
-    (rest_grows named (reader source.levels named) (reader_grows source.levels named) (here_of around source) c.loop-statement.conditions source.text c.loop-statement.left c.in-Some.statement.now c.in-Some.rest.now c.loop-statement.progress whole c.in-Some.ensures.splits (so_far.so_far named e around room))
-    (c.in_err-read_with_include.ensures.asked named (so_far.told ∙ e) start around room (so_far.asked named e start around room before)))
+    (front_grown (read_statement named (reader source.levels named) (here_of around source) c.loop-first.conditions (statement_of source.text c.in-Some.first.now) c.loop-first.progress) whole _ _
+    (rest_grows named (reader source.levels named) (reader_grows source.levels named) (here_of around source) c.loop-first.conditions source.text c.loop-first.left c.in-Some.first.now c.in-Some.rest.now c.loop-first.progress whole c.in-Some.ensures.splits (so_far.so_far named e around room))
+    (rw c.statement-statement.ensures at (c.in_err-read_with_include.ensures.asked named (so_far.told ∙ e) start around room (so_far.asked named e start around room before))))
 
 pub read_source-returns-in_err-follow-clause-asked : goal.read_source-returns-in_err-follow-clause-asked
 read_source-returns-in_err-follow-clause-asked g t c = λ named e start around room before.
     let source = c.args.source.now in
-    let so_far = c.loop-statement.invariant in
+    let so_far = c.loop-first.invariant in
     let whole = entered named around (Some (record { source = source; tokens = c.args.tokens })) c.args.progress.now in
     stopped_all _ whole.asked _ _ _ c.from_residual-in_err-follow.ensures.1
-    (all_grown (read_statement named (reader source.levels named) (here_of around source) c.loop-statement.conditions (statement_of source.text c.in-Some.statement.now) c.loop-statement.progress) whole _ _
-    (rest_grows named (reader source.levels named) (reader_grows source.levels named) (here_of around source) c.loop-statement.conditions source.text c.loop-statement.left c.in-Some.statement.now c.in-Some.rest.now c.loop-statement.progress whole c.in-Some.ensures.splits (so_far.so_far named e around room))
-    (c.in_ok-read_with_include.ensures.asked named (so_far.told ∙ e) start around room (so_far.asked named e start around room before)))
+    (all_grown (read_statement named (reader source.levels named) (here_of around source) c.loop-first.conditions (statement_of source.text c.in-Some.first.now) c.loop-first.progress) whole _ _
+    (rest_grows named (reader source.levels named) (reader_grows source.levels named) (here_of around source) c.loop-first.conditions source.text c.loop-first.left c.in-Some.first.now c.in-Some.rest.now c.loop-first.progress whole c.in-Some.ensures.splits (so_far.so_far named e around room))
+    (rw c.statement-statement.ensures at (c.in_ok-read_with_include.ensures.asked named (so_far.told ∙ e) start around room (so_far.asked named e start around room before))))
 
 pub read_source-returns-in_err-read_end-clause-asked : goal.read_source-returns-in_err-read_end-clause-asked
 read_source-returns-in_err-read_end-clause-asked g t c = λ named e start around room before.
     let source = c.args.source.now in
-    let so_far = c.loop-statement.invariant in
+    let so_far = c.loop-first.invariant in
     let whole = entered named around (Some (record { source = source; tokens = c.args.tokens })) c.args.progress.now in
     stopped_all _ whole.asked _ _ _ c.from_residual-in_err-read_end.ensures.1
-    (all_grown c.loop-statement.progress whole _ _ (whole_grows named (reader source.levels named) (reader_grows source.levels named) (here_of around source) c.loop-statement.conditions (statements_in source.text c.loop-statement.left) c.loop-statement.progress whole (so_far.so_far named e around room)) (so_far.asked named e start around room before))
+    (all_grown c.loop-first.progress whole _ _ (whole_grows named (reader source.levels named) (reader_grows source.levels named) (here_of around source) c.loop-first.conditions (statements_in source.text c.loop-first.left) c.loop-first.progress whole (so_far.so_far named e around room)) (so_far.asked named e start around room before))
 
 pub read_with_include-returns-in_default-clause-asked : goal.read_with_include-returns-in_default-clause-asked
 read_with_include-returns-in_default-clause-asked g t c = λ named e start around room before.
@@ -85,54 +85,54 @@ read_with_include-returns-in_default-clause-asked g t c = λ named e start aroun
 pub read_with_include-returns-in_default-2-clause-asked : goal.read_with_include-returns-in_default-2-clause-asked
 read_with_include-returns-in_default-2-clause-asked g t c = λ named e start around room before.
     let source = c.args.source.now in
-    let s = statement_of source.text c.args.tokens.now in
+    let s = c.args.statement.now in
     let inner = c.open_include.new.progress in
     let since = asked_still _ _ start _ c.in_ok-wanted.ensures.asked before in
-    let whole = rw c.in_default-2.is at (included_whole named source around c.line_number-line.result c.args.conditions.now s c.in-Some.wanted c.in_ok-wanted.field-0 c.in_ok-below.field-0 c.args.progress.now c.read_statement.new.progress inner
-    c.in-Some.is (sym c.line_number-line.ensures) room c.in_ok-wanted.ensures.steps (c.in_ok-below.ensures.read named e)) in
-    asked_still inner.asked _ start _ (ap (λ (r : Reading). r.asked) (sym whole)) (c.in_ok-below.ensures.asked named e start around s (sym c.line_number-line.ensures) since)
+    let whole = rw c.in_default-2.is at (included_whole named source around c.line-line.result c.args.conditions.now s c.in-Some.wanted c.in_ok-wanted.field-0 c.in_ok-below.field-0 c.args.progress.now c.read_statement.new.progress inner
+    c.in-Some.is (sym c.line-line.ensures) room c.in_ok-wanted.ensures.steps (c.in_ok-below.ensures.read named e)) in
+    asked_still inner.asked _ start _ (ap (λ (r : Reading). r.asked) (sym whole)) (c.in_ok-below.ensures.asked named e start around s (sym c.line-line.ensures) since)
 
 pub read_source-returns-then-has_fault-clause-read : goal.read_source-returns-then-has_fault-clause-read
 read_source-returns-then-has_fault-clause-read g t c = λ named e around room.
     let source = c.args.source.now in
-    let so_far = c.loop-statement.invariant in
-    at_fault named (reader source.levels named) (here_of around source) c.loop-statement.conditions source.text c.loop-statement.left c.in-Some.statement.now c.in-Some.rest.now c.loop-statement.progress c.read_with_include.new.progress _
-    c.in-Some.ensures.splits (so_far.so_far named e around room) (c.in_ok-read_with_include.ensures.read named (so_far.told ∙ e) around room) (sym c.has_fault.ensures ∙ c.if-has_fault.true)
+    let so_far = c.loop-first.invariant in
+    at_fault named (reader source.levels named) (here_of around source) c.loop-first.conditions source.text c.loop-first.left c.in-Some.first.now c.in-Some.rest.now c.loop-first.progress c.read_with_include.new.progress _
+    c.in-Some.ensures.splits (so_far.so_far named e around room) (rw c.statement-statement.ensures at (c.in_ok-read_with_include.ensures.read named (so_far.told ∙ e) around room)) (sym c.has_fault.ensures ∙ c.if-has_fault.true)
 
 pub read_source-returns-then-has_fault-clause-asked : goal.read_source-returns-then-has_fault-clause-asked
 read_source-returns-then-has_fault-clause-asked g t c = λ named e start around room before.
     let source = c.args.source.now in
-    let so_far = c.loop-statement.invariant in
-    let read = c.in_ok-read_with_include.ensures.read named (so_far.told ∙ e) around room in
-    let whole = at_fault named (reader source.levels named) (here_of around source) c.loop-statement.conditions source.text c.loop-statement.left c.in-Some.statement.now c.in-Some.rest.now c.loop-statement.progress c.read_with_include.new.progress _
+    let so_far = c.loop-first.invariant in
+    let read = rw c.statement-statement.ensures at (c.in_ok-read_with_include.ensures.read named (so_far.told ∙ e) around room) in
+    let whole = at_fault named (reader source.levels named) (here_of around source) c.loop-first.conditions source.text c.loop-first.left c.in-Some.first.now c.in-Some.rest.now c.loop-first.progress c.read_with_include.new.progress _
     c.in-Some.ensures.splits (so_far.so_far named e around room) read (sym c.has_fault.ensures ∙ c.if-has_fault.true) in
-    asked_still _ _ start _ (ap (λ (r : Reading). r.asked) (sym whole ∙ read)) (c.in_ok-read_with_include.ensures.asked named (so_far.told ∙ e) start around room (so_far.asked named e start around room before))
+    asked_still _ _ start _ (ap (λ (r : Reading). r.asked) (sym whole ∙ read)) (rw c.statement-statement.ensures at (c.in_ok-read_with_include.ensures.asked named (so_far.told ∙ e) start around room (so_far.asked named e start around room before)))
 
 pub read_source-returns-clause-asked : goal.read_source-returns-clause-asked
 read_source-returns-clause-asked g t c = λ named e start around room before.
     let source = c.args.source.now in
-    let so_far = c.loop-statement.invariant in
+    let so_far = c.loop-first.invariant in
     let ends = c.in_ok-read_end.ensures in
-    let whole = at_end named (reader source.levels named) (here_of around source) c.loop-statement.conditions source.text c.loop-statement.left c.loop-statement.progress c.read_end.new.progress _ c.in_default.ensures (so_far.so_far named e around room) (ends.read around) in
+    let whole = at_end named (reader source.levels named) (here_of around source) c.loop-first.conditions source.text c.loop-first.left c.loop-first.progress c.read_end.new.progress _ c.in_default.ensures (so_far.so_far named e around room) (ends.read around) in
     asked_still _ _ start _ (ap (λ (r : Reading). r.asked) (sym whole) ∙ ends.asked) (so_far.asked named e start around room before)
 
-pub read_source-loop-statement-preserved : goal.read_source-loop-statement-preserved
-read_source-loop-statement-preserved g t c =
+pub read_source-loop-first-preserved : goal.read_source-loop-first-preserved
+read_source-loop-first-preserved g t c =
     let source = c.args.source.now in
-    let so_far = c.loop-statement.invariant in
+    let so_far = c.loop-first.invariant in
     let done = c.in_ok-read_with_include.ensures in
-    let kept : c.keep_last.new.self ≡ c.in-Some.rest.now = last_kept c.loop-statement.left c.in-Some.rest.now _ (length c.in-Some.rest.now) refl c.in-Some.ensures.behind c.keep_last.ensures.left in
+    let kept : c.keep_last.new.self ≡ c.in-Some.rest.now = last_kept c.loop-first.left c.in-Some.rest.now _ (length c.in-Some.rest.now) refl c.in-Some.ensures.behind c.keep_last.ensures.left in
     record {
       told = done.told ∙ so_far.told;
       counted = done.counted ∙ so_far.counted;
-      within = subst (AreWithin source.text) (sym kept) (rest_within source.text c.loop-statement.left c.in-Some.rest.now so_far.within c.in-Some.ensures.behind);
+      within = subst (AreWithin source.text) (sym kept) (rest_within source.text c.loop-first.left c.in-Some.rest.now so_far.within c.in-Some.ensures.behind);
       asked = λ named e start around room before.
           asked_still _ _ start _ (ap (λ (r : Reading). r.asked) (done.read named (so_far.told ∙ e) around room)) (done.asked named (so_far.told ∙ e) start around room (so_far.asked named e start around room before));
       so_far = λ named e around room.
           ap (λ (ts : List Token). read_statements named (reader source.levels named) (here_of around source) c.follow.new.self (statements_in source.text ts) c.read_with_include.new.progress) kept
-          ∙ beyond named (reader source.levels named) (here_of around source) c.loop-statement.conditions c.follow.new.self source.text c.loop-statement.left c.in-Some.statement.now c.in-Some.rest.now c.loop-statement.progress c.read_with_include.new.progress _
-          c.in-Some.ensures.splits (so_far.so_far named e around room) (done.read named (so_far.told ∙ e) around room) (sym c.has_fault.ensures ∙ c.if-has_fault.false)
-          (follows c.loop-statement.conditions c.follow.new.self c.loop-statement.progress.placed (statement_of source.text c.in-Some.statement.now) c.condition_word-word.result c.line_number.result c.holds-condition_holds.result
-          c.in_ok-follow.ensures (c.condition_word-word.ensures ∙ ap (λ (text : List ℕ). condition_of (statement_of text c.in-Some.statement.now)) c.items.ensures) c.line_number.ensures
-          (c.holds-condition_holds.ensures ∙ ap (λ (text : List ℕ). holds c.condition_word-word.result (names_declared c.loop-statement.progress.placed (statement_of text c.in-Some.statement.now))) c.items-in-Some.ensures));
+          ∙ beyond named (reader source.levels named) (here_of around source) c.loop-first.conditions c.follow.new.self source.text c.loop-first.left c.in-Some.first.now c.in-Some.rest.now c.loop-first.progress c.read_with_include.new.progress _
+          c.in-Some.ensures.splits (so_far.so_far named e around room) (rw c.statement-statement.ensures at (done.read named (so_far.told ∙ e) around room)) (sym c.has_fault.ensures ∙ c.if-has_fault.false)
+          (follows c.loop-first.conditions c.follow.new.self c.loop-first.progress.placed c.statement-statement.result c.word.result c.line.result c.holds-condition_holds.result
+          c.in_ok-follow.ensures c.word.ensures c.line.ensures (c.holds-condition_holds.ensures ∙ ap (λ word. holds word (names_declared c.loop-first.progress.placed c.statement-statement.result)) (sym c.word.ensures))
+          ∙ ap (λ (s : Statement). levels_behind c.loop-first.progress.placed s c.loop-first.conditions) c.statement-statement.ensures);
     }

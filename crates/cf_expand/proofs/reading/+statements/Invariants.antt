@@ -11,8 +11,8 @@ decreases-read_with_include g l = 2 * l.source.now.levels
 abbrev pub decreases-read_source : goal.decreases-read_source
 decreases-read_source g l = 2 * l.source.now.levels + 1
 
-abbrev pub invariant-read_source-loop-statement : goal.invariant-read_source-loop-statement
-invariant-read_source-loop-statement g l = record {
+abbrev pub invariant-read_source-loop-first : goal.invariant-read_source-loop-first
+invariant-read_source-loop-first g l = record {
   told : g.F.Files.told l.files ≡ g.F.Files.told l.fn.files;
   counted : g.F.Files.faults l.files ≡ g.F.Files.faults l.fn.files;
   within : AreWithin l.source.text l.left;
@@ -23,5 +23,5 @@ invariant-read_source-loop-statement g l = record {
       ≡ read_statements named (reader l.source.levels named) (here_of around l.source) [] (statements_in l.source.text l.fn.tokens) l.fn.progress;
 }
 
-abbrev pub decreases-read_source-loop-statement : goal.decreases-read_source-loop-statement
-decreases-read_source-loop-statement g l = length l.left
+abbrev pub decreases-read_source-loop-first : goal.decreases-read_source-loop-first
+decreases-read_source-loop-first g l = length l.left

@@ -1,0 +1,138 @@
+//! A statement of a file, with the condition word that it begins with.
+ghost use Rattle.std.specs.Prelude.{◌≡◌, IfErr, IfOk, OnOk, find};
+ghost use Rattle.cf_words.specs.Words.{piece_of};
+ghost use Rattle.cf_grammar.specs.Statement.{AreWithin, IsFaultOf};
+ghost use Rattle.config_rules.specs.Form.{Form, condition_spelling, is_word};
+ghost use Rattle.config_rules.specs.Reading.{condition_of, holds, names_declared};
+ghost use Rattle.cf_expand.specs.Lines.{statement_of};
+
+use crate::progress::Progress;
+use cf_grammar::{GrammarStop, condition_spelling, word_of};
+use cf_types::{CONDITION_WORDS, CondWord, Stmt, Token};
+use cf_words::Word;
+use std::marker::Model;
+
+#[inline(always)]
+fn spells(word: Word, condition: CondWord) -> bool
+    ensures { result ≡ is_word (condition_spelling condition) (piece_of word.entry) }
+{
+    word.is_word(condition_spelling(condition))
+}
+
+#[inline(always)]
+fn condition_of(word: Word) -> Option<CondWord>
+    ensures { result ≡ find (λ condition. is_word (condition_spelling condition) (piece_of word.entry)) CONDITION_WORDS }
+{
+    match word.text {
+        [b'e' | b'i', ..] => CONDITION_WORDS
+            .iter()
+            .copied()
+            .find(|&condition| spells(word, condition)),
+        _ => None,
+    }
+}
+
+/// The condition word with which a statement begins, if it does.
+#[inline(always)]
+fn condition_word(text: &[u8], tokens: &[Token]) -> Option<CondWord>
+    requires { AreWithin text.now tokens.now }
+    ensures { result ≡ condition_of (statement_of text.now tokens.now) }
+{
+    match tokens {
+        [first, ..] => condition_of(word_of(text, *first)),
+        [] => None,
+    }
+}
+
+/// A statement of a file by its tokens, with the condition word with which it begins, if it does. Contracts see its line and
+/// its pieces.
+#[derive(Drop)]
+pub struct Statement<'a, 't> {
+    text: &'a [u8],
+    tokens: &'t [Token],
+    word: Option<CondWord>,
+}
+
+impl<'a, 't> Model for Statement<'a, 't> {
+    ghost use Rattle.std.specs.Prelude.{◌≡◌};
+    ghost use Rattle.cf_grammar.specs.Statement.{AreWithin};
+    ghost use Rattle.config_rules.specs.Reading.{Statement as Spoken, condition_of};
+    ghost use Rattle.cf_expand.specs.Lines.{statement_of};
+
+    ghost Value = { Spoken };
+
+    ghost view = { λ it. statement_of it.text.now it.tokens.now };
+
+    ghost invariant = { λ it. AreWithin it.text.now it.tokens.now × (it.word ≡ condition_of (statement_of it.text.now it.tokens.now)) };
+}
+
+impl<'a, 't> Statement<'a, 't> {
+    /// The statement of these tokens of a text.
+    #[inline(always)]
+    pub fn make(text: &'a [u8], tokens: &'t [Token]) -> Statement<'a, 't>
+        requires { AreWithin text.now tokens.now }
+        ensures { result ≡ statement_of text.now tokens.now }
+    {
+        Statement {
+            text,
+            tokens,
+            word: condition_word(text, tokens),
+        }
+    }
+
+    /// The condition word with which it begins.
+    #[inline(always)]
+    pub fn word(&self) -> Option<CondWord>
+        ensures { result ≡ condition_of self.now }
+    {
+        self.word
+    }
+
+    /// Its line: that of its first token.
+    #[inline(always)]
+    pub fn line(&self) -> u32
+        ensures { result ≡ self.now.line }
+    {
+        match self.tokens {
+            [first, ..] => first.line,
+            [] => 0,
+        }
+    }
+
+    /// Whether its second word is a name that was declared.
+    fn names_declared(&self, progress: &Progress) -> bool
+        ensures { result ≡ names_declared progress.now.placed self.now }
+    {
+        match self.tokens {
+            [_, name, ..] => progress.is_declared(word_of(self.text, *name).text),
+            _ => false,
+        }
+    }
+
+    /// Whether the condition that it names holds.
+    #[inline(always)]
+    pub fn holds(&self, progress: &Progress) -> bool
+        ensures { result ≡ holds (condition_of self.now) (names_declared progress.now.placed self.now) }
+    {
+        match self.word {
+            Some(CondWord::IfDef | CondWord::ElifDef) => self.names_declared(progress),
+            Some(CondWord::IfNDef | CondWord::ElifNDef) => !self.names_declared(progress),
+            Some(CondWord::Else) => true,
+            Some(CondWord::EndIf) | None => false,
+        }
+    }
+
+    /// Reads it, as `statement` of cf_grammar does.
+    #[inline(always)]
+    pub fn read(
+        &self,
+        progress: &mut Progress,
+        words: &mut Vec<Word<'a>>,
+    ) -> Result<Stmt, GrammarStop>
+        ensures same { progress.new ≡ progress.old }
+        ensures form { IfOk result (λ s. Form self.now.pieces s) }
+        ensures fault { IfErr result (λ stop. IsFaultOf self.now.pieces stop) }
+    {
+        progress.read(words, self.text, self.tokens)
+    }
+}
