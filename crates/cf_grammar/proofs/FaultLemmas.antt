@@ -1,14 +1,10 @@
 -- Strings and sizes behind the names of locators, at one place after the other.
-use Rattle.std.proofs.Common.{◌≡◌, ◌∙◌, ◌+◌, ◌<◌, ◌≤◌, ℕ, Bool, true, false, ◌||◌, ◌&&◌, List, [], ◌∷◌, length, get_or, map, take, drop, ◌-◌, Option, Some, None, refl, sym, ap, arith}
-use Rattle.std.specs.Prelude.{is_none}
+use Rattle.std.proofs.Common.{◌≡◌, ◌∙◌, ◌+◌, ◌<◌, ◌≤◌, ℕ, Bool, true, false, ◌||◌, ◌&&◌, List, [], ◌∷◌, length, get_or, map, take, drop, ◌-◌, refl, sym, ap, arith}
 use Rattle.std.proofs.lemmas.List.{drop-drop}
 use Rattle.std.proofs.Math.Bool.{or-false, and-false}
 use Rattle.cf_types.specs.declared.stmt.Piece.{Piece}
-use Rattle.config_rules.specs.Form.{has_named_text, has_text_or_size, is_chunk, is_left_out, is_text, may_name_locator, row_of, table}
+use Rattle.config_rules.specs.Form.{has_named_text, has_text_or_size, is_left_out, is_text, may_name_locator}
 use Rattle.cf_words.proofs.ListLemmas.{map_first_rest}
-use Rattle.cf_types.specs.declared.keyword.Keyword.{Keyword}
-use Rattle.cf_grammar.proofs.FormLemmas.{row_is}
-use Rattle.cf_grammar.specs.Keywords.{keyword_in}
 use Rattle.cf_grammar.specs.LeftOut.{begins_named_text, begins_text_or_size, is_left_out_statement}
 
 named_here : (ps : List Piece) → has_named_text ps ≡ (begins_named_text ps || has_named_text (drop 1 ps))

@@ -1,6 +1,6 @@
 -- Whether a statement is left out, by the keyword that its first word is.
 use Rattle.std.proofs.Common.{◌≡◌, ◌∙◌, ◌<◌, ◌||◌, ◌&&◌, ℕ, zero, suc, Bool, true, false, cond, not, List, [], ◌∷◌, length, get_or, Option, Some, None, refl, sym, ap, arith}
-use Rattle.std.specs.Prelude.{bytes_eq, drop, find, if◌then◌else◌, is_none}
+use Rattle.std.specs.Prelude.{drop, find, if◌then◌else◌, is_none}
 use Rattle.std.specs.List.{list_all}
 use Rattle.std.proofs.lemmas.Slice.Eq.{bytes_eq-Decides}
 use Rattle.cf_types.specs.declared.keyword.Keyword.{Keyword}
@@ -9,7 +9,7 @@ use Rattle.cf_types.specs.declared.keyword.TheConstants.{KEYWORDS}
 use Rattle.cf_types.specs.declared.stmt.Piece.{Piece}
 use Rattle.cf_types.specs.declared.stmt.TokenKind.{TokenKind}
 use Rattle.cf_types.specs.declared.stmt.TokenKind.TheVariants as kind
-use Rattle.config_rules.specs.Form.{braced, has_named_text, has_text_or_size, is_chunk, is_defining, is_word, row_of, spelling_of, table}
+use Rattle.config_rules.specs.Form.{braced, has_named_text, has_text_or_size, is_chunk, is_defining, is_word, spelling_of}
 use Rattle.cf_grammar.specs.Keywords.{defines, keyword_in}
 use Rattle.cf_grammar.specs.LeftOut.{gives_text, is_left_out_statement, is_left_out_word}
 use Rattle.cf_grammar.proofs.FormLemmas.{row_is}

@@ -1,7 +1,6 @@
-use Rattle.std.proofs.Common.{◌∙◌, ◌&&◌, ◌||◌, Some, None, ap, map, sym}
+use Rattle.std.proofs.Common.{◌∙◌, Some, None, ap, map, sym}
 use Rattle.config_rules.specs.Form.{has_text_or_size}
 use Rattle.cf_words.specs.Words.{piece_of}
-use Rattle.cf_grammar.specs.LeftOut.{is_left_out_word}
 use Rattle.cf_grammar.proofs.LeftOutKeywords.{by_keyword}
 use Rattle.cf_grammar.proofs.fault.is_left_out_statement.Goals as goal
 
