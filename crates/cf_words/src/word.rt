@@ -12,16 +12,25 @@ pub struct Word<'a> {
     pub text: &'a [u8],
 }
 
-/// Whether two texts are the same. Those of other lengths, and those of one byte, are told apart without a call.
+/// Whether two texts are the same. Those of one or two bytes are told apart without a call.
+#[inline(always)]
+fn has_bytes(text: &[u8], other: &[u8]) -> bool
+    ensures { result ≡ bytes_eq text.now other.now }
+{
+    match (text, other) {
+        ([byte], [wanted]) => *byte == *wanted,
+        ([first, second], [one, two]) => *first == *one && *second == *two,
+        _ => text == other,
+    }
+}
+
+/// Whether two texts are the same, which those of other lengths are not.
 #[tactic(auto, using(crate::proofs::SameLemmas::long_differs))]
 #[inline(always)]
 fn is_same(text: &[u8], other: &[u8]) -> bool
     ensures { result ≡ bytes_eq text.now other.now }
 {
-    match (text, other) {
-        ([byte], [wanted]) => *byte == *wanted,
-        _ => text.len() == other.len() && text == other,
-    }
+    text.len() == other.len() && has_bytes(text, other)
 }
 
 impl<'a> Word<'a> {
