@@ -182,9 +182,7 @@ impl Conditions {
         Ok(())
     }
 
-    /// Goes over a statement with this word on this line, whose condition holds or doesn't.
-    #[inline(always)]
-    pub fn follow(&mut self, word: Option<CondWord>, line: u32, holds: bool) -> Result<(), Memory>
+    fn turn(&mut self, word: Option<CondWord>, line: u32, holds: bool) -> Result<(), Memory>
         ensures { OnOk result (self.new ≡ levels_after word line holds self.old) }
     {
         if opens(word) {
@@ -201,5 +199,16 @@ impl Conditions {
                 .push_front(condition.next_branch(holds, is_else(word)))?;
         }
         Ok(())
+    }
+
+    /// Goes over a statement with this word on this line, whose condition holds or doesn't. Most statements have none.
+    #[inline(always)]
+    pub fn follow(&mut self, word: Option<CondWord>, line: u32, holds: bool) -> Result<(), Memory>
+        ensures { OnOk result (self.new ≡ levels_after word line holds self.old) }
+    {
+        if word.is_none() {
+            return Ok(());
+        }
+        self.turn(word, line, holds)
     }
 }
