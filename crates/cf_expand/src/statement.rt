@@ -1,10 +1,10 @@
 //! A statement of a file, with the condition word that it begins with.
-ghost use Rattle.std.specs.Prelude.{◌≡◌, IfErr, IfOk, OnOk, find};
+ghost use Rattle.std.specs.Prelude.{◌≡◌, IfErr, IfOk};
 ghost use Rattle.cf_words.specs.Words.{piece_of};
 ghost use Rattle.cf_grammar.specs.Statement.{AreWithin, IsFaultOf};
 ghost use Rattle.config_rules.specs.Form.{Form, condition_spelling, is_word};
 ghost use Rattle.config_rules.specs.Reading.{condition_of, holds, names_declared};
-ghost use Rattle.cf_expand.specs.Lines.{statement_of};
+ghost use Rattle.cf_expand.specs.Lines.{condition_in, statement_of};
 
 use crate::progress::Progress;
 use cf_grammar::{GrammarStop, condition_spelling, word_of};
@@ -19,15 +19,22 @@ fn spells(word: Word, condition: CondWord) -> bool
     word.is_word(condition_spelling(condition))
 }
 
+fn find_condition(word: Word) -> Option<CondWord>
+    ensures { result ≡ condition_in (piece_of word.entry) }
+{
+    CONDITION_WORDS
+        .iter()
+        .copied()
+        .find(|&condition| spells(word, condition))
+}
+
+/// The condition word that a word is. Few words begin as those do.
 #[inline(always)]
 fn condition_of(word: Word) -> Option<CondWord>
-    ensures { result ≡ find (λ condition. is_word (condition_spelling condition) (piece_of word.entry)) CONDITION_WORDS }
+    ensures { result ≡ condition_in (piece_of word.entry) }
 {
     match word.text {
-        [b'e' | b'i', ..] => CONDITION_WORDS
-            .iter()
-            .copied()
-            .find(|&condition| spells(word, condition)),
+        [b'e' | b'i', ..] => find_condition(word),
         _ => None,
     }
 }
@@ -63,7 +70,8 @@ impl<'a, 't> Model for Statement<'a, 't> {
 
     ghost view = { λ it. statement_of it.text.now it.tokens.now };
 
-    ghost invariant = { λ it. AreWithin it.text.now it.tokens.now × (it.word ≡ condition_of (statement_of it.text.now it.tokens.now)) };
+    ghost invariant = { λ it. AreWithin it.text.now it.tokens.now
+        × (it.word ≡ condition_of (statement_of it.text.now it.tokens.now)) };
 }
 
 impl<'a, 't> Statement<'a, 't> {
