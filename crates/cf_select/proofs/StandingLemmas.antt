@@ -1,7 +1,7 @@
 -- What stands after one more statement.
-use Rattle.std.proofs.Common.{◌≡◌, ℕ, ◌+◌, ◌<◌, ◌≤◌, ◌||◌, ◌&&◌, not, Bool, true, false, cond, suc, List, [], ◌∷◌, ◌++◌, length, get_or, map, take, drop, drop-cons, add-one, refl, ap, sym, ◌∙◌, append_assoc, arith}
+use Rattle.std.proofs.Common.{◌≡◌, ℕ, ◌+◌, ◌<◌, ◌≤◌, ◌||◌, ◌&&◌, not, Bool, true, false, cond, suc, List, [], ◌∷◌, ◌++◌, length, get_or, map, take, drop, drop-cons, set, add-one, refl, ap, sym, ◌∙◌, append_assoc, arith}
 use Rattle.std.specs.List.{list_any}
-use Rattle.std.proofs.lemmas.List.{drop_all, append-nil, length-map, take_all, length-take-le}
+use Rattle.std.proofs.lemmas.List.{drop_all, append-nil, length-map, take_all, length-take-le, take_more_set, drop-set-lt}
 use Rattle.std.proofs.lemmas.List.Folds.{list_any-append}
 use Rattle.cf_types.specs.declared.stmt.Placed.{Placed}
 use Rattle.cf_types.specs.declared.stmt.Stmt.{Stmt}
@@ -116,6 +116,14 @@ instances_step placed marks now next all i p b m h size is e f so_far new =
     let rest = instances (stmts_of (drop (i + 1) placed)) (drop (i + 1) marks) in
     ap (λ xs. xs ++ rest) new ∙ append_assoc now ((b && m) ∷ []) rest ∙ ap (λ x. now ++ (x && m) ∷ rest) e ∙ ap (λ x. now ++ (is_instance p.stmt && x) ∷ rest) f
     ∙ ap (λ xs. now ++ xs) (sym (instances_front placed marks i p h r is)) ∙ so_far
+
+-- the mark of one more is set where it stands
+pub instances_set : (placed : List Placed) (marks all : List Bool) (i : ℕ) (p : Placed) (b m : Bool) → i < length placed → length marks ≡ length placed → p ≡ get_or placed i p → b ≡ is_instance p.stmt → m ≡ get_or marks i false
+    → take i marks ++ instances (stmts_of (drop i placed)) (drop i marks) ≡ all
+    → take (i + 1) (set marks i (b && m)) ++ instances (stmts_of (drop (i + 1) placed)) (drop (i + 1) (set marks i (b && m))) ≡ all
+instances_set placed marks all i p b m h size is e f so_far =
+    ap (λ ms. take (i + 1) (set marks i (b && m)) ++ instances (stmts_of (drop (i + 1) placed)) ms) (drop-set-lt (i + 1) marks i (b && m) (omega arith))
+    ∙ instances_step placed marks (take i marks) _ all i p b m h size is e f so_far (take_more_set marks i (b && m) (omega arith))
 
 pub instances_end : (placed : List Placed) (marks now all : List Bool) (i : ℕ) → length placed ≤ i → now ++ instances (stmts_of (drop i placed)) (drop i marks) ≡ all → now ≡ all
 unfolding instances

@@ -101,16 +101,14 @@ fn push_idle(idle: &mut List<u32>, is_idle: bool, place: u32) -> Result<(), Memo
     Ok(())
 }
 
-/// The marks of the instances.
-fn instances(alloc: Global, placed: &[Placed], free: &[bool]) -> Result<List<bool>, Memory>
-    requires { length free.now ≡ length placed.now }
-    ensures { IfOk result (λ kept. kept ≡ instances (stmts_of placed.now) free.now) }
+/// Leaves the marks of instances, and takes away all others.
+fn keep_instances(placed: &[Placed], free: &mut Vec<bool>)
+    requires { length free.old.items ≡ length placed.now }
+    ensures { free.new.items ≡ instances (stmts_of placed.now) free.old.items }
 {
-    let mut kept = List::from_vec(Vec::with_capacity(alloc, placed.len())?);
     for (i, p) in placed.iter().enumerate() {
-        kept.push(is_instance(&p.stmt) & free[i])?;
+        free[i] = is_instance(&p.stmt) & free[i];
     }
-    Ok(kept)
 }
 
 /// Whether one of these statements is a negation of instances.
@@ -158,16 +156,17 @@ pub fn survivors(alloc: Global, placed: &[Placed]) -> Result<Kept, Memory>
         });
     }
     let mut free = Vec::with_capacity(alloc, placed.len())?;
+    let mut idle = List::from_vec(Vec::with_capacity(alloc, placed.len())?);
     let mut lists = lists_for(alloc, placed)?;
-    let mut idle = List::make(alloc);
     for (i, p) in placed.iter().enumerate() {
         let is_idle = take_back(alloc, &mut free, &mut lists, &p.stmt);
         push_idle(&mut idle, is_idle, i as u32)?;
         put_instance(alloc, &mut lists, &p.stmt, i)?;
         free.push(true)?;
     }
+    keep_instances(placed, &mut free);
     Ok(Kept {
-        kept: instances(alloc, placed, &free)?,
+        kept: List::from_vec(free),
         idle,
     })
 }

@@ -16,7 +16,7 @@ loop-i-init c = record {
       let no_way : false ≡ true = sym (ap (λ (o : Option (List ℕ)). is_in x (unwrap_or o [])) (c.in_ok-lists.ensures q)) ∙ h in
       absurd (cc);
   listed = λ q x h. let no_way : false ≡ true = sym (ap (λ (bs : List Bool). get_or bs x false) c.in_ok-free.ensures.items) ∙ h in absurd (cc);
-  places = ap (λ (xs : List ℕ). xs ++ idle_insts [] (stmts_of c.args.placed.now)) c.make-idle.ensures;
+  places = ap (λ (xs : List ℕ). xs ++ idle_insts [] (stmts_of c.args.placed.now)) (c.from_vec-idle.ensures ∙ c.in_ok-with_capacity.ensures.items);
 }
 
 pub loop-i-preserved : goal.loop-i-preserved
@@ -36,14 +36,15 @@ loop-i-preserved c =
           c.loop-i-test.true c.index-placed-i.is c.loop-i.invariant.marks (c.take_back-is_idle.ensures.idle (stmts_of (take c.loop-i.i c.args.placed.now)) size c.loop-i.invariant.listed) c.loop-i.invariant.places c.in_ok-push_idle.ensures;
     }
 
-pub instances-requires : goal.instances-requires
-instances-requires c =
-    ap length (c.deref.ensures.value ∙ free_all c.args.placed.now c.loop-i.i c.loop-i.free.items c.loop-i-test.false c.loop-i.invariant.marks)
+pub keep_instances-requires : goal.keep_instances-requires
+keep_instances-requires c =
+    ap length (free_all c.args.placed.now c.loop-i.i c.loop-i.free.items c.loop-i-test.false c.loop-i.invariant.marks)
     ∙ length_free (stmts_of c.args.placed.now) ∙ length-map c.args.placed.now (λ q. q.stmt)
 
 pub returns-clause-kept : goal.returns-clause-kept
 returns-clause-kept c =
-    c.in_ok-instances.ensures ∙ kept_all c.args.placed.now c.deref.result.now (c.deref.ensures.value ∙ free_all c.args.placed.now c.loop-i.i c.loop-i.free.items c.loop-i-test.false c.loop-i.invariant.marks)
+    c.from_vec.ensures ∙ c.keep_instances.ensures
+    ∙ kept_all c.args.placed.now c.loop-i.free.items (free_all c.args.placed.now c.loop-i.i c.loop-i.free.items c.loop-i-test.false c.loop-i.invariant.marks)
 
 pub returns-clause-idle : goal.returns-clause-idle
 returns-clause-idle c = idle_ends c.args.placed.now c.loop-i.i c.loop-i.idle _ c.loop-i-test.false c.loop-i.invariant.places
