@@ -1,5 +1,5 @@
 -- The tables of accepted statements, put together from their parts.
-use Rattle.std.proofs.Common.{◌≡◌, ℕ, ◌<◌, Bool, true, false, None, List, [], length, refl, ap, sym, ◌∙◌, subst, All, get_or}
+use Rattle.std.proofs.Common.{◌≡◌, ℕ, ◌<◌, Bool, true, false, None, List, [], length, refl, ap, sym, ◌∙◌, subst, All, get_or, map}
 use Rattle.std.proofs.lemmas.List.{length-map}
 use Rattle.cf_types.specs.Offers.{named_by}
 use Rattle.cf_types.specs.declared.declared.Declared.{Declared}
@@ -18,7 +18,7 @@ use Rattle.config_rules.specs.Reading.{Reading}
 use Rattle.config_rules.specs.Select.{kept_items}
 use Rattle.attr_graph.specs.Graphs.{IsGraphOf}
 use Rattle.cf_declare.proofs.InstanceLaws.{surviving_sound}
-use Rattle.cf_rows.specs.Idle.{AreInOrder}
+use Rattle.cf_rows.specs.Idle.{AreInOrder, ArePlacesOfOrphans}
 use Rattle.cf_rows.specs.Rows.{UnitFits}
 use Rattle.cf_rows.proofs.SelectionLaws.{marked_all, marked_ordered, surviving_ordered}
 use Rattle.config_rules.specs.Written.{AreWritten, IsWritten}
@@ -43,12 +43,14 @@ marked_fit placed insts shown marks written standing is =
     subst (λ (is : List Instance). All UnitFits is) (sym (is ∙ ap (λ (xs : List Instance). marked true xs marks) standing))
     (marked_all UnitFits true (surviving [] (stmts_of placed)) marks (surviving_fit (stmts_of placed) (All-map IsWritten (λ (p : Placed). p.stmt) placed written.each)))
 
--- the orphans stand in the order of their statements
-pub orphans_ordered : (placed : List Placed) (insts shown : List Instance) (marks : List Bool) → insts ≡ surviving [] (stmts_of placed)
-    → shown ≡ marked false insts marks → AreInOrder shown
-orphans_ordered placed insts shown marks standing is =
-    subst AreInOrder (sym (is ∙ ap (λ (xs : List Instance). marked false xs marks) standing))
-    (marked_ordered false (surviving [] (stmts_of placed)) marks (surviving_ordered [] (stmts_of placed)))
+-- the places are those of the orphans, which stand in the order of their statements
+pub orphans_placed : (placed : List Placed) (insts : List Instance) (marks : List Bool) (places : List ℕ) → insts ≡ surviving [] (stmts_of placed)
+    → places ≡ map (λ i. i.stmt) (marked false insts marks) → ArePlacesOfOrphans places (marked false insts marks)
+orphans_placed placed insts marks places standing is = record {
+  each = is;
+  in_order = subst (λ (xs : List Instance). AreInOrder (marked false xs marks)) (sym standing)
+      (marked_ordered false (surviving [] (stmts_of placed)) marks (surviving_ordered [] (stmts_of placed)));
+}
 
 -- the parts are those of the tables that are meant
 pub tables_are : (r : Reading) (marks : List Bool) (lists : Declared) (insts rooted orphans : List Instance) (rows : List Row) (pseudos : List Pseudo) (options makeoptions : List Item) (file_systems : List (List ℕ)) (warned : List Warning)

@@ -6,6 +6,7 @@ use Rattle.cf_types.specs.declared.stmt.Placed.{Placed}
 use Rattle.cf_types.specs.declared.stmt.UnitMark.{UnitMark}
 use Rattle.cf_types.specs.declared.stmt.UnitMark.TheVariants.{Fixed, Star}
 use Rattle.cf_types.specs.declared.tables.Tables.{Tables}
+use Rattle.cf_rows.specs.Rows.{seen}
 use Rattle.cf_rows.specs.declared.marks.Split.{Split}
 use Rattle.cf_select.specs.declared.instance.Inst.{Inst}
 use Rattle.config_rules.specs.Declared.{declared}
@@ -36,12 +37,12 @@ inst_of i = record { device = i.joined.device; unit = written_unit i.mark; star 
 abbrev pub read_from : List (List ℕ) → List Placed → Reading
 read_from files placed = record { placed = placed; files = files; asked = []; prefixes = []; fault = None }
 
--- the instances with a mark for each that hangs together with the root, and those with none
+-- the instances with a mark for each that hangs together with the root, and the places of those with none
 pub record IsSplit (d : Declared) (instances : List Instance) (parts : Split) : Type 0 where
   pub marks : List Bool
   pub is_rooted : RootedInsts d (map meaning.inst_of instances) marks
-  pub rooted : parts.rooted ≡ marked true instances marks
-  pub orphans : parts.orphans ≡ marked false instances marks
+  pub rooted : seen parts.rooted ≡ marked true instances marks
+  pub orphans : parts.orphans ≡ map (λ i. i.stmt) (marked false instances marks)
 
 -- the tables of what was read, which are formed
 pub record IsMeant (files : List (List ℕ)) (placed : List Placed) (tables : Tables) : Type 0 where

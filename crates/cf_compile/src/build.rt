@@ -58,11 +58,15 @@ fn rooted_marks(alloc: Global, graph: &Graph, instances: &[Instance]) -> Result<
 }
 
 /// The surviving instances that are rooted, and the orphans.
-fn split_by_root(alloc: Global, graph: &Graph, instances: List<Instance>) -> Result<Split, Memory>
-    requires { All (λ x. x.joined.device < length graph.now.devices) instances }
-    ensures { IfOk result (λ parts. (d : Declared) → IsGraphOf d graph.now → IsSplit d instances parts) }
+fn split_by_root<'a>(
+    alloc: Global,
+    graph: &Graph,
+    instances: &'a [Instance],
+) -> Result<Split<'a>, Memory>
+    requires { All (λ x. x.joined.device < length graph.now.devices) instances.now }
+    ensures { IfOk result (λ parts. (d : Declared) → IsGraphOf d graph.now → IsSplit d instances.now parts) }
 {
-    let marks = rooted_marks(alloc, graph, instances.items())?;
+    let marks = rooted_marks(alloc, graph, instances)?;
     Ok(split_by_marks(alloc, instances, marks.items())?)
 }
 
@@ -85,9 +89,10 @@ pub fn tables_of(
     requires idle { idle.now ≡ idle_insts [] (stmts_of placed.now) }
     ensures { IfOk result (IsMeant files.now placed.now) }
 {
-    let Split { rooted, orphans } = split_by_root(alloc, graph, instances)?;
+    let Split { rooted, orphans } = split_by_root(alloc, graph, instances.items())?;
     let rows = rows_of(alloc, lists.devices.len() as u32, rooted.items())?;
     drop(rooted);
+    drop(instances);
     let kept = items(alloc, placed)?;
     let warnings = warnings(
         alloc,

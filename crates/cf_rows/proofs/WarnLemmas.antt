@@ -1,9 +1,10 @@
 -- One more statement of the warnings.
 use Rattle.std.proofs.Common.{◌≡◌, ◌≢◌, ℕ, zero, suc, ◌+◌, ◌<◌, ◌≤◌, Bool, true, false, cond, ◌||◌, List, [], ◌∷◌, ◌++◌, length, get_or, take, drop, map, refl, ap, sym, ◌∙◌, subst, arith, append-nil, append_assoc, length-append}
-use Rattle.std.specs.Prelude.{◌==◌, replicate}
+use Rattle.std.specs.Prelude.{◌==◌, AllPairs, replicate}
 use Rattle.std.specs.List.{prefix_len, list_any}
 use Rattle.std.proofs.lemmas.Bool.{eq-eqb, eqb-true}
-use Rattle.std.proofs.lemmas.List.{drop_more, map_more, map-append, length-map, length-take-le}
+use Rattle.std.proofs.lemmas.List.{drop_more, map_more, map-append, get_or-map, length-map, length-take-le}
+use Rattle.std.proofs.lemmas.List.Kept.{AllPairs-cons}
 use Rattle.cf_types.specs.declared.instance.Instance.{Instance}
 use Rattle.cf_types.specs.declared.stmt.Placed.{Placed}
 use Rattle.cf_types.specs.declared.stmt.Stmt.{Stmt}
@@ -12,7 +13,7 @@ use Rattle.cf_types.specs.declared.tables.WarnKind.TheVariants.{Nothing, Orphan}
 use Rattle.cf_types.specs.declared.tables.Warning.{Warning}
 use Rattle.config_rules.specs.Fault.{stmts_of}
 use Rattle.config_rules.specs.Meaning.{is_idle, idle_names as named_idle, idle, orphan, warning, warnings}
-use Rattle.cf_rows.specs.Idle.{is_of_items, idle_negations, idle_names, places_of, AreInOrder}
+use Rattle.cf_rows.specs.Idle.{is_of_items, idle_negations, idle_names, places_of, AreInOrder, ArePlacesOfOrphans}
 use Rattle.cf_rows.proofs.GroupLemmas.{differ}
 
 -- ---- places at the front
@@ -49,48 +50,48 @@ places_step count n before later s places size e =
 
 -- ---- orphans at the front
 
--- the orphans that are left from a place on
-pub record AreLeft (all left : List Instance) (n : ℕ) : Type 0 where
-  pub ascending : AreInOrder left
-  pub behind : (k : ℕ) (d : Instance) → k < length left → n ≤ (get_or left k d).stmt
-  pub same : (k : ℕ) → n ≤ k → list_any (λ i. i.stmt == k) left ≡ list_any (λ i. i.stmt == k) all
+-- the places of the orphans that are left from a place on
+pub record AreLeft (all : List Instance) (left : List ℕ) (n : ℕ) : Type 0 where
+  pub ascending : AllPairs (λ p q. p < q) left
+  pub behind : (k d : ℕ) → k < length left → n ≤ get_or left k d
+  pub same : (k : ℕ) → n ≤ k → list_any (λ p. p == k) left ≡ list_any (λ i. i.stmt == k) all
 
-none_of : (n : ℕ) (left : List Instance) → ((k : ℕ) (d : Instance) → k < length left → n < (get_or left k d).stmt) → (list_any (λ i. i.stmt == n) left ≡ false) × (prefix_len (λ i. i.stmt == n) left ≡ 0)
+none_of : (n : ℕ) (left : List ℕ) → ((k d : ℕ) → k < length left → n < get_or left k d) → (list_any (λ p. p == n) left ≡ false) × (prefix_len (λ p. p == n) left ≡ 0)
 none_of n [] h = (refl, refl)
 none_of n (x ∷ left) h =
-    let here : n < x.stmt = h 0 x (omega arith) in
-    let other : (x.stmt == n) ≡ false = differ x.stmt n (λ same. absurd (omega arith)) in (
-      ap (λ b. b || list_any (λ i. i.stmt == n) left) other ∙ (none_of n left (λ k d p. h (suc k) d (omega arith))).0,
-      ap (λ b. cond b (1 + prefix_len (λ i. i.stmt == n) left) 0) other,
+    let here : n < x = h 0 x (omega arith) in
+    let other : (x == n) ≡ false = differ x n (λ same. absurd (omega arith)) in (
+      ap (λ b. b || list_any (λ p. p == n) left) other ∙ (none_of n left (λ k d p. h (suc k) d (omega arith))).0,
+      ap (λ b. cond b (1 + prefix_len (λ p. p == n) left) 0) other,
     )
 
-later_ones : (x : Instance) (left : List Instance) → AreInOrder (x ∷ left) → (k : ℕ) (d : Instance) → k < length left → x.stmt < (get_or left k d).stmt
+later_ones : (x : ℕ) (left : List ℕ) → AllPairs (λ p q. p < q) (x ∷ left) → (k d : ℕ) → k < length left → x < get_or left k d
 later_ones x left h k d p = h 0 (suc k) d (omega arith) (omega arith)
 
-tail_ordered : (x : Instance) (left : List Instance) → AreInOrder (x ∷ left) → AreInOrder left
+tail_ordered : (x : ℕ) (left : List ℕ) → AllPairs (λ p q. p < q) (x ∷ left) → AllPairs (λ p q. p < q) left
 tail_ordered x left h i j d p q = h (suc i) (suc j) d (omega arith) (omega arith)
 
 -- what is left where the first is not of this place
-orphans_at : (all left : List Instance) (x : Instance) (n : ℕ) (b : Bool) → (x.stmt == n) ≡ b → AreLeft all (x ∷ left) n
-    → (replicate (prefix_len (λ i. i.stmt == n) (x ∷ left)) Orphan ≡ orphan all n) × AreLeft all (drop (prefix_len (λ i. i.stmt == n) (x ∷ left)) (x ∷ left)) (n + 1)
+orphans_at : (all : List Instance) (left : List ℕ) (x n : ℕ) (b : Bool) → (x == n) ≡ b → AreLeft all (x ∷ left) n
+    → (replicate (prefix_len (λ p. p == n) (x ∷ left)) Orphan ≡ orphan all n) × AreLeft all (drop (prefix_len (λ p. p == n) (x ∷ left)) (x ∷ left)) (n + 1)
 orphans_at all left x n true e kept =
-    let same : x.stmt ≡ n = eqb-true x.stmt n e in
-    let above : (k : ℕ) (d : Instance) → k < length left → n < (get_or left k d).stmt = λ k d p. let lt = later_ones x left kept.ascending k d p in omega arith in
+    let same : x ≡ n = eqb-true x n e in
+    let above : (k d : ℕ) → k < length left → n < get_or left k d = λ k d p. let lt = later_ones x left kept.ascending k d p in omega arith in
     let none = none_of n left above in
-    let once : prefix_len (λ i. i.stmt == n) (x ∷ left) ≡ 1 = ap (λ c. cond c (1 + prefix_len (λ i. i.stmt == n) left) 0) e ∙ ap (λ k. 1 + k) none.1 in
-    let there : list_any (λ i. i.stmt == n) all ≡ true = sym (kept.same n (omega arith)) ∙ ap (λ c. c || list_any (λ i. i.stmt == n) left) e in
+    let once : prefix_len (λ p. p == n) (x ∷ left) ≡ 1 = ap (λ c. cond c (1 + prefix_len (λ p. p == n) left) 0) e ∙ ap (λ k. 1 + k) none.1 in
+    let there : list_any (λ i. i.stmt == n) all ≡ true = sym (kept.same n (omega arith)) ∙ ap (λ c. c || list_any (λ p. p == n) left) e in
     let rest : AreLeft all left (n + 1) = record {
       ascending = tail_ordered x left kept.ascending;
       behind = λ k d p. let lt = above k d p in omega arith;
-      same = λ k p. ap (λ c. c || list_any (λ i. i.stmt == k) left) (sym (differ x.stmt k (λ is. absurd (omega arith)))) ∙ kept.same k (omega arith);
+      same = λ k p. ap (λ c. c || list_any (λ q. q == k) left) (sym (differ x k (λ is. absurd (omega arith)))) ∙ kept.same k (omega arith);
     } in (
       ap (λ k. replicate k Orphan) once ∙ ap (λ c. cond c (Orphan ∷ []) []) (sym there),
       subst (λ (k : ℕ). AreLeft all (drop k (x ∷ left)) (n + 1)) (sym once) rest,
     )
 orphans_at all left x n false e kept =
-    let first : n ≤ x.stmt = kept.behind 0 x (omega arith) in
-    let apart : x.stmt ≢ n = λ is. let t = eq-eqb x.stmt n is in absurd (cc) in
-    let above : (k : ℕ) (d : Instance) → k < length (x ∷ left) → n < (get_or (x ∷ left) k d).stmt = λ k d p. above_all x left n first apart kept.ascending k d p in
+    let first : n ≤ x = kept.behind 0 x (omega arith) in
+    let apart : x ≢ n = λ is. let t = eq-eqb x n is in absurd (cc) in
+    let above : (k d : ℕ) → k < length (x ∷ left) → n < get_or (x ∷ left) k d = λ k d p. above_all x left n first apart kept.ascending k d p in
     let none = none_of n (x ∷ left) above in
     let rest : AreLeft all (x ∷ left) (n + 1) = record {
       ascending = kept.ascending;
@@ -101,16 +102,38 @@ orphans_at all left x n false e kept =
       subst (λ (k : ℕ). AreLeft all (drop k (x ∷ left)) (n + 1)) (sym none.1) rest,
     )
   where
-    above_all : (x : Instance) (left : List Instance) (n : ℕ) → n ≤ x.stmt → x.stmt ≢ n → AreInOrder (x ∷ left) → (k : ℕ) (d : Instance) → k < length (x ∷ left) → n < (get_or (x ∷ left) k d).stmt
+    above_all : (x : ℕ) (left : List ℕ) (n : ℕ) → n ≤ x → x ≢ n → AllPairs (λ p q. p < q) (x ∷ left) → (k d : ℕ) → k < length (x ∷ left) → n < get_or (x ∷ left) k d
     above_all x left n first apart h zero d p = omega arith
     above_all x left n first apart h (suc k) d p = let lt = later_ones x left h k d (omega arith) in omega arith
 
-orphans_step : (all left : List Instance) (n : ℕ) → AreLeft all left n → (replicate (prefix_len (λ i. i.stmt == n) left) Orphan ≡ orphan all n) × AreLeft all (drop (prefix_len (λ i. i.stmt == n) left) left) (n + 1)
+orphans_step : (all : List Instance) (left : List ℕ) (n : ℕ) → AreLeft all left n → (replicate (prefix_len (λ p. p == n) left) Orphan ≡ orphan all n) × AreLeft all (drop (prefix_len (λ p. p == n) left) left) (n + 1)
 orphans_step all [] n kept = (
   ap (λ c. cond c (Orphan ∷ []) []) (kept.same n (omega arith)),
   record { ascending = kept.ascending; behind = λ k d p. absurd (omega arith); same = λ k p. kept.same k (omega arith) },
 )
-orphans_step all (x ∷ left) n kept = orphans_at all left x n (x.stmt == n) refl kept
+orphans_step all (x ∷ left) n kept = orphans_at all left x n (x == n) refl kept
+
+ascending_places : (insts : List Instance) → AreInOrder insts → AllPairs (λ p q. p < q) (map (λ i. i.stmt) insts)
+ascending_places [] h = λ i j d p q. absurd (omega arith)
+ascending_places (x ∷ insts) h = AllPairs-cons (λ p q. p < q) x.stmt (map (λ i. i.stmt) insts)
+    (λ k d p. later_stmt x insts h k d p) (ascending_places insts (λ i j d p q. h (suc i) (suc j) d (omega arith) (omega arith)))
+  where
+    later_stmt : (x : Instance) (insts : List Instance) → AreInOrder (x ∷ insts) → (k d : ℕ) → k < length (map (λ (i : Instance). i.stmt) insts) → x.stmt < get_or (map (λ i. i.stmt) insts) k d
+    later_stmt x insts h k d p =
+        let here : k < length insts = omega (arith, length-map insts (λ (i : Instance). i.stmt)) in
+        subst (λ (n : ℕ). x.stmt < n) (sym (get_or-map (λ (i : Instance). i.stmt) insts k x d here)) (h 0 (suc k) x (omega arith) (omega arith))
+
+places_any : (k : ℕ) (insts : List Instance) → list_any (λ p. p == k) (map (λ i. i.stmt) insts) ≡ list_any (λ i. i.stmt == k) insts
+places_any k [] = refl
+places_any k (i ∷ insts) = ap (λ b. (i.stmt == k) || b) (places_any k insts)
+
+-- all are left
+all_left : (places : List ℕ) (all : List Instance) → ArePlacesOfOrphans places all → AreLeft all places 0
+all_left places all are = record {
+  ascending = subst (λ (ps : List ℕ). AllPairs (λ p q. p < q) ps) (sym are.each) (ascending_places all are.in_order);
+  behind = λ k d p. omega arith;
+  same = λ k p. ap (list_any (λ q. q == k)) are.each ∙ places_any k all;
+}
 
 -- ---- the warnings of one statement
 
@@ -158,29 +181,29 @@ regrouped made x y z rest = simp append_assoc
 -- ---- one more statement
 
 -- the warnings so far, and what is left of the three lists at a place
-pub record IsMerged (files : List (List ℕ)) (all : List Instance) (placed : List Placed) (place : ℕ) (made : List Warning) (negations names : List ℕ) (left : List Instance) : Type 0 where
+pub record IsMerged (files : List (List ℕ)) (all : List Instance) (placed : List Placed) (place : ℕ) (made : List Warning) (negations names left : List ℕ) : Type 0 where
   pub negations_left : negations ≡ places_of idle_negations (stmts_of (take place placed)) (stmts_of (drop place placed))
   pub names_left : names ≡ places_of idle_names (stmts_of (take place placed)) (stmts_of (drop place placed))
   pub orphans_left : AreLeft all left place
   pub total : made ++ warnings files all (stmts_of (take place placed)) (drop place placed) ≡ warnings files all [] placed
 
-pub merged_first : (files : List (List ℕ)) (all : List Instance) (placed : List Placed) (made : List Warning) (negations names : List ℕ) → made ≡ [] → negations ≡ places_of idle_negations [] (stmts_of placed) → names ≡ places_of idle_names [] (stmts_of placed) → AreInOrder all
-    → IsMerged files all placed 0 made negations names all
-merged_first files all placed made negations names e is are ordered = record {
+pub merged_first : (files : List (List ℕ)) (all : List Instance) (placed : List Placed) (made : List Warning) (negations names left : List ℕ) → made ≡ [] → negations ≡ places_of idle_negations [] (stmts_of placed) → names ≡ places_of idle_names [] (stmts_of placed) → ArePlacesOfOrphans left all
+    → IsMerged files all placed 0 made negations names left
+merged_first files all placed made negations names left e is are ordered = record {
   negations_left = is;
   names_left = are;
-  orphans_left = record { ascending = ordered; behind = λ k d p. omega arith; same = λ k p. refl };
+  orphans_left = all_left left all ordered;
   total = ap (λ (ws : List Warning). ws ++ warnings files all [] placed) e;
 }
 
-pub merged_last : (files : List (List ℕ)) (all : List Instance) (placed : List Placed) (place : ℕ) (made : List Warning) (negations names : List ℕ) (left : List Instance) → IsMerged files all placed place made negations names left → drop place placed ≡ [] → made ≡ warnings files all [] placed
+pub merged_last : (files : List (List ℕ)) (all : List Instance) (placed : List Placed) (place : ℕ) (made : List Warning) (negations names left : List ℕ) → IsMerged files all placed place made negations names left → drop place placed ≡ [] → made ≡ warnings files all [] placed
 unfolding warnings
 merged_last files all placed place made negations names left kept e =
     sym (append-nil made) ∙ ap (λ (ps : List Placed). made ++ warnings files all (stmts_of (take place placed)) ps) (sym e) ∙ kept.total
 
-pub merged_step : (files : List (List ℕ)) (all : List Instance) (placed : List Placed) (place : ℕ) (p : Placed) (made made1 made2 made3 : List Warning) (negations names : List ℕ) (left : List Instance) (a b c : ℕ)
+pub merged_step : (files : List (List ℕ)) (all : List Instance) (placed : List Placed) (place : ℕ) (p : Placed) (made made1 made2 made3 : List Warning) (negations names left : List ℕ) (a b c : ℕ)
     → IsMerged files all placed place made negations names left → place < length placed → p ≡ get_or placed place p
-    → a ≡ prefix_len (λ x. x == place) negations → b ≡ prefix_len (λ x. x == place) names → c ≡ prefix_len (λ i. i.stmt == place) left
+    → a ≡ prefix_len (λ x. x == place) negations → b ≡ prefix_len (λ x. x == place) names → c ≡ prefix_len (λ x. x == place) left
     → made1 ≡ made ++ replicate a (warning files p Nothing) → made2 ≡ made1 ++ replicate b (warning files p Nothing) → made3 ≡ made2 ++ replicate c (warning files p Orphan)
     → IsMerged files all placed (place + 1) made3 (drop a negations) (drop b names) (drop c left)
 unfolding warnings

@@ -1,5 +1,5 @@
 -- Where negations took back nothing.
-use Rattle.std.specs.Prelude.{◌≡◌, ◌<◌, ℕ, Bool, true, false, List, [], ◌∷◌, ◌++◌, length, AllPairs, replicate, if◌then◌else◌}
+use Rattle.std.specs.Prelude.{◌≡◌, ◌<◌, ℕ, Bool, true, false, List, [], ◌∷◌, ◌++◌, length, map, AllPairs, replicate, if◌then◌else◌}
 use Rattle.cf_types.specs.declared.instance.Instance.{Instance}
 use Rattle.cf_types.specs.declared.stmt.Placed.{Placed}
 use Rattle.cf_types.specs.declared.stmt.Stmt.{Stmt}
@@ -36,3 +36,8 @@ ArePlacesOfNames places placed = places ≡ places_of idle_names [] (stmts_of pl
 -- the instances stand in the order of their statements
 abbrev pub AreInOrder : List Instance → Type 0
 AreInOrder insts = AllPairs (λ i j. i.stmt < j.stmt) insts
+
+-- the places are those of the statements of these instances, which stand in their order
+pub record ArePlacesOfOrphans (places : List ℕ) (orphans : List Instance) : Type 0 where
+  pub each : places ≡ map (λ i. i.stmt) orphans
+  pub in_order : AreInOrder orphans

@@ -21,16 +21,16 @@ fn empty_lists<'a>(alloc: Global, count: u32) -> Result<Vec<List<&'a Instance>>,
 pub fn by_device<'a>(
     alloc: Global,
     devices: u32,
-    instances: &'a [Instance],
+    instances: &[&'a Instance],
 ) -> Result<Vec<List<&'a Instance>>, Memory>
     ensures size { IfOk result (λ lists. length lists.items ≡ devices) }
-    ensures own { IfOk result (λ lists. (d : ℕ) → d < devices → seen (slice_index_or lists.items d []) ≡ filter (λ i. i.joined.device == d) instances.now) }
+    ensures own { IfOk result (λ lists. (d : ℕ) → d < devices → seen (slice_index_or lists.items d []) ≡ filter (λ i. i.joined.device == d) (seen instances.now)) }
 {
     let mut lists = empty_lists(alloc, devices)?;
     for instance in instances {
         if instance.joined.device < devices {
             let own = &mut lists[instance.joined.device as usize];
-            own.push(instance)?;
+            own.push(*instance)?;
         }
     }
     Ok(lists)

@@ -2,9 +2,9 @@ ghost use Rattle.std.specs.Prelude.{◌≡◌, ◌≤◌, ◌==◌, ◌++◌, []
 ghost use Rattle.std.specs.List.{prefix_len, slice_index_or};
 ghost use Rattle.cf_types.specs.declared.tables.WarnKind.TheVariants as warns;
 ghost use Rattle.config_rules.specs.Meaning.{warning, warnings};
-ghost use Rattle.cf_rows.specs.Idle.{ArePlacesOfNegations, ArePlacesOfNames, AreInOrder};
+ghost use Rattle.cf_rows.specs.Idle.{ArePlacesOfNegations, ArePlacesOfNames, ArePlacesOfOrphans};
 
-use cf_types::{Instance, List, Memory, Placed, SharedText, Text, WarnKind, Warning};
+use cf_types::{List, Memory, Placed, SharedText, Text, WarnKind, Warning};
 use std::alloc::Global;
 
 /// A copy of the name under which a file was loaded, by its place; empty where there is none.
@@ -88,21 +88,6 @@ fn front_count(places: &[u32], place: usize) -> usize
     count
 }
 
-/// How many instances at the front are of the statement at this place.
-fn orphan_count(orphans: &[Instance], place: usize) -> usize
-    ensures count { result ≡ prefix_len (λ i. i.stmt == place) orphans.now }
-    ensures within { result ≤ length orphans.now }
-{
-    let mut count = 0;
-    for orphan in orphans {
-        if orphan.stmt as usize != place {
-            return count;
-        }
-        count += 1;
-    }
-    count
-}
-
 /// Appends a warning for each time that the place stands at the front, and answers the places behind.
 fn push_front<'a>(
     alloc: Global,
@@ -123,24 +108,37 @@ fn push_front<'a>(
     Ok(&places[count..])
 }
 
-/// Appends a warning where the first of the orphans is of this statement, and answers those behind.
+/// Appends a warning where the first of the orphans is of this statement, and answers the places of those behind.
 fn push_orphan<'a>(
     alloc: Global,
     out: &mut List<Warning>,
     files: &[SharedText],
     statement: &Placed,
     place: usize,
-    orphans: &'a [Instance],
-) -> Result<&'a [Instance], Memory>
-    ensures pushed { OnOk result (out.new ≡ out.old ++ replicate (prefix_len (λ i. i.stmt == place) orphans.now) (warning files.now statement.now warns.Orphan)) }
-    ensures left { IfOk result (λ left. left.now ≡ drop (prefix_len (λ i. i.stmt == place) orphans.now) orphans.now) }
+    orphans: &'a [u32],
+) -> Result<&'a [u32], Memory>
+    ensures pushed { OnOk result (out.new ≡ out.old ++ replicate (prefix_len (λ p. p == place) orphans.now) (warning files.now statement.now warns.Orphan)) }
+    ensures left { IfOk result (λ left. left.now ≡ drop (prefix_len (λ p. p == place) orphans.now) orphans.now) }
 {
-    let count = orphan_count(orphans, place);
+    let count = front_count(orphans, place);
     if count == 0 {
         return Ok(orphans);
     }
     push_warnings(alloc, out, files, statement, WarnKind::Orphan, count)?;
     Ok(&orphans[count..])
+}
+
+/// No warning, with room for one for each of these places.
+fn room_for(
+    alloc: Global,
+    idle_instances: &[u32],
+    idle_items: &[u32],
+    orphans: &[u32],
+) -> Result<List<Warning>, Memory>
+    ensures { IfOk result (λ made. made ≡ []) }
+{
+    let count = idle_instances.len() + idle_items.len() + orphans.len();
+    Ok(List::from_vec(Vec::with_capacity(alloc, count)?))
 }
 
 /// The warnings of statements in their order, at the places that these lists give.
@@ -150,14 +148,13 @@ fn merged(
     placed: &[Placed],
     idle_instances: &[u32],
     idle_items: &[u32],
-    orphans: &[Instance],
+    orphans: &[u32],
 ) -> Result<List<Warning>, Memory>
     requires instances { ArePlacesOfNegations idle_instances.now placed.now }
     requires items { ArePlacesOfNames idle_items.now placed.now }
-    requires orphans { AreInOrder orphans.now }
-    ensures { IfOk result (λ made. made ≡ warnings files.now orphans.now [] placed.now) }
+    ensures { IfOk result (λ made. (insts : _) → ArePlacesOfOrphans orphans.now insts → made ≡ warnings files.now insts [] placed.now) }
 {
-    let mut made = List::make(alloc);
+    let mut made = room_for(alloc, idle_instances, idle_items, orphans)?;
     let mut instances = idle_instances;
     let mut items = idle_items;
     let mut left = orphans;
@@ -170,20 +167,19 @@ fn merged(
 }
 
 /// The warnings of a configuration in the order of its statements: one for each negation of instances and for each name
-/// in a negation of items that takes back nothing, and one for each orphan. The places are those of such negations, in
-/// order; one of items stands once for each such name. See config(5).
+/// in a negation of items that takes back nothing, and one for each orphan. The places are those of such negations and of
+/// the orphans, in order; one of a negation of items stands once for each such name. See config(5).
 pub fn warnings(
     alloc: Global,
     files: &[Text],
     placed: &[Placed],
     idle_instances: &[u32],
     idle_items: &[u32],
-    orphans: &[Instance],
+    orphans: &[u32],
 ) -> Result<List<Warning>, Memory>
     requires instances { ArePlacesOfNegations idle_instances.now placed.now }
     requires items { ArePlacesOfNames idle_items.now placed.now }
-    requires orphans { AreInOrder orphans.now }
-    ensures { IfOk result (λ made. made ≡ warnings files.now orphans.now [] placed.now) }
+    ensures { IfOk result (λ made. (insts : _) → ArePlacesOfOrphans orphans.now insts → made ≡ warnings files.now insts [] placed.now) }
 {
     let names = shared_names(alloc, files)?;
     merged(

@@ -2,7 +2,8 @@ use Rattle.std.proofs.Common.{◌≡◌}
 use Rattle.std.specs.Prelude.{flat_map}
 use Rattle.config_rules.specs.Meaning.{device_rows}
 use Rattle.cf_types.specs.Numbers.{below}
+use Rattle.cf_rows.specs.Rows.{seen}
 use Rattle.cf_rows.proofs.rows.rows_of.Given as goal
 
 abbrev pub invariant-loop-own : goal.invariant-loop-own
-invariant-loop-own l = l.rows ≡ flat_map (device_rows l.instances) (below l.own-index)
+invariant-loop-own l = l.rows ≡ flat_map (device_rows (seen l.instances)) (below l.own-index)
