@@ -53,7 +53,8 @@ use Rattle.run_sound.proofs.ScriptLaws.{amid_said, doer_low, over_low}
 use Rattle.run_world.specs.Arrivals.{MayArrive}
 use Rattle.run_world.specs.Events.{IsLive}
 use Rattle.run_world.specs.Arrivals.{got_of}
-use Rattle.deed_event.specs.Sayings.{EndsLive, HasRow, MayBeTold, RefusesLive}
+use Rattle.deed_event.specs.Sayings.{EndsLive, MayBeTold, RefusesLive}
+use Rattle.told_names.specs.Naming.{HasRow}
 use Rattle.run_world.specs.Scripted.{FormedScripts}
 use Rattle.run_rules.specs.declared.deed.PowerEnd.{PowerEnd}
 use Rattle.run_rules.specs.declared.deed.PowerEnd.TheVariants as ends
@@ -61,7 +62,7 @@ use Rattle.run_rules.specs.declared.deed.Refusal.{Refusal}
 use Rattle.run_rules.specs.declared.deed.Refusal.TheVariants as refusal
 use Rattle.deed_event.proofs.FormedNames.{driver_written}
 use Rattle.run_world.proofs.InputLaws.{bounded}
-use Rattle.deed_event.proofs.LateLaws.{any_found}
+use Rattle.told_names.proofs.LateLaws.{any_found}
 use Rattle.run_world.proofs.StepLaws.{called_live, deed_arrives, framed_live}
 
 -- ---- names

@@ -1,5 +1,3 @@
 pub mod FormedNames
-pub mod LateLaws
 pub mod FormedEvents
-pub mod WalkLaws
 pub mod RecentLaws

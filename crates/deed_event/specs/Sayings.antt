@@ -11,27 +11,12 @@ use Rattle.run_rules.specs.declared.deed.Refusal.{Refusal}
 use Rattle.run_rules.specs.declared.deed.Refusal.TheVariants as refusal
 use Rattle.run_rules.specs.declared.event.Reply.{Reply}
 use Rattle.run_rules.specs.declared.event.Reply.TheVariants as reply
-use Rattle.run_rules.specs.declared.world.Arrival.{Arrival}
 use Rattle.run_rules.specs.declared.world.Dev.{Dev}
-use Rattle.run_rules.specs.declared.world.Setup.{Setup}
 use Rattle.run_rules.specs.World.{World}
 use Rattle.run_rules.specs.Next.{command_of, is_power}
 use Rattle.run_rules.specs.Run.{reply_of}
-use Rattle.run_world.specs.declared.parts.Core.{Core}
-use Rattle.run_world.specs.Events.{HaveRows, IsLive}
-use Rattle.run_world.specs.Input.{Bounded}
-use Rattle.run_world.specs.Recent.{AreRecent}
-
--- by what the names of devices are told
-pub record HaveNames (s : Setup) (c : Core) : Type 0 where
-  pub bounded : Bounded s
-  pub rows : HaveRows s c.tree.live
-  pub recent : AreRecent s c.recent
-
--- nothing changes but what is kept of the acts that were told
-pub record TellsAside (s : Setup) (old new : Core) : Type 0 where
-  pub same : new ≡ record old { recent = new.recent }
-  pub recent : AreRecent s new.recent
+use Rattle.run_world.specs.Events.{IsLive}
+use Rattle.told_names.specs.Naming.{HasRow}
 
 -- the deeds whose acts, or the names in them, are kept
 abbrev pub is_kept : Deed → Bool
@@ -82,10 +67,6 @@ device_told (Drop s) = Some s
 device_told (Done ticket) = Some ticket.serial
 device_told (Free s) = Some s
 device_told _ = None
-
--- what comes has a row
-abbrev pub HasRow : Setup → Option Arrival → Type 0
-HasRow s got = IfSome got (λ a. a.row < length s.tables.rows)
 
 -- the devices that the line of a deed names are live, its spots are of the machine, what comes has a row, and what ends as a power command is one
 abbrev pub MayBeTold : World → ℕ → Deed → Type 0

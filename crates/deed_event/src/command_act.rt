@@ -6,14 +6,15 @@ ghost use Rattle.run_rules.specs.declared.event.Reply.{Reply};
 ghost use Rattle.run_rules.specs.Next as next;
 ghost use Rattle.run_rules.specs.Run as run;
 ghost use Rattle.run_rules.specs.World.{World};
-ghost use Rattle.deed_event.specs.Sayings.{HaveNames, AnswersLive, EndsLive, RefusesLive, answer_by, name_given};
+ghost use Rattle.deed_event.specs.Sayings.{AnswersLive, EndsLive, RefusesLive, answer_by, name_given};
+ghost use Rattle.told_names.specs.Naming.{HaveNames};
 ghost use Rattle.run_world.specs.View.{world_of};
 
-use crate::listed_names::{list_names, live_name, tree_names};
 use cf_types::{Command, Memory, Name, Ticket};
 use run_rules::{Act, IoAnswer, PowerEnd, PowerKind, Refusal, Reply, Setup};
 use run_world::{Core, command_of};
 use std::alloc::Global;
+use told_names::{list_names, live_name, tree_names};
 
 /// What a transfer brings: the number of the spot and the value that was sent, modulo 2^32, or the error of a bad spot.
 #[tactic(auto, unfolding(run_rules::specs::Run::answer_of))]

@@ -13,20 +13,20 @@ ghost use Rattle.run_sound.specs.Kept.{Kept, MayRun};
 ghost use Rattle.run_world.specs.Arrivals.{state_at};
 ghost use Rattle.run_world.specs.Events.{IsLive, name_live};
 ghost use Rattle.run_world.specs.Recent.{AreRecent, act_telling, called_at};
-ghost use Rattle.deed_event.specs.Sayings.{HasRow, HaveNames, MayBeTold, TellsAside, device_told, is_kept};
+ghost use Rattle.deed_event.specs.Sayings.{MayBeTold, device_told, is_kept};
+ghost use Rattle.told_names.specs.Naming.{HasRow, HaveNames, TellsAside};
 ghost use Rattle.deed_event.specs.Resting.{rest_of, resting};
 ghost use Rattle.run_world.specs.Scripted.{FormedScripts};
 ghost use Rattle.run_world.specs.View.{world_of};
 
 use crate::command_act::{answer_for, answered_act, power_end_act};
-use crate::listed_names::live_name;
-use crate::names::{arrival_got, device_name, parent_name, shown_of, spot_name};
 use cf_types::{Memory, Name};
 use dev_event::put_act;
 use run_rules::{Act, Arrival, Deed, Dev, Event, Setup, SharedAct};
 use run_world::{Called, Core, Recent, Telling};
 use std::alloc::Global;
 use std::mem::drop;
+use told_names::{arrival_got, device_name, live_name, parent_name, shown_of, spot_name};
 
 /// The number of a caller's next event.
 #[inline(always)]

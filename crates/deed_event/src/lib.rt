@@ -1,12 +1,8 @@
-//! The event of what a caller does next, with the names that it tells; and the lines of the device tree.
+//! The event of what a caller does next.
 #![tactic(auto)]
 
 mod command_act;
 mod event;
-mod listed_names;
-mod names;
-mod tree;
 
 pub use command_act::answer_for;
 pub use event::deed_event;
-pub use tree::tree_of;

@@ -24,7 +24,7 @@ use Rattle.run_sound.specs.Kept.{Kept}
 use Rattle.dev_board.specs.declared.answer.LeaseStep.{LeaseStep}
 use Rattle.dev_board.specs.declared.answer.LeaseStep.TheVariants.{Keep}
 use Rattle.run_world.specs.declared.parts.Core.{Core}
-use Rattle.deed_event.specs.Sayings.{TellsAside}
+use Rattle.told_names.specs.Naming.{TellsAside}
 use Rattle.deed_effect.specs.Commits.{HasRoom}
 use Rattle.dev_board.specs.Performing.{Performed}
 use Rattle.dev_board.specs.Shown.{Shown}

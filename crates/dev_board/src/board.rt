@@ -34,7 +34,6 @@ use crate::step::step_core;
 use crate::stepped::Stepped;
 use attr_graph::graph_of;
 use cf_types::{DevLine, List, Machine, Memory, Script, Tables};
-use deed_event::tree_of;
 use match_search::RowIndex;
 use ref_ledger::Slots;
 use run_rules::{Event, Setup};
@@ -43,6 +42,7 @@ use scan_engine::ChildSpans;
 use std::alloc::Global;
 use std::marker::Model;
 use std::mem::drop;
+use told_names::tree_of;
 
 /// A machine that runs: a world, and the history of the events that led to it. Each value of this type keeps that the
 /// history is a run from the opening world to the world, and that this world is sound.

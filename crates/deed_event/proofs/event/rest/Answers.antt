@@ -7,7 +7,7 @@ use Rattle.run_rules.specs.World.{device_at, name_of}
 use Rattle.run_rules.proofs.Devices.{found_in}
 use Rattle.run_world.specs.Recent.{called}
 use Rattle.deed_event.specs.Resting.{rest_of}
-use Rattle.deed_event.proofs.LateLaws.{any_found}
+use Rattle.told_names.proofs.LateLaws.{any_found}
 use Rattle.deed_event.proofs.RecentLaws.{rest_told}
 use Rattle.deed_event.proofs.event.rest.Goals as goal
 

@@ -2,7 +2,7 @@ use Rattle.std.proofs.Common.{◌∙◌, ◌<◌, length}
 use Rattle.std.specs.Prelude.{bytes_eq}
 use Rattle.run_rules.specs.World.{name_of}
 use Rattle.run_rules.proofs.Devices.{found_in}
-use Rattle.deed_event.proofs.listed_names.tree_names.Goals as goal
+use Rattle.told_names.proofs.listed_names.tree_names.Goals as goal
 
 pub names_from-requires-clause-row : goal.names_from-requires-clause-row
 names_from-requires-clause-row c =

@@ -2,7 +2,7 @@
 ghost use Rattle.std.specs.Prelude.{◌≡◌, ◌<◌, ◌+◌, ◌++◌, ◌^◌, IfOk, OnOk, length, map};
 ghost use Rattle.run_rules.specs.Tree as rule;
 ghost use Rattle.dev_tree.specs.Branching.{AreBranches};
-ghost use Rattle.deed_event.specs.Sayings.{HaveNames};
+ghost use Rattle.told_names.specs.Naming.{HaveNames};
 ghost use Rattle.run_world.specs.View.{world_of};
 
 use crate::names::{device_name, parent_name};

@@ -3,8 +3,8 @@ use Rattle.run_rules.specs.declared.world.Dev.{Dev}
 use Rattle.run_rules.specs.declared.event.DepthName.{DepthName}
 use Rattle.run_rules.specs.Run.{depth_name}
 use Rattle.run_rules.proofs.Levels.{no_level, lines_on}
-use Rattle.deed_event.proofs.WalkLaws.{told_among, among_more, among_whole, child_has}
-use Rattle.deed_event.proofs.listed_names.+push_names.Goals as goal
+use Rattle.told_names.proofs.WalkLaws.{told_among, among_more, among_whole, child_has}
+use Rattle.told_names.proofs.listed_names.+push_names.Goals as goal
 
 pub returns-then-levels-eq0 : goal.returns-then-levels-eq0
 returns-then-levels-eq0 t c = no_level (depth_name c.args.setup.now) c.args.core.now.tree.live c.args.levels c.args.depth c.args.parent c.args.names.now c.if-levels-eq0.true

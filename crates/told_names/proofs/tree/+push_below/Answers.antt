@@ -4,8 +4,8 @@ use Rattle.run_rules.specs.declared.world.Dev.{Dev}
 use Rattle.run_rules.specs.Tree.{dev_line}
 use Rattle.run_world.specs.View.{world_of}
 use Rattle.run_rules.proofs.Levels.{no_level, lines_on}
-use Rattle.deed_event.proofs.WalkLaws.{told_among, among_more, among_whole, child_has}
-use Rattle.deed_event.proofs.tree.+push_below.Goals as goal
+use Rattle.told_names.proofs.WalkLaws.{told_among, among_more, among_whole, child_has}
+use Rattle.told_names.proofs.tree.+push_below.Goals as goal
 
 pub returns-then-levels-eq0 : goal.returns-then-levels-eq0
 returns-then-levels-eq0 t c = no_level (dev_line (world_of c.args.setup.now c.args.core.now)) c.args.core.now.tree.live c.args.levels c.args.depth c.args.parent c.args.lines.now c.if-levels-eq0.true

@@ -1,5 +1,5 @@
 use Rattle.run_rules.specs.Tree.{tree_lines}
-use Rattle.deed_event.proofs.tree.tree_of.Goals as goal
+use Rattle.told_names.proofs.tree.tree_of.Goals as goal
 
 pub returns : goal.returns
 unfolding tree_lines

@@ -1,7 +1,7 @@
 use Rattle.std.proofs.Common.{◌≡◌, List, ℕ, subst}
 use Rattle.std.specs.Prelude.{IfOk}
-use Rattle.deed_event.proofs.LateLaws.{live_named}
-use Rattle.deed_event.proofs.listed_names.live_name.Goals as goal
+use Rattle.told_names.proofs.LateLaws.{live_named}
+use Rattle.told_names.proofs.listed_names.live_name.Goals as goal
 
 pub returns : goal.returns
 returns c =

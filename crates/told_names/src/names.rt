@@ -4,7 +4,7 @@ ghost use Rattle.cf_text.specs.Shapes.{is_written};
 ghost use Rattle.run_rules.specs.Run as run;
 ghost use Rattle.run_rules.specs.World as world;
 ghost use Rattle.run_world.specs.Input.{Bounded};
-ghost use Rattle.deed_event.specs.Sayings.{HasRow, HaveNames, TellsAside};
+ghost use Rattle.told_names.specs.Naming.{HasRow, HaveNames, TellsAside};
 
 use cf_types::{Memory, Name, put_decimal};
 use run_rules::{Arrival, Dev, Got, Setup, Shown};

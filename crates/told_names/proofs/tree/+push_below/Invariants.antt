@@ -1,8 +1,8 @@
 use Rattle.std.proofs.Common.{◌≡◌, ◌++◌, take}
 use Rattle.run_rules.specs.Tree.{dev_line}
 use Rattle.run_world.specs.View.{world_of}
-use Rattle.deed_event.proofs.WalkLaws.{told_among}
-use Rattle.deed_event.proofs.tree.+push_below.Given as goal
+use Rattle.told_names.proofs.WalkLaws.{told_among}
+use Rattle.told_names.proofs.tree.+push_below.Given as goal
 
 abbrev pub decreases-push_below : goal.decreases-push_below
 decreases-push_below l = l.levels

@@ -1,6 +1,6 @@
 use Rattle.std.proofs.Common.{arith}
 use Rattle.std.proofs.lemmas.Grind.{common_steps}
-use Rattle.deed_event.proofs.listed_names.child_names.Goals as goal
+use Rattle.told_names.proofs.listed_names.child_names.Goals as goal
 
 pub loop-device-preserved : goal.loop-device-preserved
 loop-device-preserved c = grind (arith, common_steps)

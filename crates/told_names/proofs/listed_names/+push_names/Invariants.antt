@@ -1,7 +1,7 @@
 use Rattle.std.proofs.Common.{◌≡◌, ◌++◌, take}
 use Rattle.run_rules.specs.Run.{depth_name}
-use Rattle.deed_event.proofs.WalkLaws.{told_among}
-use Rattle.deed_event.proofs.listed_names.+push_names.Given as goal
+use Rattle.told_names.proofs.WalkLaws.{told_among}
+use Rattle.told_names.proofs.listed_names.+push_names.Given as goal
 
 abbrev pub decreases-push_names : goal.decreases-push_names
 decreases-push_names l = l.levels

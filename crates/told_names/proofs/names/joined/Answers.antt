@@ -1,7 +1,7 @@
 use Rattle.std.proofs.Common.{◌≡◌, ◌++◌, ap, arith, rules, length, decimal, length-append}
 use Rattle.std.proofs.lemmas.Fmt.{length-decimal-le, decimal_nonempty}
 use Rattle.run_rules.proofs.FormedNames.{written_length}
-use Rattle.deed_event.proofs.names.joined.Goals as goal
+use Rattle.told_names.proofs.names.joined.Goals as goal
 
 pub make-requires-clause-not_empty : goal.make-requires-clause-not_empty
 make-requires-clause-not_empty c =

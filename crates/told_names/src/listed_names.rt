@@ -5,7 +5,7 @@ ghost use Rattle.run_rules.specs.Tree.{tree_below};
 ghost use Rattle.run_rules.specs.World as world;
 ghost use Rattle.dev_tree.specs.Branching.{AreBranches};
 ghost use Rattle.run_world.specs.Events.{IsLive, name_live};
-ghost use Rattle.deed_event.specs.Sayings.{HaveNames};
+ghost use Rattle.told_names.specs.Naming.{HaveNames};
 ghost use Rattle.run_world.specs.View.{world_of};
 
 use crate::names::{device_name, parent_name};

@@ -1,6 +1,6 @@
 use Rattle.std.proofs.Common.{◌<◌, ◌==◌, length, sym}
 use Rattle.run_rules.proofs.Devices.{found_in}
-use Rattle.deed_event.proofs.names.parent_name.Goals as goal
+use Rattle.told_names.proofs.names.parent_name.Goals as goal
 
 pub device_name-requires-clause-row : goal.device_name-requires-clause-row
 device_name-requires-clause-row c =
