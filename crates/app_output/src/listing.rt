@@ -11,6 +11,7 @@ use cf_io::Sink;
 use cf_types::{Memory, Tables};
 use ioconf_text::put_line_at_once;
 use std::alloc::Global;
+use std::mem::forget;
 
 /// The lines of the listing of tables, with their graph.
 #[derive(Drop)]
@@ -33,7 +34,7 @@ impl<'a> Lines for Listing<'a> {
     }
 }
 
-/// Puts the listing of tables.
+/// Puts the listing of tables. Their graph is not taken apart, since the program ends soon.
 pub fn put_listing<S: Sink>(alloc: Global, tables: &Tables, out: &mut S) -> Result<(), OutputStop>
     requires { FitGraph tables.now }
     ensures { Puts (listing tables.now) (S.told out.old) (S.told out.new) result }
@@ -45,5 +46,7 @@ pub fn put_listing<S: Sink>(alloc: Global, tables: &Tables, out: &mut S) -> Resu
         tables,
         graph: &graph,
     };
-    put_lines(alloc, &lines, out)
+    let put = put_lines(alloc, &lines, out);
+    forget(graph);
+    put
 }
