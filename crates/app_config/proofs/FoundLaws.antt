@@ -1,8 +1,7 @@
 -- What was found for the inputs has the text that they ask for.
 use Rattle.std.proofs.Common.{inl, inr, ◌≡◌, ℕ, ◌++◌, List, [], Option, Some, None, refl, sym, ap, subst}
-use Rattle.std.specs.Prelude.{◌⊎◌, IfOk, IfSome, IsErrAnd, Result, Vec}
-use Rattle.std.specs.Global.{Global}
-use Rattle.cf_types.specs.Lines.{ended, text_of}
+use Rattle.std.specs.Prelude.{◌⊎◌, IfSome, IsErrAnd, Result}
+use Rattle.cf_types.specs.Lines.{text_of}
 use Rattle.std.specs.Prelude as std
 use Rattle.cf_types.specs.declared.machine.Command.{Command}
 use Rattle.cf_types.specs.declared.machine.Machine.{Machine}

@@ -6,7 +6,6 @@ use Rattle.config_rules.specs.Formed.{FitGraph}
 use Rattle.config_rules.specs.Listing.{listing}
 use Rattle.config_rules.specs.Reading.{Files}
 use Rattle.file_rules.specs.Sources.{IsFirstFault}
-use Rattle.history_replay.specs.declared.history.Replayed.{Replayed}
 use Rattle.run_rules.specs.Lines.{lines}
 use Rattle.run_rules.specs.World.{setup_of}
 use Rattle.app_input.specs.Inputs.{Reads}

@@ -1,7 +1,7 @@
 -- What the scripts of a run give, one by one, and what their refusals and that of the file with their course come to.
 use Rattle.std.proofs.Common.{◌≡◌, ℕ, ◌+◌, ◌<◌, ◌≤◌, inl, inr, true, List, [], ◌∷◌, ◌++◌, length, map, drop, get_or, append_assoc, append-nil, Option, Some, None, ap, sym, ◌∙◌, refl, subst}
 use Rattle.std.specs.Prelude as std
-use Rattle.std.specs.Prelude.{IfErr, IfOk, IfSome, Result, filter_map, slice_get}
+use Rattle.std.specs.Prelude.{IfErr, IfOk, IfSome, Result, filter_map}
 use Rattle.std.specs.List.{cons_option}
 use Rattle.std.specs.Result.{result_err, result_ok}
 use Rattle.std.proofs.lemmas.List.{drop_all, drop_more}

@@ -5,7 +5,6 @@ use Rattle.cf_types.specs.declared.machine.Command.{Command}
 use Rattle.cf_types.specs.declared.machine.Machine.{Machine}
 use Rattle.cf_types.specs.declared.tables.Refusal.{Refusal}
 use Rattle.cf_types.specs.declared.tables.Tables.{Tables}
-use Rattle.cf_io.specs.Faults.{Rose}
 use Rattle.cf_io.specs.declared.file.MemFile.{MemFile}
 use Rattle.cf_io.specs.declared.files.TheConstants.{MAX_FILE}
 use Rattle.cf_io.specs.Memory.{file_named}

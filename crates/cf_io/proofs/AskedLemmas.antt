@@ -1,5 +1,5 @@
 -- Files that were asked for in several steps.
-use Rattle.std.proofs.Common.{◌≡◌, ℕ, Option, Some, None, List, [], ◌∷◌, ◌++◌, refl, ap, sym, ◌∙◌, append_assoc, append-nil}
+use Rattle.std.proofs.Common.{◌≡◌, ℕ, Option, Some, None, List, [], ◌++◌, refl, ap, sym, ◌∙◌, append_assoc, append-nil}
 use Rattle.cf_io.specs.Asked.{AsksFront}
 use Rattle.cf_io.specs.Load.{asked_behind}
 

@@ -1,5 +1,5 @@
 -- What a sink took in several steps, and what its stream then has.
-use Rattle.std.proofs.Common.{◌≡◌, ◌≢◌, ℕ, ◌≤◌, Option, Some, None, List, [], ◌∷◌, ◌++◌, take, drop, refl, ap, sym, ◌∙◌, subst, append_assoc, append-nil, inl, inr}
+use Rattle.std.proofs.Common.{◌≡◌, ◌≢◌, ℕ, Option, Some, None, List, [], ◌∷◌, ◌++◌, take, drop, refl, ap, sym, ◌∙◌, subst, append_assoc, append-nil, inl, inr}
 use Rattle.std.proofs.lemmas.List.{take-append-drop}
 use Rattle.cf_io.specs.declared.files.Load.{Load}
 use Rattle.cf_io.specs.declared.files.Load.TheVariants as load
@@ -7,9 +7,9 @@ use Rattle.cf_io.specs.declared.sink.Put.{Put}
 use Rattle.cf_io.specs.declared.sink.Put.TheVariants.{All, Failed}
 use Rattle.cf_io.specs.declared.sink.Flush.{Flush}
 use Rattle.cf_io.specs.declared.sink.Flush.TheVariants as flush
-use Rattle.cf_io.specs.Faults.{Counts, Rises}
+use Rattle.cf_io.specs.Faults.{Rises}
 use Rattle.cf_io.specs.Load.{asks_for}
-use Rattle.cf_io.specs.Put.{Flushes, Puts, is_stopped}
+use Rattle.cf_io.specs.Put.{Flushes, Puts}
 use Rattle.cf_io.specs.Told.{Told, Delivers, Grows, Takes, TakesFront, appended}
 
 appended-append : (o : Option (List ℕ)) (xs ys : List ℕ) → appended (appended o xs) ys ≡ appended o (xs ++ ys)

@@ -1,5 +1,5 @@
 -- The surviving instances of a configuration without a code: how many they are, their units, and those at the root.
-use Rattle.std.proofs.Common.{◌≡◌, ℕ, ◌+◌, ◌≤◌, suc, zero, Bool, true, false, cond, ◌&&◌, Option, Some, None, List, [], ◌∷◌, ◌++◌, length, get_or, take, refl, ap, sym, ◌∙◌, subst, arith}
+use Rattle.std.proofs.Common.{◌≡◌, ℕ, ◌+◌, ◌≤◌, suc, zero, Bool, true, false, cond, ◌&&◌, Option, Some, None, List, [], ◌∷◌, ◌++◌, length, get_or, take, refl, ap, sym, subst, arith}
 use Rattle.std.specs.Prelude.{ℤ, IfOk, Result, Ok, Err, count_by, filter, find, not, ok_or, if◌then◌else◌}
 use Rattle.std.specs.List.{All, list_any, zip}
 use Rattle.std.specs.Option.{option_map_or}

@@ -1,5 +1,5 @@
 -- What is kept of the events that were told, so that later ones share it.
-use Rattle.std.specs.Prelude.{◌≡◌, ℕ, List, Option, Some, None, IfSome, option_map}
+use Rattle.std.specs.Prelude.{◌≡◌, ℕ, List, Option, None, IfSome, option_map}
 use Rattle.std.specs.List.{AllByRecursion}
 use Rattle.std.specs.Option.{option_map_or}
 use Rattle.run_rules.specs.declared.event.Act.{Act}

@@ -1,4 +1,4 @@
-use Rattle.std.proofs.Common.{◌≡◌, ◌+◌, ◌∙◌, ℕ, List, length, ap, refl, sym, subst, Some}
+use Rattle.std.proofs.Common.{◌≡◌, ◌+◌, ◌∙◌, List, length, ap, refl, sym, subst, Some}
 use Rattle.cf_types.specs.declared.stmt.Token.{Token}
 use Rattle.cf_grammar.specs.Statement.{AreWithin}
 use Rattle.config_rules.specs.Reading.{Reading, Statement, holds, levels_behind, names_declared, read_statement, read_statements, reader, statements_in}

@@ -1,4 +1,4 @@
-use Rattle.std.proofs.Common.{◌≡◌, ◌∙◌, List, ℕ, None, ap}
+use Rattle.std.proofs.Common.{◌∙◌, List, ℕ, None, ap}
 use Rattle.run_rules.specs.declared.event.Act.TheVariants as act
 use Rattle.run_rules.specs.Run as run
 use Rattle.deed_event.proofs.RecentLaws.{parent_told}

@@ -1,11 +1,8 @@
-use Rattle.std.proofs.Common.{◌≡◌, ap, refl, subst, sym}
-use Rattle.std.specs.Prelude.{IfErr, IfOk, OnErr, OnOk}
+use Rattle.std.proofs.Common.{◌≡◌, ap, refl, subst}
+use Rattle.std.specs.Prelude.{IfOk, OnErr}
 use Rattle.run_world.specs.declared.parts.Core.{Core}
-use Rattle.run_world.specs.Sites.{world_at}
-use Rattle.deed_effect.specs.Agreement.{slots_of}
 use Rattle.dev_board.specs.Performing.{TellsDeed}
 use Rattle.dev_board.specs.KeptCore.{shown_at}
-use Rattle.deed_effect.specs.SlotDeeds.{HaltIs}
 use Rattle.dev_board.proofs.Kept.{books_told, kept_told, on_ok, performed_told, room_told}
 use Rattle.dev_board.proofs.step.perform.Goals as goal
 

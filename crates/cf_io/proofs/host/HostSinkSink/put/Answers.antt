@@ -1,4 +1,4 @@
-use Rattle.std.proofs.Common.{rules, ◌≡◌, ◌<◌, take, refl, arith}
+use Rattle.std.proofs.Common.{rules, take}
 use Rattle.cf_io.proofs.GrowsLemmas.{grows_untold}
 use Rattle.cf_io.proofs.host.HostSinkSink.put.Goals as goal
 
