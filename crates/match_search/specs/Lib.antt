@@ -3,3 +3,4 @@ pub mod Index
 pub use Rattle.run_rules.specs.Search
 pub mod Own
 pub mod Found
+pub mod Heads

@@ -4,9 +4,11 @@ ghost use Rattle.std.specs.List.{slice_index_or};
 ghost use Rattle.cf_types.specs.Locators.{submatch};
 ghost use Rattle.run_rules.specs.World as world;
 ghost use Rattle.match_search.specs.Found.{locators_in};
+ghost use Rattle.match_search.specs.Heads.{first_locator, head_of};
 ghost use Rattle.match_search.specs.Index.{AreBestFirst, AreValuesAt, IsIndexOf, candidates};
 
 use crate::fits::{attr_at, found_or, passes, same_place};
+use crate::heads::{FirstLocator, RowHead, could_pass, first_locator, heads_of};
 use crate::own::own_lines;
 use crate::values::{set_values, value_of, values_at};
 use cf_types::{Attr, Locs, Machine, Memory, Place, Row, Tables};
@@ -36,32 +38,51 @@ struct Candidate {
     row: u16,
 }
 
-/// Whether a row of this match value suits a place with the locators of this attribute, where these values are found.
-fn is_suited(place: Place, attr: Option<&Attr>, found: &Locs, row: &Row, value: u32) -> bool
+/// Whether a row of this match value suits a place with the locators of this attribute, where these values are found. What
+/// is looked at first tells most rows that do not.
+#[inline(always)]
+fn is_suited(
+    place: Place,
+    attr: Option<&Attr>,
+    first: Option<FirstLocator>,
+    found: &Locs,
+    head: &RowHead,
+    row: &Row,
+    value: u32,
+) -> bool
+    requires head { head.now ≡ head_of row.now }
+    requires first { first ≡ first_locator (locators_in attr) found.now }
     ensures { result ≡ (world.same_place row.now.place place && nat_lt 0 value && submatch (locators_in attr.entry) row.now.locs found.now) }
 {
-    same_place(row.place, place) && 0 < value && passes(attr, row, found)
+    same_place(head.place, place)
+        && 0 < value
+        && could_pass(first, head.first)
+        && passes(attr, row, found)
 }
 
 /// The rows that suit a spot at a place, in their order.
 fn suiting_rows(
     tables: &Tables,
+    heads: &Vec<RowHead>,
     machine: &Machine,
     values: &Vec<u32>,
     place: Place,
     spot: u16,
 ) -> Result<Vec<Candidate>, Memory>
     requires few { length tables.now.rows ≤ 65536 }
+    requires heads { heads.now.items ≡ map head_of tables.now.rows }
     requires values { AreValuesAt machine.now spot values.now.items }
     ensures { IfOk result (λ list. list.items ≡ candidates tables.now machine.now place spot (length tables.now.rows)) }
 {
     let none = Locs::make();
     let attr = attr_at(tables, place);
     let found = found_or(machine, spot, &none);
+    let first = first_locator(attr, found);
     let mut list = Vec::new(*values.allocator());
     for (number, row) in tables.rows.items().iter().enumerate() {
-        let value = value_of(values, row.attach);
-        if is_suited(place, attr, found, row, value) {
+        let head = &heads[number];
+        let value = value_of(values, head.attach);
+        if is_suited(place, attr, first, found, head, row, value) {
             list.push(Candidate {
                 value: Reverse(value),
                 row: number as u16,
@@ -85,16 +106,18 @@ fn rows_of(list: &Vec<Candidate>) -> Result<Vec<u16>, Memory>
 /// The rows that suit a spot at a place, the best first.
 fn best_first(
     tables: &Tables,
+    heads: &Vec<RowHead>,
     machine: &Machine,
     values: &Vec<u32>,
     place: Place,
     spot: u16,
 ) -> Result<Vec<u16>, Memory>
     requires few { length tables.now.rows ≤ 65536 }
+    requires heads { heads.now.items ≡ map head_of tables.now.rows }
     requires values { AreValuesAt machine.now spot values.now.items }
     ensures { IfOk result (λ rows. AreBestFirst tables.now machine.now place spot rows.items) }
 {
-    let mut list = suiting_rows(tables, machine, values, place, spot)?;
+    let mut list = suiting_rows(tables, heads, machine, values, place, spot)?;
     list.sort()?;
     rows_of(&list)
 }
@@ -106,13 +129,14 @@ impl RowIndex {
         requires few_spots { length machine.now.spots ≤ 65536 }
         ensures { IfOk result (IsIndexOf tables.now machine.now) }
     {
+        let heads = heads_of(alloc, tables.rows.items())?;
         let mut everywhere = Vec::new(alloc);
         set_values(&mut everywhere, machine.matches.items(), None)?;
         let own = own_lines(alloc, machine.spots.items(), machine.matches.items())?;
         let mut lists = Vec::with_capacity(alloc, machine.spots.len())?;
         for (number, spot) in machine.spots.items().iter().enumerate() {
             let values = values_at(&everywhere, machine, &own[number], number as u16)?;
-            let rows = best_first(tables, machine, &values, spot.place, number as u16)?;
+            let rows = best_first(tables, &heads, machine, &values, spot.place, number as u16)?;
             lists.push(rows)?;
         }
         Ok(RowIndex { lists })

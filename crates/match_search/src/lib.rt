@@ -3,6 +3,7 @@
 
 mod choice;
 mod fits;
+mod heads;
 mod index;
 mod live;
 mod own;
