@@ -10,13 +10,10 @@ ghost use Rattle.cf_declare.specs.Graphs.{LocatorsFit, placed_at};
 
 use crate::spot::noted_place;
 use attr_graph::Graph;
-use cf_names::Catalog;
+use cf_names::{Catalog, MAX_SCANNED};
 use cf_types::code::configuration as code;
 use cf_types::{AtSpec, AttachPlace, GivenLoc, Joined, Locs, Name, ParentSpec, Place, Target};
 use locator_rules::fill;
-
-/// How many attachments of a device, and how many places of each, are gone over.
-const MAX_SCANNED: usize = 8;
 
 /// An attribute that an instance attaches to: unknown, no interface attribute, or written with a unit.
 fn attr_target(declared: &Catalog, name: &Name, unit: Option<u32>) -> Result<Target, u8>
@@ -158,8 +155,8 @@ fn are_few(declared: &Catalog, numbers: &[usize]) -> bool
     true
 }
 
-/// The first of these attachments of a device, with its first place, that suits: among few by going over them, and else
-/// by what is noted of each place.
+/// The first of these attachments of a device, with its first place, that suits: by what is noted of each place, and
+/// among few by going over them.
 fn fitting_place(
     declared: &Catalog,
     graph: &Graph,
@@ -173,10 +170,13 @@ fn fitting_place(
     requires within { All (λ n. n < length declared.now.attaches) numbers.now }
     ensures { result ≡ find (λ s. suits declared.now target s.place) (spots_of declared.now device) }
 {
+    let Some(spots) = declared.noted_spots() else {
+        return attach_place(declared, graph, target, device, numbers);
+    };
     if are_few(declared, numbers) {
         return attach_place(declared, graph, target, device, numbers);
     }
-    noted_place(declared, graph, target, device)
+    noted_place(declared, graph, spots, target, device)
 }
 
 /// The locator values of an instance at a place.

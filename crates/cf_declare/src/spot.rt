@@ -1,13 +1,13 @@
 //! The first spot of a device that suits an instance, by the first spots of the device at each place.
-ghost use Rattle.std.specs.Prelude.{◌≡◌, ◌==◌, ◌&&◌, find, option_map};
+ghost use Rattle.std.specs.Prelude.{◌≡◌, ◌==◌, ◌&&◌, List, find, option_map};
 ghost use Rattle.attr_graph.specs.Graphs.{IsGraphOf};
-ghost use Rattle.cf_names.specs.Spots.{all_spots, first_spot};
+ghost use Rattle.cf_names.specs.Spots.{AreSpots, Spot, all_spots, first_spot};
 ghost use Rattle.cf_types.specs.Offers.{interfaces};
 ghost use Rattle.config_rules.specs.Joined.{spots_of, suits};
 ghost use Rattle.cf_declare.specs.FirstSpots.{earlier, offered, place_of};
 
 use attr_graph::Graph;
-use cf_names::{Catalog, FirstSpot, SpotKey};
+use cf_names::{Catalog, FirstSpot, SpotKey, Spots};
 use cf_types::{AttachPlace, Place, Target};
 
 /// The one of two spots before which fewer stand.
@@ -37,8 +37,8 @@ fn interfaces_of<'a>(declared: &Catalog, graph: &'a Graph, device: u32) -> &'a [
 }
 
 /// The first spot of a device at one of these attributes.
-fn first_offered(declared: &Catalog, device: u32, attrs: &[u32]) -> Option<FirstSpot>
-    ensures { result ≡ first_spot (λ s. (s.key.device == device) && offered attrs.now s.key.place) (all_spots declared.now.attaches) }
+fn first_offered(spots: &Spots, device: u32, attrs: &[u32]) -> Option<FirstSpot>
+    ensures { (all : List Spot) → AreSpots spots.now all → result ≡ first_spot (λ s. (s.key.device == device) && offered attrs.now s.key.place) all }
 {
     let mut first = None;
     for &attr in attrs {
@@ -46,7 +46,7 @@ fn first_offered(declared: &Catalog, device: u32, attrs: &[u32]) -> Option<First
             device,
             place: Place::At(attr),
         };
-        first = earlier(first, declared.first_spot(key));
+        first = earlier(first, spots.first_at(key));
     }
     first
 }
@@ -55,27 +55,25 @@ fn first_offered(declared: &Catalog, device: u32, attrs: &[u32]) -> Option<First
 fn first_suiting(
     declared: &Catalog,
     graph: &Graph,
+    spots: &Spots,
     target: Target,
     device: u32,
 ) -> Option<FirstSpot>
-    requires { IsGraphOf declared.now graph.now }
+    requires graph { IsGraphOf declared.now graph.now }
+    requires spots { AreSpots spots.now (all_spots declared.now.attaches) }
     ensures { result ≡ first_spot (λ s. (s.key.device == device) && suits declared.now target s.key.place) (all_spots declared.now.attaches) }
 {
     match target {
-        Target::AtRoot => declared.first_spot(SpotKey {
+        Target::AtRoot => spots.first_at(SpotKey {
             device,
             place: Place::Root,
         }),
-        Target::On(attr) => declared.first_spot(SpotKey {
+        Target::On(attr) => spots.first_at(SpotKey {
             device,
             place: Place::At(attr),
         }),
         Target::Below(parent) => {
-            first_offered(
-                declared,
-                device,
-                interfaces_of(declared, graph, parent.device),
-            )
+            first_offered(spots, device, interfaces_of(declared, graph, parent.device))
         }
     }
 }
@@ -84,13 +82,15 @@ fn first_suiting(
 pub fn noted_place(
     declared: &Catalog,
     graph: &Graph,
+    spots: &Spots,
     target: Target,
     device: u32,
 ) -> Option<AttachPlace>
-    requires { IsGraphOf declared.now graph.now }
+    requires graph { IsGraphOf declared.now graph.now }
+    requires spots { AreSpots spots.now (all_spots declared.now.attaches) }
     ensures { result ≡ find (λ s. suits declared.now target s.place) (spots_of declared.now device) }
 {
-    match first_suiting(declared, graph, target, device) {
+    match first_suiting(declared, graph, spots, target, device) {
         Some(spot) => Some(AttachPlace {
             attach: spot.attach,
             place: spot.place,

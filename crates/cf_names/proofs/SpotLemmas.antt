@@ -1,11 +1,11 @@
 -- The first spots, with one more.
-use Rattle.std.proofs.Common.{◌≡◌, ℕ, ◌+◌, ◌&&◌, suc, Bool, true, false, cond, Option, Some, None, List, [], ◌∷◌, ◌++◌, length, map, refl, ap, sym, ◌∙◌, arith, append_assoc}
+use Rattle.std.proofs.Common.{◌≡◌, ℕ, ◌+◌, ◌<◌, ◌&&◌, suc, Bool, true, false, cond, Option, Some, None, List, [], ◌∷◌, ◌++◌, length, map, take, get_or, refl, ap, sym, subst, ◌∙◌, arith, append_assoc}
 use Rattle.std.specs.Prelude.{◌==◌, find, flat_map, option_map}
 use Rattle.std.specs.HashMap.{get}
 use Rattle.std.specs.List.{enumerate_from}
 use Rattle.std.specs.Option.{unwrap_or}
 use Rattle.std.proofs.lemmas.Bool.{eqb-true}
-use Rattle.std.proofs.lemmas.List.{append-nil, length-append}
+use Rattle.std.proofs.lemmas.List.{append-nil, length-append, length-take-le, take_more}
 use Rattle.cf_types.specs.contracts.tables.PlacePartialEq.TheImpl as place_block
 use Rattle.cf_types.specs.declared.tables.Attach.{Attach}
 use Rattle.cf_types.specs.declared.tables.Place.{Place}
@@ -103,3 +103,16 @@ spots_from n m (x ∷ attaches) a e =
 -- the spots with those of one more attachment
 pub all_spots_push : (attaches : List Attach) (a : Attach) → all_spots (attaches ++ a ∷ []) ≡ all_spots attaches ++ map (spot_at a.device (length attaches)) a.places
 all_spots_push attaches a = spots_from 0 (length attaches) attaches a (omega arith)
+
+-- the noted spots with those of one more attachment
+pub spots_attached : (attaches : List Attach) (a : Attach) (n : ℕ) (new : Spots) → n ≡ length attaches → AreSpots new (all_spots attaches ++ spots_at (n, a)) → AreSpots new (all_spots (attaches ++ a ∷ []))
+spots_attached attaches a n new e are =
+    subst (AreSpots new) (ap (λ (k : ℕ). all_spots attaches ++ map (spot_at a.device k) a.places) e ∙ sym (all_spots_push attaches a)) are
+
+-- the noted spots of the first attachments, with those of the next
+pub spots_taken : (attaches : List Attach) (i : ℕ) (a : Attach) (new : Spots) → i < length attaches → a ≡ get_or attaches i a
+    → AreSpots new (all_spots (take i attaches) ++ spots_at (i, a)) → AreSpots new (all_spots (take (i + 1) attaches))
+spots_taken attaches i a new h is are =
+    let size : length (take i attaches) ≡ i = length-take-le i attaches (omega (arith, h)) in
+    subst (λ (xs : List Attach). AreSpots new (all_spots xs)) (sym (take_more attaches i a h ∙ ap (λ (x : Attach). take i attaches ++ x ∷ []) (sym is)))
+    (spots_attached (take i attaches) a i new (sym size) are)

@@ -1,5 +1,5 @@
 -- What is kept beside the lists of what is declared.
-use Rattle.std.specs.Prelude.{◌++◌, ◌∷◌, [], map}
+use Rattle.std.specs.Prelude.{◌++◌, ◌∷◌, [], map, IfSome}
 use Rattle.cf_types.specs.declared.declared.Declared.{Declared}
 use Rattle.cf_types.specs.declared.tables.Attach.{Attach}
 use Rattle.cf_types.specs.declared.tables.Attr.{Attr}
@@ -9,13 +9,13 @@ use Rattle.cf_names.specs.Attaches.{AreOfDevices}
 use Rattle.cf_names.specs.Numbers.{AreNumbers}
 use Rattle.cf_names.specs.Spots.{AreSpots, all_spots}
 
--- the numbers of all names, and of the attachments of all devices, and their first spots
+-- the numbers of all names, and of the attachments of all devices, and their first spots where these are noted
 pub record IsIndexOf (d : Declared) (index : Index) : Type 0 where
   pub of_attrs : AreNumbers index.attrs (map (λ a. a.name) d.attrs)
   pub of_device_names : AreNumbers index.devices (map (λ x. x.name) d.devices)
   pub of_attach_names : AreNumbers index.attaches (map (λ a. a.name) d.attaches)
   pub of_attaches : AreOfDevices index.of_devices.items d.attaches
-  pub of_spots : AreSpots index.spots (all_spots d.attaches)
+  pub of_spots : IfSome index.spots (λ spots. AreSpots spots (all_spots d.attaches))
 
 -- one more attribute, device or attachment is declared
 abbrev pub with_attr : Declared → Attr → Declared

@@ -2,12 +2,12 @@ ghost use Rattle.std.specs.Prelude.{◌≡◌, [], ◌∷◌, ◌++◌, ◌<◌,
 ghost use Rattle.config_rules.specs.Declared.{attr_number, device_number, has_attach};
 ghost use Rattle.cf_names.specs.Attaches.{attaches_of};
 ghost use Rattle.cf_names.specs.Indexed.{IsIndexOf, with_attach, with_attr, with_device};
-ghost use Rattle.cf_names.specs.Spots.{all_spots, first_spot, is_at};
+ghost use Rattle.cf_names.specs.Spots.{AreSpots, all_spots};
 
 use crate::hash::{HashKey, NameHash};
-use crate::index::{Index, Room, add_number};
+use crate::index::{Index, Room, add_number, are_many};
 use crate::numbers::{add_name, number_in};
-use crate::spots::{FirstSpot, SpotKey};
+use crate::spots::{Spots, note_spots};
 use cf_types::{Attach, Attr, Declared, Device, List, Memory, Name};
 use std::alloc::Global;
 use std::marker::Model;
@@ -78,12 +78,9 @@ fn note_attach(
     let number = lists.attaches.len();
     add_name(&mut index.attaches, &attach.name, number)?;
     add_number(alloc, &mut index.of_devices, attach.device, number)?;
-    let Ok(short) = u32::try_from(number) else {
-        return Err(Memory);
-    };
-    index
-        .spots
-        .add(attach.device, attach.places.items(), short)?;
+    let many = are_many(&index.of_devices, attach);
+    let attaches = lists.attaches.items();
+    note_spots(alloc, &mut index.spots, attaches, attach, many)?;
     Ok(())
 }
 
@@ -209,11 +206,11 @@ impl Catalog {
         }
     }
 
-    /// The first spot of a device at a place, in the order of attachments, then of places.
-    pub fn first_spot(&self, key: SpotKey) -> Option<FirstSpot>
-        ensures { result ≡ first_spot (is_at key) (all_spots self.now.attaches) }
+    /// The first spots of devices at places. Without them no device has many attachments, and no attachment many places.
+    pub fn noted_spots(&self) -> Option<&Spots>
+        ensures { IfSome result (λ spots. AreSpots spots.now (all_spots self.now.attaches)) }
     {
-        self.index.spots.first.get(&key).copied()
+        self.index.spots.as_ref()
     }
 
     /// Adds an attribute. Where memory runs out, nothing is declared any more.

@@ -1,21 +1,46 @@
 ghost use Rattle.std.specs.Prelude.{◌≡◌, ℕ, List, [], ◌++◌};
 ghost use Rattle.cf_names.specs.Hash.{Holds, hash_of, line_of};
 
-use sha2::{Digest, Sha256};
-use std::hash::{BuildHasher, DefaultHasher, Hasher};
+use sha2::{Digest, Sha512};
+use std::hash::{BuildHasher, FoldHasher, Hasher};
+
+/// Hashes a name by two rounds of multiplication, each with a secret of its own.
+#[derive(Clone, Copy)]
+pub struct NameHasher {
+    round: FoldHasher,
+    last: FoldHasher,
+}
+
+impl Hasher for NameHasher {
+    ghost use Rattle.cf_names.specs.Hash.{finish, write};
+
+    ghost write = { write };
+
+    ghost finish = { finish };
+
+    fn write(&mut self, bytes: &[u8]) {
+        self.round.write(bytes);
+    }
+
+    fn finish(&self) -> u64 {
+        let mut last = self.last;
+        last.write_u64(self.round.finish());
+        last.finish()
+    }
+}
 
 /// Hashes names by a key that follows from all names at once, so that nobody can choose names by their hashes.
 #[derive(Clone, Copy)]
 pub struct NameHash {
-    keyed: DefaultHasher,
+    keyed: NameHasher,
 }
 
 impl BuildHasher for NameHash {
-    type Hasher = DefaultHasher;
+    type Hasher = NameHasher;
 
     ghost build_hasher = { λ hash. hash.keyed };
 
-    fn build_hasher(&self) -> DefaultHasher {
+    fn build_hasher(&self) -> NameHasher {
         self.keyed
     }
 }
@@ -23,7 +48,7 @@ impl BuildHasher for NameHash {
 /// Takes the names that are to be hashed, and makes the key of their hash. It takes no memory and never fails.
 #[derive(Drop)]
 pub struct HashKey {
-    digest: Sha256,
+    digest: Sha512,
 }
 
 impl HashKey {
@@ -32,7 +57,7 @@ impl HashKey {
         ensures { Holds result [] }
     {
         HashKey {
-            digest: Sha256::new(),
+            digest: Sha512::new(),
         }
     }
 
@@ -49,8 +74,13 @@ impl HashKey {
         ensures { (taken : List ℕ) → Holds self taken → result ≡ hash_of taken }
     {
         let HashKey { digest } = self;
-        let mut keyed = DefaultHasher::new();
-        keyed.write(&digest.finalize());
-        NameHash { keyed }
+        let key = digest.finalize();
+        let mut round = FoldHasher::default();
+        round.write(&key);
+        let mut last = round;
+        last.write(&key);
+        NameHash {
+            keyed: NameHasher { round, last },
+        }
     }
 }

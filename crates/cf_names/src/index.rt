@@ -1,28 +1,29 @@
-ghost use Rattle.std.specs.Prelude.{◌≡◌, ◌==◌, ◌<◌, ℕ, [], ◌∷◌, ◌++◌, OnOk, length, if◌then◌else◌};
+ghost use Rattle.std.specs.Prelude.{◌≡◌, ◌==◌, ◌<◌, ℕ, [], ◌∷◌, ◌++◌, IfSome, OnOk, length, if◌then◌else◌};
 ghost use Rattle.cf_types.specs.declared.declared.Declared.{Declared};
 ghost use Rattle.cf_names.specs.Attaches.{numbers_at};
 ghost use Rattle.cf_names.specs.Indexed.{IsIndexOf};
 ghost use Rattle.cf_names.specs.Numbers.{AreNumbers};
 ghost use Rattle.cf_names.specs.Spots.{AreSpots};
 
+use crate::attached::Attached;
 use crate::hash::NameHash;
 use crate::numbers::{Numbers, no_numbers, reserve_names};
-use crate::spots::Spots;
-use cf_types::{List, Memory};
+use crate::spots::{MAX_SCANNED, Spots};
+use cf_types::{Attach, Memory};
 use std::alloc::Global;
 
 /// Of each device the numbers of its attachments, in order, up to the last device that has one.
-pub type OfDevices = Vec<List<usize>>;
+pub type OfDevices = Vec<Attached>;
 
 /// The numbers of attributes, devices and attachments by name, and those of the attachments by device; and of each device
-/// the first spot at each place.
+/// the first spot at each place, once a device has many attachments, or an attachment many places.
 #[derive(Drop)]
 pub struct Index {
     pub attrs: Numbers,
     pub devices: Numbers,
     pub attaches: Numbers,
     pub of_devices: OfDevices,
-    pub spots: Spots,
+    pub spots: Option<Spots>,
 }
 
 /// How many attributes, devices and attachments there is to be room for.
@@ -40,7 +41,9 @@ impl Index {
     {
         reserve_names(&mut self.attrs, more.attrs)?;
         reserve_names(&mut self.devices, more.devices)?;
-        reserve_names(&mut self.attaches, more.attaches)
+        reserve_names(&mut self.attaches, more.attaches)?;
+        self.of_devices.reserve(more.devices)?;
+        Ok(())
     }
 
     /// No number.
@@ -49,14 +52,14 @@ impl Index {
         ensures devices { AreNumbers result.devices [] }
         ensures attaches { AreNumbers result.attaches [] }
         ensures of_devices { result.of_devices.items ≡ [] }
-        ensures spots { AreSpots result.spots [] }
+        ensures spots { IfSome result.spots (λ spots. AreSpots spots []) }
     {
         Index {
             attrs: no_numbers(alloc, hash),
             devices: no_numbers(alloc, hash),
             attaches: no_numbers(alloc, hash),
             of_devices: Vec::new(alloc),
-            spots: Spots::make(alloc),
+            spots: None,
         }
     }
 }
@@ -67,7 +70,7 @@ fn make_room(alloc: Global, of_devices: &mut OfDevices, device: usize) -> Result
     ensures same { OnOk result ((q : ℕ) → numbers_at of_devices.new.items q ≡ numbers_at of_devices.old.items q) }
 {
     while of_devices.len() <= device {
-        of_devices.push(List::make(alloc))?;
+        of_devices.push(Attached::make(alloc))?;
     }
     Ok(())
 }
@@ -84,4 +87,15 @@ pub fn add_number(
     make_room(alloc, of_devices, device as usize)?;
     let numbers = &mut of_devices[device as usize];
     numbers.push(number)
+}
+
+/// Whether the device of an attachment has many, or the attachment many places.
+pub fn are_many(of_devices: &OfDevices, attach: &Attach) -> bool {
+    if attach.places.len() > MAX_SCANNED {
+        return true;
+    }
+    match of_devices.get(attach.device as usize) {
+        Some(attached) => attached.items().len() > MAX_SCANNED,
+        None => false,
+    }
 }

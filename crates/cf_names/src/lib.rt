@@ -1,6 +1,7 @@
 //! What is declared, with look-ups by name and by device that take no scan.
 #![tactic(auto)]
 
+mod attached;
 mod catalog;
 mod hash;
 mod index;
@@ -11,4 +12,4 @@ pub use catalog::Catalog;
 pub use hash::{HashKey, NameHash};
 pub use index::Room;
 pub use numbers::{Numbers, add_name, no_numbers, number_in};
-pub use spots::{FirstSpot, SpotKey};
+pub use spots::{FirstSpot, MAX_SCANNED, SpotKey, Spots};

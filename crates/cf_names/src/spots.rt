@@ -1,13 +1,16 @@
-//! Of each device the first of its spots at each place, so that no look-up goes over its attachments.
-ghost use Rattle.std.specs.Prelude.{◌≡◌, ◌+◌, [], ◌++◌, ◌∷◌, List, Some, if◌then◌else◌, map, OnOk};
+//! Of each device the first of its spots at each place, so that no look-up goes over many attachments or places.
+ghost use Rattle.std.specs.Prelude.{◌≡◌, ◌+◌, [], ◌++◌, ◌∷◌, List, Some, if◌then◌else◌, map, IfOk, IfSome, OnOk};
 ghost use Rattle.std.specs.HashMap.{get};
 ghost use Rattle.std.specs.Option.{unwrap_or};
-ghost use Rattle.cf_names.specs.Spots.{AreSpots, Spot, spot_at};
+ghost use Rattle.cf_names.specs.Spots.{AreSpots, Spot, all_spots, first_spot, is_at, spot_at, spots_at};
 ghost use Rattle.cf_names.specs.contracts.spots.SpotKeyPartialEq.TheImpl as block;
 
-use cf_types::{Memory, Place};
+use cf_types::{Attach, Memory, Place};
 use std::alloc::Global;
 use std::collections::HashMap;
+
+/// How many attachments of a device, and how many places of each, are gone over where one is looked for.
+pub const MAX_SCANNED: usize = 8;
 
 /// A device with a place of one of its attachments.
 #[derive(Clone, Copy, PartialEq, Eq, Hash)]
@@ -81,4 +84,76 @@ impl Spots {
         }
         Ok(())
     }
+    /// Adds the spots of an attachment, which has this number.
+    pub fn add_attach(&mut self, attach: &Attach, number: usize) -> Result<(), Memory>
+        ensures { OnOk result ((all : List Spot) → AreSpots self.old all → AreSpots self.new (all ++ spots_at (number, attach.now))) }
+    {
+        let Ok(short) = u32::try_from(number) else {
+            return Err(Memory);
+        };
+        self.add(attach.device, attach.places.items(), short)
+    }
+
+    /// The spots of all these attachments.
+    pub fn of(alloc: Global, attaches: &[Attach]) -> Result<Spots, Memory>
+        ensures { IfOk result (λ spots. AreSpots spots (all_spots attaches.now)) }
+    {
+        let mut spots = Spots::make(alloc);
+        for (number, attach) in attaches.iter().enumerate() {
+            spots.add_attach(attach, number)?;
+        }
+        Ok(spots)
+    }
+
+    /// The first spot of a device at a place, in the order of attachments, then of places.
+    pub fn first_at(&self, key: SpotKey) -> Option<FirstSpot>
+        ensures { (all : List Spot) → AreSpots self.now all → result ≡ first_spot (is_at key) all }
+    {
+        self.first.get(&key).copied()
+    }
+}
+
+/// Notes the spots of these attachments, where there are many and none are noted.
+fn begin_noting(
+    alloc: Global,
+    noted: &mut Option<Spots>,
+    attaches: &[Attach],
+    many: bool,
+) -> Result<(), Memory>
+    requires { IfSome noted.old (λ spots. AreSpots spots (all_spots attaches.now)) }
+    ensures { OnOk result (IfSome noted.new (λ spots. AreSpots spots (all_spots attaches.now))) }
+{
+    if many && noted.is_none() {
+        *noted = Some(Spots::of(alloc, attaches)?);
+    }
+    Ok(())
+}
+
+/// Notes the spots of one more attachment, where those of these are noted.
+fn note_more(noted: &mut Option<Spots>, attaches: &[Attach], attach: &Attach) -> Result<(), Memory>
+    requires { IfSome noted.old (λ spots. AreSpots spots (all_spots attaches.now)) }
+    ensures { OnOk result (IfSome noted.new (λ spots. AreSpots spots (all_spots (attaches.now ++ attach.now ∷ [])))) }
+{
+    match noted {
+        Some(spots) => {
+            spots.add_attach(attach, attaches.len())?;
+            Ok(())
+        }
+        None => Ok(()),
+    }
+}
+
+/// Notes the spots of one more attachment behind those of these. Nothing is noted before there are many.
+pub fn note_spots(
+    alloc: Global,
+    noted: &mut Option<Spots>,
+    attaches: &[Attach],
+    attach: &Attach,
+    many: bool,
+) -> Result<(), Memory>
+    requires { IfSome noted.old (λ spots. AreSpots spots (all_spots attaches.now)) }
+    ensures { OnOk result (IfSome noted.new (λ spots. AreSpots spots (all_spots (attaches.now ++ attach.now ∷ [])))) }
+{
+    begin_noting(alloc, noted, attaches, many)?;
+    note_more(noted, attaches, attach)
 }

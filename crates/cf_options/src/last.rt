@@ -9,13 +9,13 @@ use std::alloc::Global;
 use std::collections::HashMap;
 
 /// For each name the place of the last negation that names it.
-pub type LastPlaces<'a> = HashMap<&'a [u8], usize>;
+pub type LastPlaces<'a> = HashMap<&'a Name, usize>;
 
 /// Notes that a name is negated at this place.
-fn note<'a>(last: &mut HashMap<&'a [u8], usize>, name: &'a Name, place: usize) -> Result<(), Memory>
+fn note<'a>(last: &mut HashMap<&'a Name, usize>, name: &'a Name, place: usize) -> Result<(), Memory>
     ensures { OnOk result ((q : List ℕ) → place_of last.new q ≡ (if bytes_eq name.now q then Some place else place_of last.old q)) }
 {
-    match last.insert(name.bytes(), place) {
+    match last.insert(name, place) {
         Ok(_) => Ok(()),
         Err(_) => Err(Memory),
     }
@@ -23,7 +23,7 @@ fn note<'a>(last: &mut HashMap<&'a [u8], usize>, name: &'a Name, place: usize) -
 
 /// Notes that these names are negated at this place.
 fn note_names<'a>(
-    last: &mut HashMap<&'a [u8], usize>,
+    last: &mut HashMap<&'a Name, usize>,
     names: &'a [Name],
     place: usize,
 ) -> Result<(), Memory>
@@ -37,7 +37,7 @@ fn note_names<'a>(
 
 /// Notes the names of a statement at this place, if it is a negation of this kind.
 fn note_statement<'a>(
-    last: &mut HashMap<&'a [u8], usize>,
+    last: &mut HashMap<&'a Name, usize>,
     kind: ItemKind,
     stmt: &'a Stmt,
     place: usize,
@@ -60,7 +60,7 @@ pub fn last_negations(
     alloc: Global,
     kind: ItemKind,
     placed: &[Placed],
-) -> Result<HashMap<&[u8], usize>, Memory>
+) -> Result<HashMap<&Name, usize>, Memory>
     ensures { IfOk result (λ last. (i : ℕ) (q : List ℕ) → is_dropped last i q ≡ list_any (λ p. drops kind q p.stmt) (drop (i + 1) placed.now)) }
 {
     let mut last = HashMap::new(alloc);
@@ -77,7 +77,7 @@ pub fn is_dropped(last: &LastPlaces, name: &Name, place: usize) -> bool
     if last.is_empty() {
         return false;
     }
-    match last.get(&name.bytes()) {
+    match last.get(&name) {
         Some(negation) => place < *negation,
         None => false,
     }

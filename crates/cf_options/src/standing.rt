@@ -11,10 +11,10 @@ use std::collections::HashMap;
 /// For each name whether an item of that name stands, by the kind of items.
 #[derive(Drop)]
 pub struct Flags<'a> {
-    pub options: HashMap<&'a [u8], bool>,
-    pub makeoptions: HashMap<&'a [u8], bool>,
-    pub pseudos: HashMap<&'a [u8], bool>,
-    pub file_systems: HashMap<&'a [u8], bool>,
+    pub options: HashMap<&'a Name, bool>,
+    pub makeoptions: HashMap<&'a Name, bool>,
+    pub pseudos: HashMap<&'a Name, bool>,
+    pub file_systems: HashMap<&'a Name, bool>,
 }
 
 /// Nothing stands.
@@ -30,10 +30,10 @@ pub fn nothing_stands<'a>(alloc: Global) -> Flags<'a>
 }
 
 /// Whether an item of this name stands.
-fn is_set(flags: &HashMap<&[u8], bool>, name: &Name) -> bool
+fn is_set(flags: &HashMap<&Name, bool>, name: &Name) -> bool
     ensures { result ≡ flag_of flags.now name.now }
 {
-    match flags.get(&name.bytes()) {
+    match flags.get(&name) {
         Some(stands) => *stands,
         None => false,
     }
@@ -52,10 +52,10 @@ pub fn stands(flags: &Flags, kind: ItemKind, name: &Name) -> bool
 }
 
 /// Notes whether an item of this name stands.
-fn set<'a>(flags: &mut HashMap<&'a [u8], bool>, name: &'a Name, stands: bool) -> Result<(), Memory>
+fn set<'a>(flags: &mut HashMap<&'a Name, bool>, name: &'a Name, stands: bool) -> Result<(), Memory>
     ensures { OnOk result ((q : List ℕ) → flag_of flags.new q ≡ (if bytes_eq name.now q then stands else flag_of flags.old q)) }
 {
-    match flags.insert(name.bytes(), stands) {
+    match flags.insert(name, stands) {
         Ok(_) => Ok(()),
         Err(_) => Err(Memory),
     }
@@ -63,7 +63,7 @@ fn set<'a>(flags: &mut HashMap<&'a [u8], bool>, name: &'a Name, stands: bool) ->
 
 /// Notes of these names whether an item stands.
 fn set_names<'a>(
-    flags: &mut HashMap<&'a [u8], bool>,
+    flags: &mut HashMap<&'a Name, bool>,
     names: &'a [Name],
     stands: bool,
 ) -> Result<(), Memory>
@@ -76,7 +76,7 @@ fn set_names<'a>(
 }
 
 /// Notes that these items stand.
-fn set_items<'a>(flags: &mut HashMap<&'a [u8], bool>, items: &'a [Item]) -> Result<(), Memory>
+fn set_items<'a>(flags: &mut HashMap<&'a Name, bool>, items: &'a [Item]) -> Result<(), Memory>
     ensures { OnOk result ((q : List ℕ) → flag_of flags.new q ≡ (if has_name (map (λ i. i.name) items.now) q then true else flag_of flags.old q)) }
 {
     for item in items {
@@ -87,7 +87,7 @@ fn set_items<'a>(flags: &mut HashMap<&'a [u8], bool>, items: &'a [Item]) -> Resu
 
 /// Notes the items of a negation, if it is one of this kind.
 fn take_back<'a>(
-    flags: &mut HashMap<&'a [u8], bool>,
+    flags: &mut HashMap<&'a Name, bool>,
     kind: ItemKind,
     other: ItemKind,
     names: &'a [Name],
@@ -102,7 +102,7 @@ fn take_back<'a>(
 
 /// Notes what a statement does to the items of one kind.
 fn note_kind<'a>(
-    flags: &mut HashMap<&'a [u8], bool>,
+    flags: &mut HashMap<&'a Name, bool>,
     kind: ItemKind,
     stmt: &'a Stmt,
 ) -> Result<(), Memory>

@@ -1,22 +1,16 @@
-use Rattle.std.proofs.Common.{◌≡◌, ℕ, List, ◌++◌, ◌∷◌, [], map, ap, sym, refl, subst, ◌∙◌, rules}
-use Rattle.std.specs.Prelude.{◌==◌, if◌then◌else◌}
+use Rattle.std.proofs.Common.{ℕ, List, ◌++◌, ◌∷◌, [], ap, sym, refl, subst, ◌∙◌}
+use Rattle.std.specs.Prelude.{◌==◌, if◌then◌else◌, IfSome}
 use Rattle.cf_types.specs.declared.tables.Attach.{Attach}
-use Rattle.cf_types.specs.declared.tables.Place.{Place}
 use Rattle.cf_names.specs.Attaches.{attaches_of}
-use Rattle.cf_names.specs.Spots.{AreSpots, all_spots, spot_at}
+use Rattle.cf_names.specs.Spots.{AreSpots, all_spots}
 use Rattle.cf_names.proofs.AttachLemmas.{attaches_push}
 use Rattle.cf_names.proofs.NumberLemmas.{numbers_push}
-use Rattle.cf_names.proofs.SpotLemmas.{all_spots_push}
 use Rattle.cf_names.proofs.catalog.note_attach.Goals as goal
 
 pub returns : goal.returns
 returns c =
     let attaches = c.args.lists.now.attaches in
     let attach = c.args.attach.now in
-    let spots : all_spots attaches ++ map (spot_at attach.device c.in-Ok.short) c.items.result.now ≡ all_spots (attaches ++ attach ∷ []) =
-    ap (λ (places : List Place). all_spots attaches ++ map (spot_at attach.device c.in-Ok.short) places) c.items.ensures
-    ∙ ap (λ (n : ℕ). all_spots attaches ++ map (spot_at attach.device n) attach.places) (search rules)
-    ∙ sym (all_spots_push attaches attach) in
     record {
       of_attrs = c.requires.of_attrs;
       of_device_names = c.requires.of_device_names;
@@ -27,5 +21,5 @@ returns c =
           ∙ ap (λ (numbers : List ℕ). numbers ++ (if attach.device == q then c.len-number.result ∷ [] else [])) (c.requires.of_attaches q)
           ∙ ap (λ (n : ℕ). attaches_of attaches q ++ (if attach.device == q then n ∷ [] else [])) c.len-number.ensures
           ∙ sym (attaches_push attaches attach q);
-      of_spots = subst (AreSpots c.add.new.self) spots (c.in_ok-add.ensures (all_spots attaches) c.requires.of_spots);
+      of_spots = subst (λ (xs : List Attach). IfSome c.note_spots.new.noted (λ spots. AreSpots spots (all_spots (xs ++ attach ∷ [])))) c.items-attaches.ensures c.in_ok-note_spots.ensures;
     }

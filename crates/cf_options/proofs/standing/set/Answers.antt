@@ -1,14 +1,12 @@
-use Rattle.std.proofs.Common.{◌∙◌, ℕ, Bool, Option, List, false, cond, ap}
+use Rattle.std.proofs.Common.{◌∙◌, Bool, Option, false, ap}
 use Rattle.std.specs.Prelude.{bytes_eq}
 use Rattle.std.specs.HashMap.{get_by}
 use Rattle.std.specs.Option.{unwrap_or}
 use Rattle.std.proofs.lemmas.Map.Text.{hash_map_updates_str}
-use Rattle.cf_options.specs.ItemFlags.{flag_of}
 use Rattle.cf_options.proofs.FlagLemmas.{unwrap_cond}
 use Rattle.cf_options.proofs.standing.set.Goals as goal
 
 pub returns-in-Ok : goal.returns-in-Ok
 returns-in-Ok c =
-    λ q. ap (λ (o : Option Bool). unwrap_or o false) (hash_map_updates_str c.bytes.result.now c.args.flags.now c.insert.new.self _ c.in-Ok.ensures.updates q)
-    ∙ unwrap_cond (bytes_eq c.bytes.result.now q) c.args.stands (get_by (λ k. bytes_eq q k.now) c.args.flags.now)
-    ∙ ap (λ (bs : List ℕ). cond (bytes_eq bs q) c.args.stands (flag_of c.args.flags.now q)) c.bytes.ensures.bytes
+    λ q. ap (λ (o : Option Bool). unwrap_or o false) (hash_map_updates_str c.args.name.now c.args.flags.now c.insert.new.self _ c.in-Ok.ensures.updates q)
+    ∙ unwrap_cond (bytes_eq c.args.name.now q) c.args.stands (get_by (λ k. bytes_eq q k.now) c.args.flags.now)
