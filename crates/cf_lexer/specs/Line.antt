@@ -1,5 +1,5 @@
 -- What becomes of a line, and of a text.
-use Rattle.std.specs.Prelude.{◌≡◌, ℕ, ◌+◌, ◌≤◌, length, drop, Bool, true, false, not, ◌&&◌, ◌==◌, List, [], ◌∷◌, ◌++◌, Option, Some, None, Result, Ok, Err}
+use Rattle.std.specs.Prelude.{◌≡◌, ℕ, ◌+◌, ◌-◌, ◌≤◌, length, take, drop, Bool, true, false, not, ◌&&◌, ◌==◌, List, [], ◌∷◌, ◌++◌, Option, Some, None, Result, Ok, Err}
 use Rattle.cf_types.specs.declared.stmt.Token.{Token}
 use Rattle.config_rules.specs.Cut.{Part, token, line_tokens, lines_of, parts_of, is_space, CutFault, ◌>>=◌}
 use Rattle.cf_lexer.specs.declared.front.Span.{Span}
@@ -52,6 +52,10 @@ GoesOn before line at rest (Ok len) after =
     (1 ≤ len) × (len ≤ length rest) × (with_line after line (at + len) (parts_of (drop len rest)) ≡ with_line before line at (parts_of rest))
 GoesOn before line at rest (Err (Fault l code)) after = (l ≡ line) × (with_line before line at (parts_of rest) ≡ Err code)
 GoesOn before line at rest (Err Memory) after = Unit {0}
+
+-- the bytes of a text behind the one at a place
+abbrev pub bytes_behind : List ℕ → ℕ → List ℕ
+bytes_behind text place = take (length text - (place + 1)) (drop (place + 1) text)
 
 -- what becomes of a part by its first byte and the bytes of the text behind it; a newline is none
 abbrev pub PartGoes : List Token → ℕ → ℕ → ℕ → List ℕ → Result (Option ℕ) LexStop → List Token → Type 0

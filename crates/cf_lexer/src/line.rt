@@ -1,6 +1,6 @@
-ghost use Rattle.std.specs.Prelude.{◌≡◌, ◌+◌, ◌<◌, ◌≤◌, ◌∷◌, [], ◌++◌, ◌^◌, true, drop, length, IfOk, IfSome, OnOk};
+ghost use Rattle.std.specs.Prelude.{◌≡◌, ◌+◌, ◌<◌, ◌≤◌, ◌∷◌, [], ◌++◌, ◌^◌, true, drop, length, slice_index, IfOk, IfSome, OnOk};
 ghost use Rattle.config_rules.specs.Cut.{is_chunk_byte, parts_of};
-ghost use Rattle.cf_lexer.specs.Line.{GoesOn, Leaves, PartGoes, first_of, lines_from, rest_of, span_tokens, with_line};
+ghost use Rattle.cf_lexer.specs.Line.{GoesOn, Leaves, PartGoes, bytes_behind, first_of, lines_from, rest_of, span_tokens, with_line};
 
 use crate::front::{Span, chunk_len, front_part, is_blank_byte, is_chunk_byte, is_mark_byte};
 use cf_types::{Memory as NoMemory, Token, TokenKind};
@@ -148,21 +148,22 @@ fn push_other(
     Ok(1)
 }
 
-/// Appends the token of the part that begins with this byte, if it has one, and tells how long the part is; `None` for a
+/// Appends the token of the part of a text that begins there, if it has one, and tells how long the part is; `None` for a
 /// newline, which is no part of a line.
 #[inline(always)]
 fn push_part(
     tokens: &mut Vec<Token>,
     line: u32,
-    at: u32,
-    first: u8,
-    more: &[u8],
+    text: &[u8],
+    place: usize,
 ) -> Result<Option<usize>, LexStop>
-    requires { at + length more.now + 1 < 2 ^ 32 }
-    ensures { PartGoes tokens.old.items line at first more.now result tokens.new.items }
+    requires within { place < length text.now }
+    requires short { length text.now ≤ 1048576 }
+    ensures { PartGoes tokens.old.items line place (slice_index text.now place) (bytes_behind text.now place) result tokens.new.items }
 {
+    let first = text[place];
     if is_chunk_byte(first) {
-        return match push_chunk(tokens, line, at, first, more) {
+        return match push_chunk(tokens, line, place as u32, first, &text[place + 1..]) {
             Ok(len) => Ok(Some(len)),
             Err(stop) => Err(stop),
         };
@@ -173,7 +174,7 @@ fn push_part(
     if first == b'\n' {
         return Ok(None);
     }
-    match push_other(tokens, line, at, first, more) {
+    match push_other(tokens, line, place as u32, first, &text[place + 1..]) {
         Ok(len) => Ok(Some(len)),
         Err(stop) => Err(stop),
     }
@@ -195,7 +196,7 @@ pub fn cut_line(
 {
     let mut place = start;
     while place < text.len() {
-        match push_part(tokens, line, place as u32, text[place], &text[place + 1..]) {
+        match push_part(tokens, line, text, place) {
             Ok(Some(len)) => place += len,
             Ok(None) => return Ok(Some(place + 1)),
             Err(stop) => return Err(stop),

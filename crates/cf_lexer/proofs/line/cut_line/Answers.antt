@@ -3,8 +3,8 @@ use Rattle.cf_lexer.specs.Line.{head_line}
 use Rattle.cf_lexer.proofs.PlaceLemmas.{Further, at_here, goes_further, line_done, newline_here, part_is, text_done}
 use Rattle.cf_lexer.proofs.line.cut_line.Goals as goal
 
-pub overflow_add-place-in-Ok-Some : goal.overflow_add-place-in-Ok-Some
-overflow_add-place-in-Ok-Some c =
+pub overflow_add-place : goal.overflow_add-place
+overflow_add-place c =
     let lt : c.loop-place.place < length c.args.text.now = omega (arith, c.loop-place-test.true) in
     let goes = part_is c.loop-place.tokens.items c.push_part.new.tokens.items c.args.line c.loop-place.place (get_or c.args.text.now c.loop-place.place 0)
     (take (length c.args.text.now - (c.loop-place.place + 1)) (drop (c.loop-place.place + 1) c.args.text.now)) c.in-Ok-Some.field-0 (Some c.in-Ok-Some.len) c.in-Ok-Some.field-0-is c.in-Ok-Some.ensures in
