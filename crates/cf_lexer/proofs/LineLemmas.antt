@@ -1,12 +1,17 @@
-use Rattle.std.proofs.Common.{◌≡◌, ℕ, ◌+◌, ◌<◌, List, [], ◌∷◌, ◌++◌, length, take, drop, ◌-◌, refl, ap, sym, ◌∙◌, arith, Result, Ok, Err, append_assoc, append-nil, length-append, length-drop}
-use Rattle.std.proofs.lemmas.List.{take_all}
+use Rattle.std.proofs.Common.{◌≡◌, ℕ, ◌+◌, ◌<◌, true, Some, None, List, [], ◌∷◌, ◌++◌, length, drop, refl, ap, sym, ◌∙◌, arith, Result, Ok, Err, append_assoc, append-nil, length-append}
+use Rattle.std.specs.Prelude.{◌==◌, take_while}
+use Rattle.std.specs.List.{prefix_len}
+use Rattle.std.proofs.lemmas.List.Sums.{prefix_len-le-length}
 use Rattle.cf_types.specs.declared.stmt.Token.{Token}
 use Rattle.cf_types.specs.declared.stmt.TokenKind.{TokenKind}
-use Rattle.config_rules.specs.Cut.{Part, Space, Comment, Quoted, Chunk, Mark, spelling, first_part, parts_within, parts_of, part_tokens, line_tokens, token, ◌>>=◌}
+use Rattle.cf_types.specs.declared.stmt.TokenKind.TheVariants as kind
+use Rattle.config_rules.specs.Cut.{Part, Space, Comment, Quoted, Chunk, Mark, spelling, first_part, is_chunk_byte, is_mark_byte, is_space, parts_within, parts_of, part_tokens, line_tokens, token, ◌>>=◌}
+use Rattle.config_rules.proofs.CutLaws.{chunk_no_space, chunk_is_not, mark_is}
 use Rattle.config_rules.proofs.Parts.{parts_step}
 use Rattle.cf_lexer.specs.declared.front.Front.{Front}
-use Rattle.cf_lexer.specs.Front.{front_of, front_result, front_at}
-use Rattle.cf_lexer.specs.Line.{span_tokens, with_line}
+use Rattle.cf_lexer.specs.Front.{front, front_of, front_result, front_at, span}
+use Rattle.cf_lexer.specs.Line.{GoesOn, span_tokens, with_line}
+use Rattle.cf_lexer.proofs.FrontLemmas.{length_chunk}
 
 front_len : (p : Part) → (front_of p).len ≡ length (spelling p)
 front_len (Space c) = refl
@@ -45,19 +50,53 @@ ok_step before after line at rest (Ok p) f e new =
     ∙ sym (tail before line at p (parts_of (drop (length (spelling p)) rest)))
 
 -- no part begins the rest of a line
-pub line_stops : (before : List Token) (line at code c : ℕ) (cs rest : List ℕ) → rest ≡ c ∷ cs → Err code ≡ front_at c cs → with_line before line at (parts_of rest) ≡ Err code
-line_stops before line at code c cs rest is e =
-    ap (λ xs. with_line before line at (parts_of xs)) is ∙ ap (with_line before line at) (parts_step c cs) ∙ err_step before line at code (first_part c cs) _ e
+pub line_stops : (before : List Token) (line at code c : ℕ) (cs : List ℕ) → Err code ≡ front_at c cs → with_line before line at (parts_of (c ∷ cs)) ≡ Err code
+line_stops before line at code c cs e =
+    ap (with_line before line at) (parts_step c cs) ∙ err_step before line at code (first_part c cs) _ e
 
 -- a part begins it, and its token was appended
-pub line_goes_on : (before after : List Token) (line at c : ℕ) (cs rest : List ℕ) (f : Front) → rest ≡ c ∷ cs → Ok f ≡ front_at c cs → after ≡ before ++ span_tokens line at f.token
-    → with_line after line (at + f.len) (parts_of (take (length rest - f.len) (drop f.len rest))) ≡ with_line before line at (parts_of rest)
-line_goes_on before after line at c cs rest f is e new =
-    ap (λ xs. with_line after line (at + f.len) (parts_of xs)) (take_all (length rest - f.len) (drop f.len rest) (omega (arith, length-drop f.len rest)))
-    ∙ ap (λ xs. with_line after line (at + f.len) (parts_of (drop f.len xs))) is
-    ∙ ok_step before after line at (c ∷ cs) (first_part c cs) f e new
-    ∙ sym (ap (with_line before line at) (parts_step c cs))
-    ∙ sym (ap (λ xs. with_line before line at (parts_of xs)) is)
+pub line_goes_on : (before after : List Token) (line at c : ℕ) (cs : List ℕ) (f : Front) → Ok f ≡ front_at c cs → after ≡ before ++ span_tokens line at f.token
+    → with_line after line (at + f.len) (parts_of (drop f.len (c ∷ cs))) ≡ with_line before line at (parts_of (c ∷ cs))
+line_goes_on before after line at c cs f e new =
+    ok_step before after line at (c ∷ cs) (first_part c cs) f e new ∙ sym (ap (with_line before line at) (parts_step c cs))
+
+chunk_first : (c : ℕ) (cs : List ℕ) → is_chunk_byte c ≡ true → first_part c cs ≡ Ok (Chunk (c ∷ take_while is_chunk_byte cs))
+chunk_first c cs h = rw (chunk_no_space c h, chunk_is_not c 35 refl h, chunk_is_not c 34 refl h, h) refl
+
+mark_first : (c : ℕ) (cs : List ℕ) → is_mark_byte c ≡ true → first_part c cs ≡ Ok (Mark (c ∷ []))
+mark_first c cs h = rw (mark_is is_space c refl h, mark_is (λ m. m == 35) c refl h, mark_is (λ m. m == 34) c refl h, mark_is is_chunk_byte c refl h, h) refl
+
+blank_first : (c : ℕ) (cs : List ℕ) → is_space c ≡ true → first_part c cs ≡ Ok (Space c)
+blank_first c cs h = rw h refl
+
+-- a chunk begins it
+pub chunk_goes_on : (before after : List Token) (line at c : ℕ) (cs : List ℕ) (n : ℕ) → is_chunk_byte c ≡ true → n ≡ prefix_len is_chunk_byte cs + 1
+    → after ≡ before ++ token kind.Chunk at (at + n) line ∷ [] → GoesOn before line at (c ∷ cs) (Ok n) after
+chunk_goes_on before after line at c cs n h len new =
+    let e : Ok (front n (Some (span kind.Chunk 0 n))) ≡ front_at c cs =
+    ap (λ m. Ok (front m (Some (span kind.Chunk 0 m)))) (len ∙ sym (length_chunk c cs)) ∙ sym (ap front_result (chunk_first c cs h)) in (
+      omega arith,
+      omega (arith, prefix_len-le-length is_chunk_byte cs),
+      line_goes_on before after line at c cs (front n (Some (span kind.Chunk 0 n))) e (new ∙ ap (λ ts. before ++ ts) (token_same _ _ _ _ _ line (omega arith) refl)),
+    )
+
+-- a mark of one byte begins it
+pub mark_goes_on : (before after : List Token) (line at c : ℕ) (cs : List ℕ) → is_mark_byte c ≡ true
+    → after ≡ before ++ token kind.Mark at (at + 1) line ∷ [] → GoesOn before line at (c ∷ cs) (Ok 1) after
+mark_goes_on before after line at c cs h new = (
+  omega arith,
+  omega arith,
+  line_goes_on before after line at c cs (front 1 (Some (span kind.Mark 0 1))) (sym (ap front_result (mark_first c cs h)))
+      (new ∙ ap (λ ts. before ++ ts) (token_same _ _ _ _ _ line (omega arith) refl)),
+)
+
+-- a blank begins it
+pub blank_goes_on : (before : List Token) (line at c : ℕ) (cs : List ℕ) → is_space c ≡ true → GoesOn before line at (c ∷ cs) (Ok 1) before
+blank_goes_on before line at c cs h = (
+  omega arith,
+  omega arith,
+  line_goes_on before before line at c cs (front 1 None) (sym (ap front_result (blank_first c cs h))) (sym (append-nil before)),
+)
 
 -- nothing is left of it
 pub line_ends : (before : List Token) (line at : ℕ) (rest : List ℕ) → length rest < 1 → with_line before line at (parts_of rest) ≡ Ok before

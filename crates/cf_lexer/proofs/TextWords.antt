@@ -1,6 +1,5 @@
 -- What the loop over the lines of a text keeps.
-use Rattle.std.specs.Prelude.{ℕ, ◌+◌, if◌then◌else◌, List, [], ◌∷◌, ◌++◌, length, Option, Some, None, Result, Ok}
-use Rattle.std.specs.Borrow.{Bor}
+use Rattle.std.specs.Prelude.{ℕ, ◌+◌, if◌then◌else◌, List, [], ◌∷◌, ◌++◌, length, Result, Ok}
 use Rattle.cf_types.specs.declared.stmt.Token.{Token}
 use Rattle.config_rules.specs.Cut.{Part, lines_tokens, is_over, stop_behind, all_parts, ◌>>=◌}
 
@@ -16,8 +15,3 @@ finish before n at lines = all_parts n lines >>= λ parts. Ok (with_stop before 
 abbrev pub total : List (List ℕ) → ℕ
 total [] = 0
 total (line ∷ lines) = length line + 1 + total lines
-
--- more than how many bytes are left, 0 where no line is
-abbrev pub left_len : Option (Bor (List ℕ)) → ℕ
-left_len None = 0
-left_len (Some text) = length text.now + 1

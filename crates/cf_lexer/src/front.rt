@@ -1,9 +1,8 @@
 ghost use Rattle.std.specs.Prelude.{◌≡◌, ◌+◌, ◌==◌, ◌&&◌, slice_index, ◌≤◌, length, drop, take_while, Some, IfOk};
 ghost use Rattle.std.specs.List.{prefix_len};
-ghost use Rattle.config_rules.specs.Cut.{is_chunk_byte, is_text_byte, is_mark_byte, quoted_part};
+ghost use Rattle.config_rules.specs.Cut.{is_chunk_byte, is_space, is_text_byte, is_mark_byte, quoted_part};
 ghost use Rattle.cf_lexer.specs.Front.{IsWithin, front, front_at, front_result, span};
 
-use cf_text::is_space;
 use cf_types::TokenKind;
 use cf_types::code::configuration as code;
 
@@ -22,22 +21,39 @@ pub struct Front {
     pub token: Option<Span>,
 }
 
-/// Each byte of a chunk stands at its own place, and a comma at every other place.
-static CHUNK_BYTES: [u8; 256] = *b"\
-    ,,,,,,,,,,,,,,,,,,,,,,,,,,,,,,,,\
-    ,,,,$,,,,,*,,-./0123456789,,,,,?\
-    ,ABCDEFGHIJKLMNOPQRSTUVWXYZ,,,,_\
-    ,abcdefghijklmnopqrstuvwxyz,,,,,\
-    ,,,,,,,,,,,,,,,,,,,,,,,,,,,,,,,,\
-    ,,,,,,,,,,,,,,,,,,,,,,,,,,,,,,,,\
-    ,,,,,,,,,,,,,,,,,,,,,,,,,,,,,,,,\
-    ,,,,,,,,,,,,,,,,,,,,,,,,,,,,,,,,";
+/// What a byte may begin or be a part of: `c` a chunk, `M` a mark, `_` a blank; `~` for every other byte.
+static CLASSES: [u8; 256] = *b"\
+    ~~~~~~~~~_~~~~~~~~~~~~~~~~~~~~~~\
+    _M~~c~M~MMc~McccccccccccccM~~M~c\
+    ~ccccccccccccccccccccccccccM~M~c\
+    ~ccccccccccccccccccccccccccMMM~~\
+    ~~~~~~~~~~~~~~~~~~~~~~~~~~~~~~~~\
+    ~~~~~~~~~~~~~~~~~~~~~~~~~~~~~~~~\
+    ~~~~~~~~~~~~~~~~~~~~~~~~~~~~~~~~\
+    ~~~~~~~~~~~~~~~~~~~~~~~~~~~~~~~~";
 
+/// Whether a byte may stand in a chunk.
 #[inline(always)]
-fn is_chunk_byte(byte: u8) -> bool
+pub fn is_chunk_byte(byte: u8) -> bool
     ensures { result ≡ is_chunk_byte byte }
 {
-    CHUNK_BYTES[byte as usize] != b','
+    CLASSES[byte as usize] == b'c'
+}
+
+/// Whether a byte is a space or a tab.
+#[inline(always)]
+pub fn is_blank_byte(byte: u8) -> bool
+    ensures { result ≡ is_space byte }
+{
+    CLASSES[byte as usize] == b'_'
+}
+
+/// Whether a byte is a mark.
+#[inline(always)]
+pub fn is_mark_byte(byte: u8) -> bool
+    ensures { result ≡ is_mark_byte byte }
+{
+    CLASSES[byte as usize] == b'M'
 }
 
 #[inline(always)]
@@ -47,19 +63,9 @@ fn is_text_byte(byte: u8) -> bool
     matches!(byte, b'\t' | b' '..=b'~') && byte != b'"'
 }
 
-#[inline(always)]
-fn is_mark_byte(byte: u8) -> bool
-    ensures { result ≡ is_mark_byte byte }
-{
-    matches!(
-        byte,
-        b',' | b'=' | b':' | b'{' | b'}' | b'[' | b']' | b'(' | b')' | b'!' | b'&' | b'|'
-    )
-}
-
 /// How many bytes of a chunk stand at the front.
 #[inline(always)]
-fn chunk_len(bytes: &[u8]) -> usize
+pub fn chunk_len(bytes: &[u8]) -> usize
     ensures len { result ≡ prefix_len is_chunk_byte bytes.now }
     ensures within { result ≤ length bytes.now }
 {
@@ -128,7 +134,7 @@ pub fn front_part(first: u8, more: &[u8]) -> Result<Front, u8>
     ensures front { result ≡ front_at first more.now }
     ensures within { IfOk result (λ f. IsWithin f (length more.now + 1)) }
 {
-    if is_space(first) {
+    if is_blank_byte(first) {
         return Ok(Front {
             len: 1,
             token: None,

@@ -1,9 +1,10 @@
-ghost use Rattle.std.specs.Prelude.{◌≡◌, ◌+◌, ◌<◌, ◌∷◌, [], ◌++◌, ◌^◌, length, IfSome, OnOk};
-ghost use Rattle.config_rules.specs.Cut.{parts_of};
-ghost use Rattle.cf_lexer.specs.Line.{Leaves, span_tokens, with_line};
+ghost use Rattle.std.specs.Prelude.{◌≡◌, ◌+◌, ◌<◌, ◌≤◌, ◌∷◌, [], ◌++◌, ◌^◌, true, drop, length, slice_index, IfOk, IfSome, OnOk};
+ghost use Rattle.config_rules.specs.Cut.{is_chunk_byte, parts_of};
+ghost use Rattle.cf_lexer.specs.Line.{GoesOn, Leaves, PartGoes, bytes_behind, first_of, lines_from, rest_of, span_tokens, with_line};
 
-use crate::front::{Span, front_part};
-use cf_types::{Memory as NoMemory, Token};
+use crate::front::{Span, chunk_len, front_part, is_blank_byte, is_chunk_byte, is_mark_byte};
+use cf_types::{Memory as NoMemory, Token, TokenKind};
+use memchr::memchr;
 use thiserror::Error;
 
 /// Why a text can't be cut into tokens.
@@ -64,22 +65,142 @@ fn push_span(
     Ok(())
 }
 
-/// Appends the tokens of the line with this number, which begins at this place of the text.
-#[inline]
-pub fn cut_line(tokens: &mut Vec<Token>, line: u32, start: u32, bytes: &[u8]) -> Result<(), LexStop>
-    requires { start + length bytes.now < 2 ^ 32 }
-    ensures { Leaves (with_line tokens.old.items line start (parts_of bytes.now)) line result tokens.new.items }
+/// The first line of a text, without its newline.
+fn first_line(text: &[u8]) -> &[u8]
+    ensures { result.now ≡ first_of text.now }
 {
-    let mut rest = bytes;
-    let mut at = start;
-    while let Some((&first, more)) = rest.split_first() {
-        let front = match front_part(first, more) {
-            Ok(front) => front,
-            Err(code) => return Err(LexStop::Fault { line, code }),
-        };
-        push_span(tokens, line, at, front.token)?;
-        at += front.len as u32;
-        rest = &rest[front.len..];
+    match memchr(b'\n', text) {
+        Some(place) => &text[..place],
+        None => text,
     }
-    Ok(())
+}
+
+/// Appends the chunk that begins with this byte at this place of the text, and tells how long it is.
+#[inline(always)]
+fn push_chunk(
+    tokens: &mut Vec<Token>,
+    line: u32,
+    at: u32,
+    first: u8,
+    more: &[u8],
+) -> Result<usize, LexStop>
+    requires chunk { is_chunk_byte first ≡ true }
+    requires short { at + length more.now + 1 < 2 ^ 32 }
+    ensures { GoesOn tokens.old.items line at (first ∷ first_of more.now) result tokens.new.items }
+{
+    let len = chunk_len(more) + 1;
+    push_token(
+        tokens,
+        Token {
+            kind: TokenKind::Chunk,
+            start: at,
+            end: at + len as u32,
+            line,
+        },
+    )?;
+    Ok(len)
+}
+
+/// Appends the token of a part of a line that few parts are, and tells how long the part is.
+#[cold]
+fn push_rare(
+    tokens: &mut Vec<Token>,
+    line: u32,
+    at: u32,
+    first: u8,
+    more: &[u8],
+) -> Result<usize, LexStop>
+    requires { at + length more.now + 1 < 2 ^ 32 }
+    ensures { GoesOn tokens.old.items line at (first ∷ more.now) result tokens.new.items }
+{
+    let front = match front_part(first, more) {
+        Ok(front) => front,
+        Err(code) => return Err(LexStop::Fault { line, code }),
+    };
+    push_span(tokens, line, at, front.token)?;
+    Ok(front.len)
+}
+
+/// Appends the token of a part that is no chunk and no blank, if it has one, and tells how long the part is.
+#[inline(always)]
+fn push_other(
+    tokens: &mut Vec<Token>,
+    line: u32,
+    at: u32,
+    first: u8,
+    more: &[u8],
+) -> Result<usize, LexStop>
+    requires { at + length more.now + 1 < 2 ^ 32 }
+    ensures { GoesOn tokens.old.items line at (first ∷ first_of more.now) result tokens.new.items }
+{
+    if !is_mark_byte(first) {
+        return push_rare(tokens, line, at, first, first_line(more));
+    }
+    push_token(
+        tokens,
+        Token {
+            kind: TokenKind::Mark,
+            start: at,
+            end: at + 1,
+            line,
+        },
+    )?;
+    Ok(1)
+}
+
+/// Appends the token of the part of a text that begins there, if it has one, and tells how long the part is; `None` for a
+/// newline, which is no part of a line.
+#[inline(always)]
+fn push_part(
+    tokens: &mut Vec<Token>,
+    line: u32,
+    text: &[u8],
+    place: usize,
+) -> Result<Option<usize>, LexStop>
+    requires within { place < length text.now }
+    requires short { length text.now ≤ 1048576 }
+    ensures { PartGoes tokens.old.items line place (slice_index text.now place) (bytes_behind text.now place) result tokens.new.items }
+{
+    let first = text[place];
+    if is_chunk_byte(first) {
+        return match push_chunk(tokens, line, place as u32, first, &text[place + 1..]) {
+            Ok(len) => Ok(Some(len)),
+            Err(stop) => Err(stop),
+        };
+    }
+    if is_blank_byte(first) {
+        return Ok(Some(1));
+    }
+    if first == b'\n' {
+        return Ok(None);
+    }
+    match push_other(tokens, line, place as u32, first, &text[place + 1..]) {
+        Ok(len) => Ok(Some(len)),
+        Err(stop) => Err(stop),
+    }
+}
+
+/// Appends the tokens of the line of a text that begins there, and tells where the next one begins, if there is one.
+#[inline]
+pub fn cut_line(
+    tokens: &mut Vec<Token>,
+    line: u32,
+    text: &[u8],
+    start: usize,
+) -> Result<Option<usize>, LexStop>
+    requires start { start ≤ length text.now }
+    requires short { length text.now ≤ 1048576 }
+    ensures tokens { Leaves (with_line tokens.old.items line start (parts_of (first_of (drop start text.now)))) line result tokens.new.items }
+    ensures behind { IfOk result (λ left. rest_of (drop start text.now) ≡ lines_from text.now left) }
+    ensures further { IfOk result (λ left. IfSome left (λ next. (start < next) × (next ≤ length text.now))) }
+{
+    let mut place = start;
+    while place < text.len() {
+        match push_part(tokens, line, text, place) {
+            Ok(Some(len)) => place += len,
+            Ok(None) => return Ok(Some(place + 1)),
+            Err(stop) => return Err(stop),
+        }
+    }
+    Ok(None)
 }

@@ -1,33 +1,24 @@
-ghost use Rattle.std.specs.Prelude.{◌≡◌, ◌<◌, [], ◌∷◌, ◌++◌, ◌≤◌, cond, length, IfOk, IfErr, IfSome, OnOk};
-ghost use Rattle.config_rules.specs.Cut.{Cut, cut_of, lines_of, stop_behind};
-ghost use Rattle.cf_lexer.specs.Line.{begins, IsFaultOf, lines_left, Shows};
+ghost use Rattle.std.specs.Prelude.{◌≡◌, [], ◌++◌, ◌≤◌, cond, drop, length, IfOk, IfErr, OnOk};
+ghost use Rattle.config_rules.specs.Cut.{Cut, cut_of, stop_behind};
+ghost use Rattle.cf_lexer.specs.Line.{begins, first_of, IsFaultOf, Shows};
 
+use crate::front::is_blank_byte;
 use crate::line::{LexStop, cut_line, push_token};
-use cf_text::is_space;
 use cf_types::{List, Memory as NoMemory, Token, TokenKind};
-use memchr::memchr;
 use std::alloc::Global;
 
-/// The first line, and what stands behind its newline, where there is one.
-fn first_line(text: &[u8]) -> (&[u8], Option<&[u8]>)
-    ensures lines { lines_of text.now ≡ result.0.now ∷ lines_left result.1 }
-    ensures shorter { IfSome result.1 (λ rest. length rest.now < length text.now) }
+/// Whether the line of a text that begins there begins a statement, unless it is blank: it begins with no space, tab or
+/// comment.
+#[inline(always)]
+fn begins(text: &[u8], start: usize) -> bool
+    requires { start ≤ length text.now }
+    ensures { result ≡ begins (first_of (drop start text.now)) }
 {
-    match memchr(b'\n', text) {
-        Some(place) => (&text[..place], Some(&text[place + 1..])),
-        None => (text, None),
+    if start == text.len() {
+        return false;
     }
-}
-
-/// Whether a line that is not blank begins a statement: it begins with no space, tab or comment.
-#[inline]
-fn begins(line: &[u8]) -> bool
-    ensures { result ≡ begins line.now }
-{
-    match line {
-        [first, ..] => !is_space(*first) && *first != b'#',
-        [] => false,
-    }
+    let first = text[start];
+    !is_blank_byte(first) && first != b'#' && first != b'\n'
 }
 
 /// Appends a stop behind the last token, if there is one.
@@ -47,12 +38,13 @@ fn push_stop(tokens: &mut Vec<Token>) -> Result<(), NoMemory>
     Ok(())
 }
 
-/// Ends the statement so far where this line begins another.
-#[inline]
-fn end_statement(tokens: &mut Vec<Token>, line: &[u8]) -> Result<(), NoMemory>
-    ensures { OnOk result (tokens.new.items ≡ cond (begins line.now) (tokens.old.items ++ stop_behind tokens.old.items) tokens.old.items) }
+/// Ends the statement so far where the line of a text that begins there begins another.
+#[inline(always)]
+fn end_statement(tokens: &mut Vec<Token>, text: &[u8], start: usize) -> Result<(), NoMemory>
+    requires { start ≤ length text.now }
+    ensures { OnOk result (tokens.new.items ≡ cond (begins (first_of (drop start text.now))) (tokens.old.items ++ stop_behind tokens.old.items) tokens.old.items) }
 {
-    if begins(line) {
+    if begins(text, start) {
         push_stop(tokens)?;
     }
     Ok(())
@@ -76,15 +68,11 @@ pub fn cut(alloc: Global, text: &[u8]) -> Result<List<Token>, LexStop>
 {
     let mut tokens = room_for(alloc, text.len())?;
     let mut number = 1;
-    let mut at = 0;
-    let mut left = Some(text);
-    while let Some(rest) = left {
-        let (line, behind) = first_line(rest);
-        end_statement(&mut tokens, line)?;
-        cut_line(&mut tokens, number, at, line)?;
+    let mut left = Some(0);
+    while let Some(start) = left {
+        end_statement(&mut tokens, text, start)?;
+        left = cut_line(&mut tokens, number, text, start)?;
         number += 1;
-        at += line.len() as u32 + 1;
-        left = behind;
     }
     push_stop(&mut tokens)?;
     Ok(List::from_vec(tokens))

@@ -1,6 +1,7 @@
 //! Names that were read, so that one that is read again shares their memory.
 ghost use Rattle.std.specs.Prelude.{◌≡◌, ◌≤◌, IfOk, IfSome, length};
 
+use crate::word::is_same;
 use cf_types::{Memory, Name};
 use std::alloc::Global;
 
@@ -50,7 +51,7 @@ impl Known {
         ensures { IfSome result (λ name. name.now ≡ bytes.now) }
     {
         match self.names.get(place) {
-            Some(Some(name)) => if name.bytes() == bytes {
+            Some(Some(name)) => if is_same(name.bytes(), bytes) {
                 Some(name)
             } else {
                 None

@@ -27,7 +27,7 @@ fn has_bytes(text: &[u8], other: &[u8]) -> bool
 /// Whether two texts are the same, which those of other lengths are not.
 #[tactic(auto, using(crate::proofs::SameLemmas::long_differs))]
 #[inline(always)]
-fn is_same(text: &[u8], other: &[u8]) -> bool
+pub fn is_same(text: &[u8], other: &[u8]) -> bool
     ensures { result ≡ bytes_eq text.now other.now }
 {
     text.len() == other.len() && has_bytes(text, other)

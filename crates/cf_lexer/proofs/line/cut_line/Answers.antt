@@ -1,21 +1,41 @@
-use Rattle.std.proofs.Common.{◌-◌, length, drop, sym, ◌∙◌, arith, refl, length-drop, length-take}
-use Rattle.cf_lexer.proofs.LineLemmas.{line_stops, line_goes_on, line_ends}
+use Rattle.std.proofs.Common.{◌<◌, ◌+◌, ◌-◌, ◌∙◌, length, get_or, take, drop, ap, sym, arith, Some, None, Ok}
+use Rattle.cf_lexer.specs.Line.{head_line}
+use Rattle.cf_lexer.proofs.PlaceLemmas.{Further, at_here, goes_further, line_done, newline_here, part_is, text_done}
 use Rattle.cf_lexer.proofs.line.cut_line.Goals as goal
 
-pub returns-in-Err : goal.returns-in-Err
-returns-in-Err c =
-    let left = c.in-Some.ensures.cases in
-    (refl, sym c.loop-first.invariant.so_far ∙ line_stops c.loop-first.tokens.items c.args.line c.loop-first.at c.in-Err.code c.in-Some.field-0-0.now c.in-Some.more.now c.loop-first.rest.now left.0 c.in-Err.ensures.front)
+pub overflow_add-place : goal.overflow_add-place
+overflow_add-place c =
+    let lt : c.loop-place.place < length c.args.text.now = omega (arith, c.loop-place-test.true) in
+    let goes = part_is c.loop-place.tokens.items c.push_part.new.tokens.items c.args.line c.loop-place.place (get_or c.args.text.now c.loop-place.place 0)
+    (take (length c.args.text.now - (c.loop-place.place + 1)) (drop (c.loop-place.place + 1) c.args.text.now)) c.in-Ok-Some.field-0 (Some c.in-Ok-Some.len) c.in-Ok-Some.field-0-is c.in-Ok-Some.ensures in
+    let f : Further c.loop-place.tokens.items c.push_part.new.tokens.items c.args.line c.loop-place.place c.in-Ok-Some.len c.args.text.now =
+    goes_further _ _ _ _ _ _ c.args.text.now _ lt (at_here c.args.text.now c.loop-place.place 0 lt) goes.1 goes.0 in
+    omega (arith, f.within, c.requires.short)
 
-pub loop-first-preserved : goal.loop-first-preserved
-loop-first-preserved c =
-    let f = c.in-Ok.front in
-    let rest = c.loop-first.rest.now in
-    let left = c.in-Some.ensures.cases in
+pub loop-place-preserved : goal.loop-place-preserved
+loop-place-preserved c =
+    let lt : c.loop-place.place < length c.args.text.now = omega (arith, c.loop-place-test.true) in
+    let goes = part_is c.loop-place.tokens.items c.push_part.new.tokens.items c.args.line c.loop-place.place (get_or c.args.text.now c.loop-place.place 0)
+    (take (length c.args.text.now - (c.loop-place.place + 1)) (drop (c.loop-place.place + 1) c.args.text.now)) c.in-Ok-Some.field-0 (Some c.in-Ok-Some.len) c.in-Ok-Some.field-0-is c.in-Ok-Some.ensures in
+    let f : Further c.loop-place.tokens.items c.push_part.new.tokens.items c.args.line c.loop-place.place c.in-Ok-Some.len c.args.text.now =
+    goes_further _ _ _ _ _ _ c.args.text.now _ lt (at_here c.args.text.now c.loop-place.place 0 lt) goes.1 goes.0 in
     record {
-      place = omega (arith, left.1, c.in-Ok.ensures.within.fits, length-drop f.len rest, length-take (length rest - f.len) (drop f.len rest));
-      so_far = line_goes_on c.loop-first.tokens.items c.push_span.new.tokens.items c.args.line c.loop-first.at c.in-Some.field-0-0.now c.in-Some.more.now rest f left.0 c.in-Ok.ensures.front c.in_ok-push_span.ensures ∙ c.loop-first.invariant.so_far;
+      from = omega (arith, c.loop-place.invariant.from);
+      within = f.within;
+      so_far = f.so_far ∙ c.loop-place.invariant.so_far;
+      behind = f.behind ∙ c.loop-place.invariant.behind;
     }
 
-pub returns : goal.returns
-returns c = sym c.loop-first.invariant.so_far ∙ line_ends c.loop-first.tokens.items c.args.line c.loop-first.at c.loop-first.rest.now (omega (arith, c.in_default.ensures.cases))
+pub returns-in-Ok-None-clause-tokens : goal.returns-in-Ok-None-clause-tokens
+returns-in-Ok-None-clause-tokens c =
+    let lt : c.loop-place.place < length c.args.text.now = omega (arith, c.loop-place-test.true) in
+    let goes = part_is c.loop-place.tokens.items c.push_part.new.tokens.items c.args.line c.loop-place.place (get_or c.args.text.now c.loop-place.place 0)
+    (take (length c.args.text.now - (c.loop-place.place + 1)) (drop (c.loop-place.place + 1) c.args.text.now)) c.in-Ok-None.field-0 None c.in-Ok-None.field-0-is c.in-Ok-None.ensures in
+    line_done c.loop-place.tokens.items c.args.line c.loop-place.place c.args.text.now _
+    (ap head_line (newline_here c.loop-place.place _ c.args.text.now _ (at_here c.args.text.now c.loop-place.place 0 lt) goes.0)) c.loop-place.invariant.so_far
+    ∙ ap Ok (sym goes.1)
+
+pub returns-clause-tokens : goal.returns-clause-tokens
+returns-clause-tokens c =
+    line_done c.loop-place.tokens.items c.args.line c.loop-place.place c.args.text.now _
+    (ap head_line (text_done c.loop-place.place c.args.text.now (omega (arith, c.loop-place-test.false)))) c.loop-place.invariant.so_far

@@ -1,13 +1,15 @@
-use Rattle.std.proofs.Common.{◌≡◌, ◌+◌, length}
+use Rattle.std.proofs.Common.{◌≡◌, ◌-◌, ◌≤◌, drop, length}
 use Rattle.config_rules.specs.Cut.{parts_of}
-use Rattle.cf_lexer.specs.Line.{with_line}
+use Rattle.cf_lexer.specs.Line.{first_of, rest_of, with_line}
 use Rattle.cf_lexer.proofs.line.cut_line.Given as goal
 
-abbrev pub invariant-loop-first : goal.invariant-loop-first
-invariant-loop-first l = record {
-  place : l.at + length l.rest ≡ l.start + length l.bytes;
-  so_far : with_line l.tokens.items l.line l.at (parts_of l.rest) ≡ with_line l.fn.tokens.items l.line l.start (parts_of l.bytes);
+abbrev pub invariant-loop-place : goal.invariant-loop-place
+invariant-loop-place l = record {
+  from : l.start ≤ l.place;
+  within : l.place ≤ length l.text;
+  so_far : with_line l.tokens.items l.line l.place (parts_of (first_of (drop l.place l.text))) ≡ with_line l.fn.tokens.items l.line l.start (parts_of (first_of (drop l.start l.text)));
+  behind : rest_of (drop l.place l.text) ≡ rest_of (drop l.start l.text);
 }
 
-abbrev pub decreases-loop-first : goal.decreases-loop-first
-decreases-loop-first l = length l.rest
+abbrev pub decreases-loop-place : goal.decreases-loop-place
+decreases-loop-place l = length l.text - l.place
