@@ -8,11 +8,14 @@ ghost use Rattle.app_config.specs.FilesAsked.{AsksThen};
 ghost use Rattle.app_config.specs.Found.{FindsFor, HasGraph, found_text};
 
 use app_input::{Inputs, status_of_stop};
-use app_output::{OutputStop, put_history, put_listing, put_paths, put_piece, put_run, put_tree};
+use app_output::{
+    OutputStop, put_history, put_listing_with, put_paths, put_piece, put_run, put_tree,
+};
 use app_tasks::{booted, loaded, played, retold};
 use app_words::Status;
+use cf_compile::Compiled;
 use cf_io::{Files, Sink};
-use cf_types::{DevLine, List, Tables, Text};
+use cf_types::{DevLine, List, Text};
 use dev_board::Board;
 use file_select::select;
 use history_replay::Replayed;
@@ -22,8 +25,8 @@ use std::mem::forget;
 /// What was found for the inputs.
 #[derive(Drop)]
 pub enum Found {
-    /// The tables of a configuration.
-    Listed(Tables),
+    /// The tables of a configuration, with their graph.
+    Listed(Compiled),
     /// The paths of the sources that a configuration selects.
     Selected(List<Text>),
     /// The board of a run that has ended.
@@ -114,7 +117,7 @@ pub fn put_found<S: Sink>(alloc: Global, found: &Found, out: &mut S) -> Result<(
     ensures { Puts (found_text found.now) (S.told out.old) (S.told out.new) result }
 {
     match found {
-        Found::Listed(tables) => put_listing(alloc, tables, out),
+        Found::Listed(found) => put_listing_with(alloc, found.tables(), found.graph(), out),
         Found::Selected(paths) => put_paths(alloc, paths.items(), out),
         Found::Ran(board) => put_run(alloc, board, out),
         Found::Line(line) => put_piece(line, out),

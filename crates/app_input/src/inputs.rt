@@ -12,7 +12,7 @@ use crate::made::made_files;
 use crate::scripts::{Course, Scripted, load_scripted, load_scripts};
 use crate::stop::status_of_stop;
 use app_words::{Program, Status, Task, WordStop, Words, read_words};
-use cf_compile::compile;
+use cf_compile::{Compiled, compile};
 use cf_io::Files;
 use cf_types::{List, Machine, Script, Tables, Text};
 use std::alloc::Global;
@@ -20,9 +20,9 @@ use std::alloc::Global;
 /// What the words and the files that they name give.
 #[derive(Drop)]
 pub enum Inputs {
-    /// The tables of a configuration. See config(5).
+    /// The tables of a configuration, with their graph. See config(5).
     Ioconf {
-        tables: Tables,
+        tables: Compiled,
     },
     /// The name of a configuration whose sources are to be selected. It is not read yet. See config(5).
     Files {
@@ -71,7 +71,7 @@ pub enum Inputs {
 }
 
 /// Compiles the configuration.
-fn read_tables<F: Files>(alloc: Global, files: &mut F, file: &[u8]) -> Result<Tables, Status>
+fn read_compiled<F: Files>(alloc: Global, files: &mut F, file: &[u8]) -> Result<Compiled, Status>
     ensures told { F.told files.new ≡ F.told files.old }
     ensures reads { ReadsTables (F.told files.old) file.now result }
     ensures asked { IfSome (F.told files.old)
@@ -85,6 +85,21 @@ fn read_tables<F: Files>(alloc: Global, files: &mut F, file: &[u8]) -> Result<Ta
     }
 }
 
+/// Compiles the configuration to its tables alone.
+fn read_tables<F: Files>(alloc: Global, files: &mut F, file: &[u8]) -> Result<Tables, Status>
+    ensures told { F.told files.new ≡ F.told files.old }
+    ensures reads { ReadsTables (F.told files.old) file.now result }
+    ensures asked { IfSome (F.told files.old)
+        (λ named. IsAskedFor (reading named file.now).asked (status_of result) (F.asked files.old) (F.asked files.new)) }
+    ensures counted { Counts (F.faults files.old) (F.faults files.new) result }
+    ensures formed { IfOk result FormedTables }
+{
+    match read_compiled(alloc, files, file) {
+        Ok(compiled) => Ok(compiled.into_tables()),
+        Err(status) => Err(status),
+    }
+}
+
 /// Reads the inputs of `ioconf FILE`.
 fn read_ioconf<F: Files>(alloc: Global, files: &mut F, file: &[u8]) -> Result<Inputs, Status>
     ensures told { F.told files.new ≡ F.told files.old }
@@ -94,7 +109,7 @@ fn read_ioconf<F: Files>(alloc: Global, files: &mut F, file: &[u8]) -> Result<In
     ensures counted { Counts (F.faults files.old) (F.faults files.new) result }
     ensures formed { IfOk result FormedInputs }
 {
-    match read_tables(alloc, files, file) {
+    match read_compiled(alloc, files, file) {
         Ok(tables) => Ok(Inputs::Ioconf { tables }),
         Err(status) => Err(status),
     }

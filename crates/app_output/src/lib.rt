@@ -13,7 +13,7 @@ mod stop;
 mod tree;
 
 pub use history::put_history;
-pub use listing::put_listing;
+pub use listing::{put_listing, put_listing_with};
 pub use paths::put_paths;
 pub use piece::{flush, put_piece};
 pub use run::put_run;

@@ -34,7 +34,20 @@ impl<'a> Lines for Listing<'a> {
     }
 }
 
-/// Puts the listing of tables. Their graph is not taken apart, since the program ends soon.
+/// Puts the listing of tables by their graph.
+pub fn put_listing_with<S: Sink>(
+    alloc: Global,
+    tables: &Tables,
+    graph: &Graph,
+    out: &mut S,
+) -> Result<(), OutputStop>
+    requires { IsGraphOf (declared_by tables.now) graph.now }
+    ensures { Puts (listing tables.now) (S.told out.old) (S.told out.new) result }
+{
+    put_lines(alloc, &Listing { tables, graph }, out)
+}
+
+/// Puts the listing of tables without a graph at hand. It is made, and not taken apart, since the program ends soon.
 pub fn put_listing<S: Sink>(alloc: Global, tables: &Tables, out: &mut S) -> Result<(), OutputStop>
     requires { FitGraph tables.now }
     ensures { Puts (listing tables.now) (S.told out.old) (S.told out.new) result }
@@ -42,11 +55,7 @@ pub fn put_listing<S: Sink>(alloc: Global, tables: &Tables, out: &mut S) -> Resu
     let Ok(graph) = graph_of(alloc, tables) else {
         return Err(OutputStop::Memory);
     };
-    let lines = Listing {
-        tables,
-        graph: &graph,
-    };
-    let put = put_lines(alloc, &lines, out);
+    let put = put_listing_with(alloc, tables, &graph, out);
     forget(graph);
     put
 }

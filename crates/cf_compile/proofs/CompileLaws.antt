@@ -1,9 +1,14 @@
 -- What compiling a configuration finds, by what reading it gave.
 use Rattle.std.proofs.Common.{◌≡◌, ℕ, Option, Some, None, List, refl, ap, sym, ◌∙◌, subst}
 use Rattle.std.specs.Prelude.{IfSome, IsErrAnd, Result, Ok, Err, IfOk}
+use Rattle.cf_types.specs.declared.declared.Declared.{Declared}
 use Rattle.cf_types.specs.declared.stmt.Expanded.{Expanded}
+use Rattle.cf_types.specs.declared.stmt.Placed.{Placed}
 use Rattle.cf_types.specs.declared.tables.Tables.{Tables}
-use Rattle.config_rules.specs.Fault.{fault_in, first_fault}
+use Rattle.attr_graph.specs.Graphs.{IsGraphOf, declared_by}
+use Rattle.attr_graph.specs.Reach.{Shape}
+use Rattle.config_rules.specs.Declared.{declared}
+use Rattle.config_rules.specs.Fault.{fault_in, first_fault, stmts_of}
 use Rattle.config_rules.specs.Formed.{FormedTables}
 use Rattle.config_rules.specs.Meaning.{Means}
 use Rattle.config_rules.specs.Reading.{Files, Reading, reading}
@@ -14,7 +19,7 @@ use Rattle.cf_io.specs.Asked.{AsksFront}
 use Rattle.cf_io.specs.Load.{asked_behind}
 use Rattle.cf_io.proofs.AskedLemmas.{front_all}
 use Rattle.cf_compile.specs.Compiles.{AsksDue, Compiles, stop_of}
-use Rattle.cf_compile.specs.Meant.{Finds, reading_of}
+use Rattle.cf_compile.specs.Meant.{Finds, IsMeant, reading_of}
 use Rattle.cf_compile.specs.declared.stop.CompileStop.{CompileStop}
 use Rattle.cf_compile.specs.declared.stop.CompileStop.TheVariants.{Refused, ReadFault, Memory}
 
@@ -57,6 +62,11 @@ compiles_read told name before after read (Err Memory) is same found = same
 pub found_formed : (r : Reading) (result : Result Tables CompileStop) → Finds r result → IfOk result FormedTables
 found_formed r (Ok tables) found = found.1.formed
 found_formed r (Err stop) found = tt
+
+-- the graph of what is declared is that of the tables
+pub graph_of_meant : (files : List (List ℕ)) (placed : List Placed) (d : Declared) (g : Shape) (tables : Tables)
+    → d ≡ declared (stmts_of placed) → IsGraphOf d g → IsMeant files placed tables → IsGraphOf (declared_by tables) g
+graph_of_meant files placed d g tables is graph meant = subst (λ (e : Declared). IsGraphOf e g) (is ∙ sym (ap declared_by meant.shown)) graph
 
 -- all that is due was asked for
 pub asks_all : {A : Type 0} (due : List (List ℕ)) (result : Result A CompileStop) (old new : Option (List (List ℕ))) → new ≡ asked_behind old due → AsksDue due result old new

@@ -9,22 +9,23 @@ ghost use Rattle.config_rules.specs.Written.{AreWritten};
 ghost use Rattle.cf_compile.specs.Meant.{Finds, IsMeant, read_from, reading_of};
 
 use crate::build::tables_of;
+use crate::compiled::Compiled;
 use crate::judge::{Standing, Verdict, judge};
 use crate::stop::CompileStop;
 use cf_expand::expand;
 use cf_io::Files;
 use cf_select::{Kept, survivors};
-use cf_types::{Expanded, Memory, Placed, Refusal, Tables, Text};
+use cf_types::{Expanded, Memory, Placed, Refusal, Text};
 use std::alloc::Global;
 
-/// The tables of accepted statements.
+/// The tables of accepted statements, with the graph by which they were judged.
 fn tables_of_standing(
     alloc: Global,
     files: &[Text],
     placed: &[Placed],
     idle: &[u32],
     standing: Standing,
-) -> Result<Tables, Memory>
+) -> Result<Compiled, Memory>
     requires written { AreWritten placed.now }
     requires accepted { Judges files.now placed.now (Verdict.Accepted standing) }
     requires idle { idle.now ≡ idle_insts [] (stmts_of placed.now) }
@@ -35,7 +36,8 @@ fn tables_of_standing(
         instances,
     } = standing;
     let (declared, graph) = declarations.into_parts();
-    tables_of(alloc, files, placed, idle, declared, &graph, instances)
+    let tables = tables_of(alloc, files, placed, idle, declared, &graph, instances)?;
+    Ok(Compiled::make(tables, graph))
 }
 
 /// The tables of placed statements, or their first fault, or else this fault of the reading.
@@ -44,7 +46,7 @@ fn compile_placed(
     files: &[Text],
     placed: &[Placed],
     fault: Option<Refusal>,
-) -> Result<Tables, CompileStop>
+) -> Result<Compiled, CompileStop>
     requires { AreWritten placed.now }
     ensures { Finds (record (read_from files.now placed.now) { fault = fault }) result }
 {
@@ -59,7 +61,7 @@ fn compile_placed(
 }
 
 /// The tables of what was read, or its first fault: that of a statement, or else that of the reading.
-fn compile_read(alloc: Global, read: Expanded) -> Result<Tables, CompileStop>
+fn compile_read(alloc: Global, read: Expanded) -> Result<Compiled, CompileStop>
     requires { AreWritten read.placed }
     ensures { Finds (reading_of read) result }
 {
@@ -74,9 +76,10 @@ fn compile_read(alloc: Global, read: Expanded) -> Result<Tables, CompileStop>
     found
 }
 
-/// Compiles the named configuration with all that it includes: its tables, or its first fault in reading order with its
-/// file, line and code. A fault of reading stands before every fault of the configuration. See config(1) and config(5).
-pub fn compile<F: Files>(alloc: Global, files: &mut F, name: &[u8]) -> Result<Tables, CompileStop>
+/// Compiles the named configuration with all that it includes: its tables, which have their graph with them, or its first
+/// fault in reading order with its file, line and code. A fault of reading stands before every fault of the configuration.
+/// See config(1) and config(5).
+pub fn compile<F: Files>(alloc: Global, files: &mut F, name: &[u8]) -> Result<Compiled, CompileStop>
     ensures told { F.told files.new ≡ F.told files.old }
     ensures compiles { Compiles (F.told files.old) name.now (F.faults files.old) (F.faults files.new) result }
     ensures asked { IfSome (F.told files.old) (λ named. AsksDue (reading named name.now).asked result (F.asked files.old) (F.asked files.new)) }

@@ -2,10 +2,12 @@
 #![tactic(auto)]
 
 mod build;
+mod compiled;
 mod compiler;
 mod judge;
 mod stop;
 
+pub use compiled::Compiled;
 pub use compiler::compile;
 pub use judge::refusal;
 pub use stop::CompileStop;

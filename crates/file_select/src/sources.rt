@@ -167,7 +167,8 @@ pub fn select<F: Files>(
     ensures selects { SelectsFrom (F.told files.old) name.now (F.faults files.old) (F.faults files.new) result }
     ensures asked { IfSome (F.told files.old) (λ named. AsksDue (asked_for named name.now) result (F.asked files.old) (F.asked files.new)) }
 {
-    let tables = compile(alloc, files, name)?;
+    let compiled = compile(alloc, files, name)?;
+    let tables = compiled.into_tables();
     let read = match expand(alloc, files, name) {
         Ok(read) => read,
         Err(stop) => {

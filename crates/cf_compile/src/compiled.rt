@@ -1,0 +1,57 @@
+ghost use Rattle.std.specs.Prelude.{◌≡◌};
+ghost use Rattle.attr_graph.specs.Graphs.{IsGraphOf, declared_by};
+
+use attr_graph::Graph;
+use cf_types::Tables;
+use std::marker::Model;
+
+/// The tables of a configuration, with the graph of their attributes, by which they were made. Contracts see the tables.
+#[derive(Drop)]
+pub struct Compiled {
+    tables: Tables,
+    graph: Graph,
+}
+
+impl Model for Compiled {
+    ghost use Rattle.cf_types.specs.declared.tables.Tables.{Tables};
+    ghost use Rattle.attr_graph.specs.Graphs.{IsGraphOf, declared_by};
+
+    ghost Value = { Tables };
+
+    ghost view = { λ it. it.tables };
+
+    ghost invariant = { λ it. IsGraphOf (declared_by it.tables) it.graph };
+}
+
+impl Compiled {
+    /// These tables with their graph.
+    pub fn make(tables: Tables, graph: Graph) -> Compiled
+        requires { IsGraphOf (declared_by tables) graph }
+        ensures { result ≡ tables }
+    {
+        Compiled { tables, graph }
+    }
+
+    /// The tables.
+    pub fn tables(&self) -> &Tables
+        ensures { result.now ≡ self.now }
+    {
+        &self.tables
+    }
+
+    /// The graph of their attributes and devices.
+    pub fn graph(&self) -> &Graph
+        ensures { IsGraphOf (declared_by self.now) result.now }
+    {
+        &self.graph
+    }
+
+    /// The tables alone.
+    pub fn into_tables(self) -> Tables
+        ensures { result ≡ self }
+    {
+        let Compiled { tables, graph } = self;
+        drop(graph);
+        tables
+    }
+}
