@@ -2,14 +2,17 @@ ghost use Rattle.std.specs.Prelude.{◌≡◌};
 ghost use Rattle.attr_graph.specs.Graphs.{IsGraphOf, declared_by};
 
 use attr_graph::Graph;
-use cf_types::Tables;
+use cf_types::{List, Placed, Tables};
+use std::alloc::Global;
 use std::marker::Model;
 
 /// The tables of a configuration, with the graph of their attributes, by which they were made. Contracts see the tables.
+/// The statements that they were made from go with them, so that a program that ends soon need not take these apart.
 #[derive(Drop)]
 pub struct Compiled {
     tables: Tables,
     graph: Graph,
+    placed: List<Placed>,
 }
 
 impl Model for Compiled {
@@ -25,11 +28,32 @@ impl Model for Compiled {
 
 impl Compiled {
     /// These tables with their graph.
-    pub fn make(tables: Tables, graph: Graph) -> Compiled
+    pub fn make(alloc: Global, tables: Tables, graph: Graph) -> Compiled
         requires { IsGraphOf (declared_by tables) graph }
         ensures { result ≡ tables }
     {
-        Compiled { tables, graph }
+        Compiled {
+            tables,
+            graph,
+            placed: List::make(alloc),
+        }
+    }
+
+    /// The same, with the statements that they were made from.
+    pub fn with_placed(self, placed: List<Placed>) -> Compiled
+        ensures { result ≡ self }
+    {
+        let Compiled {
+            tables,
+            graph,
+            placed: none,
+        } = self;
+        drop(none);
+        Compiled {
+            tables,
+            graph,
+            placed,
+        }
     }
 
     /// The tables.
@@ -50,8 +74,13 @@ impl Compiled {
     pub fn into_tables(self) -> Tables
         ensures { result ≡ self }
     {
-        let Compiled { tables, graph } = self;
+        let Compiled {
+            tables,
+            graph,
+            placed,
+        } = self;
         drop(graph);
+        drop(placed);
         tables
     }
 }

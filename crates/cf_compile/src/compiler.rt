@@ -37,7 +37,7 @@ fn tables_of_standing(
     } = standing;
     let (declared, graph) = declarations.into_parts();
     let tables = tables_of(alloc, files, placed, idle, declared, &graph, instances)?;
-    Ok(Compiled::make(tables, graph))
+    Ok(Compiled::make(alloc, tables, graph))
 }
 
 /// The tables of placed statements, or their first fault, or else this fault of the reading.
@@ -71,9 +71,14 @@ fn compile_read(alloc: Global, read: Expanded) -> Result<Compiled, CompileStop>
         fault,
     } = read;
     let found = compile_placed(alloc, files.items(), placed.items(), fault);
-    drop(placed);
     drop(files);
-    found
+    match found {
+        Ok(compiled) => Ok(compiled.with_placed(placed)),
+        Err(stop) => {
+            drop(placed);
+            Err(stop)
+        }
+    }
 }
 
 /// Compiles the named configuration with all that it includes: its tables, which have their graph with them, or its first
