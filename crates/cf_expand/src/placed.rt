@@ -1,4 +1,4 @@
-ghost use Rattle.std.specs.Prelude.{◌≡◌, ℕ, ◌<◌, ◌||◌, [], ◌∷◌, ◌++◌, List as Items, OnErr, OnOk, length, vec_capacity, vec_len};
+ghost use Rattle.std.specs.Prelude.{◌≡◌, ℕ, ◌<◌, ◌||◌, [], ◌∷◌, ◌++◌, List as Items, OnErr, OnOk, length};
 ghost use Rattle.std.specs.Option.{option_copied};
 ghost use Rattle.config_rules.specs.Reading.{declares, is_declared};
 ghost use Rattle.config_rules.specs.Written.{AreWritten, IsWritten};
@@ -59,18 +59,6 @@ fn is_declared(placed: &[Placed], name: &[u8]) -> bool
     false
 }
 
-/// Makes room for a statement more.
-#[cold]
-#[inline(never)]
-fn make_room(items: &mut Vec<Placed>) -> Result<(), Memory>
-    ensures same { items.new.items ≡ items.old.items }
-    ensures len { vec_len items.new ≡ vec_len items.old }
-    ensures room { OnOk result (vec_len items.new < vec_capacity items.new) }
-{
-    items.reserve(1)?;
-    Ok(())
-}
-
 /// The placed statements, which keep the limits of the language, with a set of the names that the first of them declare:
 /// those that stood there when a condition was placed last. Contracts see the list alone.
 #[derive(Drop)]
@@ -113,7 +101,6 @@ impl PlacedList {
     }
 
     /// Adds the names that are not noted yet.
-    #[inline(never)]
     fn note_all(&mut self) -> Result<(), Memory>
         ensures { self.new ≡ self.old }
     {
@@ -133,9 +120,7 @@ impl PlacedList {
         ensures { OnOk result (self.new ≡ self.old ++ placed ∷ []) }
     {
         let is_condition = matches!(placed.stmt, Stmt::Cond { .. });
-        if self.items.len() >= self.items.capacity() {
-            make_room(&mut self.items)?;
-        }
+        self.items.reserve(1)?;
         self.items.push_reserved(placed);
         if is_condition {
             self.note_all()?;
