@@ -1,8 +1,8 @@
 //! Puts texts that are made line by line.
-ghost use Rattle.std.specs.Prelude.{◌≡◌, ℕ, ◌++◌, ◌∷◌, [], IfOk, List, slice_get};
+ghost use Rattle.std.specs.Prelude.{ℕ, ◌++◌, IfOk, List, slice_get};
 ghost use Rattle.cf_types.specs.Lines.{text_of};
 ghost use Rattle.ioconf_text.specs.Seeking.{PutsLine};
-ghost use Rattle.app_output.specs.NextLine.{IsNextLine};
+ghost use Rattle.app_output.specs.NextLine.{HandsOn, IsNextLine};
 ghost use Rattle.app_output.specs.Output.{Puts};
 
 use crate::piece::put_piece;
@@ -20,31 +20,45 @@ pub trait Lines {
         ensures { IfOk result (λ there. PutsLine (slice_get (lines self.now) place) there line.old.items line.new.items) };
 }
 
-/// Makes the line at a place with its newline, in place of what is there; `false` where there is none.
-fn make_line<L: Lines>(lines: &L, place: u64, line: &mut Vec<u8>) -> Result<bool, Memory>
-    ensures { IfOk result (λ there. IsNextLine (L.lines lines.now) place there line.new.items) }
+/// Appends the line at a place with its newline; `false` where there is none.
+fn add_line<L: Lines>(lines: &L, place: u64, text: &mut Vec<u8>) -> Result<bool, Memory>
+    ensures { IfOk result (λ there. IsNextLine (L.lines lines.now) place there text.old.items text.new.items) }
 {
-    line.clear();
-    if !lines.put_line(place, line)? {
+    if !lines.put_line(place, text)? {
         return Ok(false);
     }
-    line.push(b'\n')?;
+    text.push(b'\n')?;
     Ok(true)
 }
 
-/// Puts the lines, one at a time. No memory holds more lines than can be counted.
+/// How many bytes lines have at least before they are put together.
+const MANY: usize = 2_048;
+
+/// Puts a text, if it is long, and empties it then.
+fn put_long<S: Sink>(text: &mut Vec<u8>, out: &mut S) -> Result<(), OutputStop>
+    ensures { HandsOn text.old.items text.new.items (S.told out.old) (S.told out.new) result }
+{
+    if text.len() < MANY {
+        return Ok(());
+    }
+    put_piece(text, out)?;
+    text.clear();
+    Ok(())
+}
+
+/// Puts the lines, many at a time. No memory holds more lines than can be counted.
 pub fn put_lines<L: Lines, S: Sink>(alloc: Global, lines: &L, out: &mut S) -> Result<(), OutputStop>
     ensures { Puts (text_of (L.lines lines.now)) (S.told out.old) (S.told out.new) result }
 {
-    let mut line = Vec::new(alloc);
+    let mut text = Vec::new(alloc);
     for place in 0..u64::MAX {
-        let Ok(there) = make_line(lines, place, &mut line) else {
+        let Ok(there) = add_line(lines, place, &mut text) else {
             return Err(OutputStop::Memory);
         };
         if !there {
-            return Ok(());
+            return put_piece(&text, out);
         }
-        put_piece(&line, out)?;
+        put_long(&mut text, out)?;
     }
     Err(OutputStop::Memory)
 }
