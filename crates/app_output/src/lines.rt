@@ -31,14 +31,14 @@ fn add_line<L: Lines>(lines: &L, place: u64, text: &mut Vec<u8>) -> Result<bool,
     Ok(true)
 }
 
-/// How many bytes lines have at least before they are put together.
-const MANY: usize = 2_048;
+/// How many bytes the lines of a listing have at least before they are put together.
+pub const MANY: usize = 2_048;
 
-/// Puts a text, if it is long, and empties it then.
-fn put_long<S: Sink>(text: &mut Vec<u8>, out: &mut S) -> Result<(), OutputStop>
+/// Puts a text, if it has so many bytes, and empties it then.
+fn put_long<S: Sink>(text: &mut Vec<u8>, many: usize, out: &mut S) -> Result<(), OutputStop>
     ensures { HandsOn text.old.items text.new.items (S.told out.old) (S.told out.new) result }
 {
-    if text.len() < MANY {
+    if text.len() < many {
         return Ok(());
     }
     put_piece(text, out)?;
@@ -46,8 +46,13 @@ fn put_long<S: Sink>(text: &mut Vec<u8>, out: &mut S) -> Result<(), OutputStop>
     Ok(())
 }
 
-/// Puts the lines, many at a time. No memory holds more lines than can be counted.
-pub fn put_lines<L: Lines, S: Sink>(alloc: Global, lines: &L, out: &mut S) -> Result<(), OutputStop>
+/// Puts the lines, those together that have so many bytes. No memory holds more lines than can be counted.
+pub fn put_lines<L: Lines, S: Sink>(
+    alloc: Global,
+    lines: &L,
+    many: usize,
+    out: &mut S,
+) -> Result<(), OutputStop>
     ensures { Puts (text_of (L.lines lines.now)) (S.told out.old) (S.told out.new) result }
 {
     let mut text = Vec::new(alloc);
@@ -58,12 +63,13 @@ pub fn put_lines<L: Lines, S: Sink>(alloc: Global, lines: &L, out: &mut S) -> Re
         if !there {
             return put_piece(&text, out);
         }
-        put_long(&mut text, out)?;
+        put_long(&mut text, many, out)?;
     }
     Err(OutputStop::Memory)
 }
 
-/// Puts a head with its newline, and the lines below it.
+/// Puts a head with its newline, and the lines below it one by one: what makes such a line takes memory of its own where
+/// another line stands before it.
 pub fn put_headed<L: Lines, S: Sink>(
     alloc: Global,
     head: &[u8],
@@ -73,5 +79,5 @@ pub fn put_headed<L: Lines, S: Sink>(
     ensures { Puts (head.now ++ text_of (L.lines lines.now)) (S.told out.old) (S.told out.new) result }
 {
     put_piece(head, out)?;
-    put_lines(alloc, lines, out)
+    put_lines(alloc, lines, 1, out)
 }
