@@ -1,5 +1,5 @@
 pub mod Ended
-pub mod HeldLines
 pub mod NextLines
 pub mod Puts
+pub mod TakenLemmas
 pub mod RunLaws

@@ -1,9 +1,11 @@
--- Texts that are put one after the other.
-use Rattle.std.proofs.Common.{◌≡◌, ℕ, List, [], ◌++◌, refl, ap, sym, ◌∙◌, subst, append_assoc}
+-- Texts that are put one after the other, and line by line.
+use Rattle.std.proofs.Common.{◌≡◌, ℕ, ◌<◌, List, [], ◌++◌, length, get_or, take, refl, ap, sym, ◌∙◌, subst, append_assoc}
 use Rattle.std.specs.Prelude.{Result, Ok, Err, IsErrAnd}
 use Rattle.cf_io.specs.Faults.{Rises}
 use Rattle.cf_io.specs.Told.{Told, Grows, TakesFront}
 use Rattle.cf_io.proofs.GrowsLemmas.{grows_nothing, grows_then}
+use Rattle.app_output.proofs.TakenLemmas.{front_within}
+use Rattle.cf_types.specs.Lines.{ended, text_of}
 use Rattle.app_output.specs.Output.{Puts, Stops}
 use Rattle.app_output.specs.declared.stop.OutputStop.{OutputStop}
 use Rattle.app_output.specs.declared.stop.OutputStop.TheVariants.{WriteFault, Memory}
@@ -41,6 +43,13 @@ puts_stops a b old new Memory h = (front_longer a b old new h.0, h.1)
 -- memory ran out before anything was put
 pub puts_nothing : (a : List ℕ) (old : Told) → Stops a old old Memory
 puts_nothing a old = (record { front = []; rest = a; parts = refl; taken = grows_nothing old }, refl)
+
+-- a line was not put whole
+pub lines_stop : (lines : List (List ℕ)) (n : ℕ) (piece : List ℕ) (old mid new : Told) (stop : OutputStop) → n < length lines → piece ≡ ended (get_or lines n [])
+    → Grows (text_of (take n lines)) old mid → mid.faults ≡ old.faults → Stops piece mid new stop → Stops (text_of lines) old new stop
+lines_stop lines n piece old mid new WriteFault p is so_far same h =
+    (front_within lines n piece old mid new p is so_far h.0, subst (λ (k : ℕ). Rises k new.faults) same h.1)
+lines_stop lines n piece old mid new Memory p is so_far same h = (front_within lines n piece old mid new p is so_far h.0, h.1 ∙ same)
 
 -- why the text was not put is passed on
 pub passed_on : {A : Type 0} (text : List ℕ) (old new : Told) (result : Result A OutputStop) (stop : OutputStop) → IsErrAnd result (λ e. e ≡ stop) → Stops text old new stop → Puts text old new result

@@ -4,7 +4,7 @@ ghost use Rattle.attr_graph.specs.Graphs.{FitGraph, IsGraphOf, declared_by};
 ghost use Rattle.config_rules.specs.Listing.{listing};
 ghost use Rattle.app_output.specs.Output.{Puts};
 
-use crate::lines::{Lines, MANY, put_lines};
+use crate::lines::{Lines, put_lines};
 use crate::stop::OutputStop;
 use attr_graph::{Graph, graph_of};
 use cf_io::Sink;
@@ -44,7 +44,7 @@ pub fn put_listing_with<S: Sink>(
     requires { IsGraphOf (declared_by tables.now) graph.now }
     ensures { Puts (listing tables.now) (S.told out.old) (S.told out.new) result }
 {
-    put_lines(alloc, &Listing { tables, graph }, MANY, out)
+    put_lines(alloc, &Listing { tables, graph }, out)
 }
 
 /// Puts the listing of tables without a graph at hand. It is made, and not taken apart, since the program ends soon.

@@ -2,7 +2,7 @@
 ghost use Rattle.cf_types.specs.Lines.{text_of};
 ghost use Rattle.app_output.specs.Output.{Puts};
 
-use crate::lines::{Lines, MANY, put_lines};
+use crate::lines::{Lines, put_lines};
 use crate::stop::OutputStop;
 use cf_io::Sink;
 use cf_types::{Memory, Text};
@@ -30,5 +30,5 @@ impl<'a> Lines for Paths<'a> {
 pub fn put_paths<S: Sink>(alloc: Global, paths: &[Text], out: &mut S) -> Result<(), OutputStop>
     ensures { Puts (text_of paths.now) (S.told out.old) (S.told out.new) result }
 {
-    put_lines(alloc, &Paths { paths }, MANY, out)
+    put_lines(alloc, &Paths { paths }, out)
 }
