@@ -3,8 +3,9 @@ ghost use Rattle.cf_types.specs.Locators.{fits_locator, submatch};
 
 use cf_types::{Attr, Locs};
 
-/// Whether the value of a row is the locator's default or the value found.
-fn fits_locator(default: Option<i64>, value: i64, found: i64) -> bool
+/// Whether the value of a row is the locator's default or the value found. See submatch in autoconf(9).
+#[inline(always)]
+pub fn fits_locator(default: Option<i64>, value: i64, found: i64) -> bool
     ensures { result ≡ fits_locator default value found }
 {
     match default {

@@ -6,6 +6,6 @@ mod fits;
 mod place;
 mod values;
 
-pub use fits::submatch;
+pub use fits::{fits_locator, submatch};
 pub use place::locators_at;
 pub use values::fill;

@@ -4,6 +4,7 @@ ghost use Rattle.match_search.specs.Found.{locators_in};
 ghost use Rattle.match_search.specs.Heads.{could_pass, first_locator, head_of};
 
 use cf_types::{Attr, Locs, Memory, Place, Row};
+use locator_rules::fits_locator;
 use std::alloc::Global;
 
 /// The place and the attachment of a row, and its value for the first locator of the place, if it has one.
@@ -62,10 +63,7 @@ pub fn could_pass(first: Option<FirstLocator>, value: Option<i64>) -> bool
     ensures { result ≡ could_pass first value }
 {
     match (first, value) {
-        (Some(first), Some(value)) => match first.default {
-            Some(default) => value == default || value == first.found,
-            None => value == first.found,
-        },
+        (Some(first), Some(value)) => fits_locator(first.default, value, first.found),
         _ => true,
     }
 }
