@@ -7,10 +7,10 @@ use std::hash::{Hash, Hasher};
 use std::marker::Model;
 use std::sync::Arc;
 
-/// How many bytes lie in the block of memory that the owners of a name share; more of them have a block of their own.
-const SHORT: usize = 23;
+/// How many bytes lie in the block of memory that the owners of a name share; more of them have blocks of their own.
+const SHORT: usize = 14;
 
-/// At most 23 bytes. Contracts see them alone.
+/// At most 14 bytes. Contracts see them alone.
 #[derive(Debug, Drop)]
 struct ShortBytes {
     len: u8,
@@ -24,12 +24,12 @@ impl Model for ShortBytes {
 
     ghost view = { λ it. take it.len it.bytes };
 
-    ghost invariant = { λ it. it.len ≤ 23 };
+    ghost invariant = { λ it. it.len ≤ 14 };
 }
 
 impl ShortBytes {
     fn make(bytes: &[u8]) -> ShortBytes
-        requires { length bytes.now ≤ 23 }
+        requires { length bytes.now ≤ 14 }
         ensures { result ≡ bytes.now }
     {
         let mut room = [0; SHORT];
@@ -51,7 +51,7 @@ impl ShortBytes {
 #[derive(Debug, Drop)]
 enum NameBytes {
     Short(ShortBytes),
-    Long(Vec<u8>),
+    Long(Box<Vec<u8>>),
 }
 
 impl NameBytes {
@@ -62,7 +62,8 @@ impl NameBytes {
         if bytes.len() <= SHORT {
             return Ok(NameBytes::Short(ShortBytes::make(bytes)));
         }
-        Ok(NameBytes::Long(Vec::from_slice(alloc, bytes)?))
+        let long = Vec::from_slice(alloc, bytes)?;
+        Ok(NameBytes::Long(Box::new(alloc, long)?))
     }
 
     #[tactic(auto, unfolding(crate::specs::Names::bytes_of))]
