@@ -83,6 +83,7 @@ pub fn form_of(
         return Ok(None);
     }
     match keyword {
+        Some(Keyword::No) => negation(known, sized, rest),
         Some(keyword) => by_keyword(known, sized, keyword, rest),
         None => instance(known, sized, words),
     }

@@ -13,6 +13,7 @@ use cf_types::code::configuration as code;
 use cf_types::{Keyword, Memory, Stmt, Token};
 use cf_words::{Known, Word};
 use std::alloc::AllocError;
+use std::mem::replace;
 use thiserror::Error;
 
 /// Why tokens gave no statement.
@@ -59,7 +60,8 @@ pub fn word_of<'a>(text: &'a [u8], token: Token) -> Word<'a>
     }
 }
 
-/// Puts the tokens with their bytes in place of what is there.
+/// Puts the tokens with their bytes in place of what is there. The room is held here meanwhile, so that it is not looked up
+/// for each of them.
 #[inline(always)]
 fn put_words<'a>(
     words: &mut Vec<Word<'a>>,
@@ -69,11 +71,13 @@ fn put_words<'a>(
     requires { AreWithin text.now tokens.now }
     ensures { OnOk result (map piece_of words.new.items ≡ pieces text.now tokens.now) }
 {
-    words.clear();
-    words.reserve(tokens.len())?;
+    let mut room = replace(words, Vec::new(*words.allocator()));
+    room.clear();
+    room.reserve(tokens.len())?;
     for &token in tokens {
-        words.push_reserved(word_of(text, token));
+        room.push_reserved(word_of(text, token));
     }
+    *words = room;
     Ok(())
 }
 

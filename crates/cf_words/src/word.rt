@@ -12,7 +12,7 @@ pub struct Word<'a> {
     pub text: &'a [u8],
 }
 
-/// Whether two texts are the same. Those of one or two bytes are told apart without a call.
+/// Whether two texts are the same. Those of few bytes are told apart without a call.
 #[inline(always)]
 fn has_bytes(text: &[u8], other: &[u8]) -> bool
     ensures { result ≡ bytes_eq text.now other.now }
@@ -20,6 +20,9 @@ fn has_bytes(text: &[u8], other: &[u8]) -> bool
     match (text, other) {
         ([byte], [wanted]) => *byte == *wanted,
         ([first, second], [one, two]) => *first == *one && *second == *two,
+        ([a, b, c, d, rest @ ..], [e, f, g, h, other_rest @ ..]) => {
+            *a == *e && *b == *f && *c == *g && *d == *h && rest == other_rest
+        }
         _ => text == other,
     }
 }

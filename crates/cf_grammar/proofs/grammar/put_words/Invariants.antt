@@ -6,7 +6,7 @@ use Rattle.cf_grammar.proofs.grammar.put_words.Given as goal
 
 abbrev pub invariant-loop-token : goal.invariant-loop-token
 invariant-loop-token l = record {
-  words : map piece_of l.words.items ≡ pieces l.text (take l.token-index l.tokens);
-  count : vec_len l.words ≡ l.token-index;
-  room : length l.tokens ≤ vec_capacity l.words;
+  words : map piece_of l.room.items ≡ pieces l.text (take l.token-index l.tokens);
+  count : vec_len l.room ≡ l.token-index;
+  room : length l.tokens ≤ vec_capacity l.room;
 }
