@@ -1,22 +1,22 @@
 -- The names that statements declare, as the key of their hash takes them.
-use Rattle.std.specs.Prelude.{ℕ, List, [], Option, Some, None, flat_map, unwrap_or}
+use Rattle.std.specs.Prelude.{ℕ, List, [], Option, Some, None, flat_map}
 use Rattle.std.specs.Option.{option_map_or}
 use Rattle.cf_types.specs.declared.stmt.Stmt.{Stmt}
 use Rattle.cf_types.specs.declared.stmt.Stmt.TheVariants as stmt
 use Rattle.cf_names.specs.Hash.{line_of}
 
--- the name of an attribute, a device or an attachment
-abbrev pub declared_name : Stmt → Option (List ℕ)
-declared_name (stmt.Define name locs needs) = Some name
-declared_name (stmt.Class name) = Some name
-declared_name (stmt.DefPseudo name locs needs) = Some name
-declared_name (stmt.Device name locs needs) = Some name
-declared_name (stmt.Attach device places name needs) = Some (unwrap_or name device)
-declared_name _ = None
+-- the name of an attribute, a device or an attachment; one without a name of its own has that of its device
+abbrev pub new_name : Stmt → Option (List ℕ)
+new_name (stmt.Define name locs needs) = Some name
+new_name (stmt.Class name) = Some name
+new_name (stmt.DefPseudo name locs needs) = Some name
+new_name (stmt.Device name locs needs) = Some name
+new_name (stmt.Attach device places name needs) = name
+new_name _ = None
 
 -- the line of that name
 abbrev pub declared_line : Stmt → List ℕ
-declared_line s = option_map_or line_of (declared_name s) []
+declared_line s = option_map_or line_of (new_name s) []
 
 -- the lines of all names
 abbrev pub declared_lines : List Stmt → List ℕ

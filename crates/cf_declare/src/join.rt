@@ -155,8 +155,8 @@ fn are_few(declared: &Catalog, numbers: &[usize]) -> bool
     true
 }
 
-/// The first of these attachments of a device, with its first place, that suits: by what is noted of each place, and
-/// among few by going over them.
+/// The first of these attachments of a device, with its first place, that suits: by what is noted of each place where it
+/// is noted, and else, as among few, by going over them. Which way is taken is a matter of speed alone.
 fn fitting_place(
     declared: &Catalog,
     graph: &Graph,

@@ -1,33 +1,30 @@
 ghost use Rattle.std.specs.Prelude.{◌≡◌, ℕ, List, ◌++◌, map};
 ghost use Rattle.std.specs.Option.{option_copied};
 ghost use Rattle.cf_names.specs.Hash.{Holds, hash_of};
-ghost use Rattle.cf_declare.specs.Names.{declared_name, declared_line, declared_lines};
+ghost use Rattle.cf_declare.specs.Names.{new_name, declared_line, declared_lines};
 
 use cf_names::{HashKey, NameHash, Room};
 use cf_types::{Name, Placed, Stmt};
 
-/// The name that a statement declares, if it declares one.
-fn declared_name(stmt: &Stmt) -> Option<&Name>
-    ensures { option_copied result ≡ declared_name stmt.now }
+/// The name that a statement brings. An attachment without a name of its own has that of its device, which another
+/// statement brought, or else it is refused.
+fn new_name(stmt: &Stmt) -> Option<&Name>
+    ensures { option_copied result ≡ new_name stmt.now }
 {
     match stmt {
         Stmt::Define { name, .. } | Stmt::DefPseudo { name, .. } => Some(name),
         Stmt::Class { name } => Some(name),
         Stmt::Device { name, .. } => Some(name),
-        Stmt::Attach {
-            device,
-            attach_name,
-            ..
-        } => Some(attach_name.as_ref().unwrap_or(device)),
+        Stmt::Attach { attach_name, .. } => attach_name.as_ref(),
         _ => None,
     }
 }
 
-/// Adds the name that a statement declares to the key of a hash.
+/// Adds the name that a statement brings to the key of a hash.
 fn add_declared(key: &mut HashKey, stmt: &Stmt)
     ensures { (taken : List ℕ) → Holds key.old taken → Holds key.new (taken ++ declared_line stmt.now) }
 {
-    match declared_name(stmt) {
+    match new_name(stmt) {
         Some(name) => key.add(name.bytes()),
         None => {}
     }

@@ -206,7 +206,7 @@ impl Catalog {
         }
     }
 
-    /// The first spots of devices at places. Without them no device has many attachments, and no attachment many places.
+    /// The first spots of devices at places, if they are noted: whether they are is a matter of speed alone.
     pub fn noted_spots(&self) -> Option<&Spots>
         ensures { IfSome result (λ spots. AreSpots spots.now (all_spots self.now.attaches)) }
     {

@@ -16,7 +16,7 @@ use std::alloc::Global;
 pub type OfDevices = Vec<Attached>;
 
 /// The numbers of attributes, devices and attachments by name, and those of the attachments by device; and of each device
-/// the first spot at each place, once a device has many attachments, or an attachment many places.
+/// the first spot at each place, if these are noted.
 #[derive(Drop)]
 pub struct Index {
     pub attrs: Numbers,

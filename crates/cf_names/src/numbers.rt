@@ -7,7 +7,7 @@ use indexmap::IndexMap;
 use std::alloc::Global;
 
 /// Names in the order in which they come, each with its number: that of the first that is the same.
-pub type Numbers = IndexMap<Name, usize, NameHash>;
+pub type Numbers = IndexMap<Name, u32, NameHash>;
 
 /// No name yet. It takes no memory.
 pub fn no_numbers(alloc: Global, hash: NameHash) -> Numbers
@@ -28,14 +28,20 @@ pub fn reserve_names(numbers: &mut Numbers, more: usize) -> Result<(), Memory>
 pub fn number_in(numbers: &Numbers, name: &Name) -> Option<usize>
     ensures { result ≡ number_in numbers.now name.now }
 {
-    numbers.get(name).copied()
+    match numbers.get(name) {
+        Some(number) => Some(*number as usize),
+        None => None,
+    }
 }
 
 /// Adds the next name, with its number. Where an earlier one is the same, its number stays.
 pub fn add_name(numbers: &mut Numbers, name: &Name, number: usize) -> Result<(), Memory>
     ensures { OnOk result ((names : List (List ℕ)) → AreNumbers numbers.old names → length names ≡ number → AreNumbers numbers.new (names ++ name.now ∷ [])) }
 {
+    let Ok(short) = u32::try_from(number) else {
+        return Err(Memory);
+    };
     let key = name.clone()?;
-    numbers.entry(key)?.or_insert(number);
+    numbers.entry(key)?.or_insert(short);
     Ok(())
 }
