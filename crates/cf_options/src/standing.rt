@@ -3,7 +3,6 @@ ghost use Rattle.cf_types.specs.declared.stmt.ItemKind.{ItemKind as Kind};
 ghost use Rattle.config_rules.specs.Select.{drops, has_name, item_names, same_kind};
 ghost use Rattle.cf_options.specs.ItemFlags.{flag_of, stands_in};
 
-use crate::parts::same_kind;
 use cf_types::{Item, ItemKind, Memory, Name, Stmt};
 use std::alloc::Global;
 use std::collections::HashMap;
@@ -85,40 +84,15 @@ fn set_items<'a>(flags: &mut HashMap<&'a Name, bool>, items: &'a [Item]) -> Resu
     Ok(())
 }
 
-/// Notes the items of a negation, if it is one of this kind.
-fn take_back<'a>(
-    flags: &mut HashMap<&'a Name, bool>,
-    kind: ItemKind,
-    other: ItemKind,
-    names: &'a [Name],
-) -> Result<(), Memory>
-    ensures { OnOk result ((q : List ℕ) → flag_of flags.new q ≡ (flag_of flags.old q && not (same_kind other kind && has_name names.now q))) }
+/// Notes the items of a negation.
+fn take_back<'a>(flags: &mut Flags<'a>, kind: ItemKind, names: &'a [Name]) -> Result<(), Memory>
+    ensures { OnOk result ((other : Kind) (q : List ℕ) → stands_in flags.new other q ≡ (stands_in flags.old other q && not (same_kind kind other && has_name names.now q))) }
 {
-    if same_kind(other, kind) {
-        return set_names(flags, names, false);
-    }
-    Ok(())
-}
-
-/// Notes what a statement does to the items of one kind.
-fn note_kind<'a>(
-    flags: &mut HashMap<&'a Name, bool>,
-    kind: ItemKind,
-    stmt: &'a Stmt,
-) -> Result<(), Memory>
-    ensures { OnOk result ((q : List ℕ) → flag_of flags.new q ≡ (has_name (item_names kind stmt.now) q || (flag_of flags.old q && not (drops kind q stmt.now)))) }
-{
-    match (kind, stmt) {
-        (ItemKind::Options, Stmt::Options { items }) => set_items(flags, items.items()),
-        (ItemKind::MakeOptions, Stmt::MakeOptions { items }) => set_items(flags, items.items()),
-        (ItemKind::FileSystem, Stmt::FileSystems { names }) => set_names(
-            flags,
-            names.items(),
-            true,
-        ),
-        (ItemKind::PseudoDevice, Stmt::PseudoDevice { name, .. }) => set(flags, name, true),
-        (_, Stmt::NoItems { kind: other, names }) => take_back(flags, kind, *other, names.items()),
-        _ => Ok(()),
+    match kind {
+        ItemKind::Options => set_names(&mut flags.options, names, false),
+        ItemKind::MakeOptions => set_names(&mut flags.makeoptions, names, false),
+        ItemKind::PseudoDevice => set_names(&mut flags.pseudos, names, false),
+        ItemKind::FileSystem => set_names(&mut flags.file_systems, names, false),
     }
 }
 
@@ -126,8 +100,12 @@ fn note_kind<'a>(
 pub fn note_statement<'a>(flags: &mut Flags<'a>, stmt: &'a Stmt) -> Result<(), Memory>
     ensures { OnOk result ((kind : Kind) (q : List ℕ) → stands_in flags.new kind q ≡ (has_name (item_names kind stmt.now) q || (stands_in flags.old kind q && not (drops kind q stmt.now)))) }
 {
-    note_kind(&mut flags.options, ItemKind::Options, stmt)?;
-    note_kind(&mut flags.makeoptions, ItemKind::MakeOptions, stmt)?;
-    note_kind(&mut flags.pseudos, ItemKind::PseudoDevice, stmt)?;
-    note_kind(&mut flags.file_systems, ItemKind::FileSystem, stmt)
+    match stmt {
+        Stmt::Options { items } => set_items(&mut flags.options, items.items()),
+        Stmt::MakeOptions { items } => set_items(&mut flags.makeoptions, items.items()),
+        Stmt::FileSystems { names } => set_names(&mut flags.file_systems, names.items(), true),
+        Stmt::PseudoDevice { name, .. } => set(&mut flags.pseudos, name, true),
+        Stmt::NoItems { kind, names } => take_back(flags, *kind, names.items()),
+        _ => Ok(()),
+    }
 }
