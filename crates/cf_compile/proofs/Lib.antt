@@ -3,3 +3,4 @@ pub mod IdleLaws
 pub mod InstLaws
 pub mod TableLaws
 pub mod CompileLaws
+pub mod EmptiedLaws

@@ -12,6 +12,7 @@ use crate::build::tables_of;
 use crate::compiled::Compiled;
 use crate::judge::{Standing, Verdict, judge};
 use crate::stop::CompileStop;
+use crate::tokens::without_tokens;
 use cf_expand::expand;
 use cf_io::Files;
 use cf_select::{Kept, survivors};
@@ -60,7 +61,8 @@ fn compile_placed(
     }
 }
 
-/// The tables of what was read, or its first fault: that of a statement, or else that of the reading.
+/// The tables of what was read, or its first fault: that of a statement, or else that of the reading. The tokens of free
+/// statements are let go of first, since nobody reads them from here on.
 fn compile_read(alloc: Global, read: Expanded) -> Result<Compiled, CompileStop>
     requires { AreWritten read.placed }
     ensures { Finds (reading_of read) result }
@@ -70,6 +72,7 @@ fn compile_read(alloc: Global, read: Expanded) -> Result<Compiled, CompileStop>
         files,
         fault,
     } = read;
+    let placed = without_tokens(alloc, placed)?;
     let found = compile_placed(alloc, files.items(), placed.items(), fault);
     drop(files);
     match found {

@@ -6,6 +6,7 @@ mod compiled;
 mod compiler;
 mod judge;
 mod stop;
+mod tokens;
 
 pub use compiled::Compiled;
 pub use compiler::compile;

@@ -1,0 +1,28 @@
+//! Lets go of tokens that nobody reads later.
+ghost use Rattle.std.specs.Prelude.{◌≡◌, map, IfOk, OnOk};
+ghost use Rattle.cf_compile.specs.Emptied.{emptied_at};
+
+use cf_types::{List, Memory, Pieces, Placed, Stmt};
+use std::alloc::Global;
+
+/// Takes the tokens away from a statement that may have any.
+#[inline(always)]
+fn empty(alloc: Global, statement: &mut Placed) -> Result<(), Memory>
+    ensures { OnOk result (statement.new ≡ emptied_at statement.old) }
+{
+    if let Stmt::Free { rest, .. } = &mut statement.stmt {
+        *rest = Pieces::with_room(alloc, 0, 0)?;
+    }
+    Ok(())
+}
+
+/// Placed statements without the tokens of those that may have any, which tell nothing of tables.
+pub fn without_tokens(alloc: Global, placed: List<Placed>) -> Result<List<Placed>, Memory>
+    ensures { IfOk result (λ kept. kept ≡ map emptied_at placed) }
+{
+    let mut kept = placed.into_vec();
+    for place in 0..kept.len() {
+        empty(alloc, &mut kept[place])?;
+    }
+    Ok(List::from_vec(kept))
+}
