@@ -1,23 +1,20 @@
 -- The tokens of free statements change nothing of what a configuration means.
-use Rattle.std.proofs.Common.{◌≡◌, ℕ, zero, suc, ◌+◌, ◌<◌, get_or, set, arith, Bool, true, false, cond, Option, Some, None, List, [], ◌∷◌, ◌++◌, length, map, refl, ap, sym, ◌∙◌, ◌≤◌, subst}
-use Rattle.std.specs.Prelude.{bytes_eq, not, ◌&&◌, ◌||◌, if◌then◌else◌, filter, filter_map, fold, count_by, is_some, option_map, unwrap_or, Result, Ok, Err}
+use Rattle.std.proofs.Common.{◌≡◌, ℕ, zero, suc, ◌+◌, ◌<◌, get_or, set, arith, Bool, false, cond, Option, List, [], ◌∷◌, ◌++◌, length, map, refl, ap, sym, ◌∙◌, ◌≤◌, subst}
+use Rattle.std.specs.Prelude.{not, ◌&&◌, ◌||◌, if◌then◌else◌, filter, filter_map, fold, count_by, option_map, Result, Ok, Err}
 use Rattle.std.specs.List.{All, list_any, cons_option}
 use Rattle.std.specs.Option.{option_map_or}
 use Rattle.std.proofs.lemmas.List.{length-map, map-append}
 use Rattle.std.proofs.lemmas.List.Elements.{All-cons, All-head, All-nil, All-tail}
 use Rattle.cf_types.specs.declared.instance.Instance.{Instance}
+use Rattle.cf_types.specs.declared.stmt.Expanded.{Expanded}
 use Rattle.cf_types.specs.declared.stmt.ItemKind.{ItemKind}
 use Rattle.cf_types.specs.declared.stmt.ItemKind.TheVariants as of_kind
 use Rattle.cf_types.specs.declared.stmt.Piece.{Piece}
 use Rattle.cf_types.specs.declared.stmt.Placed.{Placed}
 use Rattle.cf_types.specs.declared.stmt.Stmt.{Stmt}
 use Rattle.cf_types.specs.declared.stmt.Stmt.TheVariants as stmt
-use Rattle.cf_types.specs.declared.tables.Attr.{Attr}
-use Rattle.cf_types.specs.declared.tables.Attach.{Attach}
-use Rattle.cf_types.specs.declared.tables.Device.{Device}
 use Rattle.cf_types.specs.declared.tables.Tables.{Tables}
 use Rattle.cf_types.specs.declared.tables.WarnKind.TheVariants as warns
-use Rattle.cf_types.specs.declared.tables.Refusal.{Refusal}
 use Rattle.config_rules.specs.Declared.{Declared, attr_name, attr_of, attach_of, declared, declared_with, device_name, device_of}
 use Rattle.config_rules.specs.Fault.{code_of, fault_in, fault_of, first_code, is_instance, refusal, stmts_of}
 use Rattle.config_rules.specs.Form.{◌or◌}
@@ -26,7 +23,7 @@ use Rattle.config_rules.specs.Meaning.{file_systems_in, idle, idle_names, if_joi
 use Rattle.config_rules.specs.Reading.{Reading}
 use Rattle.config_rules.specs.Select.{RootedInsts, drops, has_name, item_names, kept_items, names, survives, takes_back, takes_item}
 use Rattle.config_rules.specs.Written.{AreWritten, IsWritten}
-use Rattle.cf_compile.specs.Meant.{Finds, IsMeant, read_from}
+use Rattle.cf_compile.specs.Meant.{Finds, IsMeant, read_from, reading_of}
 use Rattle.cf_compile.specs.declared.stop.CompileStop.{CompileStop}
 use Rattle.cf_compile.specs.declared.stop.CompileStop.TheVariants.{Refused, ReadFault, Memory}
 use Rattle.cf_compile.specs.Emptied.{emptied, emptied_at, first_emptied}
@@ -297,7 +294,7 @@ meant_same files placed tables meant = record {
 }
 
 -- what is found in emptied statements is found in those that were read
-pub finds_same : (r : Reading) (result : Result Tables CompileStop) → Finds (record r { placed = map emptied_at r.placed }) result → Finds r result
+finds_same : (r : Reading) (result : Result Tables CompileStop) → Finds (record r { placed = map emptied_at r.placed }) result → Finds r result
 finds_same r (Ok tables) found = (sym (fault_in_same r) ∙ found.0, meant_same r.files r.placed tables found.1)
 finds_same r (Err (Refused refusal)) found = sym (fault_in_same r) ∙ found
 finds_same r (Err ReadFault) found = found
@@ -327,3 +324,11 @@ written_same placed written = record {
     all_written [] h = All-nil (λ p. IsWritten p.stmt)
     all_written (p ∷ xs) h =
         All-cons (λ p. IsWritten p.stmt) (emptied_at p) (map emptied_at xs) (one p.stmt (All-head (λ p. IsWritten p.stmt) p xs h)) (all_written xs (All-tail (λ p. IsWritten p.stmt) p xs h))
+
+-- what is found in what was read, once its statements are emptied
+pub found_read : (read : Expanded) (files : List (List ℕ)) (placed : List Placed) (result : Result Tables CompileStop) → files ≡ read.files → placed ≡ map emptied_at read.placed
+    → Finds (record (read_from files placed) { fault = read.fault }) result → Finds (reading_of read) result
+found_read read files placed result same emptied found =
+    finds_same (reading_of read) result
+    (subst (λ (ps : List Placed). Finds (record (read_from read.files ps) { fault = read.fault }) result) emptied
+    (subst (λ (fs : List (List ℕ)). Finds (record (read_from fs placed) { fault = read.fault }) result) same found))
