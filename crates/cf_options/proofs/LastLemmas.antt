@@ -7,7 +7,11 @@ use Rattle.std.proofs.lemmas.List.{drop_all, take_more, length-take-le, drop-app
 use Rattle.std.proofs.lemmas.List.Folds.{list_any-append}
 use Rattle.std.proofs.Math.Bool.{or-false, or-true}
 use Rattle.config_rules.specs.Select.{has_name}
-use Rattle.cf_options.specs.Last.{is_behind, is_dropped}
+use Rattle.cf_types.specs.declared.stmt.ItemKind.{ItemKind}
+use Rattle.cf_types.specs.declared.stmt.ItemKind.TheVariants as of_kind
+use Rattle.cf_types.specs.declared.stmt.Placed.{Placed}
+use Rattle.cf_options.specs.declared.last.Negations.{Negations}
+use Rattle.cf_options.specs.Last.{AreNegations, is_behind, is_dropped, is_negated_behind, last_of}
 use Rattle.std.specs.HashMap.{HashMap, hash_map_len}
 use Rattle.std.specs.Map.{lookup}
 use denote.Ref.{Bor}
@@ -68,3 +72,10 @@ none_dropped last place name h = by_entries last.entries h
     by_entries : (es : List (Bor (List ℕ) × ℕ)) → length es ≡ 0 → false ≡ is_behind place (lookup (λ k. bytes_eq name k.now) es)
     by_entries [] h = refl
     by_entries (e ∷ es) h = absurd (omega (arith, h))
+
+-- what is kept of the negations tells of each kind
+pub negated_behind : (placed : List Placed) (last : Negations) → AreNegations placed last → (kind : ItemKind) (place : ℕ) (name : List ℕ) → is_behind place (last_of last kind name) ≡ is_negated_behind placed kind place name
+negated_behind placed last h of_kind.Options place name = h.options place name
+negated_behind placed last h of_kind.MakeOptions place name = h.makeoptions place name
+negated_behind placed last h of_kind.PseudoDevice place name = h.pseudos place name
+negated_behind placed last h of_kind.FileSystem place name = h.file_systems place name

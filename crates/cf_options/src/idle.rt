@@ -3,8 +3,10 @@ ghost use Rattle.std.specs.List.{list_any};
 ghost use Rattle.config_rules.specs.Fault.{stmts_of};
 ghost use Rattle.config_rules.specs.Meaning.{idle_items};
 ghost use Rattle.cf_options.specs.ItemFlags.{idle_of, idle_places, stands_in};
+ghost use Rattle.cf_options.specs.Last.{AreNegations};
 ghost use Rattle.cf_options.specs.Parts.{negates_items};
 
+use crate::last::Negations;
 use crate::standing::{Flags, note_statement, nothing_stands, stands};
 use cf_types::{ItemKind, List, Memory, Name, Placed, Stmt};
 use std::alloc::Global;
@@ -61,8 +63,9 @@ fn negate_items(placed: &[Placed]) -> bool
 }
 
 /// The places of the negations of items, each once for each of its names that takes back nothing.
-pub fn idle_items(alloc: Global, placed: &[Placed]) -> Result<List<u32>, Memory>
-    requires { length placed.now ≤ 65536 }
+pub fn idle_items(alloc: Global, placed: &[Placed], last: &Negations) -> Result<List<u32>, Memory>
+    requires few { length placed.now ≤ 65536 }
+    requires last { AreNegations placed.now last.now }
     ensures { IfOk result (λ idle. idle ≡ idle_items [] (stmts_of placed.now)) }
 {
     if !negate_items(placed) {
@@ -72,7 +75,7 @@ pub fn idle_items(alloc: Global, placed: &[Placed]) -> Result<List<u32>, Memory>
     let mut idle = List::make(alloc);
     for (i, p) in placed.iter().enumerate() {
         push_idle(&mut idle, &flags, &p.stmt, i as u32)?;
-        note_statement(&mut flags, &p.stmt)?;
+        note_statement(&mut flags, last, i, &p.stmt)?;
     }
     Ok(idle)
 }

@@ -3,11 +3,11 @@ ghost use Rattle.cf_types.specs.declared.stmt.ItemKind.TheVariants as of_kind;
 ghost use Rattle.config_rules.specs.Fault.{stmts_of};
 ghost use Rattle.config_rules.specs.Meaning.{file_systems_in, pseudos_in};
 ghost use Rattle.config_rules.specs.Select.{kept_items};
-ghost use Rattle.cf_options.specs.Last.{is_dropped, not_dropped};
+ghost use Rattle.cf_options.specs.Last.{AreLast, is_dropped, not_dropped};
 ghost use Rattle.cf_options.specs.Parts.{items_in};
 
 use crate::copies::item_copied;
-use crate::last::{LastPlaces, is_dropped, last_negations};
+use crate::last::{LastPlaces, is_dropped};
 use crate::parts::{file_systems_in, items_in};
 use cf_types::{Item, ItemKind, List, Memory, Name, Placed, Pseudo, Stmt};
 use std::alloc::Global;
@@ -98,37 +98,50 @@ fn push_pseudo(
 }
 
 /// The options, or the makeoptions, that no later negation takes back.
-pub fn kept_items(alloc: Global, kind: ItemKind, placed: &[Placed]) -> Result<List<Item>, Memory>
+pub fn kept_items(
+    alloc: Global,
+    kind: ItemKind,
+    placed: &[Placed],
+    last: &LastPlaces,
+) -> Result<List<Item>, Memory>
+    requires { AreLast placed.now kind last.now }
     ensures { IfOk result (λ kept. kept ≡ kept_items kind (items_in kind) (λ i. i.name) (stmts_of placed.now)) }
 {
-    let last = last_negations(alloc, kind, placed)?;
     let mut kept = List::make(alloc);
     for (i, p) in placed.iter().enumerate() {
-        push_items(alloc, &mut kept, items_in(kind, &p.stmt), &last, i)?;
+        push_items(alloc, &mut kept, items_in(kind, &p.stmt), last, i)?;
     }
     Ok(kept)
 }
 
 /// The file systems that no later negation takes back.
-pub fn kept_file_systems(alloc: Global, placed: &[Placed]) -> Result<List<Name>, Memory>
+pub fn kept_file_systems(
+    alloc: Global,
+    placed: &[Placed],
+    last: &LastPlaces,
+) -> Result<List<Name>, Memory>
+    requires { AreLast placed.now of_kind.FileSystem last.now }
     ensures { IfOk result (λ kept. kept ≡ kept_items of_kind.FileSystem file_systems_in (λ n. n) (stmts_of placed.now)) }
 {
-    let last = last_negations(alloc, ItemKind::FileSystem, placed)?;
     let mut kept = List::make(alloc);
     for (i, p) in placed.iter().enumerate() {
-        push_names(&mut kept, file_systems_in(&p.stmt), &last, i)?;
+        push_names(&mut kept, file_systems_in(&p.stmt), last, i)?;
     }
     Ok(kept)
 }
 
 /// The pseudo-devices that no later negation takes back.
-pub fn kept_pseudos(alloc: Global, placed: &[Placed]) -> Result<List<Pseudo>, Memory>
+pub fn kept_pseudos(
+    alloc: Global,
+    placed: &[Placed],
+    last: &LastPlaces,
+) -> Result<List<Pseudo>, Memory>
+    requires { AreLast placed.now of_kind.PseudoDevice last.now }
     ensures { IfOk result (λ kept. kept ≡ kept_items of_kind.PseudoDevice pseudos_in (λ p. p.name) (stmts_of placed.now)) }
 {
-    let last = last_negations(alloc, ItemKind::PseudoDevice, placed)?;
     let mut kept = List::make(alloc);
     for (i, p) in placed.iter().enumerate() {
-        push_pseudo(&mut kept, &p.stmt, &last, i)?;
+        push_pseudo(&mut kept, &p.stmt, last, i)?;
     }
     Ok(kept)
 }

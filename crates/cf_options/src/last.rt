@@ -1,15 +1,35 @@
-ghost use Rattle.std.specs.Prelude.{◌≡◌, ℕ, ◌+◌, List, Some, bytes_eq, drop, if◌then◌else◌, IfOk, OnOk};
-ghost use Rattle.std.specs.List.{list_any};
+ghost use Rattle.std.specs.Prelude.{◌≡◌, ℕ, List, None, Some, bytes_eq, if◌then◌else◌, IfOk, OnOk};
+ghost use Rattle.cf_types.specs.declared.stmt.ItemKind.{ItemKind as Kind};
 ghost use Rattle.config_rules.specs.Select.{drops, has_name};
-ghost use Rattle.cf_options.specs.Last.{is_dropped, place_of};
+ghost use Rattle.cf_options.specs.Last.{AreNegations, is_dropped, last_of, place_of};
 
-use crate::parts::same_kind;
 use cf_types::{ItemKind, Memory, Name, Placed, Stmt};
 use std::alloc::Global;
 use std::collections::HashMap;
 
 /// For each name the place of the last negation that names it.
 pub type LastPlaces<'a> = HashMap<&'a Name, usize>;
+
+/// The last negation of each name, by the kind of items.
+#[derive(Drop)]
+pub struct Negations<'a> {
+    pub options: HashMap<&'a Name, usize>,
+    pub makeoptions: HashMap<&'a Name, usize>,
+    pub pseudos: HashMap<&'a Name, usize>,
+    pub file_systems: HashMap<&'a Name, usize>,
+}
+
+/// Nothing is negated.
+fn nothing_negated<'a>(alloc: Global) -> Negations<'a>
+    ensures { (kind : Kind) (q : List ℕ) → last_of result kind q ≡ None }
+{
+    Negations {
+        options: HashMap::new(alloc),
+        makeoptions: HashMap::new(alloc),
+        pseudos: HashMap::new(alloc),
+        file_systems: HashMap::new(alloc),
+    }
+}
 
 /// Notes that a name is negated at this place.
 fn note<'a>(last: &mut HashMap<&'a Name, usize>, name: &'a Name, place: usize) -> Result<(), Memory>
@@ -35,37 +55,28 @@ fn note_names<'a>(
     Ok(())
 }
 
-/// Notes the names of a statement at this place, if it is a negation of this kind.
-fn note_statement<'a>(
-    last: &mut HashMap<&'a Name, usize>,
-    kind: ItemKind,
-    stmt: &'a Stmt,
-    place: usize,
-) -> Result<(), Memory>
-    ensures { OnOk result ((q : List ℕ) → place_of last.new q ≡ (if drops kind q stmt.now then Some place else place_of last.old q)) }
+/// Notes the names of a statement at this place, if it is a negation of items.
+fn note_statement<'a>(last: &mut Negations<'a>, stmt: &'a Stmt, place: usize) -> Result<(), Memory>
+    ensures { OnOk result ((kind : Kind) (q : List ℕ) → last_of last.new kind q ≡ (if drops kind q stmt.now then Some place else last_of last.old kind q)) }
 {
     match stmt {
-        Stmt::NoItems { kind: other, names } => {
-            if same_kind(*other, kind) {
-                return note_names(last, names.items(), place);
-            }
-            Ok(())
-        }
+        Stmt::NoItems { kind, names } => match kind {
+            ItemKind::Options => note_names(&mut last.options, names.items(), place),
+            ItemKind::MakeOptions => note_names(&mut last.makeoptions, names.items(), place),
+            ItemKind::PseudoDevice => note_names(&mut last.pseudos, names.items(), place),
+            ItemKind::FileSystem => note_names(&mut last.file_systems, names.items(), place),
+        },
         _ => Ok(()),
     }
 }
 
-/// The last negations of the items of a kind.
-pub fn last_negations(
-    alloc: Global,
-    kind: ItemKind,
-    placed: &[Placed],
-) -> Result<HashMap<&Name, usize>, Memory>
-    ensures { IfOk result (λ last. (i : ℕ) (q : List ℕ) → is_dropped last i q ≡ list_any (λ p. drops kind q p.stmt) (drop (i + 1) placed.now)) }
+/// The last negations of items in these statements.
+pub fn last_negations(alloc: Global, placed: &[Placed]) -> Result<Negations<'_>, Memory>
+    ensures { IfOk result (AreNegations placed.now) }
 {
-    let mut last = HashMap::new(alloc);
+    let mut last = nothing_negated(alloc);
     for (i, p) in placed.iter().enumerate() {
-        note_statement(&mut last, kind, &p.stmt, i)?;
+        note_statement(&mut last, &p.stmt, i)?;
     }
     Ok(last)
 }

@@ -6,6 +6,7 @@ ghost use Rattle.config_rules.specs.Select.{kept_items};
 
 use crate::idle::idle_items;
 use crate::kept::{kept_file_systems, kept_items, kept_pseudos};
+use crate::last::last_negations;
 use cf_types::{Item, ItemKind, List, Memory, Name, Placed, Pseudo};
 use std::alloc::Global;
 
@@ -31,11 +32,12 @@ pub fn items(alloc: Global, placed: &[Placed]) -> Result<ItemLists, Memory>
     ensures file_systems { IfOk result (λ lists. lists.file_systems ≡ kept_items of_kind.FileSystem file_systems_in (λ n. n) (stmts_of placed.now)) }
     ensures idle { IfOk result (λ lists. lists.idle ≡ idle_items [] (stmts_of placed.now)) }
 {
+    let last = last_negations(alloc, placed)?;
     Ok(ItemLists {
-        pseudos: kept_pseudos(alloc, placed)?,
-        options: kept_items(alloc, ItemKind::Options, placed)?,
-        makeoptions: kept_items(alloc, ItemKind::MakeOptions, placed)?,
-        file_systems: kept_file_systems(alloc, placed)?,
-        idle: idle_items(alloc, placed)?,
+        pseudos: kept_pseudos(alloc, placed, &last.pseudos)?,
+        options: kept_items(alloc, ItemKind::Options, placed, &last.options)?,
+        makeoptions: kept_items(alloc, ItemKind::MakeOptions, placed, &last.makeoptions)?,
+        file_systems: kept_file_systems(alloc, placed, &last.file_systems)?,
+        idle: idle_items(alloc, placed, &last)?,
     })
 }

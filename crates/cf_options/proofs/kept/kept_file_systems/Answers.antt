@@ -7,8 +7,8 @@ use Rattle.cf_options.proofs.kept.kept_file_systems.Goals as goal
 
 pub loop-i-preserved : goal.loop-i-preserved
 loop-i-preserved c =
-    kept_more of_kind.FileSystem file_systems_in (λ (n : List ℕ). n) (is_dropped c.in_ok-last.last c.loop-i.i) c.args.placed.now c.loop-i.i c.index-placed-i.result c.file_systems_in.result.now c.loop-i.kept c.push_names.new.kept _
-    c.loop-i-test.true c.index-placed-i.is (c.in_ok-last.ensures c.loop-i.i) c.file_systems_in.ensures c.loop-i.invariant c.in_ok-push_names.ensures
+    kept_more of_kind.FileSystem file_systems_in (λ (n : List ℕ). n) (is_dropped c.args.last.now c.loop-i.i) c.args.placed.now c.loop-i.i c.index-placed-i.result c.file_systems_in.result.now c.loop-i.kept c.push_names.new.kept _
+    c.loop-i-test.true c.index-placed-i.is (c.requires c.loop-i.i) c.file_systems_in.ensures c.loop-i.invariant c.in_ok-push_names.ensures
 
 pub returns : goal.returns
 returns c = kept_ends of_kind.FileSystem file_systems_in (λ (n : List ℕ). n) c.args.placed.now c.loop-i.i c.loop-i.kept _ c.loop-i-test.false c.loop-i.invariant

@@ -6,8 +6,8 @@ use Rattle.cf_options.proofs.kept.kept_items.Goals as goal
 
 pub loop-i-preserved : goal.loop-i-preserved
 loop-i-preserved c =
-    kept_more c.args.kind (items_in c.args.kind) (λ (i : Item). i.name) (is_dropped c.in_ok-last.last c.loop-i.i) c.args.placed.now c.loop-i.i c.index-placed-i.result c.items_in.result.now c.loop-i.kept c.push_items.new.kept _
-    c.loop-i-test.true c.index-placed-i.is (c.in_ok-last.ensures c.loop-i.i) c.items_in.ensures c.loop-i.invariant c.in_ok-push_items.ensures
+    kept_more c.args.kind (items_in c.args.kind) (λ (i : Item). i.name) (is_dropped c.args.last.now c.loop-i.i) c.args.placed.now c.loop-i.i c.index-placed-i.result c.items_in.result.now c.loop-i.kept c.push_items.new.kept _
+    c.loop-i-test.true c.index-placed-i.is (c.requires c.loop-i.i) c.items_in.ensures c.loop-i.invariant c.in_ok-push_items.ensures
 
 pub returns : goal.returns
 returns c = kept_ends c.args.kind (items_in c.args.kind) (λ (i : Item). i.name) c.args.placed.now c.loop-i.i c.loop-i.kept _ c.loop-i-test.false c.loop-i.invariant
