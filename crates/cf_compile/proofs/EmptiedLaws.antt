@@ -1,5 +1,5 @@
 -- The tokens of free statements change nothing of what a configuration means.
-use Rattle.std.proofs.Common.{◌≡◌, ℕ, zero, suc, ◌+◌, ◌<◌, get_or, set, arith, Bool, false, cond, Option, List, [], ◌∷◌, ◌++◌, length, map, refl, ap, sym, ◌∙◌, ◌≤◌, subst}
+use Rattle.std.proofs.Common.{◌≡◌, ℕ, zero, suc, ◌+◌, ◌<◌, get_or, set, take, drop, arith, Bool, false, cond, Option, List, [], ◌∷◌, ◌++◌, length, map, refl, ap, sym, ◌∙◌, ◌≤◌, subst}
 use Rattle.std.specs.Prelude.{not, ◌&&◌, ◌||◌, if◌then◌else◌, filter, filter_map, fold, count_by, option_map, Result, Ok, Err}
 use Rattle.std.specs.List.{All, list_any, cons_option}
 use Rattle.std.specs.Option.{option_map_or}
@@ -26,7 +26,7 @@ use Rattle.config_rules.specs.Written.{AreWritten, IsWritten}
 use Rattle.cf_compile.specs.Meant.{Finds, IsMeant, read_from, reading_of}
 use Rattle.cf_compile.specs.declared.stop.CompileStop.{CompileStop}
 use Rattle.cf_compile.specs.declared.stop.CompileStop.TheVariants.{Refused, ReadFault, Memory}
-use Rattle.cf_compile.specs.Emptied.{emptied, emptied_at, first_emptied}
+use Rattle.cf_compile.specs.Emptied.{emptied, emptied_at}
 
 -- ---- one statement
 
@@ -235,38 +235,37 @@ tables_same r marks =
 
 -- ---- statement by statement
 
-pub first_length : (n : ℕ) (placed : List Placed) → length (first_emptied n placed) ≡ length placed
-first_length zero placed = refl
-first_length (suc n) [] = refl
-first_length (suc n) (p ∷ placed) = ap suc (first_length n placed)
+-- the first statements are emptied, the others are as they were read
+abbrev pub emptied_to : ℕ → List Placed → List Placed
+emptied_to n placed = map emptied_at (take n placed) ++ drop n placed
 
 -- the next one is as it was read
-pub next_read : (n : ℕ) (placed : List Placed) (d : Placed) → get_or (first_emptied n placed) n d ≡ get_or placed n d
+pub next_read : (n : ℕ) (placed : List Placed) (d : Placed) → get_or (emptied_to n placed) n d ≡ get_or placed n d
 next_read zero placed d = refl
 next_read (suc n) [] d = refl
 next_read (suc n) (p ∷ placed) d = next_read n placed d
 
 -- one more
-pub next_emptied : (n : ℕ) (placed : List Placed) (d : Placed) → n < length placed → set (first_emptied n placed) n (emptied_at (get_or placed n d)) ≡ first_emptied (suc n) placed
+pub next_emptied : (n : ℕ) (placed : List Placed) (d : Placed) → n < length placed → set (emptied_to n placed) n (emptied_at (get_or placed n d)) ≡ emptied_to (suc n) placed
 next_emptied n [] d lt = absurd (omega arith)
 next_emptied zero (p ∷ placed) d lt = refl
 next_emptied (suc n) (p ∷ placed) d lt = ap (λ later. emptied_at p ∷ later) (next_emptied n placed d (omega arith))
 
 -- all of them
-pub all_emptied : (placed : List Placed) → first_emptied (length placed) placed ≡ map emptied_at placed
+pub all_emptied : (placed : List Placed) → emptied_to (length placed) placed ≡ map emptied_at placed
 all_emptied [] = refl
 all_emptied (p ∷ placed) = ap (λ later. emptied_at p ∷ later) (all_emptied placed)
 
 -- a statement is emptied in its place
-pub step_emptied : (n : ℕ) (kept placed : List Placed) (now new : Placed) → kept ≡ first_emptied n placed → n < length placed → now ≡ get_or kept n now → new ≡ emptied_at now
-    → set kept n new ≡ first_emptied (n + 1) placed
+pub step_emptied : (n : ℕ) (kept placed : List Placed) (now new : Placed) → kept ≡ emptied_to n placed → n < length placed → now ≡ get_or kept n now → new ≡ emptied_at now
+    → set kept n new ≡ emptied_to (n + 1) placed
 step_emptied n kept placed now new is lt here emptied_now =
     let read : now ≡ get_or placed n now = here ∙ ap (λ (xs : List Placed). get_or xs n now) is ∙ next_read n placed now in
     let more : suc n ≡ n + 1 = omega arith in
     ap (λ (xs : List Placed). set xs n new) is
-    ∙ ap (set (first_emptied n placed) n) (emptied_now ∙ ap emptied_at read)
+    ∙ ap (set (emptied_to n placed) n) (emptied_now ∙ ap emptied_at read)
     ∙ next_emptied n placed now lt
-    ∙ ap (λ m. first_emptied m placed) more
+    ∙ ap (λ m. emptied_to m placed) more
 
 -- ---- what is found
 

@@ -5,7 +5,7 @@ use Rattle.cf_types.specs.declared.stmt.Stmt.{Stmt}
 use Rattle.cf_types.specs.declared.stmt.Stmt.TheVariants as stmt
 use Rattle.cf_names.specs.Hash.{line_of}
 
--- the name of an attribute, a device or an attachment; one without a name of its own has that of its device
+-- the name of an attribute or a device, or the own name of an attachment, if it has one
 abbrev pub new_name : Stmt → Option (List ℕ)
 new_name (stmt.Define name locs needs) = Some name
 new_name (stmt.Class name) = Some name
