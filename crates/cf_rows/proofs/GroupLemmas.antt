@@ -1,6 +1,6 @@
 -- One more instance among groups of instances of one unit each.
-use Rattle.std.proofs.Common.{◌≡◌, ◌≢◌, ℕ, zero, suc, ◌+◌, ◌<◌, ◌≤◌, Bool, true, false, cond, ◌||◌, Option, Some, None, List, [], ◌∷◌, ◌++◌, length, get_or, set, refl, ap, sym, ◌∙◌, inl, inr, ◌⊎◌, arith, append-nil, append_assoc, subst, length-append, length-set, get_or-set_same, get_or-set_other}
-use Rattle.std.specs.Prelude.{◌==◌, flat_map, IfSome}
+use Rattle.std.proofs.Common.{◌≡◌, ◌≢◌, ℕ, zero, suc, ◌+◌, ◌<◌, ◌≤◌, Bool, true, false, cond, ◌||◌, Option, Some, None, List, [], ◌∷◌, ◌++◌, length, get_or, set, refl, ap, sym, ◌∙◌, inl, inr, ◌⊎◌, arith, append-nil, subst, length-append, length-set, get_or-set_same, get_or-set_other}
+use Rattle.std.specs.Prelude.{◌==◌, flat_map, not}
 use Rattle.std.specs.List.{All, filter_map, cons_option}
 use Rattle.std.specs.Borrow.{Bor}
 use Rattle.std.proofs.lemmas.Bool.{eq-eqb, or_right, or_from, or_parts}
@@ -15,7 +15,7 @@ use Rattle.cf_types.specs.Offers.{firsts}
 use Rattle.cf_types.proofs.OfferLemmas.{gathered_is, is_in-firsts}
 use Rattle.config_rules.specs.Select.{same_mark}
 use Rattle.config_rules.specs.Meaning.{unit_of}
-use Rattle.cf_rows.specs.Rows.{seen, of_unit, starred, units_of, AreGroups, IsOrdered, least_behind, may_follow}
+use Rattle.cf_rows.specs.Rows.{seen, fixed, of_unit, units_of, AreGroups, AreAscending}
 
 -- ---- places in a list of numbers
 
@@ -218,15 +218,13 @@ pieces_at f g (x ∷ xs) (y ∷ ys) c d e h =
 pub flat_groups : (insts : List Instance) (groups : List (List (Bor Instance))) (place : ℕ → Option ℕ) → AreGroups insts groups place → flat_map seen groups ≡ flat_map (of_unit insts) (units_of insts)
 flat_groups insts groups place kept = pieces_at seen (of_unit insts) groups (units_of insts) [] 0 kept.as_many kept.own
 
--- ---- instances that stand in order
+-- ---- units that ascend
 
-pub none_ordered : IsOrdered [] 0
+pub none_ascend : AreAscending [] 0
 unfolding firsts
-none_ordered = record {
+none_ascend = record {
   same = refl;
-  greater = All-nil (λ unit. unit < 0);
-  no_star = λ h. refl;
-  top = omega arith;
+  below = All-nil (λ unit. unit < 0);
 }
 
 -- the units are the same for two functions that agree on them
@@ -236,8 +234,8 @@ flat_agree f g (u ∷ us) n h same =
     ap (λ xs. xs ++ flat_map f us) (same u (h 0 0 (omega arith)))
     ∙ ap (λ xs. g u ++ xs) (flat_agree f g us n (λ k e m. h (suc k) e (omega (arith, m))) same)
 
-starred_push : (insts : List Instance) (i : Instance) (b : Bool) → same_mark i.mark Star ≡ b → starred (insts ++ i ∷ []) ≡ starred insts ++ cond b (i ∷ []) []
-starred_push insts i b e = filter-append (λ (j : Instance). same_mark j.mark Star) insts (i ∷ []) ∙ ap (λ c. starred insts ++ cond c (i ∷ []) []) e
+fixed_push : (insts : List Instance) (i : Instance) (b : Bool) → same_mark i.mark Star ≡ b → fixed (insts ++ i ∷ []) ≡ fixed insts ++ cond (not b) (i ∷ []) []
+fixed_push insts i b e = filter-append (λ (j : Instance). not (same_mark j.mark Star)) insts (i ∷ []) ∙ ap (λ c. fixed insts ++ cond (not c) (i ∷ []) []) e
 
 fixed_mark : (i : Instance) (m : UnitMark) (u : ℕ) → i.mark ≡ m → unit_of i ≡ Some u → same_mark m Star ≡ false
 fixed_mark i (Fixed w) u e h = refl
@@ -252,54 +250,35 @@ star_mark i (Fixed w) e h =
 star_mark i Star e h = refl
 
 -- a star behind them
-ordered_star : (insts : List Instance) (i : Instance) (least : ℕ) → IsOrdered insts least → unit_of i ≡ None → ((u : ℕ) → u < least → u < 65536) → IsOrdered (insts ++ i ∷ []) 65536
-ordered_star insts i least kept h small =
+pub ascending_star : (insts : List Instance) (i : Instance) (least : ℕ) → AreAscending insts least → unit_of i ≡ None → AreAscending (insts ++ i ∷ []) least
+ascending_star insts i least kept h =
     let same = units_starred insts i h in
     let flat : flat_map (of_unit (insts ++ i ∷ [])) (units_of insts) ≡ flat_map (of_unit insts) (units_of insts) =
-    flat_agree (of_unit (insts ++ i ∷ [])) (of_unit insts) (units_of insts) least kept.greater (λ u m. of_unit_kept insts i u (test_star i i.mark u refl h)) in
+    flat_agree (of_unit (insts ++ i ∷ [])) (of_unit insts) (units_of insts) least kept.below (λ u m. of_unit_kept insts i u (test_star i i.mark u refl h)) in
     record {
       same =
-          ap (λ us. flat_map (of_unit (insts ++ i ∷ [])) us ++ starred (insts ++ i ∷ [])) same
-          ∙ ap (λ xs. xs ++ starred (insts ++ i ∷ [])) flat
-          ∙ ap (λ xs. flat_map (of_unit insts) (units_of insts) ++ xs) (starred_push insts i true (star_mark i i.mark refl h))
-          ∙ sym (append_assoc (flat_map (of_unit insts) (units_of insts)) (starred insts) (i ∷ []))
-          ∙ ap (λ xs. xs ++ i ∷ []) kept.same;
-      greater = subst (λ us. All (λ u. u < 65536) us) (sym same) (λ k e m. small _ (kept.greater k e m));
-      no_star = λ m. absurd (omega (arith, m));
-      top = omega arith;
+          ap (flat_map (of_unit (insts ++ i ∷ []))) same ∙ flat ∙ kept.same ∙ sym (append-nil (fixed insts))
+          ∙ sym (fixed_push insts i true (star_mark i i.mark refl h));
+      below = subst (λ us. All (λ u. u < least) us) (sym same) kept.below;
     }
 
--- a unit that is greater behind them
-ordered_unit : (insts : List Instance) (i : Instance) (least u : ℕ) → IsOrdered insts least → unit_of i ≡ Some u → least ≤ u → u ≤ 65535 → IsOrdered (insts ++ i ∷ []) (u + 1)
-ordered_unit insts i least u kept h le small =
-    let none : starred insts ≡ [] = kept.no_star (omega (arith, le, small)) in
-    let free : is_in u (units_of insts) ≡ false = not_in u (units_of insts) (λ k m e. let lt = kept.greater k 0 m in omega (arith, lt, e, le)) in
+-- a unit that is not below the least one behind them
+pub ascending_unit : (insts : List Instance) (i : Instance) (least u : ℕ) → AreAscending insts least → unit_of i ≡ Some u → least ≤ u → AreAscending (insts ++ i ∷ []) (u + 1)
+ascending_unit insts i least u kept h le =
+    let free : is_in u (units_of insts) ≡ false = not_in u (units_of insts) (λ k m e. let lt = kept.below k 0 m in omega (arith, lt, e, le)) in
     let more : units_of (insts ++ i ∷ []) ≡ units_of insts ++ u ∷ [] = units_fixed insts i u false h free in
     let all = insts ++ i ∷ [] in
     let old : flat_map (of_unit all) (units_of insts) ≡ flat_map (of_unit insts) (units_of insts) =
-    flat_agree (of_unit all) (of_unit insts) (units_of insts) least kept.greater
+    flat_agree (of_unit all) (of_unit insts) (units_of insts) least kept.below
     (λ v m. of_unit_kept insts i v (test_fixed i i.mark u v refl h ∙ differ u v (λ e. omega (arith, e, m, le)))) in
     let own : of_unit all u ≡ i ∷ [] = of_unit_more insts i u h ∙ ap (λ is. is ++ i ∷ []) (no_unit insts u (sym (is_in-firsts u (filter_map unit_of insts)) ∙ free)) in
-    let star : starred all ≡ [] = starred_push insts i false (fixed_mark i i.mark u refl h) ∙ append-nil (starred insts) ∙ none in
-    let before : flat_map (of_unit insts) (units_of insts) ≡ insts =
-    sym (append-nil (flat_map (of_unit insts) (units_of insts))) ∙ ap (λ xs. flat_map (of_unit insts) (units_of insts) ++ xs) (sym none) ∙ kept.same in
     record {
       same =
-          ap (λ us. flat_map (of_unit all) us ++ starred all) more
-          ∙ ap (λ xs. flat_map (of_unit all) (units_of insts ++ u ∷ []) ++ xs) star
-          ∙ append-nil (flat_map (of_unit all) (units_of insts ++ u ∷ []))
+          ap (flat_map (of_unit all)) more
           ∙ flat_map-append (of_unit all) (units_of insts) (u ∷ [])
-          ∙ ap (λ xs. xs ++ flat_map (of_unit all) (u ∷ [])) (old ∙ before)
-          ∙ ap (λ xs. insts ++ xs) (append-nil (of_unit all u) ∙ own);
-      greater = subst (λ us. All (λ v. v < u + 1) us) (sym more)
-          (All-append (λ v. v < u + 1) (units_of insts) (u ∷ []) (λ k e m. let lt = kept.greater k e m in omega (arith, lt, le)) (All-cons (λ v. v < u + 1) u [] (omega arith) (All-nil (λ v. v < u + 1))));
-      no_star = λ m. star;
-      top = omega (arith, small);
+          ∙ ap (λ xs. xs ++ flat_map (of_unit all) (u ∷ [])) (old ∙ kept.same)
+          ∙ ap (λ xs. fixed insts ++ xs) (append-nil (of_unit all u) ∙ own)
+          ∙ sym (fixed_push insts i false (fixed_mark i i.mark u refl h));
+      below = subst (λ us. All (λ v. v < u + 1) us) (sym more)
+          (All-append (λ v. v < u + 1) (units_of insts) (u ∷ []) (λ k e m. let lt = kept.below k e m in omega (arith, lt, le)) (All-cons (λ v. v < u + 1) u [] (omega arith) (All-nil (λ v. v < u + 1))));
     }
-
--- one more that may follow
-pub ordered_more : (insts : List Instance) (i : Instance) (least : ℕ) (o : Option ℕ) → IsOrdered insts least → unit_of i ≡ o → true ≡ may_follow least o → IfSome o (λ u. u ≤ 65535) → IsOrdered (insts ++ i ∷ []) (least_behind o)
-ordered_more insts i least None kept h follows small = ordered_star insts i least kept h (λ u m. omega (arith, m, kept.top))
-ordered_more insts i least (Some u) kept h follows small =
-    let le : least ≤ u = grind (arith, nat_tests) in
-    ordered_unit insts i least u kept h le small

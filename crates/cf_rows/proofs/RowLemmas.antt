@@ -1,6 +1,6 @@
 -- Instances behind references, and one more of them.
 use Rattle.std.proofs.Common.{◌≡◌, ℕ, zero, suc, ◌+◌, ◌<◌, ◌≤◌, max, Bool, true, false, cond, Option, Some, None, List, [], ◌∷◌, ◌++◌, length, get_or, take, map, refl, ap, sym, ◌∙◌, subst, arith, All, append-nil, append_assoc, add-one}
-use Rattle.std.specs.Prelude.{◌==◌, filter, flat_map, IfSome, is_none}
+use Rattle.std.specs.Prelude.{◌==◌, filter, flat_map, IfSome, is_none, is_some, not}
 use Rattle.std.specs.List.{filter_map, cons_option}
 use Rattle.std.proofs.lemmas.List.{take_more, map-append, length-map, get_or_default}
 use Rattle.std.proofs.lemmas.List.Elements.{filter-append, filter_map-append, All-filter}
@@ -15,7 +15,7 @@ use Rattle.cf_types.specs.declared.stmt.UnitMark.{UnitMark}
 use Rattle.config_rules.specs.Select.{same_mark}
 use Rattle.config_rules.specs.Meaning.{unit_of, first_unit, device_rows, in_order, row}
 use Rattle.cf_types.specs.Numbers.{below}
-use Rattle.cf_rows.specs.Rows.{seen, starred, UnitFits, AreGroups}
+use Rattle.cf_rows.specs.Rows.{seen, UnitFits, AreGroups}
 
 -- one more empty list
 pub empty_more : {X : Type 0} (lists : List (List X)) (more : List X) (d : ℕ) → ((k : ℕ) → get_or lists k [] ≡ []) → more ≡ [] → get_or (lists ++ more ∷ []) d [] ≡ []
@@ -33,11 +33,10 @@ seen_more refs i r p is =
 pub more_groups : (own : List (Bor Instance)) (i : ℕ) (r : Bor Instance) (groups : List (List (Bor Instance))) (place : ℕ → Option ℕ) → i < length own → r ≡ get_or own i r → AreGroups (seen (take i own) ++ r.now ∷ []) groups place → AreGroups (seen (take (i + 1) own)) groups place
 more_groups own i r groups place p is h = subst (λ (insts : List Instance). AreGroups insts groups place) (sym (seen_more own i r p is)) h
 
--- one more that may be starred
-pub starred_more : (own : List (Bor Instance)) (i : ℕ) (r : Bor Instance) (b : Bool) → i < length own → r ≡ get_or own i r → same_mark r.now.mark Star ≡ b → starred (seen (take (i + 1) own)) ≡ starred (seen (take i own)) ++ cond b (r.now ∷ []) []
-starred_more own i r b p is e =
-    ap starred (seen_more own i r p is) ∙ filter-append (λ (j : Instance). same_mark j.mark Star) (seen (take i own)) (r.now ∷ [])
-    ∙ ap (λ c. starred (seen (take i own)) ++ cond c (r.now ∷ []) []) e
+-- one more that may pass a test
+passing_more : (t : Instance → Bool) (own : List (Bor Instance)) (i : ℕ) (r : Bor Instance) (b : Bool) → i < length own → r ≡ get_or own i r → t r.now ≡ b → filter t (seen (take (i + 1) own)) ≡ filter t (seen (take i own)) ++ cond b (r.now ∷ []) []
+passing_more t own i r b p is e =
+    ap (filter t) (seen_more own i r p is) ∙ filter-append t (seen (take i own)) (r.now ∷ []) ∙ ap (λ c. filter t (seen (take i own)) ++ cond c (r.now ∷ []) []) e
 
 star_by : (i : Instance) (m : UnitMark) → i.mark ≡ m → same_mark m Star ≡ is_none (unit_of i)
 star_by i (Fixed u) e = rw e refl
@@ -47,19 +46,28 @@ star_by i Star e = rw e refl
 pub star_test : (i : Instance) → same_mark i.mark Star ≡ is_none (unit_of i)
 star_test i = star_by i i.mark refl
 
+fixed_by : (i : Instance) (m : UnitMark) → i.mark ≡ m → not (same_mark m Star) ≡ is_some (unit_of i)
+fixed_by i (Fixed u) e = rw e refl
+fixed_by i Star e = rw e refl
+
+-- an instance is not starred where it has a unit
+pub fixed_test : (i : Instance) → not (same_mark i.mark Star) ≡ is_some (unit_of i)
+fixed_test i = fixed_by i i.mark refl
+
 seen-append : (refs : List (Bor Instance)) (r : Bor Instance) → seen (refs ++ r ∷ []) ≡ seen refs ++ r.now ∷ []
 seen-append refs r = map-append (λ (x : Bor Instance). x.now) refs (r ∷ [])
 
-pub push_star : (own ordered ordered' : List (Bor Instance)) (first : List Instance) (i : ℕ) (r : Bor Instance) → i < length own → r ≡ get_or own i r → same_mark r.now.mark Star ≡ true → seen ordered ≡ first ++ starred (seen (take i own)) → ordered' ≡ ordered ++ r ∷ []
-    → seen ordered' ≡ first ++ starred (seen (take (i + 1) own))
-push_star own ordered ordered' first i r p is star so_far new =
-    ap seen new ∙ seen-append ordered r ∙ ap (λ (xs : List Instance). xs ++ r.now ∷ []) so_far ∙ append_assoc first (starred (seen (take i own))) (r.now ∷ [])
-    ∙ ap (λ (xs : List Instance). first ++ xs) (sym (starred_more own i r true p is star))
+-- one more is put where it passes the test, and only there
+pub push_passing : (t : Instance → Bool) (own ordered ordered' : List (Bor Instance)) (first : List Instance) (i : ℕ) (r : Bor Instance) → i < length own → r ≡ get_or own i r → t r.now ≡ true → seen ordered ≡ first ++ filter t (seen (take i own)) → ordered' ≡ ordered ++ r ∷ []
+    → seen ordered' ≡ first ++ filter t (seen (take (i + 1) own))
+push_passing t own ordered ordered' first i r p is passes so_far new =
+    ap seen new ∙ seen-append ordered r ∙ ap (λ (xs : List Instance). xs ++ r.now ∷ []) so_far ∙ append_assoc first (filter t (seen (take i own))) (r.now ∷ [])
+    ∙ ap (λ (xs : List Instance). first ++ xs) (sym (passing_more t own i r true p is passes))
 
-pub leave_fixed : (own ordered : List (Bor Instance)) (first : List Instance) (i : ℕ) (r : Bor Instance) → i < length own → r ≡ get_or own i r → same_mark r.now.mark Star ≡ false → seen ordered ≡ first ++ starred (seen (take i own))
-    → seen ordered ≡ first ++ starred (seen (take (i + 1) own))
-leave_fixed own ordered first i r p is star so_far =
-    so_far ∙ ap (λ (xs : List Instance). first ++ xs) (sym (append-nil (starred (seen (take i own)))) ∙ sym (starred_more own i r false p is star))
+pub leave_other : (t : Instance → Bool) (own ordered : List (Bor Instance)) (first : List Instance) (i : ℕ) (r : Bor Instance) → i < length own → r ≡ get_or own i r → t r.now ≡ false → seen ordered ≡ first ++ filter t (seen (take i own))
+    → seen ordered ≡ first ++ filter t (seen (take (i + 1) own))
+leave_other t own ordered first i r p is passes so_far =
+    so_far ∙ ap (λ (xs : List Instance). first ++ xs) (sym (append-nil (filter t (seen (take i own)))) ∙ sym (passing_more t own i r false p is passes))
 
 -- ---- the first unit
 

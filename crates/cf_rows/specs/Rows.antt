@@ -1,12 +1,12 @@
 -- Instances that are listed by reference, by device and by unit.
-use Rattle.std.specs.Prelude.{◌≡◌, ◌≤◌, ◌<◌, ◌+◌, nat_le, ℕ, Bool, true, List, [], length, map, filter, slice_index, slice_index_or, Option, None, Some, IfSome}
+use Rattle.std.specs.Prelude.{◌≡◌, ◌≤◌, ◌<◌, ℕ, not, List, [], length, map, filter, flat_map, slice_index, slice_index_or, Option, Some, IfSome}
 use Rattle.std.specs.List.{All, filter_map}
 use Rattle.std.specs.Borrow.{Bor}
 use Rattle.cf_types.specs.Offers.{firsts}
 use Rattle.cf_types.specs.declared.instance.Instance.{Instance}
 use Rattle.cf_types.specs.declared.stmt.UnitMark.TheVariants.{Fixed, Star}
 use Rattle.config_rules.specs.Select.{same_mark}
-use Rattle.config_rules.specs.Meaning.{unit_of, in_order}
+use Rattle.config_rules.specs.Meaning.{unit_of}
 
 -- the instances behind references
 abbrev pub seen : List (Bor Instance) → List Instance
@@ -24,6 +24,10 @@ of_unit insts unit = filter (λ i. same_mark i.mark (Fixed unit)) insts
 abbrev pub starred : List Instance → List Instance
 starred insts = filter (λ i. same_mark i.mark Star) insts
 
+-- the instances that are not starred
+abbrev pub fixed : List Instance → List Instance
+fixed insts = filter (λ i. not (same_mark i.mark Star)) insts
+
 -- the units in the order of their first instances
 abbrev pub units_of : List Instance → List ℕ
 units_of insts = firsts (filter_map unit_of insts)
@@ -35,19 +39,7 @@ pub record AreGroups (insts : List Instance) (groups : List (List (Bor Instance)
   pub there : (p : ℕ) → p < length groups → place (slice_index (units_of insts) p) ≡ Some p
   pub own : (p : ℕ) → p < length groups → seen (slice_index_or groups p []) ≡ of_unit insts (slice_index (units_of insts) p)
 
--- the least unit that may come next in order; behind a star none may
-abbrev pub least_behind : Option ℕ → ℕ
-least_behind None = 65536
-least_behind (Some unit) = unit + 1
-
--- an instance may come next in order
-abbrev pub may_follow : ℕ → Option ℕ → Bool
-may_follow least None = true
-may_follow least (Some unit) = nat_le least unit
-
--- the instances stand in their order, and the least unit that may come next is greater than theirs
-pub record IsOrdered (insts : List Instance) (least : ℕ) : Type 0 where
-  pub same : in_order insts ≡ insts
-  pub greater : All (λ unit. unit < least) (units_of insts)
-  pub no_star : least ≤ 65535 → starred insts ≡ []
-  pub top : least ≤ 65536
+-- the units ascend, so that the groups one after the other are the instances that are not starred; all are below this number
+pub record AreAscending (insts : List Instance) (least : ℕ) : Type 0 where
+  pub same : flat_map (of_unit insts) (units_of insts) ≡ fixed insts
+  pub below : All (λ unit. unit < least) (units_of insts)

@@ -1,8 +1,8 @@
-ghost use Rattle.std.specs.Prelude.{◌≡◌, ℕ, ◌<◌, ◌≤◌, [], ◌∷◌, ◌++◌, length, flat_map, nat_eq, All, IfOk, IfSome, IsTrue, OnOk};
+ghost use Rattle.std.specs.Prelude.{◌≡◌, ℕ, ◌<◌, [], ◌∷◌, ◌++◌, length, flat_map, nat_eq, Some, All, IfOk, IsTrue, OnOk};
 ghost use Rattle.std.specs.List.{filter_map};
 ghost use Rattle.std.specs.HashMap.{get};
 ghost use Rattle.config_rules.specs.Meaning.{unit_of, first_unit, in_order};
-ghost use Rattle.cf_rows.specs.Rows.{seen, UnitFits, AreGroups, least_behind, may_follow, units_of, of_unit, starred};
+ghost use Rattle.cf_rows.specs.Rows.{seen, UnitFits, AreGroups, units_of, of_unit, fixed, starred};
 
 use cf_types::{Instance, List, Memory, UnitMark};
 use std::alloc::Global;
@@ -70,6 +70,18 @@ fn by_unit<'a>(alloc: Global, own: &[&'a Instance]) -> Result<Vec<List<&'a Insta
     Ok(groups)
 }
 
+/// Appends the instances that are not starred.
+fn push_fixed<'a>(ordered: &mut Vec<&'a Instance>, own: &[&'a Instance]) -> Result<(), Memory>
+    ensures { OnOk result (seen ordered.new.items ≡ seen ordered.old.items ++ fixed (seen own.now)) }
+{
+    for instance in own {
+        if unit_of(instance).is_some() {
+            ordered.push(*instance)?;
+        }
+    }
+    Ok(())
+}
+
 /// Appends the starred instances.
 fn push_starred<'a>(ordered: &mut Vec<&'a Instance>, own: &[&'a Instance]) -> Result<(), Memory>
     ensures { OnOk result (seen ordered.new.items ≡ seen ordered.old.items ++ starred (seen own.now)) }
@@ -82,39 +94,19 @@ fn push_starred<'a>(ordered: &mut Vec<&'a Instance>, own: &[&'a Instance]) -> Re
     Ok(())
 }
 
-/// The least unit that may come next in order; behind a star none may.
-fn least_behind(unit: Option<u32>) -> u32
-    requires { IfSome unit (λ u. u ≤ 65535) }
-    ensures { result ≡ least_behind unit }
-{
-    match unit {
-        Some(unit) => unit + 1,
-        None => 65_536,
-    }
-}
-
-/// Whether an instance of this unit may come next in order.
-fn may_follow(least: u32, unit: Option<u32>) -> bool
-    ensures { result ≡ may_follow least unit }
-{
-    match unit {
-        Some(unit) => least <= unit,
-        None => true,
-    }
-}
-
-/// Whether these instances of a device stand in the order of their rows: the units ascend, and stars stand at the end.
-fn are_ordered(own: &[&Instance]) -> bool
+/// Whether the units of these instances of a device ascend, whatever stars stand between them.
+fn units_ascend(own: &[&Instance]) -> bool
     requires { All UnitFits (seen own.now) }
-    ensures { IsTrue result → in_order (seen own.now) ≡ seen own.now }
+    ensures { IsTrue result → flat_map (of_unit (seen own.now)) (units_of (seen own.now)) ≡ fixed (seen own.now) }
 {
     let mut least = 0;
     for instance in own {
-        let unit = unit_of(instance);
-        if !may_follow(least, unit) {
-            return false;
+        if let Some(unit) = unit_of(instance) {
+            if unit < least {
+                return false;
+            }
+            least = unit + 1;
         }
-        least = least_behind(unit);
     }
     true
 }
@@ -125,8 +117,9 @@ pub fn in_order<'a>(alloc: Global, own: &[&'a Instance]) -> Result<Vec<&'a Insta
     ensures { IfOk result (λ ordered. seen ordered.items ≡ in_order (seen own.now)) }
 {
     let mut ordered = Vec::with_capacity(alloc, own.len())?;
-    if are_ordered(own) {
-        ordered.extend_from_slice(own)?;
+    if units_ascend(own) {
+        push_fixed(&mut ordered, own)?;
+        push_starred(&mut ordered, own)?;
         return Ok(ordered);
     }
     let groups = by_unit(alloc, own)?;

@@ -13,10 +13,10 @@ loop-group-init c = ap seen c.in_ok-ordered.ensures.items
 pub loop-group-preserved : goal.loop-group-preserved
 loop-group-preserved c =
     seen_groups c.deref-group-items.result.now c.loop-group.group-index c.loop-group.ordered.items _ c.group-item.result c.loop-group-test.true c.group-item.is c.loop-group.invariant
-    (c.in_ok-extend_from_slice-2.ensures.items ∙ ap (λ (xs : List (Bor Instance)). c.loop-group.ordered.items ++ xs) c.items.ensures)
+    (c.in_ok-extend_from_slice.ensures.items ∙ ap (λ (xs : List (Bor Instance)). c.loop-group.ordered.items ++ xs) c.items.ensures)
 
 pub returns : goal.returns
 returns c =
-    c.in_ok-push_starred.ensures
+    c.in_ok-push_starred-2.ensures
     ∙ ap (λ (is : List Instance). is ++ starred (seen c.args.own.now))
     (c.loop-group.invariant ∙ ap (flat_map seen) (take_all c.loop-group.group-index c.deref-group-items.result.now c.loop-group-test.false ∙ c.deref-group-items.ensures.value) ∙ c.in_ok-groups.ensures)
