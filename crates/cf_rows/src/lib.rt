@@ -2,6 +2,7 @@
 #![tactic(auto)]
 
 mod device;
+mod group;
 mod idle;
 mod marks;
 mod rows;

@@ -4,7 +4,8 @@ ghost use Rattle.std.specs.HashMap.{get};
 ghost use Rattle.config_rules.specs.Meaning.{unit_of, first_unit, in_order};
 ghost use Rattle.cf_rows.specs.Rows.{seen, UnitFits, AreGroups, units_of, of_unit, fixed, starred};
 
-use cf_types::{Instance, List, Memory, UnitMark};
+use crate::group::Group;
+use cf_types::{Instance, Memory, UnitMark};
 use std::alloc::Global;
 use std::collections::HashMap;
 
@@ -35,7 +36,7 @@ pub fn first_unit(own: &[&Instance]) -> u32
 /// Adds an instance to the group of its unit, or as a new group behind the others.
 fn add<'a>(
     alloc: Global,
-    groups: &mut Vec<List<&'a Instance>>,
+    groups: &mut Vec<Group<'a>>,
     places: &mut HashMap<u32, usize>,
     unit: u32,
     instance: &'a Instance,
@@ -49,15 +50,13 @@ fn add<'a>(
         group.push(instance)?;
         return Ok(());
     }
-    let mut group = List::make(alloc);
-    group.push(instance)?;
     places.insert(unit, groups.len())?;
-    groups.push(group)?;
+    groups.push(Group::make(alloc, instance))?;
     Ok(())
 }
 
 /// The instances that are not starred, one group for each unit.
-fn by_unit<'a>(alloc: Global, own: &[&'a Instance]) -> Result<Vec<List<&'a Instance>>, Memory>
+fn by_unit<'a>(alloc: Global, own: &[&'a Instance]) -> Result<Vec<Group<'a>>, Memory>
     ensures { IfOk result (λ groups. flat_map seen groups.items ≡ flat_map (of_unit (seen own.now)) (units_of (seen own.now))) }
 {
     let mut groups = Vec::new(alloc);
@@ -124,7 +123,7 @@ pub fn in_order<'a>(alloc: Global, own: &[&'a Instance]) -> Result<Vec<&'a Insta
     }
     let groups = by_unit(alloc, own)?;
     for group in &groups {
-        ordered.extend_from_slice(group.items())?;
+        group.append_to(&mut ordered)?;
     }
     push_starred(&mut ordered, own)?;
     Ok(ordered)

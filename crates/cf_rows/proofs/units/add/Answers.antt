@@ -18,9 +18,9 @@ returns-in-Some c = λ insts kept.
 pub returns : goal.returns
 returns c = λ insts kept.
     let none : get nat_eq c.args.places.now c.args.unit ≡ None = cc (c.copied.ensures, c.get.ensures.value, c.in_default.is) in
-    let group : seen c.push-2.new.self ≡ c.args.instance.now ∷ [] = ap seen (c.in_ok-push-2.ensures.ok ∙ ap (λ (xs : List (Bor Instance)). xs ++ c.args.instance ∷ []) c.make-group.ensures) in
-    rw c.in_ok-push-3.ensures.items (
-    add_new insts c.args.instance.now c.args.groups.now.items (get nat_eq c.args.places.now) (get nat_eq c.insert.new.self) c.args.unit c.push-2.new.self kept c.requires.unit none
+    let group : seen c.make.result ≡ c.args.instance.now ∷ [] = ap seen c.make.ensures in
+    rw c.in_ok-push-2.ensures.items (
+    add_new insts c.args.instance.now c.args.groups.now.items (get nat_eq c.args.places.now) (get nat_eq c.insert.new.self) c.args.unit c.make.result kept c.requires.unit none
     (c.in_ok-insert.ensures.updates.1 ∙ ap (λ n. Some n) (c.len.ensures ∙ c.args.groups.now.ok.0))
     (λ v h. c.in_ok-insert.ensures.updates.2 v (differ c.args.unit v (λ e. h (sym e))))
     group

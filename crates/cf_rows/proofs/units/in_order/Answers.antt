@@ -1,6 +1,5 @@
 use Rattle.std.proofs.Common.{ap, ◌∙◌, ◌++◌, List}
 use Rattle.std.specs.Prelude.{flat_map}
-use Rattle.std.specs.Borrow.{Bor}
 use Rattle.std.proofs.lemmas.List.{take_all}
 use Rattle.cf_types.specs.declared.instance.Instance.{Instance}
 use Rattle.cf_rows.specs.Rows.{seen, starred}
@@ -13,7 +12,7 @@ loop-group-init c = ap seen c.in_ok-ordered.ensures.items
 pub loop-group-preserved : goal.loop-group-preserved
 loop-group-preserved c =
     seen_groups c.deref-group-items.result.now c.loop-group.group-index c.loop-group.ordered.items _ c.group-item.result c.loop-group-test.true c.group-item.is c.loop-group.invariant
-    (c.in_ok-extend_from_slice.ensures.items ∙ ap (λ (xs : List (Bor Instance)). c.loop-group.ordered.items ++ xs) c.items.ensures)
+    c.in_ok-append_to.ensures
 
 pub returns : goal.returns
 returns c =
