@@ -131,10 +131,7 @@ fn all_instances(alloc: Global, placed: &[Placed]) -> Result<List<bool>, Memory>
     Ok(List::from_vec(kept))
 }
 
-/// How many keys each instance is listed by.
-const KEYS: usize = 3;
-
-/// No list, with room for all that instances are listed by.
+/// No list, with room for what most instances are listed by.
 fn lists_for<'a>(alloc: Global, placed: &[Placed]) -> Result<HashMap<Named<'a>, Places>, Memory>
     ensures { IfOk result (λ lists. (q : Key) → get block.ghosts.eq lists q ≡ None) }
 {
@@ -142,7 +139,7 @@ fn lists_for<'a>(alloc: Global, placed: &[Placed]) -> Result<HashMap<Named<'a>, 
         .iter()
         .filter(|statement| is_instance(&statement.stmt))
         .count();
-    Ok(HashMap::with_capacity(alloc, instances.saturating_mul(KEYS))?)
+    Ok(HashMap::with_capacity(alloc, instances.saturating_add(instances / 2))?)
 }
 
 /// Which of at most 65,536 placed statements are instances that survive, and which negations of instances take back
