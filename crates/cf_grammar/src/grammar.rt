@@ -114,7 +114,7 @@ fn unread_code(known: &mut Known, keyword: Option<Keyword>, words: &[Word]) -> R
     }
 }
 
-/// The statement that words are, of which none is longer than one may be, or one is.
+/// The statement that words are, with the knowledge of whether each is as short as a token must be.
 #[inline(always)]
 fn read(known: &mut Known, short: bool, words: &[Word]) -> Result<Stmt, GrammarStop>
     requires { short ≡ are_short (map piece_of words.now) }
