@@ -1,7 +1,6 @@
 -- The form of a statement, by its first word.
 use Rattle.std.proofs.Common.{◌≡◌, ◌∙◌, ◌-◌, ◌≤◌, Bool, true, false, Option, Some, None, List, [], ◌∷◌, length, get_or, map, take, drop, refl, sym, ap, arith}
-use Rattle.std.specs.Prelude.{nat_le, option_map}
-use Rattle.std.specs.List.{list_all}
+use Rattle.std.specs.Prelude.{option_map}
 use Rattle.cf_types.specs.declared.stmt.Piece.{Piece}
 use Rattle.cf_types.specs.declared.stmt.Stmt.{Stmt}
 use Rattle.config_rules.specs.Form.{form_by, form_of, inst_stmt, row_by, row_of, table}
@@ -9,6 +8,7 @@ use Rattle.cf_words.proofs.ListLemmas.{map_first_rest}
 use Rattle.cf_types.specs.declared.keyword.Keyword.{Keyword}
 use Rattle.cf_types.specs.declared.keyword.TheConstants.{KEYWORDS}
 use Rattle.cf_grammar.specs.Keywords.{first_keyword, keyword_in}
+use Rattle.cf_grammar.specs.Statement.{are_short}
 use Rattle.cf_grammar.proofs.KeywordLemmas.{row_found, table_is}
 
 -- the keyword of a statement is that of its first word
@@ -18,9 +18,6 @@ keyword_first f (x ∷ xs) d h = refl
 
 pub row_is : (p : Piece) (found : Option Keyword) → found ≡ keyword_in p → row_of table p ≡ option_map row_by found
 row_is p found e = ap (λ rows. row_of rows p) table_is ∙ row_found KEYWORDS p ∙ ap (option_map row_by) (sym e)
-
-abbrev pub are_short : List Piece → Bool
-are_short ps = list_all (λ q. nat_le (length q.text) 1023) ps
 
 -- by the keyword, where there is one, from what is behind it
 abbrev pub form_with : Bool → Option Keyword → List Piece → List Piece → Option Stmt

@@ -1,11 +1,12 @@
 -- The first fault of a statement's form, or the statement.
-use Rattle.std.proofs.Common.{◌≡◌, ℕ, Bool, cond, true, false, Option, Some, None, List, refl, sym}
+use Rattle.std.proofs.Common.{◌≡◌, ℕ, Bool, cond, true, false, Option, Some, None, List, refl, ap, sym}
 use Rattle.std.specs.Prelude.{is_some, is_none}
 use Rattle.cf_types.specs.declared.code.configuration.TheConstants.{LEFT_OUT, NO_FORM, OUT_OF_RANGE}
 use Rattle.cf_types.specs.declared.stmt.Piece.{Piece}
 use Rattle.cf_types.specs.declared.stmt.Stmt.{Stmt}
 use Rattle.config_rules.specs.Form.{◌or◌, Form, form_fault, form_of, given, is_left_out}
-use Rattle.cf_grammar.specs.Statement.{unread_code}
+use Rattle.cf_grammar.specs.Statement.{are_short, unread_code}
+use Rattle.cf_grammar.proofs.FormLemmas.{form_of-long}
 use Rattle.cf_grammar.proofs.SizedLemmas.{form_there}
 
 pub fault_left_out : (ps : List Piece) → true ≡ is_left_out ps → form_fault ps ≡ Some LEFT_OUT
@@ -19,6 +20,9 @@ by_form (Some s) rest h = cc
 fault_form : (ps : List Piece) → false ≡ is_left_out ps → false ≡ is_some (form_of false ps) → form_fault ps ≡ Some NO_FORM
 unfolding form_fault
 fault_form ps kept h = rw (← kept) (by_form (form_of false ps) _ h)
+
+pub fault_long : (ps : List Piece) → false ≡ is_left_out ps → false ≡ are_short ps → form_fault ps ≡ Some NO_FORM
+fault_long ps kept long = fault_form ps kept (ap is_some (form_of-long false ps long))
 
 past_form : {A : Type 0} (o : Option A) (rest : Option ℕ) → true ≡ is_some o → (given (is_none o) NO_FORM or rest) ≡ rest
 past_form None rest h = cc

@@ -1,14 +1,14 @@
--- Keywords by their first bytes, and the keyword of a statement.
-use Rattle.std.specs.Prelude.{ℕ, Bool, true, false, ◌==◌, List, [], ◌∷◌, Option, None, find, slice_index}
+-- Keywords by two of their bytes and their length, and the keyword of a statement.
+use Rattle.std.specs.Prelude.{ℕ, Bool, true, false, ◌==◌, ◌&&◌, List, [], ◌∷◌, length, Option, None, find, slice_index}
 use Rattle.cf_types.specs.declared.keyword.Keyword.{Keyword}
 use Rattle.cf_types.specs.declared.keyword.Keyword.TheVariants.{Define, DefPseudo, Device}
 use Rattle.cf_types.specs.declared.keyword.TheConstants.{KEYWORDS}
 use Rattle.cf_types.specs.declared.stmt.Piece.{Piece}
 use Rattle.config_rules.specs.Form.{is_word, spelling_of}
 
--- the keyword begins with this byte
-abbrev pub begins_with : ℕ → Keyword → Bool
-begins_with first keyword = slice_index (spelling_of keyword) 0 == first
+-- the keyword has this first byte, this third byte and this size
+abbrev pub looks : ℕ → ℕ → ℕ → Keyword → Bool
+looks first third size k = slice_index (spelling_of k) 0 == first && slice_index (spelling_of k) 2 == third && length (spelling_of k) == size
 
 -- the keyword that a token is
 abbrev pub keyword_in : Piece → Option Keyword

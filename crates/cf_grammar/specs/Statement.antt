@@ -1,5 +1,6 @@
 -- What a caller of `statement` owes, and what the errors mean.
-use Rattle.std.specs.Prelude.{◌≡◌, ℕ, ◌≤◌, List, length, All, Some, ⊤, false, is_some, if◌then◌else◌}
+use Rattle.std.specs.Prelude.{◌≡◌, ℕ, ◌≤◌, Bool, nat_le, List, length, All, Some, ⊤, false, is_some, if◌then◌else◌}
+use Rattle.std.specs.List.{list_all}
 use Rattle.cf_types.specs.declared.code.configuration.TheConstants.{NO_FORM, OUT_OF_RANGE}
 use Rattle.cf_types.specs.declared.stmt.Piece.{Piece}
 use Rattle.cf_types.specs.declared.stmt.Token.{Token}
@@ -13,6 +14,10 @@ IsWithin text t = (t.start ≤ t.end) × (t.end ≤ length text)
 
 abbrev pub AreWithin : List ℕ → List Token → Type 0
 AreWithin text tokens = All (IsWithin text) tokens
+
+-- no token is longer than one may be
+abbrev pub are_short : List Piece → Bool
+are_short ps = list_all (λ q. nat_le (length q.text) 1023) ps
 
 -- the fault of these tokens; want of memory says nothing
 abbrev pub IsFaultOf : List Piece → GrammarStop → Type 0

@@ -86,7 +86,7 @@ fn begins_named_text(words: &[Word]) -> bool
     ensures { result ≡ begins_named_text (map piece_of words.now) }
 {
     match words {
-        [name, rest @ ..] => may_name_locator(*name) && begins_text(rest),
+        [name, rest @ ..] => begins_text(rest) && may_name_locator(*name),
         [] => false,
     }
 }
@@ -108,7 +108,7 @@ fn begins_text_or_size(words: &[Word]) -> bool
     ensures { result ≡ begins_text_or_size (map piece_of words.now) }
 {
     match words {
-        [name, rest @ ..] => may_name_locator(*name) && begins_size_or_text(rest),
+        [name, rest @ ..] => begins_size_or_text(rest) && may_name_locator(*name),
         [] => false,
     }
 }

@@ -5,8 +5,7 @@ ghost use Rattle.config_rules.specs.Cut.{piece, pieces};
 ghost use Rattle.config_rules.specs.Form.{Form, is_word};
 ghost use Rattle.cf_grammar.specs.Statement.{AreWithin, IsWithin};
 
-use crate::form::MAX_TOKEN;
-use crate::grammar::word_of;
+use crate::grammar::{MAX_TOKEN, word_of};
 use crate::keyword::spelling;
 use cf_types::{Keyword, Memory, Pieces, Stmt, Token};
 use cf_words::Known;

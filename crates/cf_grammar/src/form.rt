@@ -1,7 +1,7 @@
-ghost use Rattle.std.specs.Prelude.{◌≡◌, IfOk, length, map, nat_le};
-ghost use Rattle.std.specs.List.{list_all};
+ghost use Rattle.std.specs.Prelude.{◌≡◌, IfOk, map, true};
 ghost use Rattle.config_rules.specs.Form.{form_by, form_of};
 ghost use Rattle.cf_grammar.specs.Keywords.{first_keyword};
+ghost use Rattle.cf_grammar.specs.Statement.{are_short};
 ghost use Rattle.cf_words.specs.Words.{piece_of};
 
 use crate::attach::attach;
@@ -13,17 +13,6 @@ use crate::item::{make_options, options};
 use crate::negation::negation;
 use cf_types::{Keyword, Memory, Stmt};
 use cf_words::{Known, Word};
-
-/// The greatest length of a token, in bytes.
-pub const MAX_TOKEN: usize = 1023;
-
-/// Whether no word is longer than a token may be.
-#[inline(always)]
-fn are_short(words: &[Word]) -> bool
-    ensures { result ≡ list_all (λ q. nat_le (length q.text) 1023) (map piece_of words.now) }
-{
-    words.iter().all(|word| word.text.len() <= MAX_TOKEN)
-}
 
 /// The statement that a keyword and the words behind it are.
 #[inline(always)]
@@ -65,23 +54,21 @@ fn by_keyword(
     }
 }
 
-/// The statement that these words are, of which the first is this keyword or none. Where sizes don't count, a number out
-/// of its range stands for 0.
+/// The statement that these words are, of which the first is this keyword or none, and none is too long. Where sizes
+/// don't count, a number out of its range stands for 0.
 pub fn form_of(
     known: &mut Known,
     sized: bool,
     keyword: Option<Keyword>,
     words: &[Word],
 ) -> Result<Option<Stmt>, Memory>
-    requires { keyword ≡ first_keyword (map piece_of words.now) }
+    requires keyword { keyword ≡ first_keyword (map piece_of words.now) }
+    requires short { are_short (map piece_of words.now) ≡ true }
     ensures { IfOk result (λ s. s ≡ form_of sized (map piece_of words.now)) }
 {
     let [_, rest @ ..] = words else {
         return Ok(None);
     };
-    if !are_short(words) {
-        return Ok(None);
-    }
     match keyword {
         Some(Keyword::No) => negation(known, sized, rest),
         Some(keyword) => by_keyword(known, sized, keyword, rest),

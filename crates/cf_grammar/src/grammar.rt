@@ -1,9 +1,9 @@
-ghost use Rattle.std.specs.Prelude.{◌≡◌, IfErr, IfOk, OnOk, false, is_some, map};
+ghost use Rattle.std.specs.Prelude.{◌≡◌, IfErr, IfOk, OnOk, false, is_some, map, true};
 ghost use Rattle.config_rules.specs.Cut.{piece, pieces};
 ghost use Rattle.config_rules.specs.Form.{Form, form_of};
 ghost use Rattle.cf_words.specs.Words.{piece_of};
 ghost use Rattle.cf_grammar.specs.Keywords.{first_keyword};
-ghost use Rattle.cf_grammar.specs.Statement.{AreWithin, IsFaultOf, IsWithin, unread_code};
+ghost use Rattle.cf_grammar.specs.Statement.{AreWithin, IsFaultOf, IsWithin, are_short, unread_code};
 
 use crate::fault::is_left_out;
 use crate::file::file;
@@ -15,6 +15,9 @@ use cf_words::{Known, Word};
 use std::alloc::AllocError;
 use std::mem::replace;
 use thiserror::Error;
+
+/// The greatest length of a token, in bytes.
+pub const MAX_TOKEN: usize = 1023;
 
 /// Why tokens gave no statement.
 #[derive(Clone, Copy, Debug, PartialEq, Eq, Error)]
@@ -60,30 +63,35 @@ pub fn word_of<'a>(text: &'a [u8], token: Token) -> Word<'a>
     }
 }
 
-/// Puts the tokens with their bytes in place of what is there. The room is held here meanwhile, so that it is not looked up
-/// for each of them.
+/// Puts the tokens with their bytes in place of what is there, and tells whether none is longer than one may be. The room
+/// is held here meanwhile, so that it is not looked up for each of them.
 #[inline(always)]
 fn put_words<'a>(
     words: &mut Vec<Word<'a>>,
     text: &'a [u8],
     tokens: &[Token],
-) -> Result<(), AllocError>
+) -> Result<bool, AllocError>
     requires { AreWithin text.now tokens.now }
-    ensures { OnOk result (map piece_of words.new.items ≡ pieces text.now tokens.now) }
+    ensures words { OnOk result (map piece_of words.new.items ≡ pieces text.now tokens.now) }
+    ensures short { IfOk result (λ short. short ≡ are_short (pieces text.now tokens.now)) }
 {
     let mut room = replace(words, Vec::new(*words.allocator()));
     room.clear();
     room.reserve(tokens.len())?;
+    let mut short = true;
     for &token in tokens {
-        room.push_reserved(word_of(text, token));
+        let word = word_of(text, token);
+        short &= word.text.len() <= MAX_TOKEN;
+        room.push_reserved(word);
     }
     *words = room;
-    Ok(())
+    Ok(short)
 }
 
 /// Whether words are a statement, whatever its numbers.
 fn has_form(known: &mut Known, keyword: Option<Keyword>, words: &[Word]) -> Result<bool, Memory>
-    requires { keyword ≡ first_keyword (map piece_of words.now) }
+    requires keyword { keyword ≡ first_keyword (map piece_of words.now) }
+    requires short { are_short (map piece_of words.now) ≡ true }
     ensures { IfOk result (λ holds. holds ≡ is_some (form_of false (map piece_of words.now))) }
 {
     let form = form_of(known, false, keyword, words)?;
@@ -95,7 +103,8 @@ fn has_form(known: &mut Known, keyword: Option<Keyword>, words: &[Word]) -> Resu
 /// The code of words that are no statement with each number in its range.
 #[cold]
 fn unread_code(known: &mut Known, keyword: Option<Keyword>, words: &[Word]) -> Result<u8, Memory>
-    requires { keyword ≡ first_keyword (map piece_of words.now) }
+    requires keyword { keyword ≡ first_keyword (map piece_of words.now) }
+    requires short { are_short (map piece_of words.now) ≡ true }
     ensures { IfOk result (λ code. code ≡ unread_code (map piece_of words.now)) }
 {
     if has_form(known, keyword, words)? {
@@ -105,9 +114,10 @@ fn unread_code(known: &mut Known, keyword: Option<Keyword>, words: &[Word]) -> R
     }
 }
 
-/// The statement that words are.
+/// The statement that words are, with the knowledge of whether each is as short as a token must be.
 #[inline(always)]
-fn read(known: &mut Known, words: &[Word]) -> Result<Stmt, GrammarStop>
+fn read(known: &mut Known, short: bool, words: &[Word]) -> Result<Stmt, GrammarStop>
+    requires { short ≡ are_short (map piece_of words.now) }
     ensures form { IfOk result (λ s. Form (map piece_of words.now) s) }
     ensures fault { IfErr result (λ stop. IsFaultOf (map piece_of words.now) stop) }
 {
@@ -115,6 +125,11 @@ fn read(known: &mut Known, words: &[Word]) -> Result<Stmt, GrammarStop>
     if is_left_out(keyword, words) {
         return Err(GrammarStop::Fault {
             code: code::LEFT_OUT,
+        });
+    }
+    if !short {
+        return Err(GrammarStop::Fault {
+            code: code::NO_FORM,
         });
     }
     match form_of(known, true, keyword, words)? {
@@ -143,6 +158,6 @@ pub fn statement<'a>(
     if let Some(stmt) = file(known, text, tokens)? {
         return Ok(stmt);
     }
-    put_words(words, text, tokens)?;
-    read(known, words)
+    let short = put_words(words, text, tokens)?;
+    read(known, short, words)
 }

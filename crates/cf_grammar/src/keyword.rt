@@ -1,6 +1,6 @@
-ghost use Rattle.std.specs.Prelude.{◌≡◌, ◌≤◌, filter, find, length, map};
-ghost use Rattle.config_rules.specs.Form.{condition_spelling, is_word, spelling_of};
-ghost use Rattle.cf_grammar.specs.Keywords.{begins_with, first_keyword, keyword_in};
+ghost use Rattle.std.specs.Prelude.{◌≡◌, ◌≤◌, find, length, map};
+ghost use Rattle.config_rules.specs.Form.{condition_spelling, given, is_word, spelling_of};
+ghost use Rattle.cf_grammar.specs.Keywords.{first_keyword, keyword_in, looks};
 ghost use Rattle.cf_types.specs.declared.keyword.TheConstants.{KEYWORDS};
 ghost use Rattle.cf_words.specs.Words.{piece_of};
 
@@ -61,77 +61,70 @@ pub fn spelling(keyword: Keyword) -> &'static [u8]
     }
 }
 
+/// This keyword, if the word is it.
 #[inline(always)]
-fn spells(word: Word, keyword: Keyword) -> bool
-    ensures { result ≡ is_word (spelling_of keyword) (piece_of word.entry) }
+fn if_spelled(word: Word, keyword: Keyword) -> Option<Keyword>
+    ensures { result ≡ given (is_word (spelling_of keyword) (piece_of word.entry)) keyword }
 {
-    word.is_word(spelling(keyword))
-}
-
-/// The keywords that begin with this byte.
-#[inline(always)]
-fn keywords_by(first: u8) -> &'static [Keyword]
-    ensures { result.now ≡ filter (begins_with first) KEYWORDS }
-{
-    match first {
-        b'a' => &[Keyword::Attach],
-        b'c' => &[Keyword::CInclude, Keyword::Config],
-        b'd' => &[
-            Keyword::Define,
-            Keyword::DevClass,
-            Keyword::DefPseudo,
-            Keyword::Device,
-            Keyword::DefFlag,
-            Keyword::DefParam,
-            Keyword::DefFs,
-            Keyword::DeviceMajor,
-        ],
-        b'e' => &[
-            Keyword::Condition(CondWord::ElifDef),
-            Keyword::Condition(CondWord::ElifNDef),
-            Keyword::Condition(CondWord::Else),
-            Keyword::Condition(CondWord::EndIf),
-        ],
-        b'f' => &[Keyword::FileSystem, Keyword::File],
-        b'i' => &[
-            Keyword::Include,
-            Keyword::Condition(CondWord::IfDef),
-            Keyword::Condition(CondWord::IfNDef),
-            Keyword::Ident,
-        ],
-        b'm' => &[
-            Keyword::MakeOptions,
-            Keyword::MaxUsers,
-            Keyword::MaxPartitions,
-            Keyword::Machine,
-        ],
-        b'n' => &[Keyword::No],
-        b'o' => &[Keyword::Options, Keyword::Obsolete],
-        b'p' => &[Keyword::Prefix, Keyword::PseudoDevice],
-        b'v' => &[Keyword::Version],
-        _ => &[],
+    if word.is_word(spelling(keyword)) {
+        Some(keyword)
+    } else {
+        None
     }
 }
 
-/// The first of these keywords that a word is.
+/// The keyword with this first byte, this third byte and this size. No two have all three in common.
 #[inline(always)]
-fn keyword_among(keywords: &[Keyword], word: Word) -> Option<Keyword>
-    ensures { result ≡ find (λ keyword. is_word (spelling_of keyword) (piece_of word.entry)) keywords.now }
+fn keyword_by(first: u8, third: u8, size: usize) -> Option<Keyword>
+    requires { 3 ≤ size }
+    ensures { result ≡ find (looks first third size) KEYWORDS }
 {
-    keywords
-        .iter()
-        .copied()
-        .find(|&keyword| spells(word, keyword))
+    match (first, third, size) {
+        (b'a', b't', 6) => Some(Keyword::Attach),
+        (b'c', b'n', 6) => Some(Keyword::Config),
+        (b'c', b'n', 8) => Some(Keyword::CInclude),
+        (b'd', b'f', 5) => Some(Keyword::DefFs),
+        (b'd', b'f', 6) => Some(Keyword::Define),
+        (b'd', b'f', 7) => Some(Keyword::DefFlag),
+        (b'd', b'f', 8) => Some(Keyword::DefParam),
+        (b'd', b'f', 9) => Some(Keyword::DefPseudo),
+        (b'd', b'v', 6) => Some(Keyword::Device),
+        (b'd', b'v', 8) => Some(Keyword::DevClass),
+        (b'd', b'v', 12) => Some(Keyword::DeviceMajor),
+        (b'e', b'd', 5) => Some(Keyword::Condition(CondWord::EndIf)),
+        (b'e', b'i', 7) => Some(Keyword::Condition(CondWord::ElifDef)),
+        (b'e', b'i', 8) => Some(Keyword::Condition(CondWord::ElifNDef)),
+        (b'e', b's', 4) => Some(Keyword::Condition(CondWord::Else)),
+        (b'f', b'l', 4) => Some(Keyword::File),
+        (b'f', b'l', 11) => Some(Keyword::FileSystem),
+        (b'i', b'c', 7) => Some(Keyword::Include),
+        (b'i', b'd', 5) => Some(Keyword::Condition(CondWord::IfDef)),
+        (b'i', b'e', 5) => Some(Keyword::Ident),
+        (b'i', b'n', 6) => Some(Keyword::Condition(CondWord::IfNDef)),
+        (b'm', b'c', 7) => Some(Keyword::Machine),
+        (b'm', b'k', 11) => Some(Keyword::MakeOptions),
+        (b'm', b'x', 8) => Some(Keyword::MaxUsers),
+        (b'm', b'x', 13) => Some(Keyword::MaxPartitions),
+        (b'o', b's', 8) => Some(Keyword::Obsolete),
+        (b'o', b't', 7) => Some(Keyword::Options),
+        (b'p', b'e', 6) => Some(Keyword::Prefix),
+        (b'p', b'e', 13) => Some(Keyword::PseudoDevice),
+        (b'v', b'r', 7) => Some(Keyword::Version),
+        _ => None,
+    }
 }
 
-/// The keyword that a word is.
+/// The keyword that a word is. Only `no` has fewer than three bytes.
 #[inline]
 fn keyword_of(word: Word) -> Option<Keyword>
     ensures { result ≡ keyword_in (piece_of word.entry) }
 {
     match word.text {
-        [first, ..] => keyword_among(keywords_by(*first), word),
-        [] => None,
+        [first, _, third, ..] => {
+            let keyword = keyword_by(*first, *third, word.text.len())?;
+            if_spelled(word, keyword)
+        }
+        _ => if_spelled(word, Keyword::No),
     }
 }
 

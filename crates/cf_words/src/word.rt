@@ -12,18 +12,29 @@ pub struct Word<'a> {
     pub text: &'a [u8],
 }
 
-/// Whether two texts are the same. Those of few bytes are told apart without a call.
+/// Whether two texts are the same. Those of two bytes or fewer are told apart without a call.
+#[inline(always)]
+fn has_few_bytes(text: &[u8], other: &[u8]) -> bool
+    ensures { result ≡ bytes_eq text.now other.now }
+{
+    match (text, other) {
+        ([], []) => true,
+        ([byte], [wanted]) => *byte == *wanted,
+        ([first, second], [one, two]) => *first == *one && *second == *two,
+        _ => text == other,
+    }
+}
+
+/// Whether two texts are the same. Those of four to six bytes are told apart without a call too.
 #[inline(always)]
 fn has_bytes(text: &[u8], other: &[u8]) -> bool
     ensures { result ≡ bytes_eq text.now other.now }
 {
     match (text, other) {
-        ([byte], [wanted]) => *byte == *wanted,
-        ([first, second], [one, two]) => *first == *one && *second == *two,
         ([a, b, c, d, rest @ ..], [e, f, g, h, other_rest @ ..]) => {
-            *a == *e && *b == *f && *c == *g && *d == *h && rest == other_rest
+            *a == *e && *b == *f && *c == *g && *d == *h && has_few_bytes(rest, other_rest)
         }
-        _ => text == other,
+        _ => has_few_bytes(text, other),
     }
 }
 

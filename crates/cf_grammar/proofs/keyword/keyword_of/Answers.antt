@@ -1,12 +1,12 @@
-use Rattle.std.proofs.Common.{◌∙◌, ap}
-use Rattle.std.specs.Prelude.{find}
-use Rattle.config_rules.specs.Form.{is_word, spelling_of}
+use Rattle.std.proofs.Common.{◌∙◌, sym}
 use Rattle.cf_words.specs.Words.{piece_of}
-use Rattle.cf_grammar.proofs.KeywordLemmas.{keyword_by_first}
+use Rattle.cf_grammar.proofs.KeywordLemmas.{one_looks, short_no}
 use Rattle.cf_grammar.proofs.keyword.keyword_of.Goals as goal
 
-pub returns-in-len1-up : goal.returns-in-len1-up
-returns-in-len1-up c =
-    c.keyword_among.ensures
-    ∙ ap (λ keywords. find (λ keyword. is_word (spelling_of keyword) (piece_of c.args.word)) keywords) c.keywords_by.ensures
-    ∙ keyword_by_first (piece_of c.args.word)
+pub returns-in_default : goal.returns-in_default
+returns-in_default c = c.if_spelled.ensures ∙ short_no (piece_of c.args.word) c.in_default.len_below
+
+pub returns-in_ok-keyword-in-len3-up : goal.returns-in_ok-keyword-in-len3-up
+returns-in_ok-keyword-in-len3-up c =
+    c.if_spelled-in-len3-up.ensures
+    ∙ one_looks (piece_of c.args.word) c.in_ok-keyword-in-len3-up.keyword (sym c.in_ok-keyword-in-len3-up.was ∙ c.keyword_by.ensures)
