@@ -1,8 +1,8 @@
-ghost use Rattle.std.specs.Prelude.{◌≡◌, ℕ, ◌-◌, IfOk, IfSome, OnOk, Some};
+ghost use Rattle.std.specs.Prelude.{◌≡◌, ℕ, ◌-◌, ◌<◌, IfOk, IfSome, OnOk, Some, length};
 ghost use Rattle.cf_grammar.specs.Statement.{AreWithin};
 ghost use Rattle.cf_io.specs.Asked.{Asks};
 ghost use Rattle.config_rules.specs.Written.{AreWritten};
-ghost use Rattle.config_rules.specs.Reading.{nothing_read, read_end, read_statement, reader, reading};
+ghost use Rattle.config_rules.specs.Reading.{Statement as Spoken, include, nothing_read, read_end, read_statement, reader, reading};
 ghost use Rattle.cf_expand.specs.Asked.{AsksIn};
 ghost use Rattle.cf_expand.specs.Stop.{Counted};
 ghost use Rattle.cf_expand.specs.Steps.{WhereTold, entered, expanded, here_of};
@@ -10,7 +10,7 @@ ghost use Rattle.cf_expand.specs.Steps.{WhereTold, entered, expanded, here_of};
 use crate::conditions::Conditions;
 use crate::open::{open_first, open_include};
 use crate::progress::Progress;
-use crate::source::{Opened, Source};
+use crate::source::{Include, Opened, Source};
 use crate::statement::Statement;
 use crate::steps::read_statement;
 use crate::stop::ExpandStop;
@@ -37,8 +37,42 @@ fn read_end(
     }
 }
 
+/// Reads the file of an include on this line, with all that it includes. Few statements lead here: what it needs stays out
+/// of the function that reads each.
+#[cycle(statements)]
+#[inline(never)]
+#[cold]
+fn read_included<F: Files>(
+    alloc: Global,
+    files: &mut F,
+    progress: &mut Progress,
+    source: &Source,
+    conditions: &Conditions,
+    line: u32,
+    wanted: Include,
+) -> Result<(), ExpandStop>
+    requires { length progress.old.placed < 65536 }
+    ensures told { F.told files.new ≡ F.told files.old }
+    ensures counted { Counted (F.faults files.old) (F.faults files.new) result }
+    ensures read { WhereTold (F.told files.old) (λ named. OnOk result ((around : ℕ) (s : Spoken) → source.now.room ≡ 16 - around → s.line ≡ line
+        → progress.new ≡ include named (reader source.now.levels named) (here_of around source.now) conditions.now s wanted.path wanted.optional progress.old)) }
+    ensures asked { (s : Spoken) → s.line ≡ line → AsksIn (F.told files.old) source.now progress.old
+        (λ named around. include named (reader source.now.levels named) (here_of around source.now) conditions.now s wanted.path wanted.optional progress.old)
+        result (F.asked files.old) (F.asked files.new) }
+{
+    let Some(below) = open_include(alloc, files, progress, source, conditions, line, wanted)? else {
+        return Ok(());
+    };
+    let Opened {
+        source: inner,
+        tokens: unread,
+    } = below;
+    read_source(alloc, files, progress, &inner, unread)
+}
+
 /// Reads a statement, with the file that it includes.
 #[cycle(statements)]
+#[inline(always)]
 fn read_with_include<'a, F: Files>(
     alloc: Global,
     files: &mut F,
@@ -60,14 +94,7 @@ fn read_with_include<'a, F: Files>(
         return Ok(());
     };
     let line = statement.line();
-    let Some(below) = open_include(alloc, files, progress, source, conditions, line, wanted)? else {
-        return Ok(());
-    };
-    let Opened {
-        source: inner,
-        tokens: unread,
-    } = below;
-    read_source(alloc, files, progress, &inner, unread)
+    read_included(alloc, files, progress, source, conditions, line, wanted)
 }
 
 /// Reads the statements of these tokens of a file, up to the first fault.

@@ -50,9 +50,9 @@ fn turn_prefix(
     }
 }
 
-/// Reads a statement that has this form.
-#[inline(always)]
-fn treat(
+/// Reads a statement of this form, whichever it is. It stands apart for the few that say how to read on.
+#[inline(never)]
+fn treat_directive(
     alloc: Global,
     progress: &mut Progress,
     source: &Source,
@@ -79,6 +79,34 @@ fn treat(
         other => progress.place(source.number, line, other)?,
     }
     Ok(None)
+}
+
+/// Reads a statement that has this form.
+#[inline(always)]
+fn treat(
+    alloc: Global,
+    progress: &mut Progress,
+    source: &Source,
+    conditions: &Conditions,
+    statement: &Statement,
+    stmt: Stmt,
+) -> Result<Option<Include>, Memory>
+    requires few { length progress.old.placed < 65536 }
+    requires written { IsWritten stmt }
+    ensures few { IfOk result (λ wanted. IfSome wanted (λ _. length progress.new.placed < 65536)) }
+    ensures asked { OnOk result (progress.new.asked ≡ progress.old.asked) }
+    ensures steps { Follows (λ files below here levels s. treat files below here levels s stmt)
+        source.now conditions.now statement.now progress.old result progress.new }
+{
+    match &stmt {
+        Stmt::Include { .. } | Stmt::Prefix { .. } | Stmt::Cond { .. } => {
+            treat_directive(alloc, progress, source, conditions, statement, stmt)
+        }
+        _ => {
+            progress.place(source.number, statement.line(), stmt)?;
+            Ok(None)
+        }
+    }
 }
 
 /// Reads a statement of a part that is not left out.
