@@ -82,7 +82,7 @@ pop_grows : (here : Here) (s : Statement) (prefixes : List (List ℕ)) (r : Read
 pop_grows here s [] r = refused_grows here s NO_PREFIX r r (same_grows r r refl)
 pop_grows here s (top ∷ prefixes) r = place_grows here s (stmt.Prefix None) r (record r { prefixes = prefixes }) (same_grows r (record r { prefixes = prefixes }) refl)
 
-treat_grows : (files : Files) (below : Reader) → ReadsOn below → (here : Here) (levels : List Level) (s : Statement) (form : Stmt) (r : Reading) → Grows r (treat files below here levels s form r)
+pub treat_grows : (files : Files) (below : Reader) → ReadsOn below → (here : Here) (levels : List Level) (s : Statement) (form : Stmt) (r : Reading) → Grows r (treat files below here levels s form r)
 treat_grows files below on here levels s (stmt.Include path optional) r = include_grows files below on here levels s path optional r
 treat_grows files below on here levels s (stmt.Prefix None) r = pop_grows here s r.prefixes r
 treat_grows files below on here levels s (stmt.Prefix (Some path)) r =
@@ -97,7 +97,7 @@ option_grows : {A : Type 0} (old : Reading) (f : A → Reading) (o : Option A) (
 option_grows old f None d hf hd = hd
 option_grows old f (Some x) d hf hd = hf x
 
-placed_grows : (files : Files) (below : Reader) → ReadsOn below → (here : Here) (levels : List Level) (s : Statement) (r : Reading) → Grows r (read_placed files below here levels s r)
+pub placed_grows : (files : Files) (below : Reader) → ReadsOn below → (here : Here) (levels : List Level) (s : Statement) (r : Reading) → Grows r (read_placed files below here levels s r)
 placed_grows files below on here levels s r =
     let stay = same_grows r r refl in
     let formed = option_map_or (λ form. treat files below here levels s form r) (form_of true s.pieces) r in

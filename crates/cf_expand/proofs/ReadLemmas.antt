@@ -1,7 +1,14 @@
 -- The statements of a file, one after the other.
-use Rattle.std.proofs.Common.{◌≡◌, ℕ, ◌+◌, ◌-◌, arith, Option, Some, List, length, ◌∙◌}
-use Rattle.std.specs.Prelude.{OnOk, Result, Ok, Err}
-use Rattle.config_rules.specs.Reading.{Files, Level, Statement, Reader, Reading, include, read_statement, reader}
+use Rattle.std.proofs.Common.{◌≡◌, ℕ, ◌+◌, ◌-◌, ◌<◌, arith, true, false, Option, Some, List, length, ap, sym, ◌∙◌}
+use Rattle.std.specs.Prelude.{IfOk, OnOk, nat_le, Result, Ok, Err}
+use Rattle.std.proofs.lemmas.Bool.Decides.{nat_tests}
+use Rattle.cf_types.specs.declared.stmt.CondWord.{CondWord}
+use Rattle.cf_types.specs.declared.stmt.Piece.{Piece}
+use Rattle.cf_types.specs.declared.stmt.Stmt.{Stmt}
+use Rattle.config_rules.specs.Form.{Form}
+use Rattle.config_rules.specs.Reading.{Files, Here, Level, Reader, Reading, Statement, condition_of, include, is_placed, read_placed, read_statement, reader, treat}
+use Rattle.config_rules.specs.Written.{IsWritten}
+use Rattle.config_rules.proofs.WrittenLaws.{form_written}
 use Rattle.cf_expand.specs.declared.source.Include.{Include}
 use Rattle.cf_expand.specs.declared.source.Opened.{Opened}
 use Rattle.cf_expand.specs.declared.source.Source.{Source}
@@ -12,14 +19,13 @@ pub on_ok : {A E P Q : Type 0} (r : Result A E) → OnOk r P → (P → Q) → O
 on_ok (Ok x) p f = f p
 on_ok (Err e) p f = tt
 
--- the statement, what its include leads to, and the file that is still to be read there
-pub included_whole : (named : Files) (source : Source) (around line : ℕ) (levels : List Level) (s : Statement) (wanted : Include) (i : Option Include) (opened : Option Opened) (old between inner : Reading) → i ≡ Some wanted
-    → s.line ≡ line → source.room ≡ 16 - around
-    → ((files : Files) (reads : Reader) (a : ℕ) → source.room ≡ 16 - a → went_on files reads (here_of a source) levels s i between ≡ read_statement files reads (here_of a source) levels s old)
+-- a statement, what its include leads to, and the file that is still to be read there
+pub included_whole : (named : Files) (source : Source) (around line : ℕ) (levels : List Level) (s : Statement) (wanted : Include) (i : Option Include) (opened : Option Opened) (between inner whole : Reading) → i ≡ Some wanted
+    → s.line ≡ line → went_on named (reader source.levels named) (here_of around source) levels s i between ≡ whole
     → ((a : ℕ) (t : Statement) → t.line ≡ line → entered named (a + length levels) opened inner ≡ include named (reader source.levels named) (here_of a source) levels t wanted.path wanted.optional between)
-    → entered named (around + length levels) opened inner ≡ read_statement named (reader source.levels named) (here_of around source) levels s old
-included_whole named source around line levels s wanted i opened old between inner ei en er step opening =
-    opening around s en ∙ rw ei at (step named (reader source.levels named) around er)
+    → entered named (around + length levels) opened inner ≡ whole
+included_whole named source around line levels s wanted i opened between inner whole ei en step opening =
+    opening around s en ∙ rw ei at step
 
 -- the conditions around a file that is included
 pub room_below : (source : Source) (below : Opened) (around : ℕ) (levels : List Level) (opened : Option Opened) → opened ≡ Some below → source.room ≡ 16 - around
@@ -28,15 +34,34 @@ room_below source below around levels opened eo er is_below =
     let within = rw eo at is_below in
     omega (arith, within.0, er)
 
--- the statement, what its include leads to, and the file that is read there
-pub included : (named : Files) (source : Source) (below : Opened) (around line : ℕ) (levels : List Level) (s : Statement) (wanted : Include) (i : Option Include) (opened : Option Opened) (old between inner new : Reading) → i ≡ Some wanted → opened ≡ Some below
+-- a statement, what its include leads to, and the file that is read there
+pub included : (named : Files) (source : Source) (below : Opened) (around line : ℕ) (levels : List Level) (s : Statement) (wanted : Include) (i : Option Include) (opened : Option Opened) (between inner new whole : Reading) → i ≡ Some wanted → opened ≡ Some below
     → s.line ≡ line → source.room ≡ 16 - around
-    → ((files : Files) (reads : Reader) (a : ℕ) → source.room ≡ 16 - a → went_on files reads (here_of a source) levels s i between ≡ read_statement files reads (here_of a source) levels s old)
+    → went_on named (reader source.levels named) (here_of around source) levels s i between ≡ whole
     → ((a : ℕ) (t : Statement) → t.line ≡ line → entered named (a + length levels) opened inner ≡ include named (reader source.levels named) (here_of a source) levels t wanted.path wanted.optional between)
     → IsBelow (source.room - length levels) (source.levels - 1) opened
     → ((a : ℕ) → below.source.room ≡ 16 - a → new ≡ entered named a (Some below) inner)
-    → new ≡ read_statement named (reader source.levels named) (here_of around source) levels s old
-included named source below around line levels s wanted i opened old between inner new ei eo en er step opening is_below reads =
-    let room = room_below source below around levels opened eo er is_below in
-    let whole = included_whole named source around line levels s wanted i opened old between inner ei en er step opening in
-    reads (around + length levels) room ∙ rw eo at whole
+    → new ≡ whole
+included named source below around line levels s wanted i opened between inner new whole ei eo en er step opening is_below reads =
+    reads (around + length levels) (room_below source below around levels opened eo er is_below)
+    ∙ rw eo at (included_whole named source around line levels s wanted i opened between inner whole ei en step opening)
+
+-- a statement that was read has the written form of one
+pub written_ok : {E : Type 0} (pieces : List Piece) (r : Result Stmt E) → IfOk r (λ s. Form pieces s) → IfOk r IsWritten
+written_ok pieces (Ok s) formed = form_written pieces s formed.1
+written_ok pieces (Err e) formed = tt
+
+-- a statement of a part that is not left out, which has this form
+pub placed_form : (files : Files) (below : Reader) (here : Here) (levels : List Level) (s : Statement) (form : Stmt) (old r : Reading) → length old.placed < 65536 → Form s.pieces form → r ≡ old
+    → treat files below here levels s form r ≡ read_placed files below here levels s old
+placed_form files below here levels s form old r few formed same =
+    let room : nat_le 65536 (length old.placed) ≡ false = grind (arith, nat_tests) in
+    let whole : read_placed files below here levels s old ≡ treat files below here levels s form old = rw (room, formed.0, formed.1) in
+    ap (treat files below here levels s form) same ∙ sym whole
+
+pub placed_here : (files : Files) (below : Reader) (here : Here) (levels : List Level) (s : Statement) (word : Option CondWord) (r : Reading) → word ≡ condition_of s → is_placed word levels ≡ true
+    → read_placed files below here levels s r ≡ read_statement files below here levels s r
+placed_here files below here levels s word r begins placed =
+    let found : is_placed (condition_of s) levels ≡ true = ap (λ w. is_placed w levels) (sym begins) ∙ placed in
+    let whole : read_statement files below here levels s r ≡ read_placed files below here levels s r = rw found in
+    sym whole

@@ -98,6 +98,8 @@ impl Progress {
     }
 
     /// Notes a fault.
+    #[inline(never)]
+    #[cold]
     pub fn refuse(&mut self, alloc: Global, file: &[u8], line: u32, code: u8) -> Result<(), Memory>
         ensures { OnOk result (self.new ≡ refused file.now line code self.old) }
     {

@@ -1,8 +1,8 @@
-ghost use Rattle.std.specs.Prelude.{◌≡◌, ℕ, ◌-◌, IfOk, IfSome, OnOk, Some};
+ghost use Rattle.std.specs.Prelude.{◌≡◌, ℕ, ◌-◌, ◌<◌, IfOk, IfSome, OnOk, Some, length};
 ghost use Rattle.cf_grammar.specs.Statement.{AreWithin};
 ghost use Rattle.cf_io.specs.Asked.{Asks};
-ghost use Rattle.config_rules.specs.Written.{AreWritten};
-ghost use Rattle.config_rules.specs.Reading.{nothing_read, read_end, read_statement, reader, reading};
+ghost use Rattle.config_rules.specs.Written.{AreWritten, IsWritten};
+ghost use Rattle.config_rules.specs.Reading.{Statement as Spoken, condition_of, nothing_read, read_end, read_placed, read_statement, reader, reading, treat};
 ghost use Rattle.cf_expand.specs.Asked.{AsksIn};
 ghost use Rattle.cf_expand.specs.Stop.{Counted};
 ghost use Rattle.cf_expand.specs.Steps.{WhereTold, entered, expanded, here_of};
@@ -12,14 +12,18 @@ use crate::open::{open_first, open_include};
 use crate::progress::Progress;
 use crate::source::{Opened, Source};
 use crate::statement::Statement;
-use crate::steps::read_statement;
+use crate::steps::{pass_over, treat};
 use crate::stop::ExpandStop;
 use crate::unread::Unread;
+use cf_grammar::GrammarStop;
 use cf_io::Files;
 use cf_types::code::configuration as code;
-use cf_types::{Expanded, List, Memory, Token};
+use cf_types::{CondWord, Expanded, List, Memory, Stmt, Token};
 use cf_words::Word;
 use std::alloc::Global;
+
+/// The most statements that are placed.
+const MAX_PLACED: usize = 65_536;
 
 /// Ends a file: no condition may be open.
 fn read_end(
@@ -37,8 +41,124 @@ fn read_end(
     }
 }
 
-/// Reads a statement, with the file that it includes.
+/// Reads a statement of this form, with the file that it includes. What that needs stays out of the functions that read each
+/// statement.
 #[cycle(statements)]
+#[inline(never)]
+fn read_directive<F: Files>(
+    alloc: Global,
+    files: &mut F,
+    progress: &mut Progress,
+    source: &Source,
+    conditions: &Conditions,
+    word: Option<CondWord>,
+    line: u32,
+    stmt: Stmt,
+) -> Result<(), ExpandStop>
+    requires few { length progress.old.placed < 65536 }
+    requires written { IsWritten stmt }
+    ensures told { F.told files.new ≡ F.told files.old }
+    ensures counted { Counted (F.faults files.old) (F.faults files.new) result }
+    ensures read { WhereTold (F.told files.old) (λ named. OnOk result ((around : ℕ) (s : Spoken) → source.now.room ≡ 16 - around → s.line ≡ line → condition_of s ≡ word
+        → progress.new ≡ treat named (reader source.now.levels named) (here_of around source.now) conditions.now s stmt progress.old)) }
+    ensures asked { (s : Spoken) → s.line ≡ line → condition_of s ≡ word → AsksIn (F.told files.old) source.now progress.old
+        (λ named around. treat named (reader source.now.levels named) (here_of around source.now) conditions.now s stmt progress.old)
+        result (F.asked files.old) (F.asked files.new) }
+{
+    let Some(wanted) = treat(alloc, progress, source, conditions, word, line, stmt)? else {
+        return Ok(());
+    };
+    let Some(below) = open_include(alloc, files, progress, source, conditions, line, wanted)? else {
+        return Ok(());
+    };
+    let Opened {
+        source: inner,
+        tokens: unread,
+    } = below;
+    read_source(alloc, files, progress, &inner, unread)
+}
+
+/// Reads a statement that has this form. Few say how to read on, and all others are placed.
+#[cycle(statements)]
+#[inline(always)]
+fn read_formed<F: Files>(
+    alloc: Global,
+    files: &mut F,
+    progress: &mut Progress,
+    source: &Source,
+    conditions: &Conditions,
+    word: Option<CondWord>,
+    line: u32,
+    stmt: Stmt,
+) -> Result<(), ExpandStop>
+    requires few { length progress.old.placed < 65536 }
+    requires written { IsWritten stmt }
+    ensures told { F.told files.new ≡ F.told files.old }
+    ensures counted { Counted (F.faults files.old) (F.faults files.new) result }
+    ensures read { WhereTold (F.told files.old) (λ named. OnOk result ((around : ℕ) (s : Spoken) → source.now.room ≡ 16 - around → s.line ≡ line → condition_of s ≡ word
+        → progress.new ≡ treat named (reader source.now.levels named) (here_of around source.now) conditions.now s stmt progress.old)) }
+    ensures asked { (s : Spoken) → s.line ≡ line → condition_of s ≡ word → AsksIn (F.told files.old) source.now progress.old
+        (λ named around. treat named (reader source.now.levels named) (here_of around source.now) conditions.now s stmt progress.old)
+        result (F.asked files.old) (F.asked files.new) }
+{
+    match &stmt {
+        Stmt::Include { .. } | Stmt::Prefix { .. } | Stmt::Cond { .. } => read_directive(
+            alloc, files, progress, source, conditions, word, line, stmt,
+        ),
+        _ => {
+            progress.place(source.number, line, stmt)?;
+            Ok(())
+        }
+    }
+}
+
+/// Reads a statement of a part that is not left out.
+#[cycle(statements)]
+#[inline(always)]
+fn read_placed<'a, F: Files>(
+    alloc: Global,
+    files: &mut F,
+    progress: &mut Progress,
+    source: &Source,
+    conditions: &Conditions,
+    statement: &Statement<'a, '_>,
+    words: &mut Vec<Word<'a>>,
+) -> Result<(), ExpandStop>
+    ensures told { F.told files.new ≡ F.told files.old }
+    ensures counted { Counted (F.faults files.old) (F.faults files.new) result }
+    ensures read { WhereTold (F.told files.old) (λ named. OnOk result ((around : ℕ) → source.now.room ≡ 16 - around
+        → progress.new ≡ read_placed named (reader source.now.levels named) (here_of around source.now) conditions.now statement.now progress.old)) }
+    ensures asked { AsksIn (F.told files.old) source.now progress.old
+        (λ named around. read_placed named (reader source.now.levels named) (here_of around source.now) conditions.now statement.now progress.old)
+        result (F.asked files.old) (F.asked files.new) }
+{
+    let line = statement.line();
+    if progress.placed_len() >= MAX_PLACED {
+        progress.refuse(alloc, source.name.items(), line, code::TOO_MANY_STATEMENTS)?;
+        return Ok(());
+    }
+    match statement.read(progress, words) {
+        Ok(stmt) => read_formed(
+            alloc,
+            files,
+            progress,
+            source,
+            conditions,
+            statement.word(),
+            line,
+            stmt,
+        ),
+        Err(GrammarStop::Fault { code }) => {
+            progress.refuse(alloc, source.name.items(), line, code)?;
+            Ok(())
+        }
+        Err(GrammarStop::Memory) => Err(ExpandStop::Memory),
+    }
+}
+
+/// Reads a statement, with the file that it includes. The words are room for those of the statement.
+#[cycle(statements)]
+#[inline(always)]
 fn read_with_include<'a, F: Files>(
     alloc: Global,
     files: &mut F,
@@ -56,18 +176,12 @@ fn read_with_include<'a, F: Files>(
         (λ named around. read_statement named (reader source.now.levels named) (here_of around source.now) conditions.now statement.now progress.old)
         result (F.asked files.old) (F.asked files.new) }
 {
-    let Some(wanted) = read_statement(alloc, progress, source, conditions, statement, words)? else {
-        return Ok(());
-    };
-    let line = statement.line();
-    let Some(below) = open_include(alloc, files, progress, source, conditions, line, wanted)? else {
-        return Ok(());
-    };
-    let Opened {
-        source: inner,
-        tokens: unread,
-    } = below;
-    read_source(alloc, files, progress, &inner, unread)
+    let word = statement.word();
+    if conditions.is_placed(word) {
+        return read_placed(alloc, files, progress, source, conditions, statement, words);
+    }
+    pass_over(alloc, progress, source, conditions, word, statement.line())?;
+    Ok(())
 }
 
 /// Reads the statements of these tokens of a file, up to the first fault.

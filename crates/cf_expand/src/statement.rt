@@ -4,6 +4,7 @@ ghost use Rattle.cf_words.specs.Words.{piece_of};
 ghost use Rattle.cf_grammar.specs.Statement.{AreWithin, IsFaultOf};
 ghost use Rattle.config_rules.specs.Form.{Form, condition_spelling, is_word};
 ghost use Rattle.config_rules.specs.Reading.{condition_of, holds, names_declared};
+ghost use Rattle.config_rules.specs.Written.{IsWritten};
 ghost use Rattle.cf_expand.specs.Lines.{condition_in, statement_of};
 
 use crate::progress::Progress;
@@ -108,6 +109,7 @@ impl<'a, 't> Statement<'a, 't> {
     }
 
     /// Whether its second word is a name that was declared.
+    #[inline(always)]
     fn names_declared(&self, progress: &Progress) -> bool
         ensures { result ≡ names_declared progress.now.placed self.now }
     {
@@ -139,6 +141,7 @@ impl<'a, 't> Statement<'a, 't> {
     ) -> Result<Stmt, GrammarStop>
         ensures same { progress.new ≡ progress.old }
         ensures form { IfOk result (λ s. Form self.now.pieces s) }
+        ensures written { IfOk result IsWritten }
         ensures fault { IfErr result (λ stop. IsFaultOf self.now.pieces stop) }
     {
         progress.read(words, self.text, self.tokens)

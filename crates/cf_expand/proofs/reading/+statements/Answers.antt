@@ -1,52 +1,84 @@
-use Rattle.std.proofs.Common.{◌≡◌, ◌+◌, ◌∙◌, List, length, ap, refl, sym, subst, Some}
+use Rattle.std.proofs.Common.{◌≡◌, ◌+◌, ◌<◌, ◌∙◌, arith, List, length, ap, refl, sym, subst, Some}
 use Rattle.cf_types.specs.declared.stmt.Token.{Token}
 use Rattle.cf_grammar.specs.Statement.{AreWithin}
-use Rattle.config_rules.specs.Reading.{Reading, Statement, holds, levels_behind, names_declared, read_statement, read_statements, reader, statements_in}
-use Rattle.cf_expand.proofs.AskedLemmas.{all_grown, asked_still, at_end, at_fault, asks_same, beyond, follows, front_grown, front_same, reader_grows, rest_grows, rest_within, statement_grows, stopped_all, whole_grows}
+use Rattle.config_rules.specs.Reading.{Reading, Statement, holds, levels_behind, names_declared, read_placed, read_statement, read_statements, reader, statements_in, treat}
+use Rattle.cf_expand.proofs.AskedLemmas.{all_grown, asked_still, at_end, at_fault, asks_same, beyond, follows, front_grown, front_same, reader_grows, rest_grows, rest_within, placed_grows, statement_grows, stopped_all, treat_grows, whole_grows}
 use Rattle.cf_expand.proofs.UnreadLemmas.{last_kept}
-use Rattle.cf_expand.proofs.ReadLemmas.{included, included_whole, on_ok, room_below}
+use Rattle.cf_expand.proofs.ReadLemmas.{included, included_whole, on_ok, placed_form, placed_here, room_below}
 use Rattle.cf_expand.specs.Lines.{statement_of}
 use Rattle.cf_expand.specs.Steps.{entered, here_of}
 use Rattle.cf_expand.proofs.reading.+statements.Goals as goal
 
-pub read_with_include-returns-clause-read : goal.read_with_include-returns-clause-read
-read_with_include-returns-clause-read g t c = λ named e.
+pub read_directive-returns-clause-read : goal.read_directive-returns-clause-read
+read_directive-returns-clause-read g t c = λ named e.
+    let source = c.args.source.now in
     on_ok c.read_source.result (c.read_source.ensures.read named (c.in_ok-below.ensures.told ∙ e))
-    (λ h. λ around room.
-    included named c.args.source.now c.in-Some-2.below around c.line-line.result c.args.conditions.now c.args.statement.now c.in-Some.wanted c.in_ok-wanted.field-0 c.in_ok-below.field-0
-    c.args.progress.now c.read_statement.new.progress c.open_include.new.progress c.read_source.new.progress
-    c.in-Some.is c.in-Some-2.is (sym c.line-line.ensures) room c.in_ok-wanted.ensures.steps (c.in_ok-below.ensures.read named e) c.in_ok-below.ensures.below.1 h)
+    (λ h. λ around s room line word.
+    included named source c.in-Some-2.below around c.args.line c.args.conditions.now s c.in-Some.wanted c.in_ok-wanted.field-0 c.in_ok-below.field-0 c.treat.new.progress c.open_include.new.progress c.read_source.new.progress _
+    c.in-Some.is c.in-Some-2.is line room (c.in_ok-wanted.ensures.steps s line word named (reader source.levels named) around room) (c.in_ok-below.ensures.read named e) c.in_ok-below.ensures.below.1 h)
 
-pub read_with_include-returns-in_err-wanted-clause-asked : goal.read_with_include-returns-in_err-wanted-clause-asked
-read_with_include-returns-in_err-wanted-clause-asked g t c = λ named e start around room before.
+pub read_directive-returns-in_err-wanted-clause-asked : goal.read_directive-returns-in_err-wanted-clause-asked
+read_directive-returns-in_err-wanted-clause-asked g t c = λ s line word named e start around room before.
     let source = c.args.source.now in
-    let s = c.args.statement.now in
-    let whole = read_statement named (reader source.levels named) (here_of around source) c.args.conditions.now s c.args.progress.now in
-    stopped_all _ whole.asked _ _ _ c.from_residual.ensures.1
-    (all_grown c.args.progress.now whole _ _ (statement_grows named (reader source.levels named) (reader_grows source.levels named) (here_of around source) c.args.conditions.now s c.args.progress.now) before)
+    let whole = treat named (reader source.levels named) (here_of around source) c.args.conditions.now s c.args.stmt c.args.progress.now in
+    stopped_all _ whole.asked _ _ _ c.from_residual.ensures.1 (all_grown c.args.progress.now whole _ _ (treat_grows named (reader source.levels named) (reader_grows source.levels named) (here_of around source) c.args.conditions.now s c.args.stmt c.args.progress.now) before)
 
-pub read_with_include-returns-in_err-below-clause-asked : goal.read_with_include-returns-in_err-below-clause-asked
-read_with_include-returns-in_err-below-clause-asked g t c = λ named e start around room before.
+pub read_directive-returns-in_default-clause-asked : goal.read_directive-returns-in_default-clause-asked
+read_directive-returns-in_default-clause-asked g t c = λ s line word named e start around room before.
     let source = c.args.source.now in
-    let s = c.args.statement.now in
-    let whole = read_statement named (reader source.levels named) (here_of around source) c.args.conditions.now s c.args.progress.now in
+    let step = rw c.in_default.is at (c.in_ok-wanted.ensures.steps s line word named (reader source.levels named) around room) in
+    asked_still c.args.progress.now.asked _ start _ (ap (λ (r : Reading). r.asked) (sym step) ∙ c.in_ok-wanted.ensures.asked) before
+
+pub read_directive-returns-in_err-below-clause-asked : goal.read_directive-returns-in_err-below-clause-asked
+read_directive-returns-in_err-below-clause-asked g t c = λ s line word named e start around room before.
+    let source = c.args.source.now in
+    let whole = treat named (reader source.levels named) (here_of around source) c.args.conditions.now s c.args.stmt c.args.progress.now in
     let since = asked_still _ _ start _ c.in_ok-wanted.ensures.asked before in
     stopped_all _ whole.asked _ _ _ c.from_residual-in_err-below.ensures.1
-    (front_same _ whole _ _ (rw c.in-Some.is at (c.in_ok-wanted.ensures.steps named (reader source.levels named) around room))
-    (c.in_err-below.ensures.asked named e start around s (sym c.line-line.ensures) since))
+    (front_same _ whole _ _ (rw c.in-Some.is at (c.in_ok-wanted.ensures.steps s line word named (reader source.levels named) around room)) (c.in_err-below.ensures.asked named e start around s line since))
 
-pub read_with_include-returns-clause-asked : goal.read_with_include-returns-clause-asked
-read_with_include-returns-clause-asked g t c = λ named e start around room before.
+pub read_directive-returns-in_default-2-clause-asked : goal.read_directive-returns-in_default-2-clause-asked
+read_directive-returns-in_default-2-clause-asked g t c = λ s line word named e start around room before.
+    let source = c.args.source.now in
+    let inner = c.open_include.new.progress in
+    let since = asked_still _ _ start _ c.in_ok-wanted.ensures.asked before in
+    let whole = rw c.in_default-2.is at (included_whole named source around c.args.line c.args.conditions.now s c.in-Some.wanted c.in_ok-wanted.field-0 c.in_ok-below.field-0 c.treat.new.progress inner _
+    c.in-Some.is line (c.in_ok-wanted.ensures.steps s line word named (reader source.levels named) around room) (c.in_ok-below.ensures.read named e)) in
+    asked_still inner.asked _ start _ (ap (λ (r : Reading). r.asked) (sym whole)) (c.in_ok-below.ensures.asked named e start around s line since)
+
+pub read_directive-returns-clause-asked : goal.read_directive-returns-clause-asked
+read_directive-returns-clause-asked g t c = λ s line word named e start around room before.
     let source = c.args.source.now in
     let levels = c.args.conditions.now in
-    let s = c.args.statement.now in
     let inner = c.open_include.new.progress in
     let since = asked_still _ _ start _ c.in_ok-wanted.ensures.asked before in
     let room' = room_below source c.in-Some-2.below around levels c.in_ok-below.field-0 c.in-Some-2.is room c.in_ok-below.ensures.below.1 in
-    let whole = included_whole named source around c.line-line.result levels s c.in-Some.wanted c.in_ok-wanted.field-0 c.in_ok-below.field-0 c.args.progress.now c.read_statement.new.progress inner
-    c.in-Some.is (sym c.line-line.ensures) room c.in_ok-wanted.ensures.steps (c.in_ok-below.ensures.read named e) in
+    let whole = included_whole named source around c.args.line levels s c.in-Some.wanted c.in_ok-wanted.field-0 c.in_ok-below.field-0 c.treat.new.progress inner _
+    c.in-Some.is line (c.in_ok-wanted.ensures.steps s line word named (reader source.levels named) around room) (c.in_ok-below.ensures.read named e) in
     asks_same (entered named (around + length levels) (Some c.in-Some-2.below) inner) _ _ _ _ (rw c.in-Some-2.is at whole)
-    (c.read_source.ensures.asked named (c.in_ok-below.ensures.told ∙ e) start (around + length levels) room' (c.in_ok-below.ensures.asked named e start around s (sym c.line-line.ensures) since))
+    (c.read_source.ensures.asked named (c.in_ok-below.ensures.told ∙ e) start (around + length levels) room' (c.in_ok-below.ensures.asked named e start around s line since))
+
+pub read_placed-returns-in-Ok-clause-read : goal.read_placed-returns-in-Ok-clause-read
+read_placed-returns-in-Ok-clause-read g t c = λ named e.
+    let source = c.args.source.now in
+    let few : length c.args.progress.now.placed < 65536 = omega arith in
+    on_ok c.read_formed.result (c.read_formed.ensures.read named e)
+    (λ h. λ around room. h around c.args.statement.now room (sym c.line-line.ensures) (sym c.word.ensures)
+    ∙ placed_form named (reader source.levels named) (here_of around source) c.args.conditions.now c.args.statement.now c.in-Ok.stmt c.args.progress.now c.read.new.progress few c.in-Ok.ensures.form c.read.ensures.same)
+
+pub read_placed-returns-in-Err-Memory-clause-asked : goal.read_placed-returns-in-Err-Memory-clause-asked
+read_placed-returns-in-Err-Memory-clause-asked g t c = λ named e start around room before.
+    let source = c.args.source.now in
+    let s = c.args.statement.now in
+    let whole = read_placed named (reader source.levels named) (here_of around source) c.args.conditions.now s c.args.progress.now in
+    all_grown c.args.progress.now whole _ _ (placed_grows named (reader source.levels named) (reader_grows source.levels named) (here_of around source) c.args.conditions.now s c.args.progress.now) before
+
+pub read_with_include-returns-then-is_placed-clause-read : goal.read_with_include-returns-then-is_placed-clause-read
+read_with_include-returns-then-is_placed-clause-read g t c = λ named e.
+    let source = c.args.source.now in
+    on_ok c.read_placed.result (c.read_placed.ensures.read named e)
+    (λ h. λ around room. h around room
+    ∙ placed_here named (reader source.levels named) (here_of around source) c.args.conditions.now c.args.statement.now c.word-word.result c.args.progress.now c.word-word.ensures (sym c.is_placed.ensures ∙ c.if-is_placed.true))
 
 pub read_source-returns-in_err-read_with_include-clause-asked : goal.read_source-returns-in_err-read_with_include-clause-asked
 read_source-returns-in_err-read_with_include-clause-asked g t c = λ named e start around room before.
@@ -75,22 +107,6 @@ read_source-returns-in_err-read_end-clause-asked g t c = λ named e start around
     let whole = entered named around (Some (record { source = source; tokens = c.args.tokens })) c.args.progress.now in
     stopped_all _ whole.asked _ _ _ c.from_residual-in_err-read_end.ensures.1
     (all_grown c.loop-first.progress whole _ _ (whole_grows named (reader source.levels named) (reader_grows source.levels named) (here_of around source) c.loop-first.conditions (statements_in source.text c.loop-first.left) c.loop-first.progress whole (so_far.so_far named e around room)) (so_far.asked named e start around room before))
-
-pub read_with_include-returns-in_default-clause-asked : goal.read_with_include-returns-in_default-clause-asked
-read_with_include-returns-in_default-clause-asked g t c = λ named e start around room before.
-    let source = c.args.source.now in
-    let step = rw c.in_default.is at (c.in_ok-wanted.ensures.steps named (reader source.levels named) around room) in
-    asked_still c.args.progress.now.asked _ start _ (ap (λ (r : Reading). r.asked) (sym step) ∙ c.in_ok-wanted.ensures.asked) before
-
-pub read_with_include-returns-in_default-2-clause-asked : goal.read_with_include-returns-in_default-2-clause-asked
-read_with_include-returns-in_default-2-clause-asked g t c = λ named e start around room before.
-    let source = c.args.source.now in
-    let s = c.args.statement.now in
-    let inner = c.open_include.new.progress in
-    let since = asked_still _ _ start _ c.in_ok-wanted.ensures.asked before in
-    let whole = rw c.in_default-2.is at (included_whole named source around c.line-line.result c.args.conditions.now s c.in-Some.wanted c.in_ok-wanted.field-0 c.in_ok-below.field-0 c.args.progress.now c.read_statement.new.progress inner
-    c.in-Some.is (sym c.line-line.ensures) room c.in_ok-wanted.ensures.steps (c.in_ok-below.ensures.read named e)) in
-    asked_still inner.asked _ start _ (ap (λ (r : Reading). r.asked) (sym whole)) (c.in_ok-below.ensures.asked named e start around s (sym c.line-line.ensures) since)
 
 pub read_source-returns-then-has_fault-clause-read : goal.read_source-returns-then-has_fault-clause-read
 read_source-returns-then-has_fault-clause-read g t c = λ named e around room.
