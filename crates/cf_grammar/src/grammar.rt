@@ -64,8 +64,8 @@ pub fn word_of<'a>(text: &'a [u8], token: Token) -> Word<'a>
 }
 
 /// Puts the tokens with their bytes in place of what is there, and tells whether none is longer than one may be. The room
-/// is held here meanwhile, so that it is not looked up for each of them.
-#[inline(always)]
+/// is held here meanwhile, so that it is not looked up for each of them; inlined where statements are read, the loop is longer.
+#[inline(never)]
 fn put_words<'a>(
     words: &mut Vec<Word<'a>>,
     text: &'a [u8],
@@ -114,7 +114,7 @@ fn unread_code(known: &mut Known, keyword: Option<Keyword>, words: &[Word]) -> R
     }
 }
 
-/// The statement that words are, with the knowledge of whether each is as short as a token must be.
+/// The statement that words are, of which none is longer than a token may be, or one is.
 #[inline(always)]
 fn read(known: &mut Known, short: bool, words: &[Word]) -> Result<Stmt, GrammarStop>
     requires { short ≡ are_short (map piece_of words.now) }
