@@ -60,7 +60,7 @@ fn put(
 fn lists_of(alloc: Global, insts: &[Inst]) -> Result<HashMap<Want, Places>, Memory>
     ensures { IfOk result (λ lists. (q : Want) (x : ℕ) → waits lists q x ≡ wants_at (map inst_of insts.now) q x) }
 {
-    let mut lists = HashMap::with_capacity(alloc, insts.len())?;
+    let mut lists = HashMap::new(alloc);
     for (place, inst) in insts.iter().enumerate() {
         put(alloc, &mut lists, inst, place)?;
     }
