@@ -2,7 +2,7 @@ use Rattle.std.proofs.Common.{◌≡◌, ◌+◌, ◌<◌, ◌∙◌, arith, Lis
 use Rattle.cf_types.specs.declared.stmt.Token.{Token}
 use Rattle.cf_grammar.specs.Statement.{AreWithin}
 use Rattle.config_rules.specs.Reading.{Reading, Statement, holds, levels_behind, names_declared, read_placed, read_statement, read_statements, reader, statements_in, treat}
-use Rattle.cf_expand.proofs.AskedLemmas.{all_grown, asked_still, at_end, at_fault, asks_same, beyond, follows, front_grown, front_same, reader_grows, rest_grows, rest_within, placed_grows, statement_grows, stopped_all, treat_grows, whole_grows}
+use Rattle.cf_expand.proofs.AskedLemmas.{all_grown, asked_still, at_end, at_fault, asks_same, beyond, follows, front_grown, front_same, reader_grows, rest_grows, rest_within, placed_grows, stopped_all, treat_grows, whole_grows}
 use Rattle.cf_expand.proofs.UnreadLemmas.{last_kept}
 use Rattle.cf_expand.proofs.ReadLemmas.{included, included_whole, on_ok, placed_form, placed_here, room_below}
 use Rattle.cf_expand.specs.Lines.{statement_of}
