@@ -99,13 +99,6 @@ small_unit own i r u h p is e =
     let now : UnitFits r.now = subst (λ (j : Instance). UnitFits j) same here in
     subst (λ (o : Option ℕ). IfSome o (λ unit. unit ≤ 65535)) e now
 
--- an instance has a small unit
-pub fitting_at : (own : List (Bor Instance)) (i : ℕ) (r : Bor Instance) → All UnitFits (seen own) → i < length own → r ≡ get_or own i r → UnitFits r.now
-fitting_at own i r h p is =
-    let here : UnitFits (get_or (seen own) i r.now) = h i r.now (omega (arith, length-map own (λ (x : Bor Instance). x.now))) in
-    let same : get_or (seen own) i r.now ≡ r.now = seen_at own i r ∙ ap (λ (x : Bor Instance). x.now) (sym is) in
-    subst (λ (j : Instance). UnitFits j) same here
-
 -- ---- devices
 
 -- the instances of a device have small units
