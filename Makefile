@@ -5,7 +5,7 @@
 PREFIX = /usr/local
 DESTDIR =
 PROGRAMS = devconf drvrun
-TOOLS = explain summary draw compare
+TOOLS = explain summary draw compare machine trim json page
 DOCS = CONFIGURATION.md MACHINE.md SCRIPTS.md HISTORY.md FAULTS.md CI.md
 
 root = "$(DESTDIR)$(PREFIX)"
@@ -26,7 +26,7 @@ install:
 	done
 	mkdir -p $(root)/bin $(root)/libexec/devconf $(share)/tools/lib $(share)/tools/completion $(share)/docs
 	mkdir -p $(root)/share/man/man1 $(root)/share/man/man5 $(bash) $(zsh)
-	cp tools/lib/*.awk tools/lib/*.sh $(share)/tools/lib
+	cp tools/lib/*.awk tools/lib/*.sh tools/lib/page.* $(share)/tools/lib
 	cp tools/completion/devconf.* $(share)/tools/completion
 	cp tools/forms $(share)/tools/forms
 	for doc in $(DOCS); do cp docs/$$doc $(share)/docs/ || exit 1; done

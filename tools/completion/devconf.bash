@@ -15,6 +15,7 @@ _devconf() {
     [ -z "$next" ] || COMPREPLY=($(compgen -W "$next" -- "${COMP_WORDS[COMP_CWORD]}"))
 }
 
-complete -o default -F _devconf devconf drvrun devconf-explain devconf-summary devconf-draw devconf-compare
+complete -o default -F _devconf devconf drvrun devconf-explain devconf-summary devconf-draw devconf-compare \
+    devconf-machine devconf-trim devconf-json devconf-page
 # Installed, the tools have names of their own, and other programs have these.
-[ ! -e "$_devconf_tools/../crates.txt" ] || complete -o default -F _devconf explain summary draw compare
+[ ! -e "$_devconf_tools/../crates.txt" ] || complete -o default -F _devconf explain summary draw compare machine trim

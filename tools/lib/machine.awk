@@ -3,6 +3,7 @@
 #   spot_count, spot_name[N]      the spots in order
 #   is_spot[S], above[S], on[S]   whether there is one of this name, its parent spot and its interface attribute
 #   values[S], mark[S, M]         the values found on it, as they are written; whether it has the mark late, absent or bad
+#   matched[S]                    a match line names the spot
 #   style[A, ATTR]                direct or indirect
 #   policy[A, P]                  whether the driver of the attachment A has the policy P
 #
@@ -23,7 +24,7 @@ function read_machine(file,   line, got, number, word, n) {
 
 function read_record(word, n,   w) {
     if (word[1] == "spot" && n >= 4) return read_spot(word, n)
-    if (word[1] == "match") return n == 4
+    if (word[1] == "match") { if (n == 4) matched[word[3]] = 1; return n == 4 }
     if (word[1] == "style" && n == 4) { style[word[2], word[3]] = word[4]; return word[4] ~ /^(in)?direct$/ }
     if (word[1] != "driver" || n < 3) return 0
     for (w = 3; w <= n; w++) policy[word[2], word[w]] = 1
