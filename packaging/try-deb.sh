@@ -30,6 +30,6 @@ for page in man1/devconf.1 man1/drvrun.1 man5/devconf.5; do
 done
 [ -f "$root/usr/share/bash-completion/completions/devconf" ] || fail 'no completion for bash'
 into --purge devconf || fail 'dpkg does not remove it'
-left=$(find "$root/usr" \( -type f -o -type l \) 2>/dev/null)
+left=$(find "$root/usr" \( -type f -o -type l \) 2>/dev/null || true)
 [ -z "$left" ] || fail "it leaves $left"
 echo "$package: installed into an empty root, run, and removed"
