@@ -346,6 +346,19 @@ try_install() {
     ended 'what it puts there runs, and make uninstall takes it away'
 }
 
+# The Debian package of the programs, installed into an empty root.
+try_package() {
+    tool='make deb'
+    before=$wrong
+    command -v dpkg-deb >/dev/null || { echo "$tool: not tried: there is no dpkg-deb"; return; }
+    for program in devconf drvrun; do
+        [ -x "$top/crates/$program/out/$program" ] || { echo "$tool: not tried: $program is not built"; return; }
+    done
+    "$top/packaging/deb.sh" >"$work/said" 2>&1 || differ package "$(cat "$work/said")" ''
+    "$top/packaging/try-deb.sh" >"$work/said" 2>&1 || differ package "$(cat "$work/said")" ''
+    ended 'the package installs into an empty root, runs there, and is removed again'
+}
+
 for each in explain summary draw compare; do try_tool "$each"; done
 try_examples
 try_words
@@ -356,4 +369,5 @@ try_completion
 try_ci
 try_pictures
 try_install
+try_package
 [ "$wrong" = 0 ]
