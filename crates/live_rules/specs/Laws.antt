@@ -78,12 +78,12 @@ AddsUndone =
 
 -- ---- a pass cut short
 
--- what came is the beginning of what comes in a whole pass, and each device that came has its line
-pub record IsCutShort (t : Site) (w v : LiveWorld) (lines : List LiveLine) : Type 0 where
+-- what came is the beginning of what comes in a whole pass, and each device that came has its line behind those that were there
+pub record IsCutShort (t : Site) (w v : LiveWorld) (old new : List LiveLine) : Type 0 where
   pub first : List Dev
   pub rest : List Dev
   pub came : v.live ≡ w.live ++ first
   pub begins : (pass t w).live ≡ v.live ++ rest
   pub serials : v.next ≡ w.next + length first
   pub on : v.on ≡ w.on
-  pub told : lines ≡ map (attached_line t v.live) first
+  pub lines : new ≡ old ++ map (attached_line t v.live) first
