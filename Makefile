@@ -1,12 +1,15 @@
-# make             proves and builds the programs, as far as they are not: the first time takes long, as with ./devconf
-# make install     puts programs, manual pages, tools and completions below PREFIX; run make before
-# make uninstall   takes away what install put there
+# make             proves and builds the programs that are not built yet: the first time takes long, as with ./devconf
+# make install     puts programs, manual pages, pages, tools and completions below PREFIX; run make before.
+#                  PROGRAMS=devconf installs that one alone
+# make uninstall   removes what install put there
 # make check       all checks, as .ci/run
+# make dist        a source archive of the last commit: out/devconf-VERSION.tar.gz
+# make deb         a Debian package of the built programs: out/devconf_VERSION_ARCHITECTURE.deb; run make before
+# make try-deb     installs that package into an empty root and runs what it put there
 PREFIX = /usr/local
 DESTDIR =
 PROGRAMS = devconf drvrun
 TOOLS = explain summary draw compare
-DOCS = CONFIGURATION.md MACHINE.md SCRIPTS.md HISTORY.md FAULTS.md CI.md
 
 root = "$(DESTDIR)$(PREFIX)"
 share = $(root)/share/devconf
@@ -29,7 +32,7 @@ install:
 	cp tools/lib/*.awk tools/lib/*.sh $(share)/tools/lib
 	cp tools/completion/devconf.* $(share)/tools/completion
 	cp tools/forms $(share)/tools/forms
-	for doc in $(DOCS); do cp docs/$$doc $(share)/docs/ || exit 1; done
+	cp docs/*.md docs/*.svg $(share)/docs
 	for tool in $(TOOLS); do \
 	    cp tools/$$tool $(share)/tools/ && chmod 755 $(share)/tools/$$tool && \
 	    ln -sf ../share/devconf/tools/$$tool $(root)/bin/devconf-$$tool && \
@@ -43,8 +46,9 @@ install:
 	    ln -sf ../../devconf/tools/completion/devconf.bash $(bash)/$$program || exit 1; \
 	done
 	ln -sf ../../devconf/tools/completion/devconf.zsh $(zsh)/_devconf
-	cp man/*.1 $(root)/share/man/man1
-	cp man/*.5 $(root)/share/man/man5
+	for page in man/*.[15]; do \
+	    sed "s/^\.Os$$/.Os devconf $$(cat VERSION)/" $$page >$(root)/share/man/man$${page##*.}/$${page#man/} || exit 1; \
+	done
 
 uninstall:
 	rm -rf $(share) $(root)/libexec/devconf
@@ -53,4 +57,16 @@ uninstall:
 	for page in man/*.1; do rm -f $(root)/share/man/man1/$${page#man/}; done
 	for page in man/*.5; do rm -f $(root)/share/man/man5/$${page#man/}; done
 
-.PHONY: all check install uninstall
+dist:
+	@[ -d .git ] || { echo "dist: this is no git checkout, but a source archive already" >&2; exit 1; }
+	mkdir -p out
+	git archive --format=tar --prefix=devconf-$$(cat VERSION)/ HEAD | gzip -9n >out/devconf-$$(cat VERSION).tar.gz
+	@echo "out/devconf-$$(cat VERSION).tar.gz"
+
+deb:
+	packaging/deb.sh
+
+try-deb:
+	packaging/try-deb.sh
+
+.PHONY: all check install uninstall dist deb try-deb

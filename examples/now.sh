@@ -13,6 +13,6 @@ said=$(mktemp) || exit 1
 trap 'rm -f "$said"' EXIT
 rt try $given -- "$@" 2>"$said"
 status=$?
-grep -vE '^(checked|interpreter|run=|allocations)' "$said" >&2
+grep -vE '^(checked|interpreter|run=|allocations|races)' "$said" >&2
 echo "examples/now.sh: that was written by code that was not proved here; ./devconf $* proves it first" >&2
 exit "$status"

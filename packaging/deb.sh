@@ -1,0 +1,52 @@
+#!/bin/sh
+# Makes a Debian package of the built programs, with pages, tools and completions, by dpkg-deb: out/devconf_VERSION_ARCH.deb.
+# Usage: packaging/deb.sh, or make deb; run make before
+set -e
+cd "$(dirname "$(readlink -f "$0")")/.."
+command -v dpkg-deb >/dev/null || { echo "make deb: the command dpkg-deb is needed" >&2; exit 1; }
+missing=
+for program in devconf drvrun; do
+    [ -x "crates/$program/out/$program" ] || missing="$missing crates/$program/out/$program"
+done
+[ -z "$missing" ] || { echo "make deb: not built yet:$missing; run make before" >&2; exit 1; }
+version=$(cat VERSION)
+architecture=$(dpkg --print-architecture)
+umask 022
+work=$(mktemp -d)
+trap 'rm -rf "$work"' EXIT
+root=$work/root
+make -s install DESTDIR="$root" PREFIX=/usr
+doc=$root/usr/share/doc/devconf
+mkdir -p "$doc" "$root/DEBIAN"
+cp README.md SECURITY.md "$doc"
+cp LICENSE "$doc/copyright"
+gzip -9n <CHANGELOG.md >"$doc/changelog.gz"
+gzip -9n "$root"/usr/share/man/man?/*
+
+# The programs may need the C library, or be linked with all that they need.
+depends=
+for program in devconf drvrun; do
+    if ldd "crates/$program/out/$program" 2>/dev/null | grep -q 'libc\.so'; then depends='libc6'; fi
+done
+{
+    echo "Package: devconf"
+    echo "Version: $version"
+    echo "Section: utils"
+    echo "Priority: optional"
+    echo "Architecture: $architecture"
+    [ -z "$depends" ] || echo "Depends: $depends"
+    echo "Suggests: bash-completion, graphviz"
+    echo "Installed-Size: $(du -ks "$root/usr" | cut -f 1)"
+    echo "Maintainer: $(git log -1 --format='%an <%ae>' 2>/dev/null || echo 'devconf maintainers <devconf@localhost>')"
+    echo "Description: device configuration of NetBSD, proved"
+    echo " devconf compiles kernel configurations in the language of config(5) of NetBSD and"
+    echo " boots a described machine by them, as autoconf(9) does. Scripts then detach, rescan,"
+    echo " suspend and resume its devices, as drvctl(8) and pmf(9) do. Every step is one line of"
+    echo " a history, which devconf can check again. drvrun runs the scripts in threads."
+    echo " Every function is proved against its contract."
+} >"$root/DEBIAN/control"
+(cd "$root" && find usr -type f -exec md5sum {} +) | LC_ALL=C sort -k 2 >"$root/DEBIAN/md5sums"
+mkdir -p out
+package=out/devconf_${version}_$architecture.deb
+dpkg-deb --root-owner-group --build "$root" "$package" >/dev/null
+echo "$package"
