@@ -16,6 +16,8 @@ found=$(command -v "${1%% *}") || { echo "tools/test.sh: there is no ${1%% *}" >
 printf '#!/bin/sh\nexec %s "$@"\n' "$found${1#"${1%% *}"}" >"$work/bin/awk"
 chmod +x "$work/bin/awk"
 PATH=$work/bin:$PATH
+DEVCONF=$(readlink -f "${DEVCONF:-$top/crates/devconf/out/devconf}") && [ -x "$DEVCONF" ] || DEVCONF=
+export DEVCONF
 wrong=0
 
 # Makes a folder for each case of the file: what it runs, its files, its input and what is wanted. A line that begins with
@@ -25,6 +27,7 @@ wrong=0
 #                       in the repository comes first
 #   --- return TEXT     a line of this text with a carriage return at its end
 #   --- status N        the wanted status, 0 where it is not said
+#   --- needs devconf   the case asks the program, and is passed over where there is none
 cut_cases() {
     awk -v work="$2" -v top="$top" '
     function to(name, path,   line) {
@@ -44,6 +47,7 @@ cut_cases() {
     }
     /^--- run/ { print substr($0, 9) >(folder "/run"); close(folder "/run"); next }
     /^--- return / { print substr($0, 12) "\r" >into; next }
+    /^--- needs / { print $3 >(folder "/needs"); close(folder "/needs"); next }
     /^--- status / { print $3 >(folder "/status"); close(folder "/status"); next }
     /^--- file / {
         if (index($3, "/")) { parts = $3; sub(/\/[^\/]*$/, "", parts); system("mkdir -p " folder "/files/" parts) }
@@ -81,12 +85,14 @@ try_tool() {
     before=$wrong
     cut_cases "$tools/cases/$tool" "$work/$tool"
     count=0
+    passed=0
     for case in "$work/$tool"/*/; do
         [ -d "$case" ] || break
+        if [ -e "${case}needs" ] && [ -z "$DEVCONF" ]; then passed=$((passed + 1)) && continue; fi
         run_case "${case%/}"
         count=$((count + 1))
     done
-    ended "$count cases"
+    ended "$count cases$([ "$passed" = 0 ] || echo " ($passed more need the program devconf, which is not built)")"
 }
 
 ended() { [ "$wrong" != "$before" ] || echo "$tool: $1 as wanted"; }
@@ -184,18 +190,18 @@ try_terminal() {
         return
     fi
     bare=$(printf 'output\nconfig conf:1: code 4')
-    on_terminal '' word "$(printf '%s\n     1 | ident "abc\n  A string is open at the end of its line.' "$bare")" 1
+    on_terminal '' word "$(printf '%s\n     1 | ident "abc\n       |       ^^^^ column 7\n  A string is open at the end of its line.' "$bare")" 1
     on_terminal '' '' output 0
     on_terminal NO_EXPLAIN=1 word "$bare" 1
     on_terminal CI=true word "$bare" 1
     ended 'a pipe, a terminal, NO_EXPLAIN and CI'
 }
 
-# The launcher on a terminal, with this in the environment and this word: its first four lines and its status.
+# The launcher on a terminal, with this in the environment and this word: its first five lines and its status.
 on_terminal() {
     (cd "$work" && TERM=dumb script -qec "env $1 $shell ./launcher $2" /dev/null </dev/null >"$work/said") \
         && status=0 || status=$?
-    tr -d '\r' <"$work/said" | head -n 4 >"$work/got"
+    tr -d '\r' <"$work/said" | head -n 5 >"$work/got"
     printf '%s\n' "$3" >"$work/wanted"
     cmp -s "$work/wanted" "$work/got" || differ "on a terminal $1 $2" 'what is written' "$work/wanted" "$work/got"
     [ "$status" = "$4" ] || differ "on a terminal $1 $2" "the status is $status" ''

@@ -16,12 +16,12 @@ use Rattle.history_laws.proofs.Stands.{Stands, stands_always}
 use Rattle.history_laws.proofs.TreeTold.{tells_tree}
 
 -- the last event of a run
-record Ends (w : World) (h : List Event) (e : Event) (v : World) : Type 0 where
-  before : World
-  run : Run w h before
-  step : Step before e.caller e v
+pub record Ends (w : World) (h : List Event) (e : Event) (v : World) : Type 0 where
+  pub before : World
+  pub run : Run w h before
+  pub step : Step before e.caller e v
 
-ends : (w : World) (h : List Event) (e : Event) (v : World) → Run w (h ++ e ∷ []) v → Ends w h e v
+pub ends : (w : World) (h : List Event) (e : Event) (v : World) → Run w (h ++ e ∷ []) v → Ends w h e v
 ends w [] e v run = record { before = w; run = refl; step = subst (Step w e.caller e) run.2 run.1 }
 ends w (f ∷ h) e v run = let rest = ends run.0 h e v run.2 in record { before = rest.before; run = (run.0, run.1, rest.run); step = rest.step }
 

@@ -23,7 +23,7 @@ use Rattle.run_sound.proofs.Reasons.{has_command_reason}
 use Rattle.run_sound.proofs.References.{amid_later}
 use Rattle.history_laws.specs.Calm.{IsCalm}
 use Rattle.history_laws.proofs.Stands.{Stands, stands_on, stands_open}
-use Rattle.history_laws.proofs.Worlds.{leaves_devices, live_found, live_same, live_shown}
+use Rattle.run_sound.proofs.Beside.{leaves_devices, live_found, live_same, live_shown}
 
 -- nothing is condemned, and nothing is held
 record IsQuiet (w : World) : Type 0 where

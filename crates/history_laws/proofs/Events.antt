@@ -43,7 +43,7 @@ use Rattle.history_laws.proofs.Grown.{LeavesTree}
 use Rattle.history_laws.proofs.Kept.{called_device, called_name, name_is, names_after, newcomer}
 use Rattle.history_laws.proofs.Names.{HasNames, at_serial, at_there, bytes_same, named_is, parent_named, parent_root, same_bytes, world_names}
 use Rattle.history_laws.proofs.Told.{name_fresh}
-use Rattle.history_laws.proofs.Worlds.{live_found, live_same, live_shown}
+use Rattle.run_sound.proofs.Beside.{live_found, live_same, live_shown}
 
 -- ---- lines with which no device comes or goes
 

@@ -45,7 +45,8 @@ use Rattle.history_laws.proofs.Names.{HasNames, at_is, named_is, named_so, paren
 use Rattle.history_laws.proofs.Referring.{IsGrant, IsReturn, told_granted, told_returned, with_one}
 use Rattle.history_laws.proofs.Sleeping.{IsSleepLine, told_slept}
 use Rattle.history_laws.proofs.Told.{IsArrival, IsNewcomer, told_attached, told_marked, told_quiet}
-use Rattle.history_laws.proofs.Worlds.{leaves_devices, live_found, live_same, live_shown, sole_same}
+use Rattle.run_sound.proofs.Beside.{leaves_devices, live_found, live_same, live_shown}
+use Rattle.history_laws.proofs.Worlds.{sole_same}
 
 -- a world by its parts
 gather : (h : List Event) (w v : World) (live : List Dev) (refs : List Ref) (sole : List ℕ) → v.setup ≡ w.setup → v.live ≡ live → v.refs ≡ refs → v.sole ≡ sole

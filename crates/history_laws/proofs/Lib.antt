@@ -16,4 +16,5 @@ pub mod Sums
 pub mod TreeCounts
 pub mod TreeTold
 pub mod Always
+pub mod Carried
 pub mod Boots

@@ -42,29 +42,29 @@ use Rattle.run_sound.proofs.Spots.{free_falls}
 -- ---- scans
 
 -- what frames have left, and what scans that were put off will have
-abbrev frames_left : ℕ → List Frame → ℕ
+abbrev pub frames_left : ℕ → List Frame → ℕ
 frames_left n fs = sum_by (scan_left n) fs
 
-abbrev waiting : ℕ → List Deferred → ℕ
+abbrev pub waiting : ℕ → List Deferred → ℕ
 waiting n es = sum_by (λ e. whole_scan n) es
 
-frames_cons : (n : ℕ) (f : Frame) (fs : List Frame) → frames_left n (f ∷ fs) ≡ scan_left n f + frames_left n fs
+pub frames_cons : (n : ℕ) (f : Frame) (fs : List Frame) → frames_left n (f ∷ fs) ≡ scan_left n f + frames_left n fs
 frames_cons n f fs = sum_by-cons (scan_left n) f fs
 
-waiting_cons : (n : ℕ) (e : Deferred) (es : List Deferred) → waiting n (e ∷ es) ≡ whole_scan n + waiting n es
+pub waiting_cons : (n : ℕ) (e : Deferred) (es : List Deferred) → waiting n (e ∷ es) ≡ whole_scan n + waiting n es
 waiting_cons n e es = sum_by-cons (λ (x : Deferred). whole_scan n) e es
 
-waiting_snoc : (n : ℕ) (e : Deferred) (es : List Deferred) → waiting n (es ++ e ∷ []) ≡ whole_scan n + waiting n es
+pub waiting_snoc : (n : ℕ) (e : Deferred) (es : List Deferred) → waiting n (es ++ e ∷ []) ≡ whole_scan n + waiting n es
 waiting_snoc n e es = omega (arith, sum_by-append (λ (x : Deferred). whole_scan n) es (e ∷ []))
 
-abbrev begun : List Deferred → Key → List Frame
+abbrev pub begun : List Deferred → Key → List Frame
 begun es which = map (λ e. scan_of e.child) (filter (λ e. same_key e.key which) es)
 
-abbrev left_off : List Deferred → Key → List Deferred
+abbrev pub left_off : List Deferred → Key → List Deferred
 left_off es which = filter (λ e. not (same_key e.key which)) es
 
 -- a scan that begins has as much left as when it waited
-released_left : (n : ℕ) (es : List Deferred) (which : Key) (rest : List Frame) → frames_left n (begun es which ++ rest) + waiting n (left_off es which) ≡ waiting n es + frames_left n rest
+pub released_left : (n : ℕ) (es : List Deferred) (which : Key) (rest : List Frame) → frames_left n (begun es which ++ rest) + waiting n (left_off es which) ≡ waiting n es + frames_left n rest
 released_left n [] which rest = omega arith
 released_left n (e ∷ es) which rest = cases (released_left n es which rest) (same_key e.key which)
   where
@@ -75,19 +75,19 @@ released_left n (e ∷ es) which rest = cases (released_left n es which rest) (s
     cases before false = omega (arith, before, waiting_cons n e es, waiting_cons n e (left_off es which))
 
 -- no scan has more left than one at its start
-turns_most : (n : ℕ) (x : Position) → turns_left n x ≤ turns_left n start
+pub turns_most : (n : ℕ) (x : Position) → turns_left n x ≤ turns_left n start
 turns_most n x = omega (arith, less_product (64 - x.attr) 64 (n + 1) (omega arith))
 
 -- a scan that is set back has no more than a whole one
-moved_most : (n : ℕ) (to : Position) (fs : List Frame) → frames_left n (moved_top to fs) ≤ frames_left n fs + whole_scan n
+pub moved_most : (n : ℕ) (to : Position) (fs : List Frame) → frames_left n (moved_top to fs) ≤ frames_left n fs + whole_scan n
 moved_most n to [] = omega arith
 moved_most n to (Scan s only wanted from ∷ fs) = omega (arith, frames_cons n (Scan s only wanted from) fs, frames_cons n (Scan s only wanted to) fs, turns_most n to)
 moved_most n to (Finaliser s ∷ fs) = omega arith
 
--- ---- caller 0
+-- ---- a caller's frames are set
 
-stack_is : (w : World) (stack : List Frame) → 0 < length w.callers → (caller_at (with_stack w 0 stack) 0).stack ≡ stack
-stack_is w stack lt = ap (λ (c : Caller). c.stack) (caller_here w 0 (stacked w 0 stack) lt) ∙ (settles (caller_at w 0).over (caller_at w 0).doing stack).frames
+pub stack_is : (w : World) (k : ℕ) (stack : List Frame) → k < length w.callers → (caller_at (with_stack w k stack) k).stack ≡ stack
+stack_is w k stack lt = ap (λ (c : Caller). c.stack) (caller_here w k (stacked w k stack) lt) ∙ (settles (caller_at w k).over (caller_at w k).doing stack).frames
 
 -- ---- the work of a device that comes while the boot goes on
 
@@ -99,7 +99,7 @@ scan_adds : (n : ℕ) (c : Placing) (w : World) (parent s : ℕ) → 0 < length 
 scan_adds n Nowhere w parent s lt = record { work = omega arith }
 scan_adds n Queued w parent s lt = record { work = omega (arith, waiting_snoc n (record { key = key.Interrupts; child = s }) w.deferred) }
 scan_adds n PutOff w parent s lt = record { work = omega (arith, waiting_snoc n (record { key = key.Parent parent; child = s }) w.deferred) }
-scan_adds n Pushed w parent s lt = record { work = rw (stack_is w (scan_of s ∷ (caller_at w 0).stack) lt) (omega (arith, frames_cons n (scan_of s) (caller_at w 0).stack)) }
+scan_adds n Pushed w parent s lt = record { work = rw (stack_is w 0 (scan_of s ∷ (caller_at w 0).stack) lt) (omega (arith, frames_cons n (scan_of s) (caller_at w 0).stack)) }
 
 -- a finaliser is queued, and so no frame
 called_adds : (n : ℕ) (finaliser : Bool) (c : Placing) (w : World) (parent s t : ℕ) → 0 < length w.callers
@@ -121,22 +121,22 @@ attached_adds n w a may_defer lt goes =
 
 -- ---- products
 
-product : (w a b : ℕ) → a < b → w * a + w ≤ w * b
+pub product : (w a b : ℕ) → a < b → w * a + w ≤ w * b
 product w a b lt = grind (arith, mul-le-mul_left)
 
-product_le : (w a b : ℕ) → a ≤ b → w * a ≤ w * b
+pub product_le : (w a b : ℕ) → a ≤ b → w * a ≤ w * b
 product_le w a b le = grind (arith, mul-le-mul_left)
 
 -- ---- hidden spots
 
-abbrev unhidden : List ℕ → ℕ → List ℕ
+abbrev pub unhidden : List ℕ → ℕ → List ℕ
 unhidden hidden x = filter (λ y. not (y == x)) hidden
 
-fewer_hidden : (xs : List ℕ) (x : ℕ) → length (unhidden xs x) ≤ length xs
+pub fewer_hidden : (xs : List ℕ) (x : ℕ) → length (unhidden xs x) ≤ length xs
 fewer_hidden [] x = omega arith
 fewer_hidden (y ∷ ys) x = elim (y == x) as (λ b. length (cond (not b) (y ∷ unhidden ys x) (unhidden ys x)) ≤ length (y ∷ ys)) [ true ↦ omega (arith, fewer_hidden ys x) | false ↦ omega (arith, fewer_hidden ys x) ]
 
-hidden_falls : (xs : List ℕ) (x : ℕ) → has xs x ≡ true → length (unhidden xs x) < length xs
+pub hidden_falls : (xs : List ℕ) (x : ℕ) → has xs x ≡ true → length (unhidden xs x) < length xs
 hidden_falls [] x h = absurd cc
 hidden_falls (y ∷ ys) x h = cases (λ k. hidden_falls ys x k) (y == x) h
   where
@@ -175,7 +175,7 @@ anew_sum : (f n sc wa wf l pl hi ph sc' wa' wf' l' hi' e' : ℕ) → e' ≤ 1 �
 anew_sum f n sc wa wf l pl hi ph sc' wa' wf' l' hi' e' o a b c d g = omega arith
 
 -- a free spot is taken
-worth_falls : (u v : World) (n : ℕ) (a : Arrival) → Comes u v a → FitsIn u.setup u.live u.hidden (new_device u a) → length u.setup.machine.spots ≡ n
+pub worth_falls : (u v : World) (n : ℕ) (a : Arrival) → Comes u v a → FitsIn u.setup u.live u.hidden (new_device u a) → length u.setup.machine.spots ≡ n
     → spot_worth n * free_spots v.live n + spot_worth n ≤ spot_worth n * free_spots u.live n
 worth_falls u v n a is fits same =
     let inside : a.spot < n = omega (arith, fits.spot, same) in
@@ -241,9 +241,9 @@ anew_falls n w v x a was is adds fits same goes pass_repeats few =
 -- ---- no device comes
 
 stack_falls : (n : ℕ) (w : World) (fs : List Frame) → 0 < length w.callers → has_ended w 0 ≡ false → frames_left n fs < frames_left n (caller_at w 0).stack → left n (with_stack w 0 fs) < left n w
-stack_falls n w fs lt goes less = rw (stack_is w fs lt, goes) (omega (arith, less, at_most_one (has_ended (with_stack w 0 fs) 0)))
+stack_falls n w fs lt goes less = rw (stack_is w 0 fs lt, goes) (omega (arith, less, at_most_one (has_ended (with_stack w 0 fs) 0)))
 
-moved_less : (n p : ℕ) (only : Option ℕ) (wanted : List Wanted) (to from : Position) (stack rest : List Frame) → stack ≡ Scan p only wanted from ∷ rest → turns_left n to < turns_left n from
+pub moved_less : (n p : ℕ) (only : Option ℕ) (wanted : List Wanted) (to from : Position) (stack rest : List Frame) → stack ≡ Scan p only wanted from ∷ rest → turns_left n to < turns_left n from
     → frames_left n (moved_top to stack) < frames_left n stack
 moved_less n p only wanted to from stack rest e less = rw e (omega (arith, frames_cons n (Scan p only wanted from) rest, frames_cons n (Scan p only wanted to) rest))
 
@@ -252,7 +252,7 @@ scan_ends : (n : ℕ) (w : World) (which : Key) (f : Frame) (rest : List Frame) 
 unfolding released
 scan_ends n w which f rest lt goes e some =
     let u : World = record w { deferred = left_off w.deferred which } in
-    rw (e, stack_is u (begun w.deferred which ++ rest) lt, goes)
+    rw (e, stack_is u 0 (begun w.deferred which ++ rest) lt, goes)
     (omega (arith, released_left n w.deferred which rest, frames_cons n f rest, some, at_most_one (has_ended (with_stack u 0 (begun w.deferred which ++ rest)) 0)))
 
 phase_falls : (n : ℕ) (w : World) → 0 < length w.callers → has_ended w 0 ≡ false → w.interrupts_on ≡ false
@@ -261,7 +261,7 @@ unfolding released
 phase_falls n w lt goes before =
     let u : World = record w { interrupts_on = true; deferred = left_off w.deferred key.Interrupts } in
     let fs : List Frame = begun w.deferred key.Interrupts ++ (caller_at w 0).stack in
-    rw (stack_is u fs lt, goes, before) (omega (arith, released_left n w.deferred key.Interrupts (caller_at w 0).stack, at_most_one (has_ended (with_stack u 0 fs) 0)))
+    rw (stack_is u 0 fs lt, goes, before) (omega (arith, released_left n w.deferred key.Interrupts (caller_at w 0).stack, at_most_one (has_ended (with_stack u 0 fs) 0)))
 
 end_falls : (n : ℕ) (w : World) → 0 < length w.callers → has_ended w 0 ≡ false → left n (doing w 0 activity.Ended) < left n w
 end_falls n w lt goes =
@@ -342,7 +342,7 @@ pass_falls n w p spot to b t less =
 
 turn_prepares : (n : ℕ) (w : World) (to : Position) → 0 < length w.callers → Prepares n w (with_stack w 0 (moved_top to (caller_at w 0).stack))
 turn_prepares n w to lt = record {
-  work = rw (stack_is w (moved_top to (caller_at w 0).stack) lt) (omega (arith, moved_most n to (caller_at w 0).stack));
+  work = rw (stack_is w 0 (moved_top to (caller_at w 0).stack) lt) (omega (arith, moved_most n to (caller_at w 0).stack));
   live = refl;
   finalisers = refl;
   place = refl;

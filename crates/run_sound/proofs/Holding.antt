@@ -1,59 +1,35 @@
 -- What a deed changes of its caller's references.
-use Rattle.std.proofs.Common.{◌≡◌, ◌≢◌, ℕ, ◌==◌, ◌&&◌, ◌||◌, Bool, true, false, List, [], ◌∷◌, ◌++◌, Option, Some, None, refl, sym, ap, ◌∙◌, subst, eqb-true, eq-eqb, ◌+◌, nat_lt, arith}
+use Rattle.std.proofs.Common.{◌≡◌, ◌≢◌, ℕ, ◌==◌, ◌&&◌, ◌||◌, Bool, true, false, List, [], ◌∷◌, ◌++◌, Some, None, refl, sym, ap, ◌∙◌, subst, eqb-true, eq-eqb, ◌+◌, nat_lt, arith}
 use Rattle.std.proofs.lemmas.Option.{same_Some}
-use Rattle.std.specs.Prelude.{is_some, if◌then◌else◌}
+use Rattle.std.specs.Prelude.{if◌then◌else◌}
 use Rattle.std.proofs.lemmas.Bool.Decides.{nat_tests}
 use Rattle.std.proofs.lemmas.Bool.{and_parts, ne_eqb}
 use Rattle.std.proofs.lemmas.List.Folds.{list_any-append}
 use Rattle.run_rules.proofs.Devices.{or_false}
 use Rattle.run_rules.specs.declared.world.Ref.{Ref}
 use Rattle.run_rules.specs.declared.world.Arrival.{Arrival}
-use Rattle.run_rules.specs.declared.world.Placing.{Placing}
-use Rattle.run_rules.specs.declared.world.Placing.TheVariants.{Nowhere, Queued, PutOff, Pushed}
-use Rattle.run_rules.specs.World.{World, caller_at, has_ended, holds_in, is_held, offered_by, policy_of, refers_to}
+use Rattle.run_rules.specs.World.{World, caller_at, holds_in, is_held, refers_to}
 use Rattle.run_rules.specs.declared.deed.Deed.{Deed}
 use Rattle.run_rules.specs.declared.deed.Deed.TheVariants.{Search, EndScan, BeginInterrupts, Finalise, EndCaller, Drop, Refuse, Open, Close, Start, Done, Detach, Free, Rescan, BeginPower, Sleep, Wake, EndPower, Plug, Unplug, Tell}
 use Rattle.run_rules.specs.declared.deed.Choice.TheVariants.{Does}
 use Rattle.run_rules.specs.Next.{next}
 use Rattle.run_rules.specs.References.{count_in, given_back, is_of}
 use Rattle.run_rules.proofs.References.{any_left, count_granted, count_other, count_returned, held_is_counted}
-use Rattle.run_rules.specs.After.{after, arrived, attached, finaliser_done, finaliser_placed, finaliser_placing, freed, freeing_target, list_moved, listed, moved_top, over, place_finaliser, place_scan, released, scan_placed, scan_placing, show_spot, with_stack}
+use Rattle.run_rules.specs.After.{after, freed, freeing_target, listed, over, released}
 use Rattle.run_sound.specs.Commands.{ClosesHeld, FreesLast, OpensFree, ReturnsFirst}
 use Rattle.run_sound.specs.Holding.{GoesUnheld, HoldsLess, HoldsMore, opened_by, returned_by}
+use Rattle.run_sound.proofs.Beside.{IsBeside, call_part, search_part}
 use Rattle.run_sound.proofs.Reasons.{has_command_reason}
 use Rattle.run_sound.proofs.References.{not_mine}
 
 -- ---- most deeds leave the references
 
-finaliser_refs : (x : Placing) (w : World) (k s : ℕ) → (place_finaliser x w k s).refs ≡ w.refs
-finaliser_refs Nowhere w k s = refl
-finaliser_refs Queued w k s = refl
-finaliser_refs PutOff w k s = refl
-finaliser_refs Pushed w k s = refl
+refs_beside : IsBeside (λ (w : World). w.refs)
+refs_beside = record { callers = λ w cs. refl; finalisers = λ w xs. refl; deferred = λ w es. refl; place = λ w n b. refl; hidden = λ w xs. refl }
 
-scan_refs : (x : Placing) (w : World) (k parent s : ℕ) → (place_scan x w k parent s).refs ≡ w.refs
-scan_refs Nowhere w k parent s = refl
-scan_refs Queued w k parent s = refl
-scan_refs PutOff w k parent s = refl
-scan_refs Pushed w k parent s = refl
-
-arrived_refs : (w : World) (k : ℕ) (got : Option Arrival) (may_defer : Bool) → (arrived w k got may_defer).refs ≡ w.refs
-unfolding attached scan_placed finaliser_placed listed
-arrived_refs w k None may_defer = refl
-arrived_refs w k (Some a) may_defer =
-    let come : World = listed w a in
-    let called : World = place_finaliser (finaliser_placing (policy_of w.setup a.row) (has_ended come 0)) come k w.next in
-    scan_refs (scan_placing (policy_of w.setup a.row) (offered_by w.setup a.row) called.interrupts_on may_defer) called k a.parent w.next
-    ∙ finaliser_refs (finaliser_placing (policy_of w.setup a.row) (has_ended come 0)) come k w.next
-
-shown_refs : (w : World) (shown : Option ℕ) → (show_spot w shown).refs ≡ w.refs
-shown_refs w None = refl
-shown_refs w (Some x) = refl
-
-called_refs : (u : World) (k : ℕ) (place : Option ℕ) (anew answer : Bool) → (finaliser_done (list_moved u place anew answer) k place answer).refs ≡ u.refs
-called_refs u k (Some place) anew answer = refl
-called_refs u k None anew true = refl
-called_refs u k None anew false = refl
+come_refs : (w : World) (a : Arrival) → (listed w a).refs ≡ w.refs
+unfolding listed
+come_refs w a = refl
 
 freed_refs : (w : World) (k s : ℕ) (last : Bool) → (if last then over (freed w s) k else freed w s).refs ≡ w.refs
 freed_refs w k s true = refl
@@ -61,11 +37,10 @@ freed_refs w k s false = refl
 
 pub refs_same : (w : World) (k : ℕ) (d : Deed) → opened_by d ≡ None → returned_by d ≡ None → (after w k d).refs ≡ w.refs
 unfolding after released
-refs_same w k (Search p spot to got) a b = arrived_refs (with_stack w k (moved_top to (caller_at w k).stack)) k got true
+refs_same w k (Search p spot to got) a b = search_part (λ (w : World). w.refs) refs_beside come_refs w k p spot to got
 refs_same w k (EndScan p) a b = refl
 refs_same w k BeginInterrupts a b = refl
-refs_same w k (Finalise s shown got place anew) a b =
-    called_refs (arrived (show_spot w shown) k got false) k place anew (is_some shown) ∙ arrived_refs (show_spot w shown) k got false ∙ shown_refs w shown
+refs_same w k (Finalise s shown got place anew) a b = call_part (λ (w : World). w.refs) refs_beside come_refs w k s shown got place anew
 refs_same w k EndCaller a b = refl
 refs_same w k (Drop s) a b = absurd cc
 refs_same w k (Refuse why) a b = refl

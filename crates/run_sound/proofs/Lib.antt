@@ -14,6 +14,7 @@ pub mod FrameDeeds
 pub mod Opening
 pub mod Spots
 pub mod Comings
+pub mod Beside
 pub mod RangesOf
 pub mod RangesDeeds
 pub mod OwnCaller
@@ -32,5 +33,8 @@ pub mod Lasts
 pub mod Freeing
 pub mod Power
 pub mod Steps
+pub mod Interrupts
+pub mod Unheld
+pub mod InFull
 pub mod Calls
 pub mod ScriptLaws

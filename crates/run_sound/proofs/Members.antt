@@ -62,7 +62,7 @@ pub found_contained : (p : Dev → Bool) (live : List Dev) (d : Dev) → find p 
 found_contained p live d e = found_of (Contains live) p live d (recursion_from_All (Contains live) live (All-contains_itself live)) e
 
 -- what is found from the end is one of them too
-all_reversed : {A : Type 0} (P : A → Type 0) (xs : List A) → AllByRecursion P xs → AllByRecursion P (reverse xs)
+pub all_reversed : {A : Type 0} (P : A → Type 0) (xs : List A) → AllByRecursion P xs → AllByRecursion P (reverse xs)
 all_reversed P [] h = tt
 all_reversed P (x ∷ xs) h = rw (reverse-append (x ∷ []) xs) (all_snoc P (reverse xs) x (all_reversed P xs h.1) h.0)
 
@@ -81,7 +81,7 @@ live_contained live s h =
     (any.1, (any.0, any.2, any.3), eqb-true any.1.serial s any.4)
 
 -- of two places the earlier one differs from the later one
-later_at : {A : Type 0} (R : A → A → Type 0) (xs : List A) (i j : ℕ) (d e : A) → EachLater R xs → i < j → j < length xs → R (get_or xs i d) (get_or xs j e)
+pub later_at : {A : Type 0} (R : A → A → Type 0) (xs : List A) (i j : ℕ) (d e : A) → EachLater R xs → i < j → j < length xs → R (get_or xs i d) (get_or xs j e)
 later_at R [] i j d e h lt within = absurd (omega arith)
 later_at R (x ∷ xs) i zero d e h lt within = absurd (omega arith)
 later_at R (x ∷ xs) zero (suc j) d e h lt within = All-from_recursion (R x) xs h.0 j e (omega arith)

@@ -15,13 +15,13 @@ other_way a b h = grind (arith, nat_tests)
 
 -- ---- sums over the numbers below n
 
-abbrev total : (ℕ → ℕ) → ℕ → ℕ
+abbrev pub total : (ℕ → ℕ) → ℕ → ℕ
 total f n = sum_by f (below n)
 
-total_suc : (f : ℕ → ℕ) (n : ℕ) → total f (suc n) ≡ total f n + f n
+pub total_suc : (f : ℕ → ℕ) (n : ℕ) → total f (suc n) ≡ total f n + f n
 total_suc f n = omega (arith, sum_by-append f (below n) (n ∷ []))
 
-total_le : (f g : ℕ → ℕ) (n : ℕ) → ((y : ℕ) → f y ≤ g y) → total f n ≤ total g n
+pub total_le : (f g : ℕ → ℕ) (n : ℕ) → ((y : ℕ) → f y ≤ g y) → total f n ≤ total g n
 total_le f g zero h = omega arith
 total_le f g (suc n) h = omega (arith, total_suc f n, total_suc g n, total_le f g n h, h n)
 

@@ -1,5 +1,6 @@
 pub mod Left
 pub mod Kept
+pub mod InFull
 pub mod Calls
 pub mod Coming
 pub mod Commands

@@ -26,8 +26,9 @@ use Rattle.run_sound.proofs.RangesCallers.{others_stay}
 use Rattle.run_sound.proofs.Reasons.{has_reason}
 use Rattle.run_sound.proofs.ScriptLaws.{amid_within}
 use Rattle.run_sound.proofs.Scripts.{command_is, is_amid}
+use Rattle.script_laws.specs.Begun.{begun_by, begun_of}
 use Rattle.script_laws.specs.Whole.{AnswerEach, Answers, answers_to, is_answer}
-use Rattle.script_laws.proofs.Deeds.{AnswersNext, AnswersNone, begun_by, begun_of, kind_of}
+use Rattle.script_laws.proofs.Deeds.{AnswersNext, AnswersNone, kind_of}
 
 -- the commands that were answered, and those that are left; none are once the caller has ended
 pub record IsAnswered (h : List Event) (w : World) (k : ℕ) : Type 0 where

@@ -18,21 +18,13 @@ use Rattle.run_rules.specs.Run.{answered, printed, reply_of, told}
 use Rattle.run_sound.specs.Commands.{Begins, EndsPower}
 use Rattle.run_sound.specs.Kept.{Kept}
 use Rattle.run_sound.proofs.Callers.{caller_here, callers_kept, doing_so, doing_there}
+use Rattle.run_sound.proofs.OwnCaller.{own_finalised, own_interrupts, own_scan_over, own_searched}
 use Rattle.run_sound.proofs.Reasons.{has_command_reason}
 use Rattle.run_sound.proofs.ScriptLaws.{between_idle}
 use Rattle.run_sound.proofs.Scripts.{is_amid}
 use Rattle.history_laws.proofs.Acts.{answered_is}
+use Rattle.script_laws.specs.Begun.{begun_by, begun_of}
 use Rattle.script_laws.specs.Whole.{is_answer}
-use Rattle.script_laws.proofs.Frames.{finalised, phase_began, scan_over, searched}
-
--- how many commands a caller has begun
-abbrev pub begun_by : ℕ → Activity → ℕ
-begun_by over activity.Idle = over
-begun_by over activity.Ended = over
-begun_by over _ = over + 1
-
-abbrev pub begun_of : Caller → ℕ
-begun_of c = begun_by c.over c.doing
 
 -- behind a deed the caller goes on, and has begun so many commands more
 pub record GoesOn (w v : World) (k n : ℕ) : Type 0 where
@@ -81,7 +73,7 @@ rescan_one w k f lt idle =
 no_more : (n : ℕ) → n ≡ n + 0
 no_more n = omega arith
 
-amid_begun : (over : ℕ) (a : Activity) → is_amid a ≡ true → begun_by over a ≡ over + 1
+pub amid_begun : (over : ℕ) (a : Activity) → is_amid a ≡ true → begun_by over a ≡ over + 1
 amid_begun over activity.Idle h = absurd cc
 amid_begun over activity.Ended h = absurd cc
 amid_begun over (activity.Transfer t) h = refl
@@ -178,12 +170,12 @@ module _ (w : World) (k : ℕ) (kept : Kept w) where
   pub kind_of : (d : Deed) → next w k ≡ Does d → Kind d
   unfolding printed after
   kind_of (Search p spot to got) e =
-      none (Search p spot to got) refl refl (stood w _ k (searched (IsAt _) (stays_at _) w k p spot to got (now w k (doing_so w k (Search p spot to got) e).unended)))
-  kind_of (EndScan p) e = none (EndScan p) refl refl (stood w _ k (scan_over (IsAt _) (stays_at _) w k p (now w k (doing_so w k (EndScan p) e).unended)))
-  kind_of BeginInterrupts e = none BeginInterrupts refl refl (stood w _ k (phase_began (IsAt _) (stays_at _) w k (now w k (doing_so w k BeginInterrupts e).unended)))
+      none (Search p spot to got) refl refl (stood w _ k (own_searched (IsAt _) (stays_at _) w k p spot to got (now w k (doing_so w k (Search p spot to got) e).unended)))
+  kind_of (EndScan p) e = none (EndScan p) refl refl (stood w _ k (own_scan_over (IsAt _) (stays_at _) w k p (now w k (doing_so w k (EndScan p) e).unended)))
+  kind_of BeginInterrupts e = none BeginInterrupts refl refl (stood w _ k (own_interrupts (IsAt _) (stays_at _) w k (now w k (doing_so w k BeginInterrupts e).unended)))
   kind_of (Finalise s spot got place anew) e =
       none (Finalise s spot got place anew) refl refl
-      (stood w _ k (finalised (IsAt _) (stays_at _) w k s spot got place anew (now w k (doing_so w k (Finalise s spot got place anew) e).unended)))
+      (stood w _ k (own_finalised (IsAt _) (stays_at _) w k s spot got place anew (now w k (doing_so w k (Finalise s spot got place anew) e).unended)))
   kind_of EndCaller e = inr (inr refl)
   kind_of (Drop s) e = none (Drop s) refl refl (rests w _ k refl (doing_so w k (Drop s) e).unended)
   kind_of (Refuse why) e = at_once (Refuse why) w e (has_command_reason w k (Refuse why) e) (reply_of w why) refl refl refl

@@ -1,4 +1,3 @@
-pub mod Frames
 pub mod Deeds
 pub mod Answered
 pub mod Ends
