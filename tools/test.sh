@@ -359,7 +359,7 @@ try_package() {
     ended 'the package installs into an empty root, runs there, and is removed again'
 }
 
-for each in explain summary draw compare; do try_tool "$each"; done
+for each in explain lint summary draw compare; do try_tool "$each"; done
 try_examples
 try_words
 try_forms
