@@ -224,6 +224,8 @@ try_completion() {
         next "$known" '' '-a -m -s FILE' devconf-summary ''
         next "$known" '' FILE devconf-summary -m ''
         next "$known" '' 'config machine order script status' devconf-explain ''
+        next "$known" '' FILE devconf-check a ''
+        next "$known" '' '' devconf-check a b ''
     done
     ended "bash and zsh${missing:+, but these are not here:$missing;}"
 }
@@ -359,7 +361,7 @@ try_package() {
     ended 'the package installs into an empty root, runs there, and is removed again'
 }
 
-for each in explain lint summary draw compare; do try_tool "$each"; done
+for each in explain check lint summary draw compare; do try_tool "$each"; done
 try_examples
 try_words
 try_forms

@@ -60,17 +60,17 @@ function read_declared(   s, t, word) {
 function judge_items(   n, name, first, asked, s, key) {
     read_declared()
     names_of_conditions(asked)
-    for (n = 1; n <= item_count; n++) {
-        name = item_name[n]
-        s = item[n]
+    for (n = 1; n <= option_count; n++) {
+        name = option_name[n]
+        s = option_at[n]
         given_lower[tolower(name)] = 1
-        if (item_kind[n] != "makeoptions" && has_declared[item_kind[n]] && !(name in declared) && !(tolower(name) in asked))
+        if (option_kind[n] != "makeoptions" && has_declared[option_kind[n]] && !(name in declared) && !(tolower(name) in asked) && !is_strange[name]++)
             strange[++strange_count] = n
-        if (item_kind[n] == "file-system" || item_value[n] ~ /^\+=/) continue
-        key = item_kind[n] SUBSEP name
+        if (option_kind[n] == "file-system" || option_value[n] ~ /^\+=/) continue
+        key = option_kind[n] SUBSEP name
         if (!(key in first)) first[key] = n
-        else if (item_value[first[key]] != item_value[n])
-            tell(s, "`" name item_value[n] "` is a second value: at " place_of_statement(item[first[key]]) " it is `" name item_value[first[key]] "`")
+        else if (option_value[first[key]] != option_value[n])
+            tell(s, "`" name option_value[n] "` is a second value: at " place_of_statement(option_at[first[key]]) " it is `" name option_value[first[key]] "`")
     }
     tell_strange()
 }
@@ -79,12 +79,12 @@ function judge_items(   n, name, first, asked, s, key) {
 function tell_strange(   n, k, near, list, rest, first) {
     for (n = 1; n <= strange_count; n++) {
         k = strange[n]
-        near = nearest(item_name[k], declared)
+        near = nearest(option_name[k], declared)
         if (near == "" && strange_count > 8 && !whole) {
             rest++
-            if (!first) first = item[k]
-            if (rest <= 3) list = list " " item_name[k]
-        } else tell(item[k], "no " (item_kind[k] == "options" ? "defflag or defparam" : "deffs") " declares `" item_name[k] "`" meant(near))
+            if (!first) first = option_at[k]
+            if (rest <= 3) list = list " " option_name[k]
+        } else tell(option_at[k], "no " (option_kind[k] == "options" ? "defflag or defparam" : "deffs") " declares `" option_name[k] "`" meant(near))
     }
     if (rest) tell(first, rest " options have no defflag, defparam or deffs, as " commas(list) " (-a tells each)")
 }

@@ -5,7 +5,7 @@
 #   i_device[N], i_attachment[N], i_place[N]    its device, the name of its attachment, and the interface attribute or "root"
 #   i_values[N]                           the values of all locators of that attribute, as " port=1016 irq=-1"
 #   i_flags[N]                            its flags
-#   item_count, item[N], item_kind[N], item_name[N], item_value[N]    the options, makeoptions and file systems that are not
+#   option_count, option_at[N], option_kind[N], option_name[N], option_value[N]    the options, makeoptions and file systems that are not
 #                                         taken back: their statements, words, names and values with `=` or `+=`
 
 function find_instances(   s, word, n) {
@@ -20,14 +20,14 @@ function find_instances(   s, word, n) {
             by_parent[tok[s_first[s] + 2]] = by_parent[tok[s_first[s] + 2]] " " all_count
         }
     }
-    instance_count = item_count = 0
+    instance_count = option_count = 0
     for (n = 1; n <= all_count; n++) if (!(n in taken_back)) add_instance(all[n])
     for (n = 1; n <= all_items; n++) {
-        if (n in item_taken) continue
-        item[++item_count] = any_item[n]
-        item_kind[item_count] = any_kind[n]
-        item_name[item_count] = any_name[n]
-        item_value[item_count] = any_value[n]
+        if (n in option_taken) continue
+        option_at[++option_count] = any_item[n]
+        option_kind[option_count] = any_kind[n]
+        option_name[option_count] = any_name[n]
+        option_value[option_count] = any_value[n]
     }
 }
 
@@ -36,7 +36,7 @@ function take_back(s,   word, at, list, n, count, t) {
     word = word_at(s, 2)
     if (word ~ /^(options|makeoptions|file-system)$/) {
         for (t = s_first[s] + 2; t <= s_last[s]; t++)
-            for (n = 1; n <= all_items; n++) if (any_kind[n] == word && any_name[n] == tok[t]) item_taken[n] = 1
+            for (n = 1; n <= all_items; n++) if (any_kind[n] == word && any_name[n] == tok[t]) option_taken[n] = 1
         return
     }
     at = word_at(s, 3) == "at" ? word_at(s, 4) : ""
