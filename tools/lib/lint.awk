@@ -128,6 +128,7 @@ function judge_machine(file,   n, k, key, later, text) {
     read_machine(file)
     for (n = 1; n <= instance_count; n++) rows_of[i_attachment[n]] = rows_of[i_attachment[n]] " " n
     for (n = match_count; n; n--) {
+        match_value[n] = value_of(match_value[n])
         key = match_by[n] SUBSEP match_spot[n]
         if (key in last_match) later[n] = last_match[key]
         else last_match[key] = n

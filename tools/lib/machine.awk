@@ -3,7 +3,8 @@
 #   spot_count, spot_name[N]      the spots in order
 #   is_spot[S], above[S], on[S]   whether there is one of this name, its parent spot and its interface attribute
 #   values[S], mark[S, M]         the values found on it, as they are written; whether it has the mark late, absent or bad
-#   match_count, match_by[N], match_spot[N], match_value[N], match_line[N]    the match lines: attachment, spot or *, value
+#   match_count, match_by[N], match_spot[N], match_value[N], match_line[N]    the match lines: attachment, spot or *, value as it is written
+#   matched[S]                    a match line names the spot
 #   style[A, ATTR]                direct or indirect
 #   policy[A, P]                  whether the driver of the attachment A has the policy P
 #
@@ -32,9 +33,10 @@ function read_record(word, n,   w) {
 }
 
 function read_match(word) {
+    matched[word[3]] = 1
     match_by[++match_count] = word[2]
     match_spot[match_count] = word[3]
-    match_value[match_count] = value_of(word[4])
+    match_value[match_count] = word[4]
     match_line[match_count] = machine_line
     return 1
 }
