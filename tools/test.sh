@@ -1,6 +1,7 @@
 #!/bin/sh
 # Runs the cases of the tools, those of tools/cases and some of its own: a line for each tool, and status 1 where one differs
-# from what is wanted. It needs no program of this repository. What needs a command that is not here is passed over and told.
+# from what is wanted. What needs a command that is not here is passed over and told; so is what needs the program devconf,
+# where `$DEVCONF` does not name it and crates/devconf/out has none.
 # Usage: tools/test.sh [AWK [SHELL]], the commands with which the tools are to run, as "busybox awk" dash
 LC_ALL=C
 export LC_ALL
@@ -96,6 +97,36 @@ try_tool() {
 }
 
 ended() { [ "$wrong" != "$before" ] || echo "$tool: $1 as wanted"; }
+
+# Of the text of each kernel in examples/dmesg: the machine file that is made of it attaches all devices under their names,
+# and what a trimmed configuration attaches is the same.
+try_kernels() {
+    tool=examples/dmesg
+    before=$wrong
+    for each in box:amd64/GENERIC virtual:amd64/GENERIC laptop:amd64/GENERIC board:arm/BOARD; do
+        name=${each%%:*}
+        folder=${each#*:}
+        conf=${folder#*/}
+        folder=$top/examples/${folder%/*}
+        (cd "$folder" && $shell "$tools/machine" -c "$conf" ../dmesg/"$name") >"$work/made" 2>"$work/said" \
+            || differ "$name" "machine: $(cat "$work/said")" ''
+        cmp -s "$top/examples/machines/$name" "$work/made" \
+            || differ "$name" 'the machine file' "$top/examples/machines/$name" "$work/made"
+        said=$(tail -n 1 "$work/said")
+        devices=$(grep -c '^match' "$work/made")
+        devices=$((devices - $(grep -c 'absent' "$work/made")))
+        case $said in
+        "machine: $devices of $devices devices attach under their names; "*) ;;
+        *) differ "$name" "machine: $said" '' ;;
+        esac
+        (cd "$folder" && $shell "$tools/trim" "$conf" ../machines/"$name") >"$work/trimmed" 2>"$work/said" \
+            || differ "$name" "trim: $(cat "$work/said")" ''
+        (cd "$folder" && "$DEVCONF" boot "$work/trimmed" ../machines/"$name") >"$work/trimmed.boot" 2>"$work/said" \
+            || differ "$name" "the trimmed configuration: $(cat "$work/said")" ''
+        [ "$(sed '1,/^tree$/d' "$work/trimmed.boot" | grep -c .)" = "$devices" ] || differ "$name" 'the trimmed boot' ''
+    done
+    ended '4 kernels'
+}
 
 # Every stored output of the examples: the tools take it, and the graph has each device of the tree and is one of DOT.
 try_examples() {
@@ -224,6 +255,8 @@ try_completion() {
         next "$known" '' '-a -m -s FILE' devconf-summary ''
         next "$known" '' FILE devconf-summary -m ''
         next "$known" '' 'config machine order script status' devconf-explain ''
+        next "$known" '' FILE devconf-check a ''
+        next "$known" '' '' devconf-check a b ''
     done
     ended "bash and zsh${missing:+, but these are not here:$missing;}"
 }
@@ -359,7 +392,13 @@ try_package() {
     ended 'the package installs into an empty root, runs there, and is removed again'
 }
 
-for each in explain summary draw compare; do try_tool "$each"; done
+for each in explain check lint summary draw compare machine json; do try_tool "$each"; done
+if [ -n "${DEVCONF-}" ]; then
+    try_tool trim
+    try_kernels
+else
+    echo 'trim, examples/dmesg: not tried: devconf is not built'
+fi
 try_examples
 try_words
 try_forms

@@ -9,3 +9,11 @@ find_devconf() {
     # A launcher of this repository would build it.
     case $program in '' | "$(readlink -f "$lib/../..")"/*) program= ;; esac
 }
+
+# The same for a tool that can do nothing without it.
+need_devconf() {
+    find_devconf
+    [ -z "$program" ] || return 0
+    echo "$(basename "$script"): the program devconf is not built here; make builds it, or DEVCONF=PATH names one" >&2
+    exit 2
+}
