@@ -9,7 +9,7 @@
 PREFIX = /usr/local
 DESTDIR =
 PROGRAMS = devconf drvrun
-TOOLS = explain summary draw compare
+TOOLS = explain check lint summary draw compare machine trim json
 
 root = "$(DESTDIR)$(PREFIX)"
 share = $(root)/share/devconf

@@ -29,6 +29,7 @@ same hub.boot . devconf boot hub.conf hub.machine
 same pc.listing pc devconf ioconf GENERIC
 same amd64.listing amd64 devconf ioconf GENERIC
 same amd64.sources amd64 devconf files GENERIC
+same board.listing arm devconf ioconf BOARD
 same server.boot amd64 devconf boot GENERIC ../machines/server
 same detach.play pc devconf play GENERIC ../machines/pc ../detach.order ../hold.script ../detach.script
 same plug.play pc devconf play GENERIC ../machines/pc ../plug.order ../plug.script

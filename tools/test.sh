@@ -1,6 +1,7 @@
 #!/bin/sh
 # Runs the cases of the tools, those of tools/cases and some of its own: a line for each tool, and status 1 where one differs
-# from what is wanted. It needs no program of this repository. What needs a command that is not here is passed over and told.
+# from what is wanted. What needs a command that is not here is passed over and told; so is what needs the program devconf,
+# where `$DEVCONF` does not name it and crates/devconf/out has none.
 # Usage: tools/test.sh [AWK [SHELL]], the commands with which the tools are to run, as "busybox awk" dash
 LC_ALL=C
 export LC_ALL
@@ -16,6 +17,8 @@ found=$(command -v "${1%% *}") || { echo "tools/test.sh: there is no ${1%% *}" >
 printf '#!/bin/sh\nexec %s "$@"\n' "$found${1#"${1%% *}"}" >"$work/bin/awk"
 chmod +x "$work/bin/awk"
 PATH=$work/bin:$PATH
+DEVCONF=$(readlink -f "${DEVCONF:-$top/crates/devconf/out/devconf}") && [ -x "$DEVCONF" ] || DEVCONF=
+export DEVCONF
 wrong=0
 
 # Makes a folder for each case of the file: what it runs, its files, its input and what is wanted. A line that begins with
@@ -25,6 +28,7 @@ wrong=0
 #                       in the repository comes first
 #   --- return TEXT     a line of this text with a carriage return at its end
 #   --- status N        the wanted status, 0 where it is not said
+#   --- needs devconf   the case asks the program, and is passed over where there is none
 cut_cases() {
     awk -v work="$2" -v top="$top" '
     function to(name, path,   line) {
@@ -44,6 +48,7 @@ cut_cases() {
     }
     /^--- run/ { print substr($0, 9) >(folder "/run"); close(folder "/run"); next }
     /^--- return / { print substr($0, 12) "\r" >into; next }
+    /^--- needs / { print $3 >(folder "/needs"); close(folder "/needs"); next }
     /^--- status / { print $3 >(folder "/status"); close(folder "/status"); next }
     /^--- file / {
         if (index($3, "/")) { parts = $3; sub(/\/[^\/]*$/, "", parts); system("mkdir -p " folder "/files/" parts) }
@@ -81,15 +86,47 @@ try_tool() {
     before=$wrong
     cut_cases "$tools/cases/$tool" "$work/$tool"
     count=0
+    passed=0
     for case in "$work/$tool"/*/; do
         [ -d "$case" ] || break
+        if [ -e "${case}needs" ] && [ -z "$DEVCONF" ]; then passed=$((passed + 1)) && continue; fi
         run_case "${case%/}"
         count=$((count + 1))
     done
-    ended "$count cases"
+    ended "$count cases$([ "$passed" = 0 ] || echo " ($passed more need the program devconf, which is not built)")"
 }
 
 ended() { [ "$wrong" != "$before" ] || echo "$tool: $1 as wanted"; }
+
+# Of the text of each kernel in examples/dmesg: the machine file that is made of it attaches all devices under their names,
+# and what a trimmed configuration attaches is the same.
+try_kernels() {
+    tool=examples/dmesg
+    before=$wrong
+    for each in box:amd64/GENERIC virtual:amd64/GENERIC laptop:amd64/GENERIC board:arm/BOARD; do
+        name=${each%%:*}
+        folder=${each#*:}
+        conf=${folder#*/}
+        folder=$top/examples/${folder%/*}
+        (cd "$folder" && $shell "$tools/machine" -c "$conf" ../dmesg/"$name") >"$work/made" 2>"$work/said" \
+            || differ "$name" "machine: $(cat "$work/said")" ''
+        cmp -s "$top/examples/machines/$name" "$work/made" \
+            || differ "$name" 'the machine file' "$top/examples/machines/$name" "$work/made"
+        said=$(tail -n 1 "$work/said")
+        devices=$(grep -c '^match' "$work/made")
+        devices=$((devices - $(grep -c 'absent' "$work/made")))
+        case $said in
+        "machine: $devices of $devices devices attach under their names; "*) ;;
+        *) differ "$name" "machine: $said" '' ;;
+        esac
+        (cd "$folder" && $shell "$tools/trim" "$conf" ../machines/"$name") >"$work/trimmed" 2>"$work/said" \
+            || differ "$name" "trim: $(cat "$work/said")" ''
+        (cd "$folder" && "$DEVCONF" boot "$work/trimmed" ../machines/"$name") >"$work/trimmed.boot" 2>"$work/said" \
+            || differ "$name" "the trimmed configuration: $(cat "$work/said")" ''
+        [ "$(sed '1,/^tree$/d' "$work/trimmed.boot" | grep -c .)" = "$devices" ] || differ "$name" 'the trimmed boot' ''
+    done
+    ended '4 kernels'
+}
 
 # Every stored output of the examples: the tools take it, and the graph has each device of the tree and is one of DOT.
 try_examples() {
@@ -184,18 +221,18 @@ try_terminal() {
         return
     fi
     bare=$(printf 'output\nconfig conf:1: code 4')
-    on_terminal '' word "$(printf '%s\n     1 | ident "abc\n  A string is open at the end of its line.' "$bare")" 1
+    on_terminal '' word "$(printf '%s\n     1 | ident "abc\n       |       ^^^^ column 7\n  A string is open at the end of its line.' "$bare")" 1
     on_terminal '' '' output 0
     on_terminal NO_EXPLAIN=1 word "$bare" 1
     on_terminal CI=true word "$bare" 1
     ended 'a pipe, a terminal, NO_EXPLAIN and CI'
 }
 
-# The launcher on a terminal, with this in the environment and this word: its first four lines and its status.
+# The launcher on a terminal, with this in the environment and this word: its first five lines and its status.
 on_terminal() {
     (cd "$work" && TERM=dumb script -qec "env $1 $shell ./launcher $2" /dev/null </dev/null >"$work/said") \
         && status=0 || status=$?
-    tr -d '\r' <"$work/said" | head -n 4 >"$work/got"
+    tr -d '\r' <"$work/said" | head -n 5 >"$work/got"
     printf '%s\n' "$3" >"$work/wanted"
     cmp -s "$work/wanted" "$work/got" || differ "on a terminal $1 $2" 'what is written' "$work/wanted" "$work/got"
     [ "$status" = "$4" ] || differ "on a terminal $1 $2" "the status is $status" ''
@@ -218,6 +255,8 @@ try_completion() {
         next "$known" '' '-a -m -s FILE' devconf-summary ''
         next "$known" '' FILE devconf-summary -m ''
         next "$known" '' 'config machine order script status' devconf-explain ''
+        next "$known" '' FILE devconf-check a ''
+        next "$known" '' '' devconf-check a b ''
     done
     ended "bash and zsh${missing:+, but these are not here:$missing;}"
 }
@@ -353,7 +392,13 @@ try_package() {
     ended 'the package installs into an empty root, runs there, and is removed again'
 }
 
-for each in explain summary draw compare; do try_tool "$each"; done
+for each in explain check lint summary draw compare machine json; do try_tool "$each"; done
+if [ -n "${DEVCONF-}" ]; then
+    try_tool trim
+    try_kernels
+else
+    echo 'trim, examples/dmesg: not tried: devconf is not built'
+fi
 try_examples
 try_words
 try_forms

@@ -14,13 +14,14 @@ function take_form(   f, name, w, place, operands) {
         if ($f ~ /^\[/) {
             name = $f
             gsub(/[][]/, "", name)
+            if (name !~ /^-/) { operand[++operands] = name; continue }
             takes_file[name] = $f !~ /\]$/
-            if (takes_file[name]) f++
+            if (takes_file[name]) is_name[name] = $++f == "NAME]"
         } else operand[++operands] = $f
     }
     place = 1
     for (w = 2; w <= given; w++) {
-        if (word[w] in takes_file) { if (takes_file[word[w]] && w++ == given) { print "FILE"; return } }
+        if (word[w] in takes_file) { if (takes_file[word[w]] && w++ == given) { if (!is_name[word[w - 1]]) print "FILE"; return } }
         else if (!fits(operand_at(place, operands), word[w])) return
         else place++
     }

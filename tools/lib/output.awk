@@ -3,6 +3,10 @@
 #   sections                the sections that it has, as " tables history tree "
 #   row_count, row_name[R], row_at[R], row_by[R], row_on[R], row_values[R], row_flags[R]    the rows of the listing
 #   offers[D]               the interface attributes that the device definition D offers, each with a blank on both sides
+#   from[R]                 the first unit of a starred row, and "" of one with a number
+#   locators_of[A]          the locators of the interface attribute A, as the listing spells them, with a blank on both sides
+#   attachment_count, attachment[N], attachment_device[N], attachment_places[N]    the attachments, their devices and places
+#   setting_count, setting_kind[N], setting_name[N]    pseudo-devices, options, makeoptions and file systems
 #   warning_count, warning_file[N], warning_line[N], warning_kind[N]    the warnings
 #   live[X]                 the serial of the live device X; first_live, next_live[X] go over them in order of attachment
 #   parent[X], row[X], spot[X]    of a live device; the spot is "" where no history tells it
@@ -27,6 +31,9 @@ function stray(why) { complain(output_name ":" output_line ": " why) }
 function forget_output() {
     sections = " "
     row_count = warning_count = tree_count = caller_count = found_count = serial = 0
+    attachment_count = setting_count = 0
+    split("", from); split("", locators_of); split("", setting_kind); split("", setting_name)
+    split("", attachment); split("", attachment_device); split("", attachment_places)
     first_live = last_live = power_turn = ""
     split("", row_name); split("", row_at); split("", row_by); split("", row_on); split("", row_values); split("", row_flags)
     split("", offers); split("", warning_file); split("", warning_line); split("", warning_kind)
@@ -98,7 +105,22 @@ function read_table(line,   word, n, w, rest) {
         warning_kind[warning_count] = substr(rest, index(rest, " ") + 1)
         return 1
     }
-    return word[1] ~ /^(attr|iattr|attach|pseudo|options|makeoptions|file-system)$/
+    if (word[1] == "iattr") locators_of[word[2]] = substr(line, length("iattr " word[2]) + 1) " "
+    else if (word[1] == "attach") read_attachment(word, n)
+    else if (word[1] ~ /^(pseudo|options|makeoptions|file-system)$/) {
+        setting_kind[++setting_count] = word[1]
+        setting_name[setting_count] = word[2]
+        sub(/[+]?=.*/, "", setting_name[setting_count])
+    } else return word[1] == "attr"
+    return 1
+}
+
+# attach NAME of DEVICE at PLACE ..
+function read_attachment(word, n,   w) {
+    attachment[++attachment_count] = word[2]
+    attachment_device[attachment_count] = word[4]
+    attachment_places[attachment_count] = " "
+    for (w = 6; w <= n; w++) attachment_places[attachment_count] = attachment_places[attachment_count] word[w] " "
 }
 
 # row R NAME [from UNIT] at X by ATTACHMENT on PLACE [LOC=VALUE].. flags V
@@ -106,6 +128,7 @@ function read_row(line, word, n,   w, values) {
     if (word[2] != row_count) return 0
     row_name[row_count] = word[3]
     w = word[4] == "from" ? 6 : 4
+    from[row_count] = w == 6 ? word[5] : ""
     if (word[w] != "at" || word[w + 2] != "by" || word[w + 4] != "on" || word[n - 1] != "flags") return 0
     row_at[row_count] = word[w + 1]
     row_by[row_count] = word[w + 3]

@@ -1,0 +1,10 @@
+pub mod Candidates
+pub mod Steps
+pub mod Doomed
+pub mod Kept
+pub mod Lists
+pub mod Removes
+pub mod Settles
+pub mod Appends
+pub mod Undoes
+pub mod WorkedPlans

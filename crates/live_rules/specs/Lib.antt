@@ -1,0 +1,4 @@
+pub mod Live
+pub mod Laws
+pub mod LiveText
+pub mod PlanText
