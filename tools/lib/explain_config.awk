@@ -398,7 +398,7 @@ function find_locator(s, code,   device, attr, n, word, count, missing, names, t
     if (attr == "") return 0
     split("", names)
     count = split(attr == "root" ? "" : locators[attr], word, " ")
-    for (n = 1; n <= count; n++) names[locator_name(word[n])] = word[n]
+    for (n = 1; n <= count; n++) names[name_of_locator(word[n])] = word[n]
     for (t = s_first[s] + 3; t < s_last[s]; t += 2) {
         name = tok[t]
         if (name == "flags") continue
@@ -417,7 +417,7 @@ function find_locator(s, code,   device, attr, n, word, count, missing, names, t
     }
     if (code != 13) return 0
     for (n = 1; n <= count; n++)
-        if (word[n] !~ /^\[/ && (locator_name(word[n]) in names)) missing = missing " " locator_name(word[n])
+        if (word[n] !~ /^\[/ && (name_of_locator(word[n]) in names)) missing = missing " " name_of_locator(word[n])
     if (missing == "") return 0
     say("it joins the interface attribute " attr " {" commas(locators[attr]) "}; not written: " commas(missing))
     return 1

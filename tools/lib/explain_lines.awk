@@ -171,7 +171,7 @@ function tell_offers_above(above,   other, names, n, list, count) {
 
 function find_machine_locator(   n, name, names, word, count) {
     count = split(locators[piece[4]], word, " ")
-    for (n = 1; n <= count; n++) names[locator_name(word[n])] = 1
+    for (n = 1; n <= count; n++) names[name_of_locator(word[n])] = 1
     for (n = 5; n <= piece_count; n++) {
         name = piece[n]
         if (!sub(/=.*/, "", name) || name in names) continue
@@ -188,7 +188,7 @@ function find_attachment(   name, names, a, text) {
     mark_piece(2)
     if (!is_known) return
     if (name in is_device) {
-        for (a = 1; a <= attach_count; a++) if (attach_device[a] == name) text = text " " attach_name[a]
+        for (a = 1; a <= attach_count; a++) if (attached_device[a] == name) text = text " " attach_name[a]
         say("`" name "` is a device" (text == "" ? " without attachment" : ", of which the attachments are named: " commas(text)))
     } else say("there is no attachment `" name "`" meant(nearest(name, attachment_by)))
 }

@@ -75,7 +75,7 @@ function add_instance(s,   n, device, above, word, count, place, key, t, value, 
     i_values[n] = ""
     count = place == "root" || place == "" ? 0 : split(locators[place], word, " ")
     for (t = 1; t <= count; t++) {
-        name = locator_name(word[t])
+        name = name_of_locator(word[t])
         i_values[n] = i_values[n] " " name "=" (name in value ? value[name] : default_of(word[t]))
     }
 }
