@@ -225,15 +225,54 @@ try_terminal() {
     on_terminal '' '' output 0
     on_terminal NO_EXPLAIN=1 word "$bare" 1
     on_terminal CI=true word "$bare" 1
-    ended 'a pipe, a terminal, NO_EXPLAIN and CI'
+    tell_warnings_on_terminal
+    tell_standstill
+    ended 'a pipe, a terminal, NO_EXPLAIN and CI, warnings, callers that have not ended, scripts that stand still'
 }
 
-# The launcher on a terminal, with this in the environment and this word: its first five lines and its status.
+# A program of this name that writes this file, after so many seconds, and a launcher for it.
+make_program() {
+    printf '#!/bin/sh\nsleep %s\ncat %s\n' "$3" "$2" >"$work/$1"
+    printf '#!/bin/sh\nexplain=%s/explain\n. %s/lib/terminal.sh\nhelp_if_asked %s "$@"\nrun_program "%s/%s" "$@"\n' \
+        "$tools" "$tools" "$1" "$work" "$1" >"$work/launcher"
+    chmod +x "$work/$1"
+}
+
+# Below an output that is written to a file, a terminal shows its warnings and who has not ended; in a pipe nothing comes.
+tell_warnings_on_terminal() {
+    printf 'history 2\n0.0 found root on a: com0 row 0\n0.0 end\n1.1 open com0: ok\ntree\ncom0 at root row 0 held 1\n' >"$work/played"
+    make_program devconf "$work/played" 0
+    : >"$work/ord"
+    echo 'open com0' >"$work/s1"
+    said=$(cd "$work" && $shell ./launcher play conf conf ord s1 2>&1 >out)
+    [ -z "$said" ] || differ 'play in a pipe' "$said" ''
+    on_terminal '' 'play conf conf ord s1 >out' "$(printf '1 caller has not ended\n    caller 1 can go on: it has only to end')" 0 2
+    cmp -s "$work/out" "$work/played" || differ 'play on a terminal' 'the output' "$work/played" "$work/out"
+    printf 'tables\nwarning conf:1 orphan\n' >"$work/played"
+    on_terminal '' 'ioconf conf >out' "$(printf '1 warning\n    conf:1: nothing that is attached can carry it: ident "abc')" 0 2
+    on_terminal CI=1 'ioconf conf >out' '' 0 2
+    said=$(cd "$work" && $shell ./launcher --help) && status=0 || status=$?
+    [ "$status $(echo "$said" | head -n 1)" = '0 usage:' ] || differ '--help' "status $status, $said" ''
+}
+
+# drvrun that does not end says so once on a terminal, and nothing in a pipe or where it ends before.
+tell_standstill() {
+    echo tree >"$work/played"
+    make_program drvrun "$work/played" 2
+    on_terminal STILL_AFTER=1 'conf conf s1' 'drvrun: no end after 1 seconds: scripts may be waiting for each other, and ^C ends them.' 0 1
+    on_terminal STILL_AFTER=9 'conf conf s1' tree 0 1
+    said=$(cd "$work" && STILL_AFTER=1 $shell ./launcher conf conf s1 2>&1)
+    [ "$said" = tree ] || differ 'drvrun in a pipe' "$said" ''
+}
+
+
+# The launcher on a terminal, with this in the environment and these words: its first lines, five or so many, and its status.
 on_terminal() {
     (cd "$work" && TERM=dumb script -qec "env $1 $shell ./launcher $2" /dev/null </dev/null >"$work/said") \
         && status=0 || status=$?
-    tr -d '\r' <"$work/said" | head -n 5 >"$work/got"
-    printf '%s\n' "$3" >"$work/wanted"
+    tr -d '\r' <"$work/said" | head -n "${5:-5}" >"$work/got"
+    printf '%s' "$3${3:+
+}" >"$work/wanted"
     cmp -s "$work/wanted" "$work/got" || differ "on a terminal $1 $2" 'what is written' "$work/wanted" "$work/got"
     [ "$status" = "$4" ] || differ "on a terminal $1 $2" "the status is $status" ''
 }
@@ -252,9 +291,11 @@ try_completion() {
         next "$known" '' '' devconf load ''
         next "$known" '' '' devconf boot a b ''
         next "$known" '' '' devconf fly ''
-        next "$known" '' '-a -m -s FILE' devconf-summary ''
+        next "$known" '' '-a -c -m -n -s -t FILE' devconf-summary ''
         next "$known" '' FILE devconf-summary -m ''
         next "$known" '' 'config machine order script status' devconf-explain ''
+        next "$known" '' FILE devconf-check a ''
+        next "$known" '' '' devconf-check a b ''
     done
     ended "bash and zsh${missing:+, but these are not here:$missing;}"
 }
@@ -451,7 +492,7 @@ try_package() {
     ended 'the package installs into an empty root, runs there, and is removed again'
 }
 
-for each in explain summary draw compare machine json page; do try_tool "$each"; done
+for each in explain check lint summary draw compare machine json page; do try_tool "$each"; done
 if [ -n "${DEVCONF-}" ]; then
     try_tool trim
     try_kernels

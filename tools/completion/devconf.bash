@@ -15,7 +15,14 @@ _devconf() {
     [ -z "$next" ] || COMPREPLY=($(compgen -W "$next" -- "${COMP_WORDS[COMP_CWORD]}"))
 }
 
-complete -o default -F _devconf devconf drvrun devconf-explain devconf-summary devconf-draw devconf-compare \
-    devconf-machine devconf-trim devconf-json devconf-page
 # Installed, the tools have names of their own, and other programs have these.
-[ ! -e "$_devconf_tools/../crates.txt" ] || complete -o default -F _devconf explain summary draw compare machine trim
+for _devconf_name in $(sed -n 's/^\([a-z][a-z]*\) .*/\1/p' "$_devconf_tools/forms" | sort -u); do
+    case $_devconf_name in
+    devconf | drvrun) complete -o default -F _devconf "$_devconf_name" ;;
+    *)
+        complete -o default -F _devconf "devconf-$_devconf_name"
+        [ ! -e "$_devconf_tools/../crates.txt" ] || complete -o default -F _devconf "$_devconf_name"
+        ;;
+    esac
+done
+unset _devconf_name

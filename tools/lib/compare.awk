@@ -2,6 +2,10 @@
 
 BEGIN {
     tool = "compare"
+    if (is_list(ENVIRON["OUTPUT_1"]) || is_list(ENVIRON["OUTPUT_2"])) {
+        compare_sources(ENVIRON["OUTPUT_1"], ENVIRON["OUTPUT_2"])
+        exit differences > 0
+    }
     read_output(ENVIRON["OUTPUT_1"])
     sections_1 = sections
     keep()
@@ -140,4 +144,31 @@ function compare_tables(   n, key, facts, rows) {
         key = instance(n)
         if (!(key in facts_1)) tell(key " came" (row_facts(n) == "" ? "" : " (" row_facts(n) ")"))
     }
+}
+
+# ---- lists of sources, as `devconf files` writes them
+
+# Does the file begin with the path of a source? Standard input is not asked, since it can be read once.
+function is_list(file,   line, got) {
+    if (file == "-") return 0
+    got = (getline line < file)
+    close(file)
+    return got > 0 && line ~ /^[^ \t]+$/ && line ~ /[.\/]/
+}
+
+function compare_sources(one, other,   n, count_1, count_2) {
+    count_1 = read_list(one, source_1, in_1)
+    count_2 = read_list(other, source_2, in_2)
+    for (n = 1; n <= count_1; n++) if (!(source_1[n] in in_2)) tell(source_1[n] " went")
+    for (n = 1; n <= count_2; n++) if (!(source_2[n] in in_1)) tell(source_2[n] " came")
+}
+
+function read_list(file, list, known,   line, n, got) {
+    while ((got = file == "-" ? (getline line) : (getline line < file)) > 0) {
+        if (line ~ /^(tables|history [12]|tree)$/) complain((file == "-" ? "standard input" : file) ": an output of a run, and the other is a list of sources")
+        list[++n] = line
+        known[line] = 1
+    }
+    close(file)
+    return n + 0
 }

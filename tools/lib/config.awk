@@ -8,7 +8,7 @@
 #   is_attr[A], is_device[D], is_pseudo[D], attachment_by[N]    the statement that declares it first
 #   is_class[A], is_interface[A], locators[A]    a device class; an interface attribute, and its locators as " a b=1 [c=-1]"
 #   needs["a:" A], needs["d:" D]          the attributes that it names, as " a b"
-#   attach_count, attach_device[N], attach_name[N], attach_places[N], attach_by[N]    the attachments
+#   attach_count, attached_device[N], attach_name[N], attach_places[N], attach_by[N]    the attachments
 #   path_of[S]                            of an include statement, the path that it loads
 #   branch_at[S]                          of a word of a condition, the statement that opened the condition
 #
@@ -136,14 +136,14 @@ function take_attachment(s,   n, last, name) {
     last = s_last[s]
     name = word_at(s, 2)
     attach_by[++attach_count] = s
-    attach_device[attach_count] = name
+    attached_device[attach_count] = name
     attach_places[attach_count] = ""
     for (n = s_first[s] + 3; n <= last && tok[n] != ":" && tok[n] != "with"; n++)
         if (tok[n] != ",") attach_places[attach_count] = attach_places[attach_count] " " tok[n]
     if (n < last && tok[n] == "with") name = tok[n + 1]
     attach_name[attach_count] = name
     if (!(name in attachment_by)) attachment_by[name] = s
-    if (!(attach_device[attach_count] in has_attachment)) has_attachment[attach_device[attach_count]] = s
+    if (!(attached_device[attach_count] in has_attachment)) has_attachment[attached_device[attach_count]] = s
 }
 
 # Where the statement stands.
@@ -172,7 +172,7 @@ function joined_by(device, parent_word,   above, a, word, n, count, list) {
     above = base_of(parent_word)
     list = above == "root" ? " root " : above in is_device ? offers_of(above) : " " above " "
     for (a = 1; a <= attach_count; a++) {
-        if (attach_device[a] != device) continue
+        if (attached_device[a] != device) continue
         count = split(attach_places[a], word, " ")
         for (n = 1; n <= count; n++)
             if (index(list, " " word[n] " ")) { joined_attachment = a; return word[n] }
@@ -182,39 +182,19 @@ function joined_by(device, parent_word,   above, a, word, n, count, list) {
 
 # The places of all attachments of the device, as " a b".
 function places_of(device,   a, text) {
-    for (a = 1; a <= attach_count; a++) if (attach_device[a] == device) text = text attach_places[a]
+    for (a = 1; a <= attach_count; a++) if (attached_device[a] == device) text = text attach_places[a]
     return text
 }
 
 # The name of a locator as it stands in a list: "[port=-1]" is "port".
-function locator_name(text) { sub(/^\[/, "", text); sub(/[]=].*/, "", text); return text }
+function name_of_locator(text) { sub(/^\[/, "", text); sub(/[]=].*/, "", text); return text }
 
 # Whether the attribute has the locator; its default, or "" where it has none.
 function has_locator(attr, name,   n, word, count) {
     count = split(locators[attr], word, " ")
-    for (n = 1; n <= count; n++) if (locator_name(word[n]) == name) return 1
+    for (n = 1; n <= count; n++) if (name_of_locator(word[n]) == name) return 1
     return 0
 }
 
 # " a b" as "a, b".
 function commas(text) { sub(/^ +/, "", text); sub(/ +$/, "", text); gsub(/ +/, ", ", text); return text }
-
-# ---- numbers
-
-function is_number(text) { return text ~ /^-?(0|[1-9][0-9]*|0[0-7]+|0[xX][0-9a-fA-F]+)$/ }
-
-# The value of a number; one above 2^53 comes out as some number above all that are allowed.
-function value_of(text,   sign, n, value, digits) {
-    sign = sub(/^-/, "", text) ? -1 : 1
-    if (text ~ /^0[xX]/) {
-        digits = tolower(substr(text, 3))
-        for (n = 1; n <= length(digits); n++) value = value * 16 + index("0123456789abcdef", substr(digits, n, 1)) - 1
-    } else if (text ~ /^0[0-7]/) for (n = 1; n <= length(text); n++) value = value * 8 + substr(text, n, 1)
-    else value = text + 0
-    return sign * value
-}
-
-function is_in_range(text,   value) { value = value_of(text); return value >= -2147483648 && value <= 4294967295 }
-
-# A value as it is printed: "0x10" is "16". Numbers above 2^31 have to be printed as such by every awk.
-function in_decimal(text) { return is_number(text) ? sprintf("%.0f", value_of(text)) : text }

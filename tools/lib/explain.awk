@@ -82,7 +82,7 @@ function tell_code(kind, code,   n) {
     put(in_words[kind, code])
     for (n = 1; n <= sentence_count; n++) put(sentence[n])
     put_mend(mend == "" ? mends[kind, code] : mend)
-    put_section(section[kind])
+    if (!is_all) put_section(section[kind])
 }
 
 function put_mend(text) { if (text != "") put("To mend it: " text) }
@@ -107,11 +107,12 @@ function put(text,   n, word, count, line) {
 # Fault lines are told in words, all other lines of an output pass as they are. An output is known by its first line; where the
 # words of the program were given, whatever comes is its output.
 function explain_input(   line, number, faults, is_output) {
+    is_all = ENVIRON["ALL"] != ""
     is_output = given_word[1] != ""
     while ((getline line) > 0) {
         number++
         if (number == 1 && line ~ /^(tables$|load [0-9]+: |history [12]$|tree$)/) is_output = 1
-        if (ENVIRON["BELOW"] == "") print line
+        if (ENVIRON["BELOW"] == "" && !(is_all && line ~ /^(config|machine) .*: code [0-9]+$/)) print line
         faults += explain_line(line)
     }
     if (!faults && !is_output) complain("no fault line of devconf, so there is nothing to explain")
@@ -159,13 +160,11 @@ function tell_status(number) {
     return 1
 }
 
-function explain_fault(kind, file, number, code,   first) {
+function explain_fault(kind, file, number, code,   first, is_found) {
     first = line_of(file, number)
     if (kind == "script" && is_order(file, first)) kind = "order"
-    if (first ~ /\r$/ && code <= 3)
-        say("the line ends with a carriage return, as lines of other systems do; tr -d '\\r' takes it away")
-    else if (number && kind == "config") find_in_config(file, number, code)
-    else if (number) find_in_line(kind, file, number, first, code)
+    is_found = find_fault(kind, file, number, first, code)
+    if (is_all && !is_told(kind, file, number, code, is_found)) return
     show_statement(kind, file, number)
     if (!((kind, code) in in_words)) complain("there is no code " code " of the kind " kind)
     tell_code(kind, code)
@@ -173,6 +172,30 @@ function explain_fault(kind, file, number, code,   first) {
         print "  or, where " file " is the order file:"
         tell_code("order", code)
     }
+}
+
+# Finds the word that is at fault; answers whether the line as it stands has this fault.
+function find_fault(kind, file, number, line, code) {
+    if (line ~ /\r$/ && code <= 3) {
+        say("the line ends with a carriage return, as lines of other systems do; tr -d '\\r' takes it away")
+        return 1
+    }
+    if (!number) return 1
+    return kind == "config" ? find_in_config(file, number, code) : find_in_line(kind, file, number, line, code)
+}
+
+# Of many faults of one file: is this one told? It is not where it only follows from a statement before it that was refused, and
+# that was emptied then: a name that this statement defines, or that a file defines which could not be included.
+function is_told(kind, file, number, code, is_found) {
+    if (faults_told && !is_found && (kind == "config" ? code ~ /^(8|9|1[0-46-7]|21)$/ : kind == "machine" && code ~ /^[3-6]$/)) return 0
+    if (is_incomplete && kind == "config" && code ~ /^(8|9|1[0-2]|21)$/) return 0
+    if (kind == "config" && code <= 4 && code != 3 && number) is_incomplete = code <= 2
+    if (++faults_told > 20) {
+        if (faults_told == 21) print "(20 faults are told, and there are more)"
+        return 0
+    }
+    print kind " " file ":" number ": code " code
+    return 1
 }
 
 # Adds a sentence to what is told of the fault. `mend` takes the place of what mends the code.

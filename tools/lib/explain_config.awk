@@ -1,15 +1,16 @@
 # Finds the word of a configuration that a fault is about, marks it, and says what is known of it: `find_in_config(FILE, LINE,
-# CODE)`. The statements are read as config.awk reads them, whole, so that it can also tell what stands further down.
+# CODE)`, which answers whether the statement as it stands has this fault. The statements are read as config.awk reads them, whole, so that it can also tell what stands further down.
 
 function find_in_config(file, line, code,   s, top) {
-    if (code == 3 || code == 4) { find_byte(line_of(file, line), line, code); return }
+    if (code == 3 || code == 4) { find_byte(line_of(file, line), line, code); return 1 }
     top = configuration(file)
     if (config_read != top) {
         read_configuration(top)
         if (!(top in is_absent)) config_read = top
     }
     for (s = 1; s <= statement_count; s++)
-        if (s_file[s] == file && s_line[s] == line && find_word(s, code)) return
+        if (s_file[s] == file && s_line[s] == line && find_word(s, code)) return 1
+    return 0
 }
 
 # Finds the word of the statement that has this fault. Answers whether there is one: a file may stand twice.
@@ -31,7 +32,7 @@ function find_word(s, code) {
     if (code == 20) return find_deep(s)
     if (code == 21) return find_condition(s)
     if (code >= 26 && code <= 28) return find_misfit(s)
-    return 0
+    return 1
 }
 
 # The same word at this place of the statement, marked.
@@ -304,7 +305,8 @@ function tell_unknown(s, t, name, is_parent,   names, where, text) {
     if (name in is_attr || is_parent && name in is_device) {
         where = name in is_attr ? is_attr[name] : is_device[name]
         text = where == s ? "it is this very statement that defines `" name "`" : "`" name "` is defined only later, at " stands(where) ", and a name counts for what stands behind its definition"
-    } else if (name in is_device && is_device[name] < s)
+    } else if (word_at(s, 1) == "attach" && edits(name, "root", 1) == 1) text = "nothing defines `" name "`; did you mean `root`?"
+    else if (name in is_device && is_device[name] < s)
         text = "`" name "` is a device without braces; `device " name " {}` at " stands(is_device[name]) " would make it an attribute, too"
     else text = "nothing defines `" name "`" meant_at(nearest(name, names), names)
     say(text)
@@ -396,7 +398,7 @@ function find_locator(s, code,   device, attr, n, word, count, missing, names, t
     if (attr == "") return 0
     split("", names)
     count = split(attr == "root" ? "" : locators[attr], word, " ")
-    for (n = 1; n <= count; n++) names[locator_name(word[n])] = word[n]
+    for (n = 1; n <= count; n++) names[name_of_locator(word[n])] = word[n]
     for (t = s_first[s] + 3; t < s_last[s]; t += 2) {
         name = tok[t]
         if (name == "flags") continue
@@ -415,7 +417,7 @@ function find_locator(s, code,   device, attr, n, word, count, missing, names, t
     }
     if (code != 13) return 0
     for (n = 1; n <= count; n++)
-        if (word[n] !~ /^\[/ && (locator_name(word[n]) in names)) missing = missing " " locator_name(word[n])
+        if (word[n] !~ /^\[/ && (name_of_locator(word[n]) in names)) missing = missing " " name_of_locator(word[n])
     if (missing == "") return 0
     say("it joins the interface attribute " attr " {" commas(locators[attr]) "}; not written: " commas(missing))
     return 1

@@ -1,18 +1,39 @@
 # Finds the word of a machine file, a script or an order file that a fault is about, marks it, and says what is known of it:
-# `find_in_line(KIND, FILE, LINE, TEXT, CODE)`. For a machine file the configuration is read, too, where the words of the
+# `find_in_line(KIND, FILE, LINE, TEXT, CODE)` answers whether the line as it stands has this fault. For a machine file the configuration is read, too, where the words of the
 # program name it.
 
 function find_in_line(kind, file, number, text, code,   n) {
-    if (text == "" || kind !~ /^(machine|script|order)$/) return
+    if (text == "" || kind !~ /^(machine|script|order)$/) return 1
     cut_words(text)
     line_number = number
-    if (code == (kind == "machine" ? 1 : 2) && find_odd_byte(text)) return
+    if (code == (kind == "machine" ? 1 : 2) && find_odd_byte(text)) return 1
     if (kind == "machine") {
-        if (given_word[2] != "") { read_configuration(given_word[2]); is_known = 1 }
+        if (given_word[2] != "" && config_read != given_word[2]) { read_configuration(given_word[2]); config_read = given_word[2] }
+        is_known = given_word[2] != ""
         read_spots(file, number)
+        if (is_known && code >= 3 && code <= 6 && !has_fault(code)) return 0
         find_in_machine(code)
     } else if (kind == "script") find_in_script(code)
     else find_in_order(code)
+    return 1
+}
+
+# Does a name of the line stand nowhere, by the configuration and the lines before?
+function has_fault(code,   n, name) {
+    if (code == 3) {
+        name = piece[3]
+        return !(name in spot_line) || spot_line[name] >= line_number
+    }
+    if (code == 4) {
+        name = piece[piece[1] == "spot" ? 4 : 3]
+        return !(name in is_interface) || piece[1] == "spot" && piece[3] == "root"
+    }
+    if (code == 6) return !(piece[2] in attachment_by)
+    for (n = 5; n <= piece_count; n++) {
+        name = piece[n]
+        if (sub(/=.*/, "", name) && !has_locator(piece[4], name)) return 1
+    }
+    return 0
 }
 
 # The words of the line with their columns, as pieces for the forms.
@@ -150,7 +171,7 @@ function tell_offers_above(above,   other, names, n, list, count) {
 
 function find_machine_locator(   n, name, names, word, count) {
     count = split(locators[piece[4]], word, " ")
-    for (n = 1; n <= count; n++) names[locator_name(word[n])] = 1
+    for (n = 1; n <= count; n++) names[name_of_locator(word[n])] = 1
     for (n = 5; n <= piece_count; n++) {
         name = piece[n]
         if (!sub(/=.*/, "", name) || name in names) continue
@@ -167,7 +188,7 @@ function find_attachment(   name, names, a, text) {
     mark_piece(2)
     if (!is_known) return
     if (name in is_device) {
-        for (a = 1; a <= attach_count; a++) if (attach_device[a] == name) text = text " " attach_name[a]
+        for (a = 1; a <= attach_count; a++) if (attached_device[a] == name) text = text " " attach_name[a]
         say("`" name "` is a device" (text == "" ? " without attachment" : ", of which the attachments are named: " commas(text)))
     } else say("there is no attachment `" name "`" meant(nearest(name, attachment_by)))
 }

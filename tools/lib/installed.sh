@@ -4,4 +4,5 @@ self=$(readlink -f "$0") || exit 125
 tools=$(dirname "$self")
 explain=$tools/explain
 . "$tools/lib/terminal.sh"
+help_if_asked "$(basename "$self")" "$@"
 run_program "$tools/../../../libexec/devconf/$(basename "$self")" "$@"

@@ -3,6 +3,7 @@
 #   spot_count, spot_name[N]      the spots in order
 #   is_spot[S], above[S], on[S]   whether there is one of this name, its parent spot and its interface attribute
 #   values[S], mark[S, M]         the values found on it, as they are written; whether it has the mark late, absent or bad
+#   match_count, match_by[N], match_spot[N], match_value[N], match_line[N]    the match lines: attachment, spot or *, value as it is written
 #   matched[S]                    a match line names the spot
 #   style[A, ATTR]                direct or indirect
 #   policy[A, P]                  whether the driver of the attachment A has the policy P
@@ -10,9 +11,9 @@
 # A line without one of the forms ends the tool with one line and status 2.
 
 function read_machine(file,   line, got, number, word, n) {
-    spot_count = 0
+    spot_count = match_count = 0
     while ((got = (getline line < file)) > 0) {
-        number++
+        machine_line = ++number
         sub(/#.*/, "", line)
         n = split(line, word, " ")
         if (n && !read_record(word, n)) complain(file ":" number ": no line of a machine file")
@@ -24,10 +25,19 @@ function read_machine(file,   line, got, number, word, n) {
 
 function read_record(word, n,   w) {
     if (word[1] == "spot" && n >= 4) return read_spot(word, n)
-    if (word[1] == "match") { if (n == 4) matched[word[3]] = 1; return n == 4 }
+    if (word[1] == "match") return n == 4 && read_match(word)
     if (word[1] == "style" && n == 4) { style[word[2], word[3]] = word[4]; return word[4] ~ /^(in)?direct$/ }
     if (word[1] != "driver" || n < 3) return 0
     for (w = 3; w <= n; w++) policy[word[2], word[w]] = 1
+    return 1
+}
+
+function read_match(word) {
+    matched[word[3]] = 1
+    match_by[++match_count] = word[2]
+    match_spot[match_count] = word[3]
+    match_value[match_count] = word[4]
+    match_line[match_count] = machine_line
     return 1
 }
 

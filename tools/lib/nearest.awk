@@ -1,9 +1,9 @@
 # Finds the names that one may have meant. `nearest(name, names)` goes over the indexes of `names` and answers the nearest ones
 # as " a b", at most three of them, or "": those of the least number of edits, where an edit adds, drops or changes a letter
-# or swaps two that stand side by side. Short names may have one edit, longer ones two; capitals are no edit.
+# or swaps two that stand side by side. Names of up to four letters may have one edit, longer ones two; capitals are no edit.
 
 function nearest(name, names,   other, distance, best, limit, list, count, found, n, text) {
-    limit = length(name) <= 3 ? 1 : 2
+    limit = length(name) <= 4 ? 1 : 2
     best = limit + 1
     for (other in names) {
         if (other == name || length(other) > length(name) + limit || length(name) > length(other) + limit) continue

@@ -14,6 +14,7 @@ function take_form(   f, name, w, place, operands) {
         if ($f ~ /^\[/) {
             name = $f
             gsub(/[][]/, "", name)
+            if (name !~ /^-/) { operand[++operands] = name; continue }
             takes_file[name] = $f !~ /\]$/
             if (takes_file[name]) is_name[name] = $++f == "NAME]"
         } else operand[++operands] = $f

@@ -3,20 +3,58 @@
 BEGIN {
     tool = "summary"
     whole = ENVIRON["WHOLE"]
+    only = ENVIRON["ONLY"]
     read_output(ENVIRON["OUTPUT"])
-    if (!has("tree")) complain(output_name ": a listing alone: no machine was booted, so there are no devices")
     if (ENVIRON["MACHINE"] != "") take_machine(ENVIRON["MACHINE"])
+    if (ENVIRON["CONFIGURATION"] != "") take_configuration(ENVIRON["CONFIGURATION"])
     script_count = ENVIRON["SCRIPTS"] + 0
     for (s = 1; s <= script_count; s++) read_script(s, ENVIRON["SCRIPT_" s])
-    tell_devices()
-    tell_driverless()
-    tell_unsearched()
-    tell_warnings()
-    tell_unused_rows()
-    tell_callers()
-    tell_references()
+    if (only == "n") tell_negations()
+    else if (only == "b") {
+        if (warning_count) tell_warnings()
+        if (has("history")) tell_callers()
+    } else if (!has("tree")) tell_listing()
+    else {
+        tell_devices()
+        tell_driverless()
+        tell_unsearched()
+        tell_warnings()
+        tell_unused_rows()
+        tell_callers()
+        tell_references()
+    }
     exit wants_a_look
 }
+
+# A listing alone.
+function tell_listing(   n) {
+    print count_of(row_count, "row") ", and no machine was booted"
+    begin_list()
+    for (n = 0; n < row_count; n++) add_item(row_in_words(n))
+    put_lines()
+    tell_warnings()
+}
+
+# Where each row stands in the configuration: its statement is the first one left with the same words and values.
+function take_configuration(file,   n, key, list, places) {
+    read_configuration(file)
+    find_instances()
+    for (n = 1; n <= instance_count; n++) {
+        key = row_key(word_at(instance[n], 1), word_at(instance[n], 3), substr(i_values[n], 2), i_flags[n])
+        places[key] = places[key] " " instance[n]
+    }
+    for (n = 0; n < row_count; n++) {
+        key = row_key(row_name[n], row_at[n], row_values[n], row_flags[n])
+        if (!match(places[key], /^ [0-9]+/)) complain(file ": it has no instance for row " n ", " row_name[n] " at " row_at[n] ": not the configuration of this output")
+        row_place[n] = place_of_statement(substr(places[key], 2, RLENGTH - 1) + 0)
+        places[key] = substr(places[key], RLENGTH + 1)
+    }
+}
+
+function row_key(name, at, values, flags) { return name " at " at " " values " flags " flags }
+
+# A row as its instance is written, with where it stands.
+function row_in_words(r) { return (r in row_place ? row_place[r] ": " : "") statement(row_name[r], r) }
 
 # The spots of the history have to be those of the machine.
 function take_machine(file,   n) {
@@ -157,13 +195,34 @@ function statement_at(file, number,   line, n, text) {
     return substr(text, 2, 60) (length(text) > 61 ? ".." : "")
 }
 
-function tell_unused_rows(   n, used, count) {
+function tell_unused_rows(   n, used) {
     if (!has("tables")) return
     for (n = 1; n <= tree_count; n++) used[row[tree_name[n]]] = 1
     begin_list()
-    for (n = 0; n < row_count; n++) if (!(n in used)) add_item(row_name[n] " at " row_at[n])
+    for (n = 0; n < row_count; n++) if (!(n in used)) add_item(row_in_words(n))
     print item_count " of " count_of(row_count, "row") " without a device"
-    put_list(", ")
+    if (ENVIRON["CONFIGURATION"] != "") put_lines()
+    else put_list(", ")
+}
+
+# A `no` line for all rows of one spelling that no device uses. Where one of them is in use, or where a starred row of the same
+# device is in use and its units would begin lower, the rows are told in a comment.
+function tell_negations(   n, used, words, is_used, starred, told, device) {
+    if (!has("tables") || !has("tree")) complain(output_name ": no rows and devices, so nothing is known to be without use")
+    for (n = 1; n <= tree_count; n++) used[row[tree_name[n]]] = 1
+    for (n = 0; n < row_count; n++) {
+        if (!(n in used)) continue
+        is_used[row_name[n] " at " row_at[n]] = 1
+        if (row_name[n] ~ /\*$/) starred[definition_of_row(n)] = from[n]
+    }
+    for (n = 0; n < row_count; n++) {
+        if (n in used) continue
+        words = row_name[n] " at " row_at[n]
+        device = definition_of_row(n)
+        if (words in is_used) print "# " row_in_words(n) ": a row in use has the same words"
+        else if (row_name[n] !~ /\*$/ && (device in starred)) print "# " row_in_words(n) ": without it, the units of " device "* might begin lower"
+        else if (!told[words]++) print "no " words
+    }
 }
 
 # ---- callers
@@ -175,8 +234,9 @@ function tell_callers(   n, k, count, left) {
         if (caller[n] > 0) count++
         if (!ended[caller[n]]) left++
     }
-    print (ended[0] ? "the boot has ended" : "the boot has not ended") \
+    if (only != "b") print (ended[0] ? "the boot has ended" : "the boot has not ended") \
         (count ? "; " count_of(count, "caller") ", " (left ? left " not ended" : "all ended") : "")
+    else if (left) print count_of(left, "caller") (left == 1 ? " has" : " have") " not ended"
     if (!left) return
     wants_a_look = 1
     begin_list()
@@ -186,7 +246,7 @@ function tell_callers(   n, k, count, left) {
         add_item("caller " k " " state_of(k))
         add_item("    " (k in last_line ? "its last line: " last_line[k] : "no line of it"))
     }
-    find_circles()
+    find_rings()
     whole_before = whole
     whole = 1
     put_lines()
@@ -266,39 +326,42 @@ function next_to_sleep(name,   x, below, found) {
     return found
 }
 
-# Callers of which each waits, by way of the others, for itself.
-function find_circles(   n, k, circle, told, word, m, w) {
+# Callers of which each waits for the next, and the last for the first: the shortest ring of each that is in none yet.
+function find_rings(   n, k, ring, word, m, told, text) {
     for (n = 1; n <= caller_count; n++) {
         k = caller[n]
-        if (ended[k] || (k in told) || !reaches(k, k)) continue
-        circle = k
-        told[k] = 1
-        for (m = 1; m <= caller_count; m++) {
-            w = caller[m]
-            if (w != k && !ended[w] && reaches(k, w) && reaches(w, k)) { circle = circle " " w; told[w] = 1 }
+        if (ended[k] || (k in told)) continue
+        ring = way_back(k)
+        if (ring == "") continue
+        m = split(ring, word, " ")
+        text = ""
+        for (m = 1; m in word; m++) {
+            told[word[m]] = 1
+            text = text (m == 1 ? "" : ", ") word[m] " waits for " ((m + 1) in word ? word[m + 1] : k)
         }
-        w = split(circle, word, " ")
-        if (w == 2) circle = word[1] " and " word[2] " wait for each other: no turn of either"
-        else { gsub(/ /, ", ", circle); circle = circle " wait for one another in a circle: no turn of them" }
-        add_item("callers " circle " changes anything any more")
+        add_item("a ring: caller " text "; no turn of them changes anything any more")
     }
 }
 
-# Does the first caller wait for the second, or for one that does?
-function reaches(from, to,   open, n, word, seen, k, count) {
-    open = waits_for[from]
+# The callers on the shortest way from one to itself, as "1 3 2", or "" where it does not wait for itself.
+function way_back(start,   open, next_open, n, m, count, waited, word, way, k) {
+    open = start
+    way[start] = start
     while (open != "") {
         count = split(open, word, " ")
-        open = ""
+        next_open = ""
         for (n = 1; n <= count; n++) {
-            k = word[n]
-            if (k == to) return 1
-            if (k in seen) continue
-            seen[k] = 1
-            open = open waits_for[k]
+            m = split(waits_for[word[n]], waited, " ")
+            for (k = 1; k <= m; k++) {
+                if (waited[k] == start) return way[word[n]]
+                if (waited[k] in way) continue
+                way[waited[k]] = way[word[n]] " " waited[k]
+                next_open = next_open " " waited[k]
+            }
         }
+        open = next_open
     }
-    return 0
+    return ""
 }
 
 function tell_references(   n, word, count, k, text, total) {

@@ -1,9 +1,18 @@
 # How the launchers run a program for a person: `run_program PROGRAM WORD..` does not come back, and its status is the
 # program's. Where standard error is a terminal, a fault line is told in words below it by tools/explain, which stands at
-# $explain. In a pipe, with CI or with NO_EXPLAIN in the environment, the program simply takes the place of the launcher.
+# $explain; so are warnings and callers that have not ended, by tools/summary beside it, and that `drvrun` may stand still. In a
+# pipe, with CI or with NO_EXPLAIN in the environment, the program simply takes the place of the launcher.
 
 wants_words() {
     [ -t 2 ] && [ -z "${CI+set}${NO_EXPLAIN+set}" ] && [ -x "$explain" ]
+}
+
+# Where the first word asks for help, writes the forms of this program, and ends with status 0.
+help_if_asked() {
+    case ${2-} in -h | --help) ;; *) return 0 ;; esac
+    awk -v program="$1" -F '\t' 'BEGIN { print "usage:" } index($0, program " ") == 1 { printf "    %-44s %s\n", $1, $2 }' \
+        "${explain%/*}/forms"
+    exit 0
 }
 
 run_program() {
@@ -11,10 +20,67 @@ run_program() {
     shift
     # Standard output has to be open to be handed on.
     wants_words && { true 3>&1; } 2>/dev/null || exec "$program" "$@"
-    { said=$("$program" "$@" 2>&1 >&3 3>&-) && status=0 || status=$?; } 3>&1
     # The words of drvrun begin with the configuration; tools/explain takes it from the second one.
-    [ "${program##*/}" != drvrun ] || set -- drvrun "$@"
+    case ${program##*/} in
+    drvrun)
+        begin_watch "$@"
+        { said=$("$program" "$@" 2>&1 >&3 3>&-) && status=0 || status=$?; } 3>&1
+        end_watch
+        set -- drvrun "$@"
+        ;;
+    *) { said=$("$program" "$@" 2>&1 >&3 3>&-) && status=0 || status=$?; } 3>&1 ;;
+    esac
+    [ "$status" != 0 ] || tell_what_is_left "$@"
     tell_in_words "$status" "$said" "$@"
+}
+
+# Says once that scripts may be waiting for each other, where the program has not ended after some seconds.
+begin_watch() {
+    (
+        trap 'kill "$sleeper" 2>/dev/null; exit 0' TERM
+        sleep "${STILL_AFTER:-5}" &
+        sleeper=$!
+        wait "$sleeper"
+        cat >&2 <<END
+drvrun: no end after ${STILL_AFTER:-5} seconds: scripts may be waiting for each other, and ^C ends them.
+    $(beside summary) -t SCRIPT..  tells beforehand whether that can be
+    devconf play FILE MACHINE ORDER SCRIPT..  takes turns in the order of a file, and tells who waits for whom
+END
+    ) &
+    watch=$!
+    for signal in INT TERM HUP; do trap "end_watch; trap - $signal; kill -$signal $$" "$signal"; done
+}
+
+end_watch() {
+    kill "$watch" 2>/dev/null
+    wait "$watch" 2>/dev/null
+}
+
+# The command for a tool: its path in the repository, or its installed name.
+beside() {
+    if [ -e "${explain%/*}/../crates.txt" ]; then echo "tools/$1"; else echo "devconf-$1"; fi
+}
+
+# Below an output, tells its warnings and the callers that have not ended. The program is asked again for that, since its output goes
+# where it goes; so each file has to be one that can be read twice.
+tell_what_is_left() {
+    case $1 in ioconf | boot | play) ;; *) return 0 ;; esac
+    summary=${explain%/*}/summary
+    [ -x "$summary" ] || return 0
+    number=0
+    for file; do
+        number=$((number + 1))
+        [ "$number" = 1 ] || [ -f "$file" ] || return 0
+    done
+    "$program" "$@" 2>/dev/null </dev/null | {
+        if [ "$1" = play ]; then shift 4; else shift $#; fi
+        for file; do
+            shift
+            set -- "$@" -s "$file"
+        done
+        "$summary" -b "$@"
+    } >&2 2>/dev/null
+    return 0
 }
 
 # Writes the fault line, and on a terminal its words below it, and ends with this status.

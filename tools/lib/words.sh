@@ -4,6 +4,15 @@ export LC_ALL
 script=$(readlink -f "$0")
 lib=$(dirname "$script")/lib
 
+# Where a tool is asked for help, it writes its first lines: the usage, and then what it does.
+case ${1-} in
+-h | --help)
+    sed -n '/^# Usage: /{s//usage: /;s/tools\///g;p;}' "$script"
+    awk 'NR > 1 && !/^#/ { exit } NR > 1 && !/^# Usage: / { sub(/^# ?/, ""); print }' "$script"
+    exit 0
+    ;;
+esac
+
 # The usage of a tool stands in its first lines.
 usage() {
     sed -n '/^# Usage: /{s//usage: /;s/tools\///g;p;}' "$script" >&2

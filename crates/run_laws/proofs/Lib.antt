@@ -13,6 +13,7 @@ mod RescanRuns
 mod ReferenceRuns
 mod DetachRuns
 mod PowerRuns
+mod RingRuns
 mod CountVectors
 mod TextVectors
 mod RunTexts

@@ -1,0 +1,5 @@
+pub mod Ahead
+pub mod Still
+pub mod Ends
+pub mod Ring
+pub mod Plain

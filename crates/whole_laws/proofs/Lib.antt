@@ -1,0 +1,13 @@
+pub mod Below
+pub mod Order
+pub mod Commands
+pub mod Changes
+pub mod Transfers
+pub mod Living
+pub mod TreeOrder
+pub mod Spots
+pub mod Lineage
+pub mod Takes
+pub mod Condemned
+pub mod Started
+pub mod Vectors
