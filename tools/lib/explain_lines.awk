@@ -120,11 +120,12 @@ function find_machine_form(   n, name, seen) {
     }
 }
 
-function tell_policy(word,   list, names, n) {
-    n = split("nodetach norescan nopower failsuspend defer interrupts final", list, " ")
-    for (; n; n--) names[list[n]] = 1
-    if (word != "") say("there is no policy `" word "`" meant(nearest(word, names)))
-    say("the policies are nodetach, norescan, nopower, failsuspend, defer, interrupts, final")
+# The policies are the choices of the form.
+function tell_policy(word,   list, names, n, near) {
+    if (!match(best_form, /[a-z]+(\|[a-z]+)+/)) return
+    for (n = split(substr(best_form, RSTART, RLENGTH), list, "|"); n; n--) names[list[n]] = 1
+    near = nearest(word, names)
+    if (word != "") say("there is no policy `" word "`" meant(near))
 }
 
 function tell_mark(word,   names) {
