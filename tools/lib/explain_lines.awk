@@ -3,7 +3,7 @@
 # program name it.
 
 function find_in_line(kind, file, number, text, code,   n) {
-    if (text == "" || kind !~ /^(machine|script|order)$/) return 1
+    if (text == "") return 1
     cut_words(text)
     line_number = number
     if (code == (kind == "machine" ? 1 : 2) && find_odd_byte(text)) return 1
@@ -14,7 +14,8 @@ function find_in_line(kind, file, number, text, code,   n) {
         if (is_known && code >= 3 && code <= 6 && !has_fault(code)) return 0
         find_in_machine(code)
     } else if (kind == "script") find_in_script(code)
-    else find_in_order(code)
+    else if (kind == "order") find_in_order(code)
+    else if (code <= 2) misfits(kind)
     return 1
 }
 
@@ -61,11 +62,13 @@ function find_odd_byte(text,   at) {
 }
 
 # At which word the line stops fitting its form; answers whether it does.
-function misfits(kind,   word, names) {
+function misfits(kind,   word, names, n) {
     word = kind == "order" ? "" : piece[1]
     if (kind != "order" && !((kind, word) in begins_form)) {
-        mark_piece(1)
         words_of_forms(kind, names)
+        for (n in names) break
+        if (n == "") return 0
+        mark_piece(1)
         say("no line begins with `" word "`" meant(nearest(word, names)))
         return 1
     }

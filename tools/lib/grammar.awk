@@ -12,7 +12,7 @@
 
 function read_forms(file,   line, got, cell, n, kind) {
     while ((got = (getline line < file)) > 0) {
-        if (line !~ /^(config|machine|script|order): /) continue
+        if (line !~ /^[a-z]+: /) continue
         split(line, cell, "\t")
         n = index(cell[1], ": ")
         kind = substr(cell[1], 1, n - 1)
