@@ -32,6 +32,7 @@ install:
 	cp tools/lib/*.awk tools/lib/*.sh tools/lib/page.* $(share)/tools/lib
 	cp tools/completion/devconf.* $(share)/tools/completion
 	cp tools/forms $(share)/tools/forms
+	mkdir -p $(share)/tools/editors && cp -R tools/editors/vim tools/editors/emacs $(share)/tools/editors/
 	cp docs/*.md docs/*.svg docs/*.png $(share)/docs
 	for tool in $(TOOLS); do \
 	    cp tools/$$tool $(share)/tools/ && chmod 755 $(share)/tools/$$tool && \

@@ -7,7 +7,8 @@
 #   `crate/src/file.rt`          a file or folder below crates/, for .antt and .rt also without its ending; so too `docs/..`,
 #                                `tools/..` and the other folders of the repository, and `specs/X` beside a crate of its table row
 #   `crate/specs/X.antt:7` `Name`   this line of this file has this word
-#   a table's column "function"  `crate`: `name`, `Type::name`, where the crate may stand in the row's first column instead
+#   a table's column "function"  `crate`: `name`, `Type::name`, where the crate may be in the row's first column instead
+#   Pa tools/explain             in a manual page
 LC_ALL=C
 export LC_ALL
 cd "$(dirname "$(readlink -f "$0")")/.." || exit 1
@@ -26,7 +27,7 @@ find crates -name out -prune -o -path '*/src/*.rt' -print | sort | xargs awk '
     }
     /^ *pub use / { for (n = split($0, part, /[^A-Za-z_0-9]+/); n; n--) print crate "\t" part[n]; more = $0 !~ /;/ }
     more { for (n = split($0, part, /[^A-Za-z_0-9]+/); n; n--) print crate "\t" part[n]; more = $0 !~ /;/ }' >"$work/items"
-pages=$(find . -maxdepth 1 -name '*.md' | sed 's#^\./##'; find docs man -maxdepth 1 -name '*.md')
+pages=$(find . -maxdepth 1 -name '*.md' | sed 's#^\./##'; find docs -maxdepth 1 -name '*.md'; find man -name '*.[1-9]')
 
 # Corrects `file:7` `Name` to the line that defines the name.
 mend_lines() {
@@ -137,6 +138,11 @@ BEGIN {
     while ((getline line < items) > 0) { split(line, part, "\t"); item[part[1], part[2]] = 1 }
 }
 FNR == 1 { folder = FILENAME; if (!sub(/[^\/]*$/, "", folder)) folder = ""; split("", column); row_crates = ""; fenced = 0; pages++ }
+FILENAME ~ /^man\// {
+    count = split($0, part, " ")
+    for (k = 2; k <= count; k++) if (part[k - 1] ~ /^\.?Pa$/) span(part[k], "")
+    next
+}
 /^```/ { fenced = !fenced; next }
 fenced || /^    / { next }
 !/^\|/ { split("", column); row_crates = "" }

@@ -293,7 +293,7 @@ try_completion() {
         next "$known" '' '' devconf fly ''
         next "$known" '' '-a -c -m -n -s -t FILE' devconf-summary ''
         next "$known" '' FILE devconf-summary -m ''
-        next "$known" '' 'config machine order script status' devconf-explain ''
+        next "$known" '' 'config history machine order script status' devconf-explain ''
         next "$known" '' FILE devconf-check a ''
         next "$known" '' '' devconf-check a b ''
     done
@@ -442,6 +442,42 @@ page_tree() {
     }' >"$work/got"
 }
 
+# The syntax files of editors are those that tools/forms gives, and the editors that are here take them.
+try_editors() {
+    tool=tools/editors
+    before=$wrong
+    $shell "$tools/editors/make.sh" "$work/editors" || differ make.sh 'it ends with a fault' ''
+    said=$(cd "$tools/editors" && diff -r . "$work/editors" | grep -v '^Only in \.: make.sh$')
+    [ -z "$said" ] || differ make.sh "run it again: $said" ''
+    printf 'com0 at isa? port 0x3f8 # "a"\nident "x"\n' >"$work/conf"
+    printf ' spot a root root late # b\n' >"$work/mach"
+    seen=
+    if vim=$(command -v vim); then
+        # The groups that vim gives to these columns of the first line.
+        groups devconf conf '1 6 19 25' 'devconfUnit devconfWord devconfNumber devconfComment'
+        groups devconfmachine mach '2 9 19 25' 'devconfStatement devconfWord devconfWord devconfComment'
+        seen="$seen, vim"
+    fi
+    if command -v emacs >/dev/null; then
+        faces devconf-mode conf '1 6 19 27' 'font-lock-variable-name-face font-lock-builtin-face font-lock-constant-face font-lock-comment-face'
+        faces devconf-machine-mode mach '2 9 19 26' 'font-lock-keyword-face font-lock-builtin-face font-lock-builtin-face font-lock-comment-face'
+        seen="$seen, emacs"
+    fi
+    ended "the syntax files${seen:+, tried in ${seen#, }}"
+}
+
+groups() {
+    said=$("$vim" -es -u NONE -c "set rtp^=$tools/editors/vim" -c 'syntax on' -c "edit $work/$2" -c "set filetype=$1" \
+        -c "call writefile([join(map(split('$3'), 'synIDattr(synID(1, v:val, 1), \"name\")'))], '$work/groups')" -c 'qa!' </dev/null 2>&1)
+    [ "$(cat "$work/groups" 2>/dev/null)" = "$4" ] || differ "vim, $1" "$(cat "$work/groups") where $4 is wanted $said" ''
+}
+
+faces() {
+    said=$(emacs --batch -l "$tools/editors/emacs/devconf-mode.el" --visit "$work/$2" --eval "(progn ($1) (font-lock-ensure)
+        (princ (mapconcat (lambda (at) (format \"%s\" (get-text-property at 'face))) '($3) \" \")))" 2>"$work/said")
+    [ "$said" = "$4" ] || differ "emacs, $1" "$said where $4 is wanted $(cat "$work/said")" ''
+}
+
 # Each device of the stored outputs stands in its picture.
 try_pictures() {
     tool=docs
@@ -506,6 +542,7 @@ try_terminal
 make_completers
 try_completion
 try_ci
+try_editors
 try_pictures
 try_pages
 try_install

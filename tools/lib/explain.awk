@@ -21,6 +21,8 @@ function read_faults(file,   line, heading, cell, n, got, kind, is_words) {
         if (n < 2) { is_words = 0; continue }
         if (cell[1] == "code") is_words = cell[2] == "in words"
         else if (cell[1] == "exit status") is_words = 2
+        else if (cell[1] == "line") is_words = 3
+        else if (is_words == 3 && cell[1] !~ /^-/) { history_line[++history_rows] = cell[1]; history_wrong[history_rows] = cell[2]; history_mends[history_rows] = cell[3] }
         else if (!is_words || cell[1] !~ /^[0-9]+$/) continue
         else if (is_words == 2) { status_words[cell[1] + 0] = cell[2]; status_mends[cell[1] + 0] = cell[4] }
         else { in_words[kind, cell[1] + 0] = cell[2]; mends[kind, cell[1] + 0] = cell[3]; section[kind] = heading }
@@ -58,6 +60,15 @@ function explain_code(kind, code,   n, list, count, told) {
         put(status_words[code + 0])
         put_mend(status_mends[code + 0])
         put_section("Statuses and faults")
+        return
+    }
+    if (kind == "history") {
+        print "history: refused"
+        for (n = 1; n <= history_rows; n++) {
+            put(history_line[n] ~ /^[0-9]/ ? "line " history_line[n] ": " history_wrong[n] : history_line[n] ": " history_wrong[n])
+            put_mend(history_mends[n])
+        }
+        put_section("Histories that are refused")
         return
     }
     count = split(kind == "" ? kinds_of_codes() : kind, list, " ")

@@ -3,7 +3,7 @@
 # program name it.
 
 function find_in_line(kind, file, number, text, code,   n) {
-    if (text == "" || kind !~ /^(machine|script|order)$/) return 1
+    if (text == "") return 1
     cut_words(text)
     line_number = number
     if (code == (kind == "machine" ? 1 : 2) && find_odd_byte(text)) return 1
@@ -14,7 +14,8 @@ function find_in_line(kind, file, number, text, code,   n) {
         if (is_known && code >= 3 && code <= 6 && !has_fault(code)) return 0
         find_in_machine(code)
     } else if (kind == "script") find_in_script(code)
-    else find_in_order(code)
+    else if (kind == "order") find_in_order(code)
+    else if (code <= 2) misfits(kind)
     return 1
 }
 
@@ -61,11 +62,13 @@ function find_odd_byte(text,   at) {
 }
 
 # At which word the line stops fitting its form; answers whether it does.
-function misfits(kind,   word, names) {
+function misfits(kind,   word, names, n) {
     word = kind == "order" ? "" : piece[1]
     if (kind != "order" && !((kind, word) in begins_form)) {
-        mark_piece(1)
         words_of_forms(kind, names)
+        for (n in names) break
+        if (n == "") return 0
+        mark_piece(1)
         say("no line begins with `" word "`" meant(nearest(word, names)))
         return 1
     }
@@ -120,11 +123,12 @@ function find_machine_form(   n, name, seen) {
     }
 }
 
-function tell_policy(word,   list, names, n) {
-    n = split("nodetach norescan nopower failsuspend defer interrupts final", list, " ")
-    for (; n; n--) names[list[n]] = 1
-    if (word != "") say("there is no policy `" word "`" meant(nearest(word, names)))
-    say("the policies are nodetach, norescan, nopower, failsuspend, defer, interrupts, final")
+# The policies are the choices of the form.
+function tell_policy(word,   list, names, n, near) {
+    if (!match(best_form, /[a-z]+(\|[a-z]+)+/)) return
+    for (n = split(substr(best_form, RSTART, RLENGTH), list, "|"); n; n--) names[list[n]] = 1
+    near = nearest(word, names)
+    if (word != "") say("there is no policy `" word "`" meant(near))
 }
 
 function tell_mark(word,   names) {

@@ -12,7 +12,7 @@
 
 function read_forms(file,   line, got, cell, n, kind) {
     while ((got = (getline line < file)) > 0) {
-        if (line !~ /^(config|machine|script|order): /) continue
+        if (line !~ /^[a-z]+: /) continue
         split(line, cell, "\t")
         n = index(cell[1], ": ")
         kind = substr(cell[1], 1, n - 1)
@@ -140,7 +140,6 @@ function fits_class(class, text) {
     if (class == "CHUNK") return is_chunk(text)
     if (class == "TEXT") return is_chunk(text) || text ~ /^"/
     if (class == "PATH") return is_chunk(text) || text ~ /^"./ && text != "\"\""
-    if (class == "POLICY") return text ~ /^(nodetach|norescan|nopower|failsuspend|defer|interrupts|final)$/
     if (class == "LOC=VALUE") return text ~ /^[^=]+=/ && is_number(substr(text, index(text, "=") + 1))
     return 1
 }
@@ -164,7 +163,6 @@ function class_in_words(class) {
     if (class == "CALLER") return "the number of a caller"
     if (class == "PATH") return "a path"
     if (class == "TEXT") return "a word or a string"
-    if (class == "POLICY") return "a policy"
     if (class == "LOC=VALUE") return "a locator with its value (as port=0x3f8)"
     if (class == "D") return "the name of a device (as com0)"
     if (class ~ /^(S|SPOT\|\*)$/) return "the name of a spot" (class == "S" ? "" : ", or `*`")

@@ -106,9 +106,60 @@ function tell_driverless(   s, n, at) {
     begin_list()
     for (s = 1; s <= n; s++)
         add_item(at[s] " below " found_below[at[s]] (is_gone(found_below[at[s]]) ? ", which is gone" : "") \
-            (at[s] in is_spot ? ": " on[at[s]] values[at[s]] : ""))
+            (at[s] in is_spot ? ": " on[at[s]] values[at[s]] why_driverless(at[s]) : ""))
     put_lines()
-    if (n && !spot_count) print "    (-m MACHINE shows the values found there)"
+    if (n && !spot_count) print "    (-m MACHINE shows the values found there, and why no driver takes them)"
+}
+
+# Why no row took the spot: no row is for its attribute and parent, none for its values, no driver of these matches, or their
+# units are taken.
+function why_driverless(at,   r, text, other, count, drivers, driver, driver_count, taken_by) {
+    if (!has("tables")) return ""
+    for (r = 0; r < row_count; r++) {
+        if (row_on[r] != on[at] || !fits_parent(r, found_below[at])) continue
+        count++
+        if (!row_fits(r, at)) { if (other++ < 2) text = text (text == "" ? "" : ", ") statement(row_name[r], r) }
+        else if (!matches(row_by[r], at)) { if (!driver[row_by[r]]++ && driver_count++ < 3) drivers = drivers (driver_count == 1 ? "" : ", ") row_by[r] }
+        else taken_by = taken_by (taken_by == "" ? "" : ", ") row_name[r]
+    }
+    if (!count) return "; no row is for " on[at] " below " found_below[at]
+    if (taken_by != "") return "; in use elsewhere, or no rescan came: " taken_by
+    if (driver_count) return "; no match for it by " (driver_count <= 3 ? drivers : "any of " driver_count " drivers with rows there")
+    return "; the rows there want other values: " text (other > 2 ? " and " other - 2 " more" : "")
+}
+
+# Has each locator of the row its default or the value of the spot?
+function row_fits(r, at,   pair, count, n, name, value) {
+    count = split(row_values[r], pair, " ")
+    for (n = 1; n <= count; n++) {
+        name = pair[n]
+        sub(/=.*/, "", name)
+        value = substr(pair[n], length(name) + 2)
+        if (!is_default(row_on[r], name, value) && value != found_value(at, name)) return 0
+    }
+    return 1
+}
+
+# The value of a locator on a spot: what the machine file says, else its default, else -1.
+function found_value(at, name,   pair, count, n) {
+    count = split(values[at], pair, " ")
+    for (n = 1; n <= count; n++) if (substr(pair[n], 1, length(name) + 1) == name "=") return in_decimal(substr(pair[n], length(name) + 2))
+    if (match(locators_of[on[at]], "[ [][" substr(name, 1, 1) "]" substr(name, 2) "=-?[0-9]+")) {
+        pair[1] = substr(locators_of[on[at]], RSTART, RLENGTH)
+        sub(/.*=/, "", pair[1])
+        return pair[1]
+    }
+    return -1
+}
+
+# Does the driver of the attachment match the spot? The last line for the spot counts, else the last one with a star.
+function matches(by, at,   n, value, star) {
+    for (n = 1; n <= match_count; n++) {
+        if (match_by[n] != by) continue
+        if (match_spot[n] == at) value = match_value[n]
+        else if (match_spot[n] == "*") star = match_value[n]
+    }
+    return value_of(value == "" ? star : value) > 0
 }
 
 function is_gone(x) { return x != "root" && !(x in live) }
