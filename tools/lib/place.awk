@@ -10,7 +10,10 @@
 
 function place_entries(   n) {
     split("", spot_of); split("", attr_of); split("", by); split("", found); split("", rows_for); split("", is_taken)
-    for (n = 1; n <= row_count; n++) rows_named[definition_of_row(n - 1)] = rows_named[definition_of_row(n - 1)] " " n - 1
+    for (n = 0; n < row_count; n++) {
+        rows_named[definition_of_row(n)] = rows_named[definition_of_row(n)] " " n
+        rows_on[row_on[n]]++
+    }
     for (n = 1; n <= entry_count; n++) place_entry(n)
 }
 
@@ -127,7 +130,8 @@ function suits(n, r, above_it,   count, pair, k, name, value) {
 function place_unconfigured(n, what, list,   count, word, k, cost, best, least, name, value) {
     count = split(list, word, " ")
     for (k = 1; k <= count; k++) {
-        cost = told_cost(word[k]) - (entry_text[n] == word[k] ? 0.5 : 0)
+        # Where the text leaves it open, it is the one that most rows are for.
+        cost = told_cost(word[k]) - (entry_text[n] == word[k] ? 0.5 : 0) - rows_on[word[k]] / 1000000
         if (best == "" || cost < least) { best = word[k]; least = cost }
     }
     if (best == "") {
