@@ -9,7 +9,7 @@
 PREFIX = /usr/local
 DESTDIR =
 PROGRAMS = devconf drvrun
-TOOLS = explain check lint summary draw compare machine trim json
+TOOLS = explain check lint summary draw compare machine trim json page
 
 root = "$(DESTDIR)$(PREFIX)"
 share = $(root)/share/devconf
@@ -29,11 +29,11 @@ install:
 	done
 	mkdir -p $(root)/bin $(root)/libexec/devconf $(share)/tools/lib $(share)/tools/completion $(share)/docs
 	mkdir -p $(root)/share/man/man1 $(root)/share/man/man5 $(bash) $(zsh)
-	cp tools/lib/*.awk tools/lib/*.sh $(share)/tools/lib
+	cp tools/lib/*.awk tools/lib/*.sh tools/lib/page.* $(share)/tools/lib
 	cp tools/completion/devconf.* $(share)/tools/completion
 	cp tools/forms $(share)/tools/forms
 	mkdir -p $(share)/tools/editors && cp -R tools/editors/vim tools/editors/emacs $(share)/tools/editors/
-	cp docs/*.md docs/*.svg $(share)/docs
+	cp docs/*.md docs/*.svg docs/*.png $(share)/docs
 	for tool in $(TOOLS); do \
 	    cp tools/$$tool $(share)/tools/ && chmod 755 $(share)/tools/$$tool && \
 	    ln -sf ../share/devconf/tools/$$tool $(root)/bin/devconf-$$tool && \

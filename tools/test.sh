@@ -387,6 +387,67 @@ try_vim() {
     [ "$said" = 'sub/conf:7:code 13' ] || differ vim "it goes to '$said'" ''
 }
 
+# The pages: they load nothing, and in a browser they show the tree of the output, the tree at each moment that `replay`
+# leads to, and what the keys are for.
+try_pages() {
+    tool=tools/page
+    before=$wrong
+    for output in small.boot hub.boot server.boot detach.play plug.play power.play check.play detach.tree; do
+        $shell "$tools/page" "$top/examples/outputs/$output" >"$work/$output.html" 2>"$work/said" \
+            || differ "$output" "page: $(cat "$work/said")" ''
+        ! grep -E '(src|href)="?(https?:)?//|@import|url\(|fetch\(|XMLHttp|import\(' "$work/$output.html" >"$work/said" \
+            || differ "$output" "the page loads something: $(cat "$work/said")" ''
+    done
+    browser=
+    for each in chromium chromium-browser google-chrome; do
+        browser=$(command -v "$each") && break
+    done
+    [ -n "$browser" ] || { ended '8 pages (there is no browser to look at them)'; return; }
+    for output in small.boot hub.boot server.boot detach.play plug.play power.play check.play detach.tree; do
+        awk 'begun { print } /^tree$/ { begun = 1 }' "$top/examples/outputs/$output" >"$work/wanted"
+        page_tree "$output.html" || { ended "8 pages (the browser does not start: $(tail -n 1 "$work/said"))"; return; }
+        cmp -s "$work/wanted" "$work/got" || differ "$output" 'the tree in the browser' "$work/wanted" "$work/got"
+    done
+    [ -z "$DEVCONF" ] || for event in 3 18 20 21 23 27; do
+        awk -v last="$event" '{ print } /^history/ { begun = NR } begun && NR == begun + last { exit }' \
+            "$top/examples/outputs/detach.play" >"$work/prefix"
+        echo tree >>"$work/prefix"
+        (cd "$top/examples/pc" && "$DEVCONF" replay GENERIC ../machines/pc "$work/prefix" ../hold.script ../detach.script) \
+            2>"$work/said" | sed 1d >"$work/wanted"
+        page_tree "detach.play.html#event=$event"
+        cmp -s "$work/wanted" "$work/got" || differ "event $event" 'the tree in the browser' "$work/wanted" "$work/got"
+    done
+    { echo '<script>'; cat "$tools/cases/page.keys.js"; echo '</script>'; } >>"$work/detach.play.html"
+    in_browser detach.play.html --virtual-time-budget=20000
+    said=$(sed -n 's/.*<title>\([^<]*\).*/\1/p' "$work/dom")
+    [ "$said" = 'all keys as wanted' ] || differ keys "$said" ''
+    ended "8 pages, their trees and keys in ${browser##*/}"
+}
+
+# The page as the browser has it, in the file dom.
+in_browser() {
+    page=$1
+    shift
+    "$browser" --headless --no-sandbox --disable-gpu --user-data-dir="$work/browser" "$@" --dump-dom "file://$work/$page" \
+        >"$work/dom" 2>"$work/said"
+    grep -q '<html' "$work/dom"
+}
+
+# The lines of the tree that the browser shows.
+page_tree() {
+    in_browser "$1" || return 1
+    tr '\n' ' ' <"$work/dom" | awk '{
+        count = split($0, item, /<li role="treeitem"/)
+        for (n = 2; n <= count; n++) {
+            match(item[n], /title="[^"]*"/)
+            line = substr(item[n], RSTART + 7, RLENGTH - 8)
+            match(item[n], /aria-level="[0-9]+"/)
+            for (level = substr(item[n], RSTART + 12, RLENGTH - 13) - 1; level; level--) line = "  " line
+            print line
+        }
+    }' >"$work/got"
+}
+
 # The syntax files of editors are those that tools/forms gives, and the editors that are here take them.
 try_editors() {
     tool=tools/editors
@@ -473,7 +534,7 @@ try_package() {
     ended 'the package installs into an empty root, runs there, and is removed again'
 }
 
-for each in explain check lint summary draw compare machine json; do try_tool "$each"; done
+for each in explain check lint summary draw compare machine json page; do try_tool "$each"; done
 if [ -n "${DEVCONF-}" ]; then
     try_tool trim
     try_kernels
@@ -489,6 +550,7 @@ try_completion
 try_ci
 try_editors
 try_pictures
+try_pages
 try_install
 try_package
 [ "$wrong" = 0 ]
