@@ -202,7 +202,13 @@ try_forms() {
         said=$(head -n 1 "$work/said")
         [ "$said" = '  The words have none of the forms.' ] || differ "$program" "explain: $said" ''
     done <"$work/forms"
-    ended "$(wc -l <"$work/forms" | tr -d ' ') forms"
+    # And each statement of the examples fits a form of tools/forms.
+    for conf in small.conf hub.conf disk.conf pc/GENERIC amd64/GENERIC; do
+        said=$(cd "$top/examples/$(dirname "$conf")" && awk -v top="$(basename "$conf")" -v forms="$tools/forms" -f "$tools/lib/common.awk" \
+            -f "$tools/lib/numbers.awk" -f "$tools/lib/config.awk" -f "$tools/lib/grammar.awk" -f "$tools/lib/fits.awk")
+        [ -z "$said" ] || differ "$conf" "$said" ''
+    done
+    ended "$(wc -l <"$work/forms" | tr -d ' ') forms, and the statements of the examples"
 }
 
 # On a terminal the launchers add words to a fault line, and nowhere else; the status is the program's.

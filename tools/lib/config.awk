@@ -21,7 +21,7 @@ function read_configuration(file) {
 
 # Takes the statements of a file. Its lines are kept by a number of their own, since files include others.
 function read_source(name, depth,   own, count, n, line, got, begun, opened) {
-    if (depth > 16 || loaded_count > 4096) return
+    if (depth > 16 || loaded_count > 4096 || name == "") return
     own = ++loaded_count
     loaded[own] = name
     while ((got = (getline line < name)) > 0) kept_line[own, ++count] = line
@@ -153,7 +153,7 @@ function place_of_statement(s) { return s_file[s] ":" s_line[s] }
 function base_of(word) { sub(/([0-9]+|\*|\?)$/, "", word); return word }
 
 # The interface attributes that the device offers, as " a b ", or those of the attribute.
-function offers_of(device) { split("", walked); return offered(needs["d:" device], " ") }
+function offers_of(device) { split("", walked); return offered(needs["d:" device] "", " ") }
 
 function offered(attrs, list,   word, n, count) {
     count = split(attrs, word, " ")
@@ -161,7 +161,7 @@ function offered(attrs, list,   word, n, count) {
         if (word[n] in walked) continue
         walked[word[n]] = 1
         if (word[n] in is_interface) list = list word[n] " "
-        list = offered(needs["a:" word[n]], list)
+        list = offered(needs["a:" word[n]] "", list)
     }
     return list
 }

@@ -124,7 +124,7 @@ function find_path(s,   path, beside) {
     return 1
 }
 
-function is_readable(name,   line, got) { got = (getline line < name); close(name); return got >= 0 }
+function is_readable(name,   line, got) { if (name == "") return 0; got = (getline line < name); close(name); return got >= 0 }
 
 function find_number(s,   t, word, unit) {
     word = word_at(s, 1)
@@ -232,7 +232,7 @@ function tell_string(word) {
 # What config(5) has and this language leaves out: the row of docs/CONFIGURATION.md of which the first code span begins so.
 function tell_other_language(s, word,   n) {
     if (word == "no" && put_left_out_of("no " piece[2])) n = 2
-    else if (word == "makeoptions" && is_name(piece[2]) && is_name(piece[3]) && put_left_out_of("makeoptions isa COPTS+=\"-O2\"")) n = 2
+    else if (word == "makeoptions" && is_name(word_at(s, 2)) && is_name(word_at(s, 3)) && put_left_out_of("makeoptions isa COPTS+=\"-O2\"")) n = 2
     else if (word !~ /^(no|options|makeoptions|config|machine|ident|file|maxusers|maxpartitions)$/ && put_left_out_of(word)) n = 1
     if (n) mark_word(s, n)
     return n
@@ -405,12 +405,12 @@ function find_locator(s, code,   device, attr, n, word, count, missing, names, t
         if (code == 14 && !(name in names)) {
             mark_token(t)
             if (attr == "root") say("at root there are no locators")
-            else say("it joins the interface attribute " attr " {" commas(locators[attr]) "}; not among them: " name meant(nearest(name, names)))
+            else say("it joins the interface attribute " attr " {" commas(locators[attr] "") "}; not among them: " name meant(nearest(name, names)))
             return 1
         }
         if (code == 16 && tok[t + 1] == "?" && (name in names) && names[name] !~ /=/) {
             mark_token(t + 1)
-            say("it joins the interface attribute " attr " {" commas(locators[attr]) "}, defined at " stands(is_interface[attr]))
+            say("it joins the interface attribute " attr " {" commas(locators[attr] "") "}, defined at " stands(is_interface[attr]))
             return 1
         }
         delete names[name]
@@ -419,7 +419,7 @@ function find_locator(s, code,   device, attr, n, word, count, missing, names, t
     for (n = 1; n <= count; n++)
         if (word[n] !~ /^\[/ && (name_of_locator(word[n]) in names)) missing = missing " " name_of_locator(word[n])
     if (missing == "") return 0
-    say("it joins the interface attribute " attr " {" commas(locators[attr]) "}; not written: " commas(missing))
+    say("it joins the interface attribute " attr " {" commas(locators[attr] "") "}; not written: " commas(missing))
     return 1
 }
 
@@ -465,7 +465,7 @@ function find_defined(s,   word, name, where, t, n, text) {
     if (stands(where) != stands(s)) say("`" name "` is defined first at " stands(where) ": " words_of(where))
     else for (n = 1; n < s; n++) if (path_of[n] == s_file[s]) text = text (text == "" ? "" : " and ") stands(n)
     if (text != "") say("the file " s_file[s] " is included at " text)
-    if (word == "attach" && tok[t - 1] != "with") say("an attachment without `with` has the name of its device: write `with " name "_" base_of(tok[s_first[s] + 3]) "`, say")
+    if (word == "attach" && tok[t - 1] != "with") say("an attachment without `with` has the name of its device: write `with " name "_" base_of(word_at(s, 4)) "`, say")
     return 1
 }
 

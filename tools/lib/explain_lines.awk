@@ -109,8 +109,8 @@ function find_in_machine(code,   n) {
 
 function find_machine_form(   n, name, seen) {
     if (misfits("machine")) {
-        if (piece[1] == "driver" && stop_at > 2) tell_policy(piece[stop_at])
-        if (piece[1] == "spot" && stop_at > 4) tell_mark(piece[stop_at])
+        if (piece[1] == "driver" && stop_at > 2) tell_policy(piece[stop_at] "")
+        if (piece[1] == "spot" && stop_at > 4) tell_mark(piece[stop_at] "")
         return
     }
     if (piece[1] != "spot") return
@@ -182,7 +182,7 @@ function find_machine_locator(   n, name, names, word, count) {
         if (!is_known && n < piece_count && index(piece[n + 1], "=")) return
         mark(line_number, piece_at[n], length(name))
         if (piece[4] == "root") say("at root there are no locators")
-        else if (is_known) say("the interface attribute " piece[4] " has " (count ? "the locators " commas(locators[piece[4]]) : "no locators") meant(nearest(name, names)))
+        else if (is_known) say("the interface attribute " piece[4] " has " (count ? "the locators " commas(locators[piece[4]] "") : "no locators") meant(nearest(name, names)))
         return
     }
 }

@@ -81,7 +81,7 @@ function fit(from, to, at,   last, after, again, next_at) {
             if (!next_at) return 0
             at = next_at
             if (again == ",") {
-                while (piece[at] == ",") { if (!(next_at = fit_part(from, last, at + 1))) return 0; at = next_at }
+                while (piece_of(at) == ",") { if (!(next_at = fit_part(from, last, at + 1))) return 0; at = next_at }
                 hope(at, "a comma")
             }
             if (again == " ") while (next_at = fit_part(from, last, at)) at = next_at
@@ -108,14 +108,17 @@ function fit_word(class, at,   choice, n, count) {
     if (class ~ /^[A-Z]/) return fit_class(class, at)
     count = split(class, choice, "|")
     for (n = 1; n <= count; n++) {
-        if (piece[at] == choice[n] && at <= piece_count) return at + 1
+        if (piece_of(at) == choice[n]) return at + 1
         hope(at, "`" choice[n] "`")
     }
     return 0
 }
 
+# The word at this place, or "" behind the last one. (Some awks do not bear an element that is not there as an argument.)
+function piece_of(at) { return at <= piece_count ? piece[at] "" : "" }
+
 function fit_class(class, at,   text) {
-    text = at <= piece_count ? piece[at] : ""
+    text = piece_of(at)
     if (class == "LOCATOR") return fit_locator(at, text)
     if (class == "CONDITION") return fit_either(at)
     if (fits_class(class, text)) return at + 1
@@ -174,30 +177,30 @@ function class_in_words(class) {
 # NAME, NAME = NUMBER or [NAME = NUMBER]
 function fit_locator(at, text) {
     if (text == "[") {
-        if (!fits_class("LOC", piece[at + 1])) { hope(at + 1, "a locator's name"); return 0 }
-        if (piece[at + 2] != "=") { hope(at + 2, "`=`"); return 0 }
-        if (!is_number(piece[at + 3])) { hope(at + 3, "a number"); return 0 }
-        if (piece[at + 4] != "]") { hope(at + 4, "`]`"); return 0 }
+        if (!fits_class("LOC", piece_of(at + 1))) { hope(at + 1, "a locator's name"); return 0 }
+        if (piece_of(at + 2) != "=") { hope(at + 2, "`=`"); return 0 }
+        if (!is_number(piece_of(at + 3))) { hope(at + 3, "a number"); return 0 }
+        if (piece_of(at + 4) != "]") { hope(at + 4, "`]`"); return 0 }
         return at + 5
     }
     if (!fits_class("LOC", text)) { hope(at, "a locator (as port or port = 0 or [port = -1])"); return 0 }
-    if (piece[at + 1] != "=") { hope(at + 1, "`=`"); return at + 1 }
-    if (!is_number(piece[at + 2])) { hope(at + 2, "a number"); return 0 }
+    if (piece_of(at + 1) != "=") { hope(at + 1, "`=`"); return at + 1 }
+    if (!is_number(piece_of(at + 2))) { hope(at + 2, "a number"); return 0 }
     return at + 3
 }
 
 # Names with `&`, `|`, `!` and parentheses, as far as they go.
 function fit_either(at) {
     for (;;) {
-        while (piece[at] == "!") at++
-        if (piece[at] == "(") {
+        while (piece_of(at) == "!") at++
+        if (piece_of(at) == "(") {
             at = fit_either(at + 1)
             if (!at) return 0
-            if (piece[at] != ")") { hope(at, "`&`, `|`, `)`"); return 0 }
+            if (piece_of(at) != ")") { hope(at, "`&`, `|`, `)`"); return 0 }
             at++
-        } else if (is_name(piece[at]) && piece[at] !~ /^(needs-flag|needs-count|compile-with)$/) at++
+        } else if (is_name(piece_of(at)) && piece_of(at) !~ /^(needs-flag|needs-count|compile-with)$/) at++
         else { hope(at, "a name, `!`, `(`"); return 0 }
-        if (piece[at] != "&" && piece[at] != "|") { hope(at, "`&`, `|`"); return at }
+        if (piece_of(at) != "&" && piece_of(at) != "|") { hope(at, "`&`, `|`"); return at }
         at++
     }
 }
