@@ -9,7 +9,7 @@
 PREFIX = /usr/local
 DESTDIR =
 PROGRAMS = devconf drvrun
-TOOLS = explain check lint summary draw compare machine trim json page
+TOOLS = explain check lint summary draw compare machine trim fleet json page
 
 root = "$(DESTDIR)$(PREFIX)"
 share = $(root)/share/devconf

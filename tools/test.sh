@@ -484,6 +484,49 @@ faces() {
     [ "$said" = "$4" ] || differ "emacs, $1" "$said where $4 is wanted $(cat "$work/said")" ''
 }
 
+# The commands of docs/TOUR.md that stand with their output, "$ .." at the beginning: they print what stands there.
+try_tour() {
+    tool=docs/TOUR.md
+    before=$wrong
+    awk -v work="$work" '
+    /^    \$ / { print substr($0, 7) >(work "/tour." ++count); printf "" >(work "/told." count); begun = 1; next }
+    /^    / { if (begun) print substr($0, 5) >(work "/told." count); next }
+    { begun = 0 }
+    END { print count + 0 }' "$top/docs/TOUR.md" >"$work/count"
+    count=$(cat "$work/count")
+    [ "$count" -ge 8 ] || differ commands "there are $count" ''
+    n=1
+    while [ "$n" -le "$count" ]; do
+        command=$(sed "s#\.\./\.\./devconf#$DEVCONF#g; s#\.\./\.\./tools/#$shell $tools/#g; s#/tmp/#$work/#g" "$work/tour.$n")
+        (cd "$top/examples/amd64" && eval "$command") 2>&1 | sed "s#$work/#/tmp/#g" >"$work/got"
+        cmp -s "$work/told.$n" "$work/got" || differ "$(cat "$work/tour.$n")" 'what it prints' "$work/told.$n" "$work/got"
+        n=$((n + 1))
+    done
+    ended "$count commands"
+}
+
+# A small fleet, shared out among calls: one summary, whatever the shares.
+try_fleet() {
+    tool=tools/fleet
+    before=$wrong
+    "$top/examples/fleet.sh" "$work/m" 40 || differ fleet.sh 'it ends with a fault' ''
+    (cd "$top/examples/amd64" && $shell "$tools/fleet" GENERIC "$work"/m/*) >"$work/lines" 2>"$work/said" && status=0 || status=$?
+    [ "$status" = 1 ] || differ fleet "status $status, $(cat "$work/said")" ''
+    for share in 0 1 2; do
+        (cd "$top/examples/amd64" && ls "$work"/m/* | awk "NR % 3 == $share" | xargs $shell "$tools/fleet" GENERIC) >"$work/lines.$share"
+    done
+    $shell "$tools/fleet" -s -a "$work/lines" >"$work/wanted"
+    sort "$work"/lines.? | $shell "$tools/fleet" -s -a >"$work/got"
+    [ "$(head -n 1 "$work/got")" = "$(head -n 1 "$work/wanted")" ] || differ shares "$(head -n 1 "$work/got")" ''
+    sort "$work/wanted" >"$work/wanted.sorted"
+    sort "$work/got" | cmp -s - "$work/wanted.sorted" || differ shares 'the summaries' "$work/wanted" "$work/got"
+    # Each spot without a driver is told as often as the histories have it.
+    told=$(grep -c '^lacks' "$work/lines")
+    said=$(for machine in "$work"/m/*; do (cd "$top/examples/amd64" && "$DEVCONF" boot GENERIC "$machine"); done | grep -c ': not configured$')
+    [ "$told" = "$said" ] || differ lines "$told spots without a driver, where the histories have $said" ''
+    ended '40 machines'
+}
+
 # Each device of the stored outputs stands in its picture.
 try_pictures() {
     tool=docs
@@ -538,8 +581,11 @@ for each in explain check lint summary draw compare machine json page; do try_to
 if [ -n "${DEVCONF-}" ]; then
     try_tool trim
     try_kernels
+    try_tool fleet
+    try_fleet
+    try_tour
 else
-    echo 'trim, examples/dmesg: not tried: devconf is not built'
+    echo 'trim, fleet, examples/dmesg, docs/TOUR.md: not tried: devconf is not built'
 fi
 try_examples
 try_words

@@ -28,9 +28,13 @@ BEGIN { tool = "fleet"; whole = ENVIRON["WHOLE"] }
     next
 }
 
-{ complain(FILENAME ":" FNR ": no line of tools/fleet"); }
+{
+    is_broken = 1
+    complain((FILENAME == "" || FILENAME == "-" ? "standard input" : FILENAME) ":" FNR ": no line of tools/fleet")
+}
 
 END {
+    if (is_broken) exit 2
     if (!machines && !refused_count) complain("there is no line of tools/fleet")
     print count_of(machines + 0, "machine") " with " count_of(devices + 0, "device") (refused_count ? ", and " refused_count " refused" : "")
     for (n = 1; n <= refused_count && (n <= 8 || whole); n++) print "    " refused[n]
