@@ -257,6 +257,11 @@ tell_warnings_on_terminal() {
     printf 'tables\nwarning conf:1 orphan\n' >"$work/played"
     on_terminal '' 'ioconf conf >out' "$(printf '1 warning\n    conf:1: nothing that is attached can carry it: ident "abc')" 0 2
     on_terminal CI=1 'ioconf conf >out' '' 0 2
+    printf 'options A=1\noptions A=2\n' >"$work/twice"
+    echo tables >"$work/played"
+    on_terminal '' 'ioconf twice >out' 'twice:2: `A=2` is a second value: at twice:1 it is `A=1`' 0 2
+    printf 'file a.c b\nfile a.c c\nfile a.c d\nfile a.c e\nfile a.c f\n' >"$work/many"
+    on_terminal '' 'ioconf many >out' '5 things may be meant otherwise: tools/lint many shows them' 0 2
     said=$(cd "$work" && $shell ./launcher --help) && status=0 || status=$?
     [ "$status $(echo "$said" | head -n 1)" = '0 usage:' ] || differ '--help' "status $status, $said" ''
 }

@@ -305,7 +305,7 @@ function tell_unknown(s, t, name, is_parent,   names, where, text) {
     if (name in is_attr || is_parent && name in is_device) {
         where = name in is_attr ? is_attr[name] : is_device[name]
         text = where == s ? "it is this very statement that defines `" name "`" : "`" name "` is defined only later, at " stands(where) ", and a name counts for what stands behind its definition"
-    } else if (word_at(s, 1) == "attach" && edits(name, "root", 1) == 1) text = "nothing defines `" name "`; did you mean `root`?"
+    } else if (word_at(s, 1) == "attach" && edits(name, "root") == 1) text = "nothing defines `" name "`; did you mean `root`?"
     else if (name in is_device && is_device[name] < s)
         text = "`" name "` is a device without braces; `device " name " {}` at " stands(is_device[name]) " would make it an attribute, too"
     else text = "nothing defines `" name "`" meant_at(nearest(name, names), names)

@@ -8,7 +8,8 @@ function nearest(name, names,   other, distance, best, limit, list, count, found
     for (other in names) {
         if (other == name || length(other) > length(name) + limit || length(name) > length(other) + limit) continue
         if (length(other) < 2 && tolower(other) != tolower(name)) continue
-        distance = edits(tolower(name), tolower(other), limit)
+        if (lacks(tolower(name), tolower(other)) > limit) continue
+        distance = edits(tolower(name), tolower(other))
         if (distance > limit && letters_of(name) == letters_of(other)) distance = limit
         if (distance > best || distance > limit) continue
         if (distance < best) { best = distance; count = 0 }
@@ -18,6 +19,12 @@ function nearest(name, names,   other, distance, best, limit, list, count, found
     sort(list, count)
     for (n = 1; n <= count && n <= 3; n++) text = text " " list[n]
     return text
+}
+
+# How many letters of the first word does the second one lack?
+function lacks(one, other,   n, count) {
+    for (n = length(one); n; n--) count += !index(other, substr(one, n, 1))
+    return count + 0
 }
 
 # The letters of a name in order.
@@ -33,8 +40,8 @@ function split_letters(text, list,   n) {
     return length(text)
 }
 
-# The number of edits between two words, or more than the limit.
-function edits(one, other,   limit, a, b, i, k, cost, above, row, least) {
+# The number of edits between two words.
+function edits(one, other,   a, b, i, k, cost, row, least) {
     a = split_letters(one, one_letter)
     b = split_letters(other, other_letter)
     for (k = 0; k <= b; k++) row[0, k] = k

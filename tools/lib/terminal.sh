@@ -1,7 +1,7 @@
 # How the launchers run a program for a person: `run_program PROGRAM WORD..` does not come back, and its status is the
 # program's. Where standard error is a terminal, a fault line is told in words below it by tools/explain, which stands at
-# $explain; so are warnings and callers that have not ended, by tools/summary beside it, and that `drvrun` may stand still. In a
-# pipe, with CI or with NO_EXPLAIN in the environment, the program simply takes the place of the launcher.
+# $explain; so are warnings and callers that have not ended, by tools/summary, what tools/lint finds, and that `drvrun` may stand
+# still. In a pipe, with CI or with NO_EXPLAIN in the environment, the program simply takes the place of the launcher.
 
 wants_words() {
     [ -t 2 ] && [ -z "${CI+set}${NO_EXPLAIN+set}" ] && [ -x "$explain" ]
@@ -61,26 +61,40 @@ beside() {
     if [ -e "${explain%/*}/../crates.txt" ]; then echo "tools/$1"; else echo "devconf-$1"; fi
 }
 
-# Below an output, tells its warnings and the callers that have not ended. The program is asked again for that, since its output goes
-# where it goes; so each file has to be one that can be read twice.
+# Below an output, tells its warnings, the callers that have not ended, and what tools/lint finds. The program is asked again for
+# that, since its output goes where it goes; so each file has to be one that can be read twice.
 tell_what_is_left() {
-    case $1 in ioconf | boot | play) ;; *) return 0 ;; esac
-    summary=${explain%/*}/summary
-    [ -x "$summary" ] || return 0
+    case $1 in ioconf | boot | play | files) ;; *) return 0 ;; esac
+    tools=${explain%/*}
     number=0
     for file; do
         number=$((number + 1))
         [ "$number" = 1 ] || [ -f "$file" ] || return 0
     done
-    "$program" "$@" 2>/dev/null </dev/null | {
-        if [ "$1" = play ]; then shift 4; else shift $#; fi
-        for file; do
-            shift
-            set -- "$@" -s "$file"
-        done
-        "$summary" -b "$@"
-    } >&2 2>/dev/null
+    case $1 in
+    play) "$program" "$@" 2>/dev/null </dev/null | tell_summary "$@" >&2 2>/dev/null ;;
+    *)
+        [ "$1" = files ] || "$program" "$@" 2>/dev/null </dev/null | "$tools/summary" -b >&2 2>/dev/null
+        shift
+        found=$("$tools/lint" "$@" 2>/dev/null)
+        case $(printf '%s\n' "$found" | grep -c .) in
+        0) ;;
+        [1-4]) printf '%s\n' "$found" >&2 ;;
+        *) echo "$(printf '%s\n' "$found" | grep -c .) things may be meant otherwise: $(beside lint) $* shows them" >&2 ;;
+        esac
+        ;;
+    esac
     return 0
+}
+
+# The summary of a play, with its scripts.
+tell_summary() {
+    shift 4
+    for file; do
+        shift
+        set -- "$@" -s "$file"
+    done
+    "$tools/summary" -b "$@"
 }
 
 # Writes the fault line, and on a terminal its words below it, and ends with this status.
