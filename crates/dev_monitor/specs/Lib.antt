@@ -1,0 +1,4 @@
+pub mod Notes
+pub mod Subscribers
+pub mod Parents
+pub mod Queues

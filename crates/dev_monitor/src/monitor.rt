@@ -1,0 +1,83 @@
+//! The monitor, and what it is told.
+ghost use Rattle.std.specs.Prelude.{◌≡◌, ◌≤◌, ◌<◌, ◌+◌, ◌∷◌, [], ◌^◌, OnErr, OnOk};
+
+use crate::news::{News, copies_of, news_of};
+use crate::note::Note;
+use crate::parents::{Parents, note_parent};
+use crate::queue::{Queue, place_of, put_all};
+use cf_types::Memory;
+use run_rules::Event;
+use std::alloc::Global;
+use std::collections::HashMap;
+
+/// Subscribers, and for each of them what it has not read yet of the devices that came and went.
+#[derive(Drop)]
+pub struct Monitor {
+    alloc: Global,
+    /// How many events were taken in.
+    taken: u64,
+    parents: Parents,
+    queues: Vec<Queue>,
+}
+
+impl Monitor {
+    ghost use Rattle.dev_monitor.specs.Queues.{Becomes, IsOf};
+    ghost use Rattle.dev_monitor.specs.Subscribers.{after_read, read_by, unwatched, with_events, with_reader};
+
+    /// No event was taken in, and nobody subscribed.
+    pub fn make(alloc: Global) -> Monitor
+        ensures { IsOf unwatched result }
+    {
+        Monitor {
+            alloc,
+            taken: 0,
+            parents: HashMap::new(alloc),
+            queues: Vec::new(alloc),
+        }
+    }
+
+    /// Subscribes a reader, for which the newest so many notes are kept, 1 to 64, of all that come from now on. Who subscribed before
+    /// goes on as it was. At `Memory` all is as before.
+    pub fn subscribe(&mut self, who: u8, capacity: u8) -> Result<(), Memory>
+        requires some { 1 ≤ capacity }
+        requires few { capacity ≤ 64 }
+        ensures ok { OnOk result (Becomes self.old (λ w. with_reader w who capacity) self.new) }
+        ensures err { OnErr result (Becomes self.old (λ w. w) self.new) }
+    {
+        if place_of(&self.queues, who).is_some() {
+            return Ok(());
+        }
+        let queue = Queue::make(self.alloc, who, capacity)?;
+        self.queues.push(queue)?;
+        Ok(())
+    }
+
+    /// Notes what a device's coming or going means to the parents and to all subscribers.
+    fn tell(&mut self, news: &News) -> Result<(), Memory> {
+        let copies = copies_of(self.alloc, news, self.queues.len())?;
+        note_parent(&mut self.parents, news)?;
+        put_all(&mut self.queues, copies, news);
+        Ok(())
+    }
+
+    /// Takes the next event in.
+    fn take_event(&mut self, event: &Event) -> Result<(), Memory>
+        requires { self.old.taken + 1 < 2 ^ 64 }
+    {
+        if let Some(news) = news_of(&self.parents, event.act.get())? {
+            self.tell(&news)?;
+        }
+        self.taken += 1;
+        Ok(())
+    }
+
+    /// What a subscriber reads next, or `None` where it has read all that was taken in since it subscribed.
+    pub fn read(&mut self, who: u8) -> Option<Note>
+        ensures { (w : Watched) → IsOf w self.old → (result ≡ read_by w who) × IsOf (after_read w who) self.new }
+    {
+        match place_of(&self.queues, who) {
+            Some(place) => self.queues[place].take(),
+            None => None,
+        }
+    }
+}
