@@ -1,0 +1,4 @@
+pub mod NoteLaws
+pub mod ParentLaws
+pub mod QueueLaws
+pub mod WatchLaws
