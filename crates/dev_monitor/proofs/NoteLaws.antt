@@ -56,13 +56,13 @@ pub told : (h : List Event) (e : Event) (x : News) → news_at h e ≡ Some x �
 told h e x some = notes_on h e ∙ ap (λ (o : Option News). notes h ++ option_to_list o) some
 
 -- there are no more notes than events
+one_more : (o : Option News) (xs : List News) (e : Event) (es : List Event) → length xs ≤ length es → length (cons_option o xs) ≤ length (e ∷ es)
+one_more None xs e es few = omega arith
+one_more (Some x) xs e es few = omega arith
+
 from_few : (before es : List Event) → length (notes_from before es) ≤ length es
 from_few before [] = omega arith
-from_few before (e ∷ es) = one_more (news_at before e) (notes_from (before ++ e ∷ []) es) (length es) (from_few (before ++ e ∷ []) es)
-  where
-    one_more : (o : Option News) (xs : List News) (n : ℕ) → length xs ≤ n → length (cons_option o xs) ≤ n + 1
-    one_more None xs n few = omega arith
-    one_more (Some x) xs n few = omega arith
+from_few before (e ∷ es) = one_more (news_at before e) (notes_from (before ++ e ∷ []) es) e es (from_few (before ++ e ∷ []) es)
 
 pub few_notes : (h : List Event) → length (notes h) ≤ length h
 few_notes h = let few = from_few [] h in omega (arith, ap (λ (ns : List News). length ns) (notes_are h))

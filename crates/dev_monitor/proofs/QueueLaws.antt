@@ -1,8 +1,8 @@
 -- What is kept for a subscriber, as notes come and are read.
-use Rattle.std.proofs.Common.{◌≡◌, ◌≤◌, ◌<◌, ◌^◌, ℕ, ◌+◌, ◌-◌, ◌==◌, Bool, true, false, cond, List, [], ◌∷◌, ◌++◌, length, drop, arith, refl, sym, ap, ◌∙◌, subst, Option, Some, None, max, min, length-drop, length-append}
+use Rattle.std.proofs.Common.{◌≡◌, ◌≤◌, ◌<◌, ◌^◌, ℕ, zero, suc, ◌+◌, ◌-◌, ◌==◌, Bool, true, false, cond, List, [], ◌∷◌, ◌++◌, length, map, take, drop, set, append_assoc, arith, refl, sym, ap, ◌∙◌, subst, Option, Some, None, max, min, length-drop, length-append}
 use Rattle.std.specs.Prelude.{nat_lt, option_map, slice_get, get_or}
 use Rattle.std.proofs.lemmas.Bool.Decides.{nat_tests}
-use Rattle.std.proofs.lemmas.List.{drop-append-le, drop-drop, drop_all, length_push, drop_more}
+use Rattle.std.proofs.lemmas.List.{drop-append-le, drop-drop, drop_all, drop_more, get_or_append_left, get_or_at, length-map, length-take-le, length_push, map-append, set_at, take_more}
 use Rattle.std.proofs.lemmas.Option.{slice_get-get_or}
 use Rattle.circular_buffer.specs.Buffer.{buffer, keep_last}
 use Rattle.dev_monitor.specs.declared.news.News.{News}
@@ -109,7 +109,7 @@ reads_if false ns r q end s =
         room = s.room;
         reached = omega arith;
         kept = ap (drop 1) s.kept ∙ drop-drop 1 p ns ∙ ap (λ (k : ℕ). drop k ns) (sym (kept_next r.next r.capacity m p refl));
-        lost = sym (kept_next r.next r.capacity m p refl);
+        lost = omega (arith, kept_next r.next r.capacity m p refl);
       };
     }
 
@@ -145,3 +145,32 @@ new_serves ns who capacity some = record {
   kept = sym (drop_all (max (length ns) (length ns - capacity)) ns (omega arith));
   lost = omega arith;
 }
+
+-- ---- one queue after the other
+
+pub put_more : (x : News) (all qs : List Queue) (i : ℕ) (q new : Queue) → i < length all → qs ≡ map (put_in x) (take i all) ++ drop i all → q ≡ get_or qs i q → new ≡ put_in x q
+    → set qs i new ≡ map (put_in x) (take (i + 1) all) ++ drop (i + 1) all
+put_more x all qs i q new within is at then =
+    let front : List Queue = map (put_in x) (take i all) in
+    let rest : List Queue = drop (i + 1) all in
+    let d : Queue = get_or all i q in
+    let many : length front ≡ i = length-map (take i all) (put_in x) ∙ length-take-le i all (omega arith) in
+    let split : qs ≡ front ++ d ∷ rest = is ∙ ap (λ (r : List Queue). front ++ r) (drop_more all i q within) in
+    let same : q ≡ d = at ∙ ap (λ (l : List Queue). get_or l i q) split ∙ get_or_at front d rest q i many in
+    ap (λ (l : List Queue). set l i new) split ∙ set_at front d rest new i many
+    ∙ ap (λ (y : Queue). front ++ y ∷ rest) (then ∙ ap (put_in x) same)
+    ∙ sym (append_assoc front (put_in x d ∷ []) rest)
+    ∙ ap (λ (l : List Queue). l ++ rest) (sym (ap (map (put_in x)) (take_more all i q within) ∙ map-append (put_in x) (take i all) (d ∷ [])))
+
+-- ---- copies, from the last one on
+
+abbrev AreAll : News → List News → Type 0
+AreAll x xs = (k : ℕ) (d : News) → k < length xs → get_or xs k d ≡ x
+
+pub last_copy : (x y : News) (xs all : List News) → all ≡ xs ++ y ∷ [] → AreAll x all → y ≡ x
+last_copy x y xs all is same =
+    sym (ap (λ (l : List News). get_or l (length xs) y) is ∙ get_or_at xs y [] y (length xs) refl) ∙ same (length xs) y (omega (arith, ap length is, length_push xs y))
+
+pub other_copies : (x y : News) (xs all : List News) → all ≡ xs ++ y ∷ [] → AreAll x all → AreAll x xs
+other_copies x y xs all is same k d within =
+    sym (ap (λ (l : List News). get_or l k d) is ∙ get_or_append_left xs (y ∷ []) d k within) ∙ same k d (omega (arith, ap length is, length_push xs y))

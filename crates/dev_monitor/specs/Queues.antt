@@ -1,11 +1,11 @@
 -- What is kept for subscribers, and what it has to do with the notes of the events that were taken in.
-use Rattle.std.specs.Prelude.{◌≡◌, ◌≤◌, ◌^◌, ℕ, ◌+◌, ◌-◌, ◌==◌, ⊤, min, nat_lt, if◌then◌else◌, List, [], ◌∷◌, ◌++◌, drop, find, length, Option, None, Some}
+use Rattle.std.specs.Prelude.{◌≡◌, ◌≤◌, ◌^◌, ℕ, ◌+◌, ◌-◌, ◌==◌, ⊤, min, nat_lt, if◌then◌else◌, List, [], ◌∷◌, ◌++◌, drop, find, length, map, Option, None, Some}
 use Rattle.circular_buffer.specs.Buffer.{buffer, keep_last}
 use Rattle.dev_monitor.specs.declared.monitor.Monitor.{Monitor}
 use Rattle.dev_monitor.specs.declared.news.News.{News}
 use Rattle.dev_monitor.specs.declared.queue.Queue.{Queue}
 use Rattle.dev_monitor.specs.Notes.{notes}
-use Rattle.dev_monitor.specs.Parents.{AreParents}
+use Rattle.dev_monitor.specs.Parents.{AreParents, KeepsParents, NotesParent}
 use Rattle.dev_monitor.specs.Subscribers.{Reader, Watched, first_kept}
 
 -- ---- one queue
@@ -55,3 +55,20 @@ pub record IsOf (w : Watched) (m : Monitor) : Type 0 where
 -- what a monitor stands for becomes this
 abbrev pub Becomes : Monitor → (Watched → Watched) → Monitor → Type 0
 Becomes old f new = (w : Watched) → IsOf w old → IsOf (f w) new
+
+-- ---- what calls do to a monitor
+
+-- the parents and the queues are as before
+pub record Keeps (old new : Monitor) : Type 0 where
+  pub parents : KeepsParents old.parents new.parents
+  pub queues : new.queues.items ≡ old.queues.items
+
+-- something was told: the parent was noted, and it was kept for all subscribers
+pub record Tells (x : News) (old new : Monitor) : Type 0 where
+  pub parents : NotesParent x old.parents new.parents
+  pub queues : new.queues.items ≡ map (put_in x) old.queues.items
+
+-- what an event tells was told
+abbrev pub TellsIf : Option News → Monitor → Monitor → Type 0
+TellsIf None old new = Keeps old new
+TellsIf (Some x) old new = Tells x old new

@@ -46,7 +46,7 @@ with_events w h = record w { events = w.events ++ h }
 -- a subscriber begins behind the notes that there are; who subscribed already goes on as before
 abbrev pub with_reader : Watched → ℕ → ℕ → Watched
 with_reader w who capacity =
-    record w { reader = λ k. option_or (w.reader k) (given (k == who) (record { capacity = capacity; next = length (notes w.events) })) }
+    record w { reader = λ k. option_or (w.reader k) (given (who == k) (record { capacity = capacity; next = length (notes w.events) })) }
 
 -- what a subscriber reads; who did not subscribe reads nothing
 abbrev pub read_by : Watched → ℕ → Option Note
@@ -54,4 +54,4 @@ read_by w who = option_and_then (read_of (notes w.events)) (w.reader who)
 
 -- and what is left then
 abbrev pub after_read : Watched → ℕ → Watched
-after_read w who = record w { reader = λ k. if k == who then option_map (read_on (notes w.events)) (w.reader k) else w.reader k }
+after_read w who = record w { reader = λ k. if who == k then option_map (read_on (notes w.events)) (w.reader k) else w.reader k }

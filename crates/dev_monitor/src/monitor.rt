@@ -21,8 +21,10 @@ pub struct Monitor {
 }
 
 impl Monitor {
-    ghost use Rattle.dev_monitor.specs.Queues.{Becomes, IsOf};
-    ghost use Rattle.dev_monitor.specs.Subscribers.{after_read, read_by, unwatched, with_events, with_reader};
+    ghost use Rattle.history_laws.specs.Always.{FreesLiving};
+    ghost use Rattle.dev_monitor.specs.Parents.{news_by};
+    ghost use Rattle.dev_monitor.specs.Queues.{Becomes, IsOf, Keeps, Tells, TellsIf};
+    ghost use Rattle.dev_monitor.specs.Subscribers.{Watched, after_read, read_by, unwatched, with_events, with_reader};
 
     /// No event was taken in, and nobody subscribed.
     pub fn make(alloc: Global) -> Monitor
@@ -53,27 +55,45 @@ impl Monitor {
     }
 
     /// Notes what a device's coming or going means to the parents and to all subscribers.
-    fn tell(&mut self, news: &News) -> Result<(), Memory> {
-        let copies = copies_of(self.alloc, news, self.queues.len())?;
-        note_parent(&mut self.parents, news)?;
-        put_all(&mut self.queues, copies, news);
+    fn tell(&mut self, news: News) -> Result<(), Memory>
+        ensures ok { OnOk result (Tells news self.old self.new) }
+        ensures err { OnErr result (Keeps self.old self.new) }
+        ensures taken { self.new.taken ≡ self.old.taken }
+    {
+        let copies = copies_of(self.alloc, &news, self.queues.len())?;
+        note_parent(&mut self.parents, &news)?;
+        put_all(&mut self.queues, copies, &news);
         Ok(())
+    }
+
+    /// Tells what an event tells, if it tells anything.
+    fn tell_event(&mut self, event: &Event) -> Result<(), Memory>
+        ensures ok { OnOk result (TellsIf (news_by self.old.parents event.now.act) self.old self.new) }
+        ensures err { OnErr result (Keeps self.old self.new) }
+        ensures taken { self.new.taken ≡ self.old.taken }
+    {
+        match news_of(&self.parents, event.act.get())? {
+            Some(news) => self.tell(news),
+            None => Ok(()),
+        }
     }
 
     /// Takes the next event in.
     fn take_event(&mut self, event: &Event) -> Result<(), Memory>
         requires { self.old.taken + 1 < 2 ^ 64 }
+        ensures ok { OnOk result ((w : Watched) → IsOf w self.old → FreesLiving w.events event.now → IsOf (with_events w (event.now ∷ [])) self.new) }
+        ensures err { OnErr result (Becomes self.old (λ w. w) self.new) }
+        ensures taken { OnOk result (self.new.taken ≡ self.old.taken + 1) }
     {
-        if let Some(news) = news_of(&self.parents, event.act.get())? {
-            self.tell(&news)?;
-        }
+        self.tell_event(event)?;
         self.taken += 1;
         Ok(())
     }
 
     /// What a subscriber reads next, or `None` where it has read all that was taken in since it subscribed.
     pub fn read(&mut self, who: u8) -> Option<Note>
-        ensures { (w : Watched) → IsOf w self.old → (result ≡ read_by w who) × IsOf (after_read w who) self.new }
+        ensures note { (w : Watched) → IsOf w self.old → result ≡ read_by w who }
+        ensures left { Becomes self.old (λ w. after_read w who) self.new }
     {
         match place_of(&self.queues, who) {
             Some(place) => self.queues[place].take(),

@@ -1,5 +1,5 @@
 //! The parents of the devices that live.
-ghost use Rattle.std.specs.Prelude.{OnErr, OnOk};
+ghost use Rattle.std.specs.Prelude.{OnErr, OnOk, true};
 ghost use Rattle.dev_monitor.specs.Parents.{KeepsParents, NotesParent};
 
 use crate::news::News;

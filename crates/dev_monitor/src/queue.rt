@@ -1,5 +1,7 @@
 //! What is kept for a subscriber.
 ghost use Rattle.std.specs.Prelude.{◌≡◌, ◌==◌, All, IfOk, length, map, option_map, position, slice_get};
+ghost use Rattle.dev_monitor.specs.Queues.{new_queue, put_in, taken_from};
+ghost use Rattle.dev_monitor.specs.Subscribers.{note_with};
 
 use crate::news::News;
 use crate::note::Note;
@@ -17,8 +19,6 @@ pub struct Queue {
 }
 
 impl Queue {
-    ghost use Rattle.dev_monitor.specs.Queues.{new_queue, put_in, taken_from};
-
     /// Nothing is kept for the subscriber yet.
     pub fn make(alloc: Global, who: u8, capacity: u8) -> Result<Queue, Memory>
         ensures { IfOk result (λ queue. queue ≡ new_queue who capacity) }
