@@ -81,7 +81,7 @@ first_of (x ∷ ns) (suc p) within = first_of ns p (omega arith)
 all_read : (n c m p : ℕ) → n ≡ m → p ≡ max n (m - c) → p ≡ m
 all_read n c m p e is = omega arith
 
-some_left : (n c m p : ℕ) → n ≤ m → (n ≡ m → ⊥) → 1 ≤ c → p ≡ max n (m - c) → p < m
+pub some_left : (n c m p : ℕ) → n ≤ m → (n ≡ m → ⊥) → 1 ≤ c → p ≡ max n (m - c) → p < m
 some_left n c m p low ne some is = omega (arith, ne)
 
 kept_next : (n c m p : ℕ) → p ≡ max n (m - c) → max (p + 1) (m - c) ≡ p + 1

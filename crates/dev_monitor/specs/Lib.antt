@@ -2,3 +2,4 @@ pub mod Notes
 pub mod Subscribers
 pub mod Parents
 pub mod Queues
+pub mod Calls

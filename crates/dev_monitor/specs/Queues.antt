@@ -1,12 +1,13 @@
 -- What is kept for subscribers, and what it has to do with the notes of the events that were taken in.
 use Rattle.std.specs.Prelude.{◌≡◌, ◌≤◌, ◌^◌, ℕ, ◌+◌, ◌-◌, ◌==◌, ⊤, min, nat_lt, if◌then◌else◌, List, [], ◌∷◌, ◌++◌, drop, find, length, map, Option, None, Some}
 use Rattle.circular_buffer.specs.Buffer.{buffer, keep_last}
+use Rattle.run_rules.specs.declared.event.Event.{Event}
 use Rattle.dev_monitor.specs.declared.monitor.Monitor.{Monitor}
 use Rattle.dev_monitor.specs.declared.news.News.{News}
 use Rattle.dev_monitor.specs.declared.queue.Queue.{Queue}
 use Rattle.dev_monitor.specs.Notes.{notes}
 use Rattle.dev_monitor.specs.Parents.{AreParents, KeepsParents, NotesParent}
-use Rattle.dev_monitor.specs.Subscribers.{Reader, Watched, first_kept}
+use Rattle.dev_monitor.specs.Subscribers.{IsFront, Reader, Watched, first_kept, with_all}
 
 -- ---- one queue
 
@@ -51,6 +52,20 @@ pub record IsOf (w : Watched) (m : Monitor) : Type 0 where
   pub taken : m.taken ≡ length w.events
   pub parents : AreParents w.events m.parents
   pub serves : (k : ℕ) → ServesIf (notes w.events) (w.reader k) (queue_of k m.queues.items)
+
+-- all of these events were taken in, if those that had been are the first of them
+abbrev pub TakesAll : Monitor → List Event → Monitor → Type 0
+TakesAll old h new = (w : Watched) → IsOf w old → IsFront w.events h → IsOf (with_all w h) new
+
+-- some of them were, at least those that had been
+pub record TakenSome (w : Watched) (h : List Event) (m : Monitor) : Type 0 where
+  pub events : List Event
+  pub before : IsFront w.events events
+  pub front : IsFront events h
+  pub stands : IsOf (with_all w events) m
+
+abbrev pub TakesSome : Monitor → List Event → Monitor → Type 0
+TakesSome old h new = (w : Watched) → IsOf w old → IsFront w.events h → TakenSome w h new
 
 -- what a monitor stands for becomes this
 abbrev pub Becomes : Monitor → (Watched → Watched) → Monitor → Type 0

@@ -43,6 +43,14 @@ unwatched = record { events = []; reader = λ k. None }
 abbrev pub with_events : Watched → List Event → Watched
 with_events w h = record w { events = w.events ++ h }
 
+-- these events are the first ones of those
+abbrev pub IsFront : List Event → List Event → Type 0
+IsFront g h = (rest : List Event) × (h ≡ g ++ rest)
+
+-- all of these were taken in
+abbrev pub with_all : Watched → List Event → Watched
+with_all w h = record w { events = h }
+
 -- a subscriber begins behind the notes that there are; who subscribed already goes on as before
 abbrev pub with_reader : Watched → ℕ → ℕ → Watched
 with_reader w who capacity =

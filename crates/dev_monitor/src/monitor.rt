@@ -6,6 +6,7 @@ use crate::note::Note;
 use crate::parents::{Parents, note_parent};
 use crate::queue::{Queue, place_of, put_all};
 use cf_types::Memory;
+use dev_board::Board;
 use run_rules::Event;
 use std::alloc::Global;
 use std::collections::HashMap;
@@ -23,7 +24,7 @@ pub struct Monitor {
 impl Monitor {
     ghost use Rattle.history_laws.specs.Always.{FreesLiving};
     ghost use Rattle.dev_monitor.specs.Parents.{news_by};
-    ghost use Rattle.dev_monitor.specs.Queues.{Becomes, IsOf, Keeps, Tells, TellsIf};
+    ghost use Rattle.dev_monitor.specs.Queues.{Becomes, IsOf, Keeps, TakesAll, TakesSome, Tells, TellsIf};
     ghost use Rattle.dev_monitor.specs.Subscribers.{Watched, after_read, read_by, unwatched, with_events, with_reader};
 
     /// No event was taken in, and nobody subscribed.
@@ -87,6 +88,19 @@ impl Monitor {
     {
         self.tell_event(event)?;
         self.taken += 1;
+        Ok(())
+    }
+
+    /// Takes in the events of a board that came since the last time, so that it costs what is new. Those that were taken in before have
+    /// to be the first of the board's. At `Memory` some of the new ones were taken in, and another call goes on behind them.
+    pub fn take_in(&mut self, board: &Board) -> Result<(), Memory>
+        ensures ok { OnOk result (TakesAll self.old board.now.events self.new) }
+        ensures err { OnErr result (TakesSome self.old board.now.events self.new) }
+    {
+        board.stands();
+        for place in self.taken..board.events() {
+            self.take_event(board.event(place))?;
+        }
         Ok(())
     }
 
