@@ -1,6 +1,7 @@
 -- The events of a board, one after the other.
-use Rattle.std.proofs.Common.{◌≡◌, ◌≤◌, ◌<◌, ℕ, ◌+◌, ◌-◌, zero, suc, List, [], ◌∷◌, ◌++◌, length, take, drop, append_assoc, arith, refl, sym, ap, ◌∙◌, subst, Some, get_or}
-use Rattle.std.specs.Prelude.{slice_get}
+use Rattle.std.proofs.Common.{◌≡◌, ◌≤◌, ◌<◌, ℕ, ◌+◌, ◌-◌, zero, suc, List, [], ◌∷◌, ◌++◌, length, take, drop, append_assoc, arith, refl, sym, ap, ◌∙◌, subst, Option, Some, None, get_or, true}
+use Rattle.std.specs.Prelude.{option_and_then, option_map, slice_get}
+use Rattle.std.specs.Option.{option_or}
 use Rattle.std.proofs.lemmas.List.{drop_more, take-append-drop, take_at, take_more}
 use Rattle.std.proofs.lemmas.Option.{get_or_from_slice_get, slice_get_within}
 use Rattle.run_rules.specs.declared.event.Event.{Event}
@@ -8,7 +9,18 @@ use Rattle.run_rules.specs.declared.world.Setup.{Setup}
 use Rattle.run_rules.specs.World.{World, opening}
 use Rattle.run_rules.specs.Run.{Run}
 use Rattle.run_sound.specs.Kept.{MayRun}
-use Rattle.history_laws.specs.Always.{FreesLiving}
+use Rattle.run_rules.specs.declared.world.Dev.{Dev}
+use Rattle.run_rules.specs.declared.world.Ref.{Ref}
+use Rattle.run_rules.specs.World.{device_named, parent_name}
+use Rattle.run_rules.specs.Run.{Step}
+use Rattle.run_rules.specs.Laws.{attached_below, freed_name, lives, parent_in}
+use Rattle.history_laws.specs.Always.{FreesLiving, OfEveryEvent}
+use Rattle.history_laws.specs.Counted.{IsTold}
+use Rattle.history_laws.proofs.Stands.{Stands}
+use Rattle.dev_monitor.specs.declared.news.News.{News}
+use Rattle.dev_monitor.specs.Notes.{TellsFreed, news_at, went}
+use Rattle.dev_monitor.specs.Notes as notes
+use Rattle.dev_monitor.proofs.ParentLaws.{Deals, attaches, deals, frees, neither}
 use Rattle.history_laws.proofs.Always.{of_event}
 use Rattle.history_laws.proofs.LawsHold.{frees_living}
 use Rattle.dev_monitor.specs.declared.monitor.Monitor.{Monitor}
@@ -35,6 +47,27 @@ living_at s es v i e may run at =
     let whole : Run (opening s) (take (i + 1) es ++ drop (i + 1) es) v = subst (λ (h : List Event). Run (opening s) h v) (sym (take-append-drop (i + 1) es)) run in
     let front = front_run (opening s) (take (i + 1) es) (drop (i + 1) es) v whole in
     of_event FreesLiving frees_living s (take i es) e front.after may (subst (λ (h : List Event). Run (opening s) h front.after) (up_to es i e at) front.run)
+
+-- ---- each event that frees a device tells so
+
+had_parent : (h : List Event) (s : Setup) (live : List Dev) (refs : List Ref) (sole x : List ℕ) (o : Option Dev) → IsTold h s live refs sole x o → lives h x ≡ true → (p : List ℕ) × (parent_in h x ≡ Some p)
+had_parent h s live refs sole x (Some d) told is = (parent_name s live d.parent, told.parent d refl)
+had_parent h s live refs sole x None told is = let gone = told.lives in absurd (cc)
+
+tells_by : (h : List Event) (e : Event) (x p : List ℕ) → Deals e.act → freed_name e.act ≡ Some x → parent_in h x ≡ Some p → news_at h e ≡ Some (went p x)
+tells_by h e x p (attaches d came gone) freed parent = absurd (cc)
+tells_by h e x p (neither came gone) freed parent = absurd (cc)
+tells_by h e x p (frees d came gone) freed parent =
+    ap (λ (o : Option (List ℕ)). option_or (option_map (notes.came (attached_below e.act)) o) (option_and_then (λ y. option_map (λ q. went q y) (parent_in h y)) (freed_name e.act))) came
+    ∙ ap (option_and_then (λ y. option_map (λ q. went q y) (parent_in h y))) freed ∙ ap (option_map (λ q. went q x)) parent
+
+tells_freed : (h : List Event) (w v : World) (e : Event) → Stands h w → Step w e.caller e v → TellsFreed h e
+tells_freed h w v e at step x freed =
+    let had = had_parent h w.setup w.live w.refs w.sole x (device_named w.setup w.live x) (at.counted.names x) (frees_living h w v e at step x freed) in
+    (had.0, had.1, tells_by h e x had.0 (deals e.act) freed had.1)
+
+pub each_told : OfEveryEvent TellsFreed
+each_told = of_event TellsFreed tells_freed
 
 -- ---- as events are taken in
 

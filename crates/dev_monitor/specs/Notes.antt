@@ -1,5 +1,5 @@
 -- What a history tells those who watch it: the events `device-attach` and `device-detach` of drvctl(4).
-use Rattle.std.specs.Prelude.{ℕ, true, false, List, take, filter_map, Option, option_map, option_and_then}
+use Rattle.std.specs.Prelude.{◌≡◌, ℕ, true, false, List, take, filter_map, Option, Some, option_map, option_and_then}
 use Rattle.std.specs.List.{enumerate_from}
 use Rattle.std.specs.Option.{option_or}
 use Rattle.run_rules.specs.declared.event.Event.{Event}
@@ -23,3 +23,7 @@ news_at before e =
 -- all that a history tells, in its order
 unfoldable pub notes : List Event → List News
 notes h = filter_map (λ at. news_at (take at.0 h) at.1) (enumerate_from 0 h)
+
+-- each event that frees a device tells that it went, from below the parent that it had
+abbrev pub TellsFreed : List Event → Event → Type 0
+TellsFreed h e = (x : List ℕ) → freed_name e.act ≡ Some x → (parent : List ℕ) × (parent_in h x ≡ Some parent) × (news_at h e ≡ Some (went parent x))

@@ -8,6 +8,6 @@ mod note;
 mod parents;
 mod queue;
 
-pub use laws::reads_in_order;
+pub use laws::{each_detach_told, reads_in_order};
 pub use monitor::Monitor;
 pub use note::Note;
