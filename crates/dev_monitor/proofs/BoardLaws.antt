@@ -1,8 +1,8 @@
 -- The events of a board, one after the other.
-use Rattle.std.proofs.Common.{◌≡◌, ◌≤◌, ◌<◌, ℕ, ◌+◌, ◌-◌, zero, suc, List, [], ◌∷◌, ◌++◌, length, take, drop, append_assoc, arith, refl, sym, ap, ◌∙◌, subst, Option, Some, None, get_or, true}
+use Rattle.std.proofs.Common.{◌≡◌, ◌≤◌, ℕ, ◌+◌, ◌-◌, zero, suc, List, [], ◌∷◌, ◌++◌, length, take, drop, arith, refl, sym, ap, ◌∙◌, subst, Option, Some, None, true}
 use Rattle.std.specs.Prelude.{option_and_then, option_map, slice_get}
 use Rattle.std.specs.Option.{option_or}
-use Rattle.std.proofs.lemmas.List.{drop_more, take-append-drop, take_at, take_more}
+use Rattle.std.proofs.lemmas.List.{take-append-drop, take_at, take_more}
 use Rattle.std.proofs.lemmas.Option.{get_or_from_slice_get, slice_get_within}
 use Rattle.run_rules.specs.declared.event.Event.{Event}
 use Rattle.run_rules.specs.declared.world.Setup.{Setup}
@@ -17,7 +17,6 @@ use Rattle.run_rules.specs.Laws.{attached_below, freed_name, lives, parent_in}
 use Rattle.history_laws.specs.Always.{FreesLiving, OfEveryEvent}
 use Rattle.history_laws.specs.Counted.{IsTold}
 use Rattle.history_laws.proofs.Stands.{Stands}
-use Rattle.dev_monitor.specs.declared.news.News.{News}
 use Rattle.dev_monitor.specs.Notes.{TellsFreed, news_at, went}
 use Rattle.dev_monitor.specs.Notes as notes
 use Rattle.dev_monitor.proofs.ParentLaws.{Deals, attaches, deals, frees, neither}

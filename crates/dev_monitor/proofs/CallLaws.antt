@@ -7,7 +7,7 @@ use Rattle.std.proofs.lemmas.List.{append-nil}
 use Rattle.run_rules.specs.declared.event.Event.{Event}
 use Rattle.dev_monitor.specs.declared.news.News.{News}
 use Rattle.dev_monitor.specs.declared.note.Note.{Note}
-use Rattle.dev_monitor.specs.Calls.{Call, Follows, HasReader, after_call, events_after, notes_for, reads, subscribes, takes, told_in}
+use Rattle.dev_monitor.specs.Calls.{Call, Follows, HasReader, events_after, notes_for, reads, subscribes, takes}
 use Rattle.dev_monitor.specs.Notes.{notes}
 use Rattle.dev_monitor.specs.Subscribers.{Reader, Watched, after_read, first_kept, note_with, read_of, read_on, with_events, with_reader}
 use Rattle.dev_monitor.proofs.NoteLaws.{notes_from, notes_more}

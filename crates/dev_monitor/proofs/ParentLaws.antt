@@ -7,7 +7,6 @@ use Rattle.run_rules.specs.declared.event.Event.{Event}
 use Rattle.run_rules.specs.declared.event.Act.{Act}
 use Rattle.run_rules.specs.declared.event.Act.TheVariants as act
 use Rattle.run_rules.specs.declared.event.Got.{Got}
-use Rattle.run_rules.specs.declared.event.Shown.{Shown}
 use Rattle.run_rules.specs.Laws.{attached_below, attached_name, freed_name, is_name, lives, parent_in}
 use Rattle.history_laws.proofs.Grown.{lives_on, parent_on}
 use Rattle.history_laws.specs.Always.{FreesLiving}

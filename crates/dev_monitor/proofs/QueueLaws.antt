@@ -1,9 +1,8 @@
 -- What is kept for a subscriber, as notes come and are read.
-use Rattle.std.proofs.Common.{◌≡◌, ◌≤◌, ◌<◌, ◌^◌, ℕ, zero, suc, ◌+◌, ◌-◌, ◌==◌, Bool, true, false, cond, List, [], ◌∷◌, ◌++◌, length, map, take, drop, set, append_assoc, arith, refl, sym, ap, ◌∙◌, subst, Option, Some, None, max, min, length-drop, length-append}
+use Rattle.std.proofs.Common.{◌≡◌, ◌≤◌, ◌<◌, ◌^◌, ℕ, zero, suc, ◌+◌, ◌-◌, ◌==◌, Bool, true, false, cond, List, [], ◌∷◌, ◌++◌, length, map, take, drop, set, append_assoc, arith, refl, sym, ap, ◌∙◌, subst, Option, None, max, min, length-drop}
 use Rattle.std.specs.Prelude.{nat_lt, option_map, slice_get, get_or}
 use Rattle.std.proofs.lemmas.Bool.Decides.{nat_tests}
 use Rattle.std.proofs.lemmas.List.{drop-append-le, drop-drop, drop_all, drop_more, get_or_append_left, get_or_at, length-map, length-take-le, length_push, map-append, set_at, take_more}
-use Rattle.std.proofs.lemmas.Option.{slice_get-get_or}
 use Rattle.circular_buffer.specs.Buffer.{buffer, keep_last}
 use Rattle.dev_monitor.specs.declared.news.News.{News}
 use Rattle.dev_monitor.specs.declared.note.Note.{Note}

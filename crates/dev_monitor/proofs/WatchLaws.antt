@@ -1,6 +1,6 @@
 -- What calls mean for all subscribers.
 use Rattle.std.proofs.Common.{◌≡◌, ◌≤◌, ◌<◌, ◌^◌, ℕ, ◌+◌, ◌-◌, ◌==◌, Bool, true, false, cond, List, [], ◌∷◌, ◌++◌, length, map, drop, set, arith, refl, sym, ap, ◌∙◌, subst, Option, Some, None, Result, Ok, Err, OnErr, Global, bytes_eq}
-use Rattle.std.specs.Prelude.{find, get_or, is_some, option_map, option_and_then, position, slice_get, nat_lt}
+use Rattle.std.specs.Prelude.{get_or, is_some, option_map, option_and_then, position, slice_get, nat_lt}
 use Rattle.std.specs.HashMap.{HashMap}
 use Rattle.std.specs.Map.{lookup}
 use Rattle.std.specs.declared.vec.Vec.{Vec}
@@ -22,11 +22,11 @@ use Rattle.dev_monitor.specs.Notes.{news_at, notes}
 use Rattle.circular_buffer.specs.Buffer.{buffer}
 use Rattle.run_rules.specs.Laws.{lives}
 use Rattle.dev_monitor.specs.Parents.{AreParents, KeepsParents, NotesParent, living_parent, news_by}
-use Rattle.dev_monitor.specs.Queues.{IsOf, Keeps, Serves, ServesIf, Tells, TellsIf, new_queue, put_in, queue_of, taken_from}
+use Rattle.dev_monitor.specs.Queues.{IsOf, Keeps, Serves, ServesIf, TellsIf, new_queue, put_in, queue_of, taken_from}
 use Rattle.dev_monitor.specs.Subscribers.{Reader, Watched, after_read, note_with, read_by, read_of, read_on, unwatched, with_events, with_reader}
 use Rattle.dev_monitor.proofs.NoteLaws.{few_notes, quiet, told}
 use Rattle.dev_monitor.proofs.ParentLaws.{kept_parents, noted_parents, told_by}
-use Rattle.dev_monitor.proofs.QueueLaws.{Reads, new_serves, put_serves, reads}
+use Rattle.dev_monitor.proofs.QueueLaws.{new_serves, put_serves, reads}
 
 -- ---- an event is taken in
 

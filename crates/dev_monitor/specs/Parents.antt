@@ -1,5 +1,5 @@
 -- The parents of the devices that live, by the names that are printed.
-use Rattle.std.specs.Prelude.{◌≡◌, ℕ, true, false, if◌then◌else◌, List, Option, None, Some, option_map, option_and_then, bytes_eq}
+use Rattle.std.specs.Prelude.{◌≡◌, ℕ, if◌then◌else◌, List, Option, None, Some, option_map, option_and_then, bytes_eq}
 use Rattle.std.specs.HashMap.{HashMap, get_by}
 use Rattle.std.specs.Option.{option_or}
 use Rattle.run_rules.specs.declared.event.Act.{Act}

@@ -1,5 +1,5 @@
 -- What subscribers read of a history: one list of notes, and for each subscriber one place in it.
-use Rattle.std.specs.Prelude.{◌≡◌, ◌≤◌, ℕ, ◌+◌, ◌-◌, ◌==◌, max, if◌then◌else◌, List, [], ◌∷◌, ◌++◌, length, slice_get, Option, None, Some, option_map, option_and_then, ⊤}
+use Rattle.std.specs.Prelude.{◌≡◌, ℕ, ◌+◌, ◌-◌, ◌==◌, max, if◌then◌else◌, List, [], ◌++◌, length, slice_get, Option, None, option_map, option_and_then}
 use Rattle.std.specs.Option.{option_or}
 use Rattle.config_rules.specs.Form.{given}
 use Rattle.run_rules.specs.declared.event.Event.{Event}

@@ -1,4 +1,4 @@
-use Rattle.std.proofs.Common.{◌≡◌, ◌∙◌, ap, arith, length}
+use Rattle.std.proofs.Common.{◌∙◌, ap, arith, length}
 use Rattle.std.proofs.lemmas.List.{length_push}
 use Rattle.dev_monitor.specs.declared.news.News.{News}
 use Rattle.dev_monitor.specs.Queues.{put_in}

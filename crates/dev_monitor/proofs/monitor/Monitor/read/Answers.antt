@@ -1,10 +1,8 @@
-use Rattle.std.proofs.Common.{◌≡◌, ◌==◌, ◌∙◌, List, Option, Some, None, ap, refl, sym, set, ℕ}
+use Rattle.std.proofs.Common.{◌==◌, ◌∙◌, List, ap, refl, sym, set}
 use Rattle.std.specs.Prelude.{position}
 use Rattle.std.specs.Vec.{with_item}
 use Rattle.dev_monitor.specs.declared.queue.Queue.{Queue}
-use Rattle.dev_monitor.specs.Queues.{IsOf}
-use Rattle.dev_monitor.specs.Subscribers.{Watched}
-use Rattle.dev_monitor.proofs.WatchLaws.{ReadsNext, read_none, read_one}
+use Rattle.dev_monitor.proofs.WatchLaws.{read_none, read_one}
 use Rattle.dev_monitor.proofs.monitor.Monitor.read.Goals as goal
 
 pub returns-in-Some-clause-note : goal.returns-in-Some-clause-note

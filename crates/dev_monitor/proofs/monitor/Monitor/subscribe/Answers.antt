@@ -1,4 +1,4 @@
-use Rattle.std.proofs.Common.{◌≡◌, ◌==◌, ◌∷◌, [], ◌++◌, ◌∙◌, List, ap, refl, sym}
+use Rattle.std.proofs.Common.{◌==◌, ◌∷◌, [], ◌++◌, ◌∙◌, List, ap, refl, sym}
 use Rattle.std.specs.Prelude.{position}
 use Rattle.dev_monitor.specs.declared.queue.Queue.{Queue}
 use Rattle.dev_monitor.proofs.WatchLaws.{subscribed_there, subscribes}

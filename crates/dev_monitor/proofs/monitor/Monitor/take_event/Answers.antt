@@ -1,6 +1,5 @@
-use Rattle.std.proofs.Common.{◌≡◌, ◌+◌, ℕ, ap, refl, arith}
-use Rattle.dev_monitor.specs.Queues.{Becomes, IsOf}
-use Rattle.dev_monitor.specs.Subscribers.{Watched}
+use Rattle.std.proofs.Common.{◌+◌, ℕ, ap, refl, arith}
+use Rattle.dev_monitor.specs.Queues.{Becomes}
 use Rattle.dev_monitor.proofs.WatchLaws.{on_err, stays, takes_event}
 use Rattle.dev_monitor.proofs.monitor.Monitor.take_event.Goals as goal
 

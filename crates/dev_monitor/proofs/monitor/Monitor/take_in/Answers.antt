@@ -1,8 +1,8 @@
-use Rattle.std.proofs.Common.{◌≡◌, ◌+◌, ◌∙◌, ℕ, List, ap, refl, subst, take, arith}
+use Rattle.std.proofs.Common.{◌+◌, ◌∙◌, ℕ, List, ap, refl, subst, take, arith}
 use Rattle.std.proofs.lemmas.List.{take_all}
 use Rattle.run_rules.specs.declared.event.Event.{Event}
 use Rattle.dev_monitor.specs.Queues.{IsOf, TakesSome}
-use Rattle.dev_monitor.specs.Subscribers.{Watched, with_all}
+use Rattle.dev_monitor.specs.Subscribers.{with_all}
 use Rattle.dev_monitor.proofs.BoardLaws.{at_first, living_at, one_further, stopped_at}
 use Rattle.dev_monitor.proofs.WatchLaws.{on_err}
 use Rattle.dev_monitor.proofs.monitor.Monitor.take_in.Goals as goal
