@@ -37,7 +37,7 @@ function add_item(text) { item[++item_count] = text }
 # One item a line, 8 of them or all.
 function put_lines(   n) {
     for (n = 1; n <= item_count; n++) {
-        if (n > 8 && !whole) { print "    and " (item_count - 8) " more; -a tells all"; return }
+        if (n > 8 && !whole) { print "    and " (item_count - 8) " more; -a shows all"; return }
         print "    " item[n]
     }
 }
@@ -48,7 +48,7 @@ function put_list(between,   n, line, lines) {
         if (line != "" && length(line between item[n]) > 74) {
             print "    " line (between == " " ? "" : ",")
             line = ""
-            if (++lines == 6 && !whole) { print "    and " (item_count - n + 1) " more; -a tells all"; return }
+            if (++lines == 6 && !whole) { print "    and " (item_count - n + 1) " more; -a shows all"; return }
         }
         line = line == "" ? item[n] : line between item[n]
     }
