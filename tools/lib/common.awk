@@ -42,15 +42,15 @@ function put_lines(   n) {
     }
 }
 
-# As many items a line as there is room for, 6 lines of them or all, with this mark between them.
-function put_list(mark,   n, line, lines) {
+# As many items a line as there is room for, 6 lines of them or all, with this text between them.
+function put_list(between,   n, line, lines) {
     for (n = 1; n <= item_count; n++) {
-        if (line != "" && length(line mark item[n]) > 74) {
-            print "    " line (mark == " " ? "" : ",")
+        if (line != "" && length(line between item[n]) > 74) {
+            print "    " line (between == " " ? "" : ",")
             line = ""
             if (++lines == 6 && !whole) { print "    and " (item_count - n + 1) " more; -a tells all"; return }
         }
-        line = line == "" ? item[n] : line mark item[n]
+        line = line == "" ? item[n] : line between item[n]
     }
     if (line != "") print "    " line
 }

@@ -23,8 +23,10 @@ BEGIN { tool = "fleet"; whole = ENVIRON["WHOLE"] }
         lacking[what]++
     }
     if (!(name in lacks)) { lacks[name] = 1; lacking_machines++ }
+    # The least place, so that it does not matter in which order the calls ended.
     if (!(what in places)) places[what] = place
     else if (whole) places[what] = places[what] "\n" place
+    else if (place "" < places[what] "") places[what] = place
     next
 }
 

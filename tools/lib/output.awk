@@ -17,7 +17,7 @@
 #   driverless[S]           no driver took the spot when it was searched last
 #   plugged[S], pulled[S]   it was plugged, or pulled out, last
 #   plugged_at[S], search_at[X]    the lines at which it was plugged and at which a search below the device began last
-#   shown[S]                whether a finaliser showed it
+#   shown[S]                whether a finalizer showed it
 #   caller_count, caller[N], ended[K], last_line[K], last_number[K]    the callers with lines, and the last of each
 #   doing[K], target[K]     the command that it has not ended yet: transfer, detach, suspend or resume; of which device
 #   searches[X, K]          how many searches below X the caller K has not ended, put off or not

@@ -201,7 +201,7 @@ function reason_for(name,   x, by) {
     if (mark[name, "absent"] && !(name in plugged)) return "absent, and never plugged"
     by = x == "root" ? "" : row_by[row[x]]
     if (mark[name, "late"] && !(name in shown))
-        return "late, and not shown" (by != "" && !policy[by, "final"] ? " (the driver of " x " has no finaliser)" : "")
+        return "late, and not shown" (by != "" && !policy[by, "final"] ? " (the driver of " x " has no finalizer)" : "")
     if (is_searched(x)) return "the search below " x " is not over"
     if ((name in plugged) && plugged_at[name] > search_at[x])
         return "plugged when the search below " x " was over, and no rescan came"

@@ -140,7 +140,7 @@ function put_sections(   n, k, count, name) {
     count = split(order, name, " ")
     for (n = 1; n <= count; n++) {
         if (!(name[n] in is_there)) continue
-        print name[n] == "history" ? "history 2" : name[n] == "live" ? "live 1" : name[n]
+        print (name[n] == "history" ? "history 2" : name[n] == "live" ? "live 1" : name[n])
         for (k = 1; k <= kept_count[name[n]]; k++) print kept[name[n], k]
     }
 }
