@@ -1,9 +1,9 @@
 -- The lines of a watch file, or the first bad line and its code. The format is this project's own.
-use Rattle.std.specs.Prelude.{◌≡◌, ◌≤◌, ℕ, Bool, true, false, not, ◌&&◌, ◌==◌, nat_le, if◌then◌else◌, List, [], ◌∷◌, length, take, filter_map, bytes_eq, codes, Option, Some, None, option_map, Result, Ok, Err, ℤ, pos, int_le, ⊤}
+use Rattle.std.specs.Prelude.{◌≤◌, ℕ, Bool, false, not, ◌&&◌, ◌==◌, nat_le, if◌then◌else◌, List, [], ◌∷◌, length, take, filter_map, bytes_eq, codes, Option, Some, None, option_map, Result, Ok, Err, ℤ, pos, int_le, ⊤}
 use Rattle.std.specs.List.{enumerate_from, list_any}
 use Rattle.std.specs.Option.{option_map_or}
 use Rattle.std.specs.Result.{result_ok}
-use Rattle.cf_types.specs.declared.code.script.TheConstants.{NO_COMMAND, OUT_OF_RANGE, WRONG_WORDS}
+use Rattle.cf_types.specs.declared.code.script.TheConstants.{NO_COMMAND, WRONG_WORDS}
 use Rattle.config_rules.specs.Cut.{lines_of, ◌>>=◌}
 use Rattle.config_rules.specs.Form.{given, ◌or◌}
 use Rattle.config_rules.specs.MachineText.{has_bad_byte, words_of}
