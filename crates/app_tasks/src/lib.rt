@@ -13,4 +13,4 @@ pub use boot::booted;
 pub use load::loaded;
 pub use play::played;
 pub use replay::retold;
-pub use watch::{Watched, watched};
+pub use watch::{WatchedRun, watched};

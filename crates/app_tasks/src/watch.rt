@@ -3,7 +3,7 @@ ghost use Rattle.std.specs.Prelude.{◌≡◌, ◌≤◌, ◌++◌, All, IfOk, N
 ghost use Rattle.config_rules.specs.Formed.{FittingMachine, FormedTables};
 ghost use Rattle.config_rules.specs.ScriptText.{FormedScript};
 ghost use Rattle.dev_monitor.specs.Queues.{IsOf};
-ghost use Rattle.dev_monitor.specs.Subscribers.{Watched as Subscribed, unwatched};
+ghost use Rattle.dev_monitor.specs.Subscribers.{Watched, unwatched};
 ghost use Rattle.run_rules.specs.World.{opening, setup_of};
 ghost use Rattle.script_text.specs.WatchText.{FormedWatchLine};
 ghost use Rattle.app_tasks.specs.Watched.{IsWatchOf, after_readings, readings};
@@ -27,7 +27,7 @@ pub struct Watch {
 
 /// A run that was watched, and what was read, in its order.
 #[derive(Drop)]
-pub struct Watched {
+pub struct WatchedRun {
     pub board: Board,
     pub readings: List<Reading>,
 }
@@ -39,8 +39,8 @@ fn read_notes(
     who: u8,
     most: u8,
 ) -> Result<(), Memory>
-    ensures told { OnOk result ((g : Subscribed) → IsOf g monitor.old → told.new ≡ told.old ++ readings most who g) }
-    ensures left { OnOk result ((g : Subscribed) → IsOf g monitor.old → IsOf (after_readings most who g) monitor.new) }
+    ensures told { OnOk result ((g : Watched) → IsOf g monitor.old → told.new ≡ told.old ++ readings most who g) }
+    ensures left { OnOk result ((g : Watched) → IsOf g monitor.old → IsOf (after_readings most who g) monitor.new) }
 {
     for _ in 0..most {
         let note = monitor.read(who);
@@ -143,7 +143,7 @@ pub fn watched(
     machine: Machine,
     scripts: List<Script>,
     lines: &[WatchLine],
-) -> Result<Watched, Memory>
+) -> Result<WatchedRun, Memory>
     requires formed { FormedTables tables }
     requires fits { FittingMachine tables machine }
     requires few_scripts { length scripts ≤ 16 }
@@ -163,7 +163,7 @@ pub fn watched(
             drop(slots);
             drop(monitor);
             board.stands();
-            Ok(Watched { board, readings })
+            Ok(WatchedRun { board, readings })
         }
         Err(stop) => {
             drop(watch);
