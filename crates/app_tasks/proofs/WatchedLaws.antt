@@ -1,11 +1,14 @@
 -- What the lines of a watch file do to a run that is watched.
 use Rattle.std.proofs.Common.{◌≡◌, ◌≤◌, ◌<◌, ℕ, zero, suc, ◌+◌, ◌-◌, Bool, true, false, cond, List, [], ◌∷◌, ◌++◌, length, append_assoc, append-nil, arith, refl, sym, ap, ◌∙◌, subst, Option, Some, None}
-use Rattle.std.specs.Prelude.{is_none, is_some}
+use Rattle.std.specs.Prelude.{is_some, replicate, OnOk, Result, Ok, Err, ⊤}
 use Rattle.cf_types.specs.declared.machine.Command.{Command}
 use Rattle.dev_board.specs.Booting.{Boots}
 use Rattle.dev_board.specs.Playing.{Plays}
 use Rattle.dev_board.specs.Shown.{Shown}
+use Rattle.dev_board.proofs.Began.{opening_setup}
+use Rattle.dev_board.proofs.OpenSlots.{slots_opening}
 use Rattle.dev_board.proofs.TurnLaws.{plays_setup}
+use Rattle.ref_ledger.specs.declared.state.SlotState.TheVariants.{Free}
 use Rattle.deed_effect.specs.Agreement.{slots_of}
 use Rattle.dev_monitor.specs.Queues.{Becomes, IsOf, TakesAll}
 use Rattle.dev_monitor.specs.Subscribers.{IsFront, Watched, after_read, read_by, unwatched, with_all, with_events, with_reader}
@@ -23,6 +26,19 @@ use Rattle.app_tasks.specs.declared.watch.Watch.{Watch}
 use Rattle.app_tasks.specs.Watched.{IsWatchOf, LineDoes, LinesDo, after_readings, readings}
 use Rattle.app_tasks.specs.Watching.{DidLine, DidLines, IsAt, IsReady, TakesLine, TakesLines}
 
+-- what an answer says where it is no stop
+pub where_ok : {A E : Type 0} (P Q : Type 0) (r : Result A E) → OnOk r P → (P → Q) → OnOk r Q
+where_ok P Q (Ok x) p f = f p
+where_ok P Q (Err e) p f = tt
+
+pub also_ok : {A E : Type 0} (Q : Type 0) (r : Result A E) → Q → OnOk r Q
+also_ok Q (Ok x) q = q
+also_ok Q (Err e) q = tt
+
+both_ok : {A E : Type 0} (P Q R : Type 0) (r : Result A E) → OnOk r P → OnOk r Q → (P → Q → R) → OnOk r R
+both_ok P Q R (Ok x) p q f = f p q
+both_ok P Q R (Err e) p q f = tt
+
 -- ---- reads
 
 abbrev reading : ℕ → Option Note → Reading
@@ -30,56 +46,57 @@ reading who note = record { who = who; note = note }
 
 -- what was told and what is left to tell is what was to be told
 pub record IsLeft (who left most : ℕ) (g v : Watched) (before told : List Reading) : Type 0 where
-  pub told : told ++ readings left who v ≡ before ++ readings most who g
+  pub tells : told ++ readings left who v ≡ before ++ readings most who g
   pub after : after_readings left who v ≡ after_readings most who g
 
-pub all_left : (who most : ℕ) (g : Watched) (before : List Reading) → IsLeft who most most g g before before
-all_left who most g before = record { told = refl; after = refl }
+pub all_left : (who left most : ℕ) (g : Watched) (before : List Reading) → left ≡ most → IsLeft who left most g g before before
+all_left who left most g before same = record {
+  tells = ap (λ (n : ℕ). before ++ readings n who g) same;
+  after = ap (λ (n : ℕ). after_readings n who g) same;
+}
 
 -- a read that tells something
-one_told : (who n : ℕ) (v : Watched) (note : Option Note) → note ≡ read_by v who → is_none note ≡ false
+one_told : (who n : ℕ) (v : Watched) (note : Option Note) → note ≡ read_by v who → is_some note ≡ true
     → (readings (suc n) who v ≡ reading who note ∷ readings n who (after_read v who)) × (after_readings (suc n) who v ≡ after_readings n who (after_read v who))
-one_told who n v None is some = absurd (cc)
-one_told who n v (Some x) is some = (
-  ap (λ (o : Option Note). reading who o ∷ cond (is_some o) (readings n who (after_read v who)) []) (sym is),
-  ap (λ (o : Option Note). cond (is_some o) (after_readings n who (after_read v who)) (after_read v who)) (sym is),
+one_told who n v note is some = (
+  ap (λ (o : Option Note). reading who o ∷ cond (is_some o) (readings n who (after_read v who)) []) (sym is) ∙ ap (λ (b : Bool). reading who note ∷ cond b (readings n who (after_read v who)) []) some,
+  ap (λ (o : Option Note). cond (is_some o) (after_readings n who (after_read v who)) (after_read v who)) (sym is) ∙ ap (λ (b : Bool). cond b (after_readings n who (after_read v who)) (after_read v who)) some,
 )
 
-pub told_more : (who left n most : ℕ) (g v : Watched) (before told new : List Reading) (note : Option Note) → left ≡ suc n → note ≡ read_by v who → is_none note ≡ false → new ≡ told ++ reading who note ∷ []
+pub told_more : (who left n most : ℕ) (g v : Watched) (before told new : List Reading) (note : Option Note) → left ≡ suc n → note ≡ read_by v who → is_some note ≡ true → new ≡ told ++ reading who note ∷ []
     → IsLeft who left most g v before told → IsLeft who n most g (after_read v who) before new
 told_more who left n most g v before told new note many is some grew so =
     let one = one_told who n v note is some in
     record {
-      told = ap (λ (rs : List Reading). rs ++ readings n who (after_read v who)) grew ∙ append_assoc told (reading who note ∷ []) (readings n who (after_read v who))
-          ∙ ap (λ (rs : List Reading). told ++ rs) (sym one.0) ∙ ap (λ (k : ℕ). told ++ readings k who v) (sym many) ∙ so.told;
+      tells = ap (λ (rs : List Reading). rs ++ readings n who (after_read v who)) grew ∙ append_assoc told (reading who note ∷ []) (readings n who (after_read v who))
+          ∙ ap (λ (rs : List Reading). told ++ rs) (sym one.0) ∙ ap (λ (k : ℕ). told ++ readings k who v) (sym many) ∙ so.tells;
       after = sym one.1 ∙ ap (λ (k : ℕ). after_readings k who v) (sym many) ∙ so.after;
     }
 
 -- a read that tells nothing
-none_told : (who n : ℕ) (v : Watched) (note : Option Note) → note ≡ read_by v who → is_none note ≡ true
+none_told : (who n : ℕ) (v : Watched) (note : Option Note) → note ≡ read_by v who → is_some note ≡ false
     → (readings (suc n) who v ≡ reading who note ∷ []) × (after_readings (suc n) who v ≡ after_read v who)
-none_told who n v (Some x) is none = absurd (cc)
-none_told who n v None is none = (
-  ap (λ (o : Option Note). reading who o ∷ cond (is_some o) (readings n who (after_read v who)) []) (sym is),
-  ap (λ (o : Option Note). cond (is_some o) (after_readings n who (after_read v who)) (after_read v who)) (sym is),
+none_told who n v note is none = (
+  ap (λ (o : Option Note). reading who o ∷ cond (is_some o) (readings n who (after_read v who)) []) (sym is) ∙ ap (λ (b : Bool). reading who note ∷ cond b (readings n who (after_read v who)) []) none,
+  ap (λ (o : Option Note). cond (is_some o) (after_readings n who (after_read v who)) (after_read v who)) (sym is) ∙ ap (λ (b : Bool). cond b (after_readings n who (after_read v who)) (after_read v who)) none,
 )
 
 pub record AllTold (who most : ℕ) (g v : Watched) (before told : List Reading) : Type 0 where
-  pub told : told ≡ before ++ readings most who g
+  pub tells : told ≡ before ++ readings most who g
   pub after : v ≡ after_readings most who g
 
-pub told_last : (who left n most : ℕ) (g v : Watched) (before told new : List Reading) (note : Option Note) → left ≡ suc n → note ≡ read_by v who → is_none note ≡ true → new ≡ told ++ reading who note ∷ []
+pub told_last : (who left n most : ℕ) (g v : Watched) (before told new : List Reading) (note : Option Note) → left ≡ suc n → note ≡ read_by v who → is_some note ≡ false → new ≡ told ++ reading who note ∷ []
     → IsLeft who left most g v before told → AllTold who most g (after_read v who) before new
 told_last who left n most g v before told new note many is none grew so =
     let last = none_told who n v note is none in
     record {
-      told = grew ∙ ap (λ (rs : List Reading). told ++ rs) (sym last.0) ∙ ap (λ (k : ℕ). told ++ readings k who v) (sym many) ∙ so.told;
+      tells = grew ∙ ap (λ (rs : List Reading). told ++ rs) (sym last.0) ∙ ap (λ (k : ℕ). told ++ readings k who v) (sym many) ∙ so.tells;
       after = sym last.1 ∙ ap (λ (k : ℕ). after_readings k who v) (sym many) ∙ so.after;
     }
 
 pub told_all : (who left most : ℕ) (g v : Watched) (before told : List Reading) → left ≡ 0 → IsLeft who left most g v before told → AllTold who most g v before told
 told_all who left most g v before told none so = record {
-  told = sym (append-nil told) ∙ ap (λ (k : ℕ). told ++ readings k who v) (sym none) ∙ so.told;
+  tells = sym (append-nil told) ∙ ap (λ (k : ℕ). told ++ readings k who v) (sym none) ∙ so.tells;
   after = ap (λ (k : ℕ). after_readings k who v) (sym none) ∙ so.after;
 }
 
@@ -136,6 +153,19 @@ did_read who most old new told left board g at = record {
   readings = told g at.stands;
 }
 
+-- the same as the code has it
+pub sub_taken : {E : Type 0} (line : WatchLine) (who room : ℕ) (old new : Watch) (r : Result ⊤ E) → line ≡ Sub who room → OnOk r (Becomes old.monitor (λ g. with_reader g who room) new.monitor) → new.board ≡ old.board
+    → new.readings ≡ old.readings → OnOk r (TakesLine line old new)
+sub_taken line who room old new r is becomes board same =
+    where_ok (Becomes old.monitor (λ g. with_reader g who room) new.monitor) (TakesLine line old new) r becomes
+    (λ so. subst (λ (l : WatchLine). TakesLine l old new) (sym is) (did_sub who room old new so board same))
+
+pub read_taken : {E : Type 0} (line : WatchLine) (who most : ℕ) (old new : Watch) (r : Result ⊤ E) → line ≡ Read who most → OnOk r ((g : Watched) → IsOf g old.monitor → new.readings ≡ old.readings ++ readings most who g)
+    → OnOk r ((g : Watched) → IsOf g old.monitor → IsOf (after_readings most who g) new.monitor) → new.board ≡ old.board → OnOk r (TakesLine line old new)
+read_taken line who most old new r is told left board =
+    both_ok ((g : Watched) → IsOf g old.monitor → new.readings ≡ old.readings ++ readings most who g) ((g : Watched) → IsOf g old.monitor → IsOf (after_readings most who g) new.monitor) (TakesLine line old new) r told left
+    (λ tells leaves. subst (λ (l : WatchLine). TakesLine l old new) (sym is) (did_read who most old new tells leaves board))
+
 -- ---- all lines
 
 lines_on : (w : World) (g : Watched) (lines : List WatchLine) (said : List Reading) (v : World) (f : Watched) (line : WatchLine) (now : List Reading) (u : World) (k : Watched)
@@ -181,6 +211,16 @@ still_ready s old new ready board slots = record {
   setup = ap (λ (b : Shown). b.world.setup) board ∙ ready.setup;
   agree = slots ∙ ready.agree ∙ ap (λ (b : Shown). slots_of b.world) (sym board);
   goes_on = ap (λ (b : Shown). b.stopped) board ∙ ready.goes_on;
+}
+
+pub itself_ready : (s : Setup) (x : Watch) → IsReady s x → IsReady x.board.world.setup x
+itself_ready s x ready = record { setup = refl; agree = ready.agree; goes_on = ready.goes_on }
+
+pub begins_ready : (s : Setup) (x : Watch) (n : ℕ) → x.board.world ≡ opening s → x.board.stopped ≡ None → n ≡ length x.board.world.setup.machine.spots → x.slots ≡ replicate n Free → IsReady s x
+begins_ready s x n begun goes size free = record {
+  setup = ap (λ (w : World). w.setup) begun ∙ opening_setup s;
+  agree = slots_opening x.board.world s x.slots n begun size free;
+  goes_on = goes;
 }
 
 -- ---- the whole

@@ -1,5 +1,5 @@
 //! Runs a machine and its scripts while subscribers read which devices came and went.
-ghost use Rattle.std.specs.Prelude.{◌≡◌, ◌≤◌, ◌++◌, All, IfOk, None, OnOk, length};
+ghost use Rattle.std.specs.Prelude.{◌≡◌, ◌≤◌, ◌++◌, [], All, IfOk, OnOk, length};
 ghost use Rattle.config_rules.specs.Formed.{FittingMachine, FormedTables};
 ghost use Rattle.config_rules.specs.ScriptText.{FormedScript};
 ghost use Rattle.dev_monitor.specs.Queues.{IsOf};
