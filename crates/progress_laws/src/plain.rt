@@ -14,7 +14,7 @@ fn place_of(names: &[Name], name: &Name) -> Option<usize>
     names.iter().position(|n| n == name)
 }
 
-/// Takes a name away once, where it stands there.
+/// Removes a name once, if it is there.
 fn take_out(names: &mut Vec<Name>, name: &Name)
     ensures { names.new.items ≡ without_first (λ n. bytes_eq n name.now) names.old.items }
 {
@@ -47,7 +47,8 @@ fn go_on(names: &mut Vec<Name>, command: &Command) -> Result<(), Memory>
     Ok(())
 }
 
-/// Whether a script passes the test: no `detach` and no `unplug` stands where the commands before it may leave a reference open.
+/// Whether a script passes the test: no `detach` and no `unplug` comes where the commands before it may leave a
+/// reference open.
 pub fn passes(alloc: Global, script: &[Command]) -> Result<bool, Memory>
     ensures { IfOk result (λ yes. yes ≡ lets_go_first script.now) }
 {
@@ -86,7 +87,7 @@ pub fn plain_scripts_go_on()
     ensures { OfEveryRun PlainScriptsGoOn }
 {}
 
-/// If each script passes the test, every run can be gone on with until all callers have ended.
+/// If each script passes the test, every run can be continued until all callers have ended.
 pub fn ends_for_all()
     ensures { OfEveryRun EndsForAll }
 {}
