@@ -502,7 +502,7 @@ try_tour() {
     [ "$count" -ge 8 ] || differ commands "there are $count" ''
     n=1
     while [ "$n" -le "$count" ]; do
-        command=$(sed "s#\.\./\.\./devconf#$DEVCONF#g; s#\.\./\.\./tools/#$shell $tools/#g; s#/tmp/#$work/#g" "$work/tour.$n")
+        command=$(sed "s#/tmp/#$work/#g; s#\.\./\.\./devconf#$DEVCONF#g; s#\.\./\.\./tools/#$shell $tools/#g" "$work/tour.$n")
         (cd "$top/examples/amd64" && eval "$command") 2>&1 | sed "s#$work/#/tmp/#g" >"$work/got"
         cmp -s "$work/told.$n" "$work/got" || differ "$(cat "$work/tour.$n")" 'what it prints' "$work/told.$n" "$work/got"
         n=$((n + 1))
