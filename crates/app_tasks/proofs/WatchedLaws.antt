@@ -2,6 +2,7 @@
 use Rattle.std.proofs.Common.{◌≡◌, ◌≤◌, ◌<◌, ℕ, zero, suc, ◌+◌, ◌-◌, Bool, true, false, cond, List, [], ◌∷◌, ◌++◌, length, append_assoc, append-nil, arith, refl, sym, ap, ◌∙◌, subst, Option, Some, None}
 use Rattle.std.specs.Prelude.{is_some, replicate, OnOk, Result, Ok, Err, ⊤}
 use Rattle.cf_types.specs.declared.machine.Command.{Command}
+use Rattle.boot_laws.specs.Thorough.{IsThorough}
 use Rattle.dev_board.specs.Booting.{Boots}
 use Rattle.dev_board.specs.Playing.{Plays}
 use Rattle.dev_board.specs.Shown.{Shown}
@@ -225,9 +226,9 @@ begins_ready s x n begun goes size free = record {
 
 -- ---- the whole
 
-pub watch_of : (s : Setup) (lines : List WatchLine) (old new : Watch) → old.board.world ≡ opening s → IsAt unwatched old → old.readings ≡ [] → IsReady s new → TakesLines lines old new → IsReliable new.board.events new.board.world
+pub watch_of : (s : Setup) (lines : List WatchLine) (old new : Watch) → old.board.world ≡ opening s → IsAt unwatched old → old.readings ≡ [] → IsReady s new → TakesLines lines old new → IsReliable new.board.events new.board.world → IsThorough new.board.events new.board.world
     → IsWatchOf s lines new.readings new.board
-watch_of s lines old new begun at none ready takes reliable =
+watch_of s lines old new begun at none ready takes reliable thorough =
     let did = takes unwatched at in
     let told : new.readings ≡ did.said = did.readings ∙ ap (λ (rs : List Reading). rs ++ did.said) none in
     let does : LinesDo (opening s) unwatched lines did.said new.board.world did.watched = subst (λ (w : World). LinesDo w unwatched lines did.said new.board.world did.watched) begun did.does in
@@ -235,4 +236,5 @@ watch_of s lines old new begun at none ready takes reliable =
       watched = (did.watched, subst (λ (rs : List Reading). LinesDo (opening s) unwatched lines rs new.board.world did.watched) (sym told) does, sym did.at.events);
       made = ready.setup;
       reliable = reliable;
+      thorough = thorough;
     }

@@ -1,5 +1,6 @@
 -- What the lines of a watch file do: turns, subscriptions and reads, in their order.
 use Rattle.std.specs.Prelude.{◌≡◌, ℕ, zero, suc, if◌then◌else◌, List, [], ◌∷◌, ◌++◌, is_some}
+use Rattle.boot_laws.specs.Thorough.{IsThorough}
 use Rattle.dev_board.specs.Shown.{Shown}
 use Rattle.dev_monitor.specs.Subscribers.{Watched, after_read, read_by, unwatched, with_events, with_reader}
 use Rattle.dev_monitor.specs.declared.reading.Reading.{Reading}
@@ -43,8 +44,9 @@ LinesDo w g (line ∷ lines) said v f =
 abbrev pub IsWatched : Setup → List WatchLine → List Event → World → List Reading → Type 0
 IsWatched s lines events world said = (f : Watched) × LinesDo (opening s) unwatched lines said world f × (events ≡ f.events)
 
--- the board has done so, and its history is reliable
+-- the board has done so; its history is reliable and thorough
 pub record IsWatchOf (s : Setup) (lines : List WatchLine) (said : List Reading) (b : Shown) : Type 0 where
   pub watched : IsWatched s lines b.events b.world said
   pub made : b.world.setup ≡ s
   pub reliable : IsReliable b.events b.world
+  pub thorough : IsThorough b.events b.world

@@ -17,4 +17,4 @@ pub returns-in-Ok : goal.returns-in-Ok
 returns-in-Ok c =
     let s : Setup = setup_of c.args.tables c.args.machine c.args.scripts in
     watch_of s c.args.lines.now c.in_ok-watch.watch c.take_lines.new.watch c.in_ok-watch.ensures.world c.in_ok-watch.ensures.at c.in_ok-watch.ensures.none
-    (subst (λ (t : Setup). IsReady t c.take_lines.new.watch) c.in_ok-watch.ensures.ready.setup c.in-Ok.ensures.ready) c.in-Ok.ensures.takes c.stands.ensures.reliable
+    (subst (λ (t : Setup). IsReady t c.take_lines.new.watch) c.in_ok-watch.ensures.ready.setup c.in-Ok.ensures.ready) c.in-Ok.ensures.takes c.stands.ensures.reliable c.stands.ensures.thorough
