@@ -97,3 +97,28 @@ pub fn ends_for_all()
 pub fn rounds_end_for_all()
     ensures { RoundsEndForAll }
 {}
+
+#[cfg(test)]
+mod tests {
+    use super::*;
+    use std::test::Fail;
+
+    // Whether a script passes that holds com0 while it detaches com1, and whether it does once it closes com0 first.
+    fn answers(alloc: Global) -> Result<(bool, bool), Memory> {
+        let com0 = Name::make(alloc, b"com0")?;
+        let com1 = Name::make(alloc, b"com1")?;
+        let mut script = Vec::new(alloc);
+        script.push(Command::OpenSole(com0.clone()?))?;
+        script.push(Command::Detach(com1))?;
+        let holds = passes(alloc, &script)?;
+        script.insert(1, Command::CloseDev(com0))?;
+        let closes = passes(alloc, &script)?;
+        Ok((holds, closes))
+    }
+
+    #[test]
+    fn a_script_that_closes_first_passes(rt: HostRuntime) -> Result<(), Fail> {
+        assert_eq!(rt; answers(rt.alloc()), Ok((false, true)));
+        Ok(())
+    }
+}
