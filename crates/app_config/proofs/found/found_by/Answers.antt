@@ -91,12 +91,12 @@ returns-in_err-board-in-Play-clause-asked g c =
 
 pub returns-in_ok-run-in-Watch-clause-found : goal.returns-in_ok-run-in-Watch-clause-found
 returns-in_ok-run-in-Watch-clause-found g c =
-    watch_ran _ c.args.inputs c.in-Watch.tables c.in-Watch.machine c.in-Watch.scripts c.in-Watch.watch c.items-in-Watch.result.now c.in_ok-run-in-Watch.run.readings c.in_ok-run-in-Watch.run.board
+    watch_ran _ c.args.inputs c.in-Watch.tables c.in-Watch.machine c.in-Watch.scripts c.in-Watch.watch c.items-in-Watch.result.now c.in_ok-run-in-Watch.run'.readings c.in_ok-run-in-Watch.run'.board
     c.in-Watch.is c.items-in-Watch.ensures c.in_ok-run-in-Watch.ensures
 
 pub returns-in_ok-run-in-Watch-clause-graphed : goal.returns-in_ok-run-in-Watch-clause-graphed
 returns-in_ok-run-in-Watch-clause-graphed g c =
-    watch_graph c.args.inputs c.in-Watch.tables c.in-Watch.machine c.in-Watch.scripts c.in-Watch.watch c.items-in-Watch.result.now c.in_ok-run-in-Watch.run.readings c.in_ok-run-in-Watch.run.board
+    watch_graph c.args.inputs c.in-Watch.tables c.in-Watch.machine c.in-Watch.scripts c.in-Watch.watch c.items-in-Watch.result.now c.in_ok-run-in-Watch.run'.readings c.in_ok-run-in-Watch.run'.board
     c.requires.formed c.in-Watch.is c.in_ok-run-in-Watch.ensures
 
 pub returns-in_ok-run-in-Watch-clause-asked : goal.returns-in_ok-run-in-Watch-clause-asked
