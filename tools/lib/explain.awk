@@ -173,7 +173,7 @@ function tell_status(number) {
 
 function explain_fault(kind, file, number, code,   first, is_found) {
     first = line_of(file, number)
-    if (kind == "script" && is_watch(file, first)) kind = "watch"
+    if (kind == "script" && (is_watch(file, first) || !((kind, code) in in_words) && (("watch", code) in in_words))) kind = "watch"
     if (kind == "script" && is_order(file, first)) kind = "order"
     is_found = find_fault(kind, file, number, first, code)
     if (is_all && !is_told(kind, file, number, code, is_found)) return

@@ -265,12 +265,17 @@ function find_watch_number(   callers) {
 }
 
 # The first line that subscribes this one, before the line with this number or anywhere in the file; 0 where there is none.
-function subscription_of(who, file, number, is_anywhere,   line, word, n, found) {
-    while (!found && (getline line < file) > 0) {
+function subscription_of(who, file, number, is_anywhere,   line, n, found) {
+    while (!found && (is_anywhere || n + 1 < number) && (getline line < file) > 0) {
         n++
-        sub(/#.*/, "", line)
-        if (split(line, word, " ") == 3 && word[1] == "sub" && is_number(word[2]) && value_of(word[2]) == who && (is_anywhere || n < number)) found = n
+        if (subscribes(line, who)) found = n
     }
     close(file)
     return found
+}
+
+function subscribes(line, who,   word) {
+    sub(/#.*/, "", line)
+    if (split(line, word, " ") != 3 || word[1] != "sub" || !is_number(word[2]) || !is_number(word[3])) return 0
+    return value_of(word[2]) == who && value_of(word[3]) >= 1 && value_of(word[3]) <= 64
 }
