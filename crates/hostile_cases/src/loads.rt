@@ -85,7 +85,8 @@ pub fn refuse_each_load<R: Threads + Wait + Sync, S: Sink>(
     let line = row.line.as_str();
     let report = match is_well {
         true => format!(in rt.alloc();
-            "{line}: {} loads refused, each with status 10, and then status 0\n", calls.saturating_sub(1)
+            "{line}: {} loads refused, each with status 10, and then status 0\n",
+            calls.saturating_sub(1)
         )?,
         false => format!(in rt.alloc(); "{line}: call {calls} is wrong\n")?,
     };
