@@ -63,7 +63,7 @@ case $caller in
 0) echo "  The boot has ended before, and caller 0 has no more lines." ;;
 *)
     if [ "$caller" -gt "$number" ]; then
-        echo "  There is no caller $caller: $number script$([ "$number" = 1 ] || echo s) were named."
+        echo "  There is no caller $caller: $([ "$number" = 1 ] && echo '1 script was' || echo "$number scripts were") named."
     else
         line=$(line_of_turn "$caller")
         if [ -n "$line" ]; then echo "  Here should stand: $line" && exit 0; fi
