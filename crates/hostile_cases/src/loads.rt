@@ -20,9 +20,10 @@ fn by_callers(alloc: Global, output: &[u8]) -> Result<Vec<u8>, Memory> {
     let mut lines = Vec::new(alloc);
     let mut of_second = Vec::new(alloc);
     for line in output.split_inclusive(|byte| *byte == b'\n') {
-        match line.starts_with(b"2.") {
-            true => of_second.extend_from_slice(line)?,
-            false => lines.extend_from_slice(line)?,
+        if line.starts_with(b"2.") {
+            of_second.extend_from_slice(line)?;
+        } else {
+            lines.extend_from_slice(line)?;
         }
     }
     lines.extend_from_slice(&of_second)?;
@@ -62,9 +63,10 @@ fn refuse_all<R: Threads + Wait + Sync>(
 ) -> Result<(u64, bool), Memory> {
     for call in 1..=MOST_CALLS {
         let (answer, is_refused) = refuse(rt, threads, row, call)?;
-        let is_well = match is_refused {
-            true => answer.status == OUT_OF_MEMORY && answer.is_fit(),
-            false => is_whole(rt.alloc(), &answer, wanted)?,
+        let is_well = if is_refused {
+            answer.status == OUT_OF_MEMORY && answer.is_fit()
+        } else {
+            is_whole(rt.alloc(), &answer, wanted)?
         };
         if !is_refused || !is_well {
             return Ok((call, is_well));
@@ -83,12 +85,13 @@ pub fn refuse_each_load<R: Threads + Wait + Sync, S: Sink>(
 ) -> Result<bool, Memory> {
     let (calls, is_well) = refuse_all(rt, threads, row, wanted)?;
     let line = row.line.as_str();
-    let report = match is_well {
-        true => format!(in rt.alloc();
-            "{line}: {} loads refused, each with status 10, and then status 0\n",
-            calls.saturating_sub(1)
-        )?,
-        false => format!(in rt.alloc(); "{line}: call {calls} is wrong\n")?,
+    let report = if is_well {
+        let loads = calls.saturating_sub(1);
+        format!(in rt.alloc();
+            "{line}: {loads} loads refused, each with status 10, and then status 0\n"
+        )?
+    } else {
+        format!(in rt.alloc(); "{line}: call {calls} is wrong\n")?
     };
     let _ = out.put(report.as_bytes());
     Ok(is_well)
