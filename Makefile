@@ -1,5 +1,5 @@
 # make             proves and builds the programs that are not built yet: the first time takes long, as with ./devconf
-# make install     puts programs, manual pages, pages, tools and completions below PREFIX; run make before.
+# make install     puts programs, manual pages, pages, examples, tools and completions below PREFIX; run make before.
 #                  PROGRAMS=devconf installs that one alone
 # make uninstall   removes what install put there
 # make check       all checks, as .ci/run
@@ -34,6 +34,7 @@ install:
 	cp tools/forms $(share)/tools/forms
 	mkdir -p $(share)/tools/editors && cp -R tools/editors/vim tools/editors/emacs $(share)/tools/editors/
 	cp docs/*.md docs/*.svg docs/*.png $(share)/docs
+	cp -R examples $(share)/ && cd $(share)/examples && rm -f now.sh run.sh contend.sh faults.sh memory.sh
 	for tool in $(TOOLS); do \
 	    cp tools/$$tool $(share)/tools/ && chmod 755 $(share)/tools/$$tool && \
 	    ln -sf ../share/devconf/tools/$$tool $(root)/bin/devconf-$$tool && \

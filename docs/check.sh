@@ -112,7 +112,7 @@ function span(text, next_span,   word, first, number, k, ok) {
         if (!is_there("crates/" word)) { fault("there is no crates/" word); return }
         if (number == "") return
         lines++
-        if (next_span !~ /^[A-Za-z_0-9]+$/) fault("no name stands behind " text)
+        if (next_span !~ /^[A-Za-z_0-9]+$/) fault("no name follows " text)
         else if (!has_line("crates/" word, number, next_span)) fault("line " number " of " word " does not have " next_span)
     } else if (first ~ /^(docs|man|tools|examples|bench|crates|packaging|\.ci)$/) {
         if (word ~ /(^|\/)(out|NAME|CRATE|WHAT_IS_WRONG\.edit)(\/|$)/) return

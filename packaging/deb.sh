@@ -1,5 +1,5 @@
 #!/bin/sh
-# Makes a Debian package of the built programs, with pages, tools and completions, by dpkg-deb: out/devconf_VERSION_ARCH.deb.
+# Makes a Debian package of the built programs, with pages, examples, tools and completions, by dpkg-deb: out/devconf_VERSION_ARCH.deb.
 # Usage: packaging/deb.sh, or make deb; run make before
 set -e
 cd "$(dirname "$(readlink -f "$0")")/.."
@@ -19,6 +19,7 @@ make -s install DESTDIR="$root" PREFIX=/usr
 doc=$root/usr/share/doc/devconf
 mkdir -p "$doc" "$root/DEBIAN"
 cp README.md SECURITY.md "$doc"
+ln -s ../../devconf/docs ../../devconf/examples "$doc"
 cp LICENSE "$doc/copyright"
 gzip -9n <CHANGELOG.md >"$doc/changelog.gz"
 gzip -9n "$root"/usr/share/man/man?/*

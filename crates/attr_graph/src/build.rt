@@ -64,7 +64,7 @@ fn push_devices(graph: &mut Graph, devices: &[Device]) -> Result<(), Memory>
     Ok(())
 }
 
-/// The graph of the attributes and devices of tables, as formed tables are. The only error is want of memory. See config(5).
+/// The graph of the attributes and devices of formed tables. The only error is `Memory`. See config(5).
 pub fn graph_of(alloc: Global, tables: &Tables) -> Result<Graph, Memory>
     requires { FitGraph tables.now }
     ensures { IfOk result (λ graph. IsGraphOf (declared_by tables.now) graph) }

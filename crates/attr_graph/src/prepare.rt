@@ -79,7 +79,7 @@ pub fn device_entry(
     }
 }
 
-/// How many interface attributes these attributes offer, or `None` where they are more than `MAX_INTERFACES`.
+/// How many interface attributes these attributes offer, or `None` if they are more than `MAX_INTERFACES`.
 pub fn reach_count(
     alloc: Global,
     attrs: &[AttrEntry],

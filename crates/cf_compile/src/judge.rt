@@ -59,7 +59,7 @@ fn push_kept(
     Ok(())
 }
 
-/// The first code of a statement behind what is declared and so many instances. Where it has none, what it declares is
+/// The first code of a statement after what is declared and so many instances. Where it has none, what it declares is
 /// added, and an instance is appended, if it survives.
 fn judge_statement(
     alloc: Global,
@@ -133,7 +133,7 @@ fn no_declarations(alloc: Global, placed: &[Placed]) -> Result<Declarations, Mem
     Ok(declarations)
 }
 
-/// Judges the placed statements one after the other, each behind what those before it declare, up to the first code.
+/// Judges the placed statements one after the other, each by what those before it declare, up to the first code.
 pub fn judge(
     alloc: Global,
     files: &[Text],

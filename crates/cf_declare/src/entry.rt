@@ -55,7 +55,7 @@ pub fn defined(
     })
 }
 
-/// The interface attribute of a device, where it has braces.
+/// The interface attribute of a device, if it has braces.
 pub fn own_attr(
     alloc: Global,
     name: &Name,

@@ -30,7 +30,7 @@ fn add_declared(key: &mut HashKey, stmt: &Stmt)
     }
 }
 
-/// How much room the statements take that declare something.
+/// How much room the statements need that declare something.
 pub fn room_of(placed: &[Placed]) -> Room {
     let mut room = Room {
         attrs: 0,

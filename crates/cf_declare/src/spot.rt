@@ -78,7 +78,7 @@ fn first_suiting(
     }
 }
 
-/// The first attachment of a device, with its first place, that suits. It goes over what the parent offers alone.
+/// The first attachment of a device, with its first place, that suits. It looks only at what the parent offers.
 pub fn noted_place(
     declared: &Catalog,
     graph: &Graph,

@@ -69,7 +69,7 @@ fn ask<F: Files>(
     load(alloc, files, name)
 }
 
-/// Opens a file that was loaded. `None` where it can't be cut into tokens, which is then the fault.
+/// Opens a file that was loaded. `None` where it cannot be cut into tokens, which is then the fault.
 fn open(
     alloc: Global,
     progress: &mut Progress,

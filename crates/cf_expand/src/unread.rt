@@ -1,4 +1,4 @@
-//! The tokens of a file while it is read; the memory of those that were read is given back.
+//! The tokens of a file while it is read; the memory of those that have been read is given back.
 ghost use Rattle.std.specs.Prelude.{◌≡◌, ◌-◌, ◌≤◌, [], MatchOption, drop, length};
 ghost use Rattle.cf_expand.specs.Lines.{Parts};
 
@@ -52,7 +52,7 @@ impl Unread {
         }
     }
 
-    /// The tokens of the first statement, and those behind its stop; `None` where there is no token.
+    /// The tokens of the first statement, and those after its stop; `None` if there is no token.
     #[inline(always)]
     pub fn first(&self) -> Option<(&[Token], &[Token])>
         ensures { MatchOption result (self.now ≡ []) (λ parts. Parts self.now parts.0.now parts.1.now) }
@@ -61,7 +61,8 @@ impl Unread {
         first_statement(left)
     }
 
-    /// All tokens but the last ones of this number are read. Once a third of those that are kept are read, they go.
+    /// All tokens except the last ones of this number have been read. Once a third of the tokens kept have been read,
+    /// their memory is given back.
     #[tactic(auto, using(crate::proofs::UnreadLemmas::unread_last, crate::proofs::UnreadLemmas::last_many))]
     #[inline(always)]
     pub fn keep_last(&mut self, count: usize)

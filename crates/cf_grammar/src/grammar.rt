@@ -26,7 +26,7 @@ pub enum GrammarStop {
     /// count, `NO_FORM` for any other form, `LEFT_OUT` for a statement or a locator that is left out.
     #[error("code {code}")]
     Fault { code: u8 },
-    /// Want of memory.
+    /// Out of memory.
     #[error("out of memory")]
     Memory,
 }
@@ -63,8 +63,9 @@ pub fn word_of<'a>(text: &'a [u8], token: Token) -> Word<'a>
     }
 }
 
-/// Puts the tokens with their bytes in place of what is there, and tells whether none is longer than one may be. The room
-/// is held here meanwhile, so that it is not looked up for each of them; inlined where statements are read, the loop is longer.
+/// Puts the tokens with their bytes in place of what is there, and returns whether none is longer than one may be. The
+/// room is held here meanwhile, so that it is not looked up for each of them; inlined where statements are read, the
+/// loop is longer.
 #[inline(never)]
 fn put_words<'a>(
     words: &mut Vec<Word<'a>>,
@@ -140,10 +141,10 @@ fn read(known: &mut Known, short: bool, words: &[Word]) -> Result<Stmt, GrammarS
     }
 }
 
-/// Reads the tokens of one statement, without its `Stop`, as the statement that they are. Their spans lie within the
-/// text, as those that `cut` gives do. The error is the first of the codes `LEFT_OUT`, `NO_FORM` and `OUT_OF_RANGE`
-/// that the tokens have, as the grammar of config(5) is read here, or want of memory. The words stand in place of what was
-/// there; for many statements hand in the same vector, and the same names, so that equal ones share their memory.
+/// Reads the tokens of one statement, without its `Stop`, as the statement that they are. Their spans are within the
+/// text, as those from `cut` are. The error is the first of the codes `LEFT_OUT`, `NO_FORM` and `OUT_OF_RANGE` that
+/// applies to the tokens by the grammar of config(5) as it is read here, or `Memory`. The words replace what was there;
+/// for many statements, pass the same vector and the same names, so that equal names share their memory.
 #[inline(always)]
 pub fn statement<'a>(
     known: &mut Known,

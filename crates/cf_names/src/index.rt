@@ -26,7 +26,7 @@ pub struct Index {
     pub spots: Option<Spots>,
 }
 
-/// How many attributes, devices and attachments there is to be room for.
+/// For how many attributes, devices and attachments there is to be room.
 #[derive(Clone, Copy)]
 pub struct Room {
     pub attrs: usize,

@@ -9,7 +9,7 @@ use cf_types::{Attach, Memory, Place};
 use std::alloc::Global;
 use std::collections::HashMap;
 
-/// How many attachments of a device, and how many places of each, are gone over where one is looked for.
+/// How many attachments of a device, and how many places of each, a look-up goes through one by one.
 pub const MAX_SCANNED: usize = 8;
 
 /// A device with a place of one of its attachments.
@@ -19,7 +19,7 @@ pub struct SpotKey {
     pub place: Place,
 }
 
-/// The first spot of a device at a place: how many spots of all devices stand before it, its attachment and its place.
+/// The first spot of a device at a place: how many spots of all devices come before it, its attachment and its place.
 #[derive(Clone, Copy)]
 pub struct FirstSpot {
     pub rank: usize,
@@ -113,7 +113,7 @@ impl Spots {
     }
 }
 
-/// Notes the spots of these attachments, where there are many and none are noted.
+/// Notes the spots of these attachments, if there are many and none are noted.
 fn begin_noting(
     alloc: Global,
     noted: &mut Option<Spots>,
@@ -143,7 +143,7 @@ fn note_more(noted: &mut Option<Spots>, attaches: &[Attach], attach: &Attach) ->
     }
 }
 
-/// Notes the spots of one more attachment behind those of these. Nothing is noted before there are many.
+/// Notes the spots of one more attachment after those of these. Nothing is noted until there are many.
 pub fn note_spots(
     alloc: Global,
     noted: &mut Option<Spots>,

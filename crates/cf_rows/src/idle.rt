@@ -7,7 +7,7 @@ ghost use Rattle.cf_rows.specs.Idle.{ArePlacesOfNegations, ArePlacesOfNames, Are
 use cf_types::{List, Memory, Placed, SharedText, Text, WarnKind, Warning};
 use std::alloc::Global;
 
-/// A copy of the name under which a file was loaded, by its place; empty where there is none.
+/// A copy of the name under which a file was loaded, by its place; empty if there is none.
 pub fn file_name(alloc: Global, files: &[Text], file: u32) -> Result<Text, Memory>
     ensures { IfOk result (λ name. name ≡ slice_index_or files.now file []) }
 {
@@ -28,7 +28,7 @@ fn shared_names(alloc: Global, files: &[Text]) -> Result<List<SharedText>, Memor
     Ok(List::from_vec(names))
 }
 
-/// The name under which a file was loaded, by its place; empty where there is none.
+/// The name under which a file was loaded, by its place; empty if there is none.
 #[inline(always)]
 fn shared_name(alloc: Global, files: &[SharedText], file: u32) -> Result<SharedText, Memory>
     ensures { IfOk result (λ name. name ≡ slice_index_or files.now file []) }
@@ -88,7 +88,7 @@ fn front_count(places: &[u32], place: usize) -> usize
     count
 }
 
-/// Appends a warning for each time that the place stands at the front, and answers the places behind.
+/// Appends a warning for each time that the place stands at the front, and answers the places after.
 fn push_front<'a>(
     alloc: Global,
     out: &mut List<Warning>,
@@ -108,7 +108,7 @@ fn push_front<'a>(
     Ok(&places[count..])
 }
 
-/// Appends a warning where the first of the orphans is of this statement, and answers the places of those behind.
+/// Appends a warning where the first of the orphans is of this statement, and answers the places of those after.
 fn push_orphan<'a>(
     alloc: Global,
     out: &mut List<Warning>,
@@ -167,8 +167,8 @@ fn merged(
 }
 
 /// The warnings of a configuration in the order of its statements: one for each negation of instances and for each name
-/// in a negation of items that takes back nothing, and one for each orphan. The places are those of such negations and of
-/// the orphans, in order; one of a negation of items stands once for each such name. See config(5).
+/// in a negation of items that takes nothing back, and one for each orphan. The places are those of such negations and
+/// of the orphans, in order; the place of a negation of items is there once for each such name. See config(5).
 pub fn warnings(
     alloc: Global,
     files: &[Text],

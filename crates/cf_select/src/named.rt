@@ -4,7 +4,7 @@ ghost use Rattle.cf_select.specs.Hashed.{attachment_input, key_input, unit_numbe
 
 use std::hash::{Hash, Hasher};
 
-/// What a negation or an instance attaches to, as it is written.
+/// What a negation or an instance attaches to, as written.
 #[derive(Clone, Copy, PartialEq, Eq)]
 pub enum Attachment<'a> {
     Root,
@@ -20,7 +20,7 @@ pub enum Named<'a> {
     At(Attachment<'a>),
 }
 
-/// A unit as a number; where there is none, one that is no unit.
+/// A unit as a number; if there is none, one that is no unit.
 #[inline(always)]
 fn unit_number(unit: Option<u32>) -> u32
     ensures { result ≡ unit_number unit }

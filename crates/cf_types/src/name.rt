@@ -7,7 +7,7 @@ use std::hash::{Hash, Hasher};
 use std::marker::Model;
 use std::sync::Arc;
 
-/// How many bytes lie in the block of memory that the owners of a name share; more of them have blocks of their own.
+/// How many bytes fit in the block of memory that the owners of a name share; longer names have a further block.
 const SHORT: usize = 14;
 
 /// At most 14 bytes. Contracts see them alone.

@@ -1,4 +1,4 @@
-//! Names that were read, so that one that is read again shares their memory.
+//! Names that have been read, so that one that is read again shares their memory.
 ghost use Rattle.std.specs.Prelude.{◌≡◌, ◌≤◌, IfOk, IfSome, length};
 
 use crate::word::is_same;
@@ -15,8 +15,8 @@ const MOST: usize = 32_768;
 /// How many places a name may stand at.
 const WAYS: usize = 4;
 
-/// Some of the names that were read, each at one of four places that follow from its bytes. A name that is read again is
-/// shared with what has it, if it still stands there.
+/// Some of the names that were read, each at one of four places that follow from its bytes. A name that is read again
+/// shares the memory of the one before, if that one is still there.
 #[derive(Drop)]
 pub struct Known {
     names: Vec<Option<Name>>,
@@ -32,7 +32,7 @@ fn joined(number: u64, part: u32) -> u64 {
     number.wrapping_mul(SPREAD).wrapping_add(u64::from(part))
 }
 
-/// A number that follows from the bytes of a long name that stand behind its first four.
+/// A number that follows from the bytes of a long name that come after its first four.
 fn number_behind(first: u64, bytes: &[u8]) -> u64 {
     let mut number = first;
     for byte in bytes {
@@ -89,7 +89,7 @@ impl Known {
         (number ^ way) & self.names.len().saturating_sub(1)
     }
 
-    /// The name with these bytes, if it stands at this place.
+    /// The name with these bytes, if it is at this place.
     #[inline(always)]
     fn at(&self, place: usize, bytes: &[u8]) -> Option<&Name>
         ensures { IfSome result (λ name. name.now ≡ bytes.now) }
@@ -104,7 +104,7 @@ impl Known {
         }
     }
 
-    /// Lets the names at two places change places.
+    /// Swaps the names at two places.
     fn swap(&mut self, place: usize, other: usize) {
         let Some(slot) = self.names.get_mut(place) else {
             return;
@@ -119,7 +119,7 @@ impl Known {
         }
     }
 
-    /// The name with these bytes, if it stands at one of the other places of its number. From then on it stands at the first.
+    /// The name with these bytes, if it is at one of the other places of its number. From then on it is at the first.
     fn find(&mut self, number: usize, bytes: &[u8]) -> Result<Option<Name>, Memory>
         ensures { IfOk result (λ found. IfSome found (λ name. name ≡ bytes.now)) }
     {
@@ -181,7 +181,7 @@ impl Known {
         Ok(())
     }
 
-    /// The name with these bytes and this number, which does not stand at its first place.
+    /// The name with these bytes and this number, which is not at its first place.
     #[inline(never)]
     fn other_name(&mut self, number: usize, bytes: &[u8]) -> Result<Name, Memory>
         requires not_empty { 1 ≤ length bytes.now }

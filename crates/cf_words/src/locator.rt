@@ -99,7 +99,7 @@ fn each_locator(
     Ok(Some(List::from_vec(locs)))
 }
 
-/// Reads what stands between braces: nothing, or up to 16 locators, parted by commas.
+/// Reads what is between braces: nothing, or up to 16 locators, separated by commas.
 pub fn locators_of(
     known: &mut Known,
     sized: bool,

@@ -10,7 +10,7 @@ use crate::word::Word;
 use cf_text::{MAX_UNIT, base_len, read_decimal};
 use cf_types::{AtSpec, Memory, Name, UnitMark};
 
-/// A base and the number behind it, as in `com0`.
+/// A base and the number after it, as in `com0`.
 #[derive(Drop)]
 struct FixedUnit {
     base: Name,

@@ -1,4 +1,5 @@
-//! A device comes: its unit is taken, it is listed, and its scan and its finaliser are placed. See config_attach(9).
+//! A device is attached: its unit is taken, it is listed, and its scan and its finaliser are placed. See
+//! config_attach(9).
 ghost use Rattle.std.specs.Prelude.{◌≡◌, ◌≤◌, ◌<◌, ◌-◌, ◌^◌, ℕ, List, IfOk, IfSome, OnOk, OnErr, length, vec_len, vec_capacity};
 ghost use Rattle.run_rules.specs.After as after;
 ghost use Rattle.run_world.specs.Arrivals.{IsListed, MayArrive, StaysAsIs, called_too, put_off_too, state_at};
@@ -145,7 +146,7 @@ fn call_later(finalisers: &mut Vec<u64>, placing: Placing, serial: u64)
     }
 }
 
-/// A device comes by a caller's deed, if one was found.
+/// A device is attached by a caller's deed, if one was found.
 #[tactic(auto, unfolding(run_rules::specs::After::attached))]
 #[inline(always)]
 pub fn arrive(

@@ -249,7 +249,7 @@ fn said_in(alloc: Global, said: Said, rest: &[u8]) -> Result<Option<Act>, Memory
     Ok(Some(said_act(said, device, reply)))
 }
 
-/// The act that a word begins, by what stands behind it.
+/// The act that a word begins, by what stands after it.
 fn act_by(alloc: Global, word: ActWord, rest: &[u8]) -> Result<Option<Act>, Memory>
     ensures { IfOk result (λ act. act ≡ reading.act_by word rest.now) }
 {
@@ -271,7 +271,7 @@ fn act_by(alloc: Global, word: ActWord, rest: &[u8]) -> Result<Option<Act>, Memo
     }
 }
 
-/// The act that a text may spell. It is spelled by no other, and maybe not by this text.
+/// The act that a text may spell. The text spells no other act; it may not spell this one either.
 #[tactic(auto, unfolding(crate::specs::Reading::act_in))]
 pub fn act_in(alloc: Global, text: &[u8]) -> Result<Option<Act>, Memory>
     ensures { IfOk result (λ act. act ≡ reading.act_in text.now) }

@@ -12,8 +12,8 @@ use run_rules::Dev;
 use std::alloc::Global;
 use std::marker::Model;
 
-/// The children of the root, and those of each live device. They are listed by one look at each device, and no change of
-/// the tree is followed.
+/// The children of the root, and those of each live device. They are listed by one look at each device, and later
+/// changes of the tree are not followed.
 #[derive(Drop)]
 pub struct Branches {
     top: List<Dev>,

@@ -117,7 +117,7 @@ fn put_tree(
     put_depth_names(out, names)
 }
 
-/// Appends the text of an act. Where memory runs out, some of it may have been appended.
+/// Appends the text of an act. If memory runs out, some of it may have been appended.
 #[tactic(auto, unfolding(run_rules::specs::Lines::act_text))]
 #[inline(always)]
 pub fn put_act(out: &mut Vec<u8>, act: &Act) -> Result<(), Memory>
@@ -157,7 +157,7 @@ pub fn put_act(out: &mut Vec<u8>, act: &Act) -> Result<(), Memory>
     }
 }
 
-/// Appends the text of an act in format 1. Where memory runs out, some of it may have been appended.
+/// Appends the text of an act in format 1. If memory runs out, some of it may have been appended.
 #[tactic(auto, unfolding(run_rules::specs::Lines::act_text_1))]
 pub fn put_act_1(out: &mut Vec<u8>, act: &Act) -> Result<(), Memory>
     ensures { OnOk result (out.new.items ≡ out.old.items ++ text.act_text_1 act.now) }

@@ -66,7 +66,7 @@ impl Selection {
     }
 }
 
-/// Takes what stands behind the word of a `file` statement. `Some` tells its code.
+/// Takes what stands after the word of a `file` statement. `Some` tells its code.
 fn take_pieces(
     alloc: Global,
     names: &TextSet,
@@ -156,8 +156,8 @@ fn select_read(alloc: Global, tables: &Tables, read: Expanded) -> Result<List<Te
 
 /// The paths of the sources that the named configuration selects by its `file` statements, in reading order, each once:
 /// of those without a condition and of those whose condition is true by the names that it chooses. It compiles the
-/// configuration and then reads it once more. A refusal is the first fault of the configuration, or else that of its first
-/// `file` statement without a form. A fault of reading stands before every fault of the configuration. See config(5).
+/// configuration and then reads it again. A refusal is the first fault of the configuration, or else that of its first
+/// `file` statement without a form. A read fault comes before any fault of the configuration. See config(5).
 pub fn select<F: Files>(
     alloc: Global,
     files: &mut F,

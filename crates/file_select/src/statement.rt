@@ -20,11 +20,11 @@ use std::alloc::Global;
 pub enum Finding {
     /// It has this code.
     Bad(u8),
-    /// It has none, and its source is selected or not.
+    /// It has no code, and its source is selected or not.
     Good(bool),
 }
 
-/// What stands behind the word of a statement, if it is a `file` statement.
+/// What follows the first word of a statement, if it is a `file` statement.
 pub fn file_pieces(stmt: &Stmt) -> Option<&Pieces>
     ensures { option_copied result ≡ file_pieces stmt.now }
 {
@@ -88,7 +88,7 @@ fn is_tail(pieces: &[Piece]) -> bool
     is_rule(behind)
 }
 
-/// The tokens of the condition, and those behind it.
+/// The tokens of the condition, and those after it.
 fn split_condition(pieces: &[Piece]) -> (&[Piece], &[Piece])
     ensures condition { result.0.now ≡ before_first ends_condition pieces.now }
     ensures behind { result.1.now ≡ drop (position_or_len ends_condition pieces.now) pieces.now }
@@ -116,7 +116,7 @@ fn has_path(pieces: &[Piece]) -> bool
     }
 }
 
-/// What stands behind the first token.
+/// What stands after the first token.
 fn behind_path(pieces: &[Piece]) -> &[Piece]
     ensures { result.now ≡ drop 1 pieces.now }
 {
@@ -126,7 +126,7 @@ fn behind_path(pieces: &[Piece]) -> &[Piece]
     }
 }
 
-/// What a `file` statement is found to be by what stands behind its word, where these names are chosen.
+/// What a `file` statement is found to be by what follows its first word, if these names are chosen.
 pub fn find(alloc: Global, names: &TextSet, pieces: &[Piece]) -> Result<Finding, Memory>
     ensures { IfOk result (Finds (has_name names.now) pieces.now) }
 {

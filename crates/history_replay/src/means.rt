@@ -12,8 +12,8 @@ use std::alloc::Global;
 /// How many bytes serve for most lines.
 const USUAL: usize = 96;
 
-/// By what lines are read: who looks for what is done next, who tells events, the format, room for the line that is due, and
-/// the heads of lines.
+/// By what lines are read: who looks for the next deed, who makes its event, the format, room for the line that is due,
+/// and the heads of lines.
 #[derive(Drop)]
 pub struct Reader<'a> {
     pub seeker: Seeker<'a>,

@@ -92,7 +92,7 @@ fn event_anew(
     }
 }
 
-/// The event of an act that was told before, if a line is that of it: only its head is looked at anew.
+/// The event of an act that was told before, if a line is that of it: only its head is looked at again.
 fn event_again(
     heads: &mut Heads,
     plain: &Plain,
@@ -305,7 +305,7 @@ fn read_lines(
     Err(ReplayStop::Bad { line: number })
 }
 
-/// The events of the lines of a format behind its head.
+/// The events of the lines of a format after its head.
 fn read_behind_head(
     alloc: Global,
     rules: &Rules,

@@ -121,7 +121,7 @@ fn depth_below(spots: &[Spot], above: Option<u16>) -> usize
     depth
 }
 
-/// Where a spot hangs, and the place of its name among those of the spots.
+/// What a spot is below, and the place of its name among those of the spots.
 #[derive(Drop)]
 pub struct Site<'t> {
     pub at: usize,

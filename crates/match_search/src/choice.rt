@@ -156,9 +156,9 @@ fn best_row_of(
     }
 }
 
-/// The row that takes a spot below a parent at a place: of those that are marked live, fit, pass submatch and have a match
-/// value above 0 the one of greatest match value, the earliest among equals. None where there is none. The truth values
-/// may be any. See autoconf(9).
+/// The row that takes a spot below a parent at a place: of those that are marked live, fit, pass submatch and have a
+/// match value above 0, the one of greatest match value, the earliest among equals. None if there is none. Any truth
+/// values may be given. See autoconf(9).
 #[inline(always)]
 pub fn best(
     tables: &Tables,

@@ -40,7 +40,7 @@ impl LiveRows {
         self.marks[row as usize] = live;
     }
 
-    /// The truth value of a row; false where there is no such row.
+    /// The truth value of a row; false if there is no such row.
     pub fn is_live(&self, row: u32) -> bool
         ensures { result ≡ slice_index_or self.now row false }
     {

@@ -233,7 +233,7 @@ fn plan_unplug(
     }
 }
 
-/// A device is to be searched again.
+/// A command to search a device again.
 fn plan_rescan(
     site: &Site,
     core: &Core,

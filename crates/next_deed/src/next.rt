@@ -182,7 +182,7 @@ pub fn goes_by_frames(core: &Core, caller: u8) -> bool
     }
 }
 
-/// What a caller does next that goes on by its frames, where a scan is on top; none where `choose` has to tell.
+/// What a caller does next that goes on by its frames, if a scan is on top; none if `choose` has to decide.
 #[inline(always)]
 pub fn next_on_scan(site: &Site, core: &Core, caller: u8) -> Option<Deed>
     requires kept { Kept (world_at site.now core.now) }
@@ -203,7 +203,7 @@ pub fn next_on_scan(site: &Site, core: &Core, caller: u8) -> Option<Deed>
     }
 }
 
-/// What a caller does next that is in the middle of a power command; none where `choose` has to tell.
+/// What a caller does next that is in the middle of a power command; none if `choose` has to decide.
 #[inline(always)]
 pub fn next_in_power(site: &Site, core: &Core, caller: u8) -> Option<Deed>
     requires kept { Kept (world_at site.now core.now) }

@@ -13,7 +13,7 @@ use crate::search::{arrival, parent_ref};
 use run_rules::{Deed, Position, Turn, Wanted};
 use run_world::{Core, Site, place_of};
 
-/// The position after a turn: behind it, or at the first pair of the same row.
+/// The position after a turn: after it, or at the first pair of the same row.
 #[tactic(auto, unfolding(run_rules::specs::Search::after_turn))]
 #[inline(always)]
 fn after_turn(turn: Turn) -> Position

@@ -38,7 +38,7 @@ fn next_boot(rules: &Rules, plain: &Plain) -> Choice
     Choice::Does(Deed::EndCaller)
 }
 
-/// The device at a place of the boot's list; 0 where there is none.
+/// The device at a place of the boot's list; 0 if there is none.
 fn finaliser_at(finalisers: &[u64], place: u64) -> u64
     ensures { slice_index_or finalisers.now place 0 ≡ result }
 {

@@ -33,7 +33,7 @@ fn next_free(live: &[Dev], caller: u8) -> Option<u64>
     Some(device.serial)
 }
 
-/// How a caller goes on that frees devices.
+/// How a caller that frees devices goes on.
 #[tactic(auto, unfolding(run_rules::specs::Next::freeing))]
 pub fn freeing(plain: &Plain, caller: u8) -> Choice
     ensures { (s : Setup) → next.freeing (world_of s plain.now) caller ≡ result }

@@ -1,4 +1,4 @@
-//! The world after a deed: what becomes of callers, frames and devices that come.
+//! The world after a deed: what becomes of callers, frames and attached devices.
 ghost use Rattle.std.specs.Prelude.{◌≡◌, ◌<◌, ◌+◌, ◌-◌, ◌^◌, ◌==◌, not, filter, ℕ, IfSome, OnOk};
 ghost use Rattle.run_rules.specs.After as after;
 ghost use Rattle.run_rules.specs.World as world;
@@ -32,7 +32,7 @@ pub fn begin(plain: &mut Plain, caller: u8, doing: Activity)
     plain.callers[caller as usize].begin(doing);
 }
 
-/// A frame is put before a caller.
+/// A frame is put on a caller's stack.
 pub fn push(plain: &mut Plain, caller: u8, frame: Frame) -> Result<(), Memory>
     requires { HasCaller plain.old caller 600 }
     ensures caller { (n : ℕ) → HasCaller plain.old caller n → OnOk result (HasCaller plain.new caller (n + 1)) }
@@ -48,7 +48,7 @@ fn forget(deferred: &mut Vec<Deferred>, which: Key)
     deferred.retain(|put_off| !same_key(put_off.key, which));
 }
 
-/// The scans that were put off to a key begin.
+/// The deferred scans to a key begin.
 fn release(alloc: Global, plain: &mut Plain, caller: u8, which: Key) -> Result<(), Memory>
     requires { HasCaller plain.old caller 600 }
     ensures { (s : Setup) → OnOk result (world_of s plain.new ≡ after.released (world_of s plain.old) caller which (state_at plain.old.callers.items caller).stack) }
@@ -58,7 +58,7 @@ fn release(alloc: Global, plain: &mut Plain, caller: u8, which: Key) -> Result<(
     Ok(())
 }
 
-/// Interrupts work from here on, and the scans that waited for them begin. See config_interrupts(9).
+/// Interrupts work from now on, and the scans that waited for them begin. See config_interrupts(9).
 #[tactic(auto, unfolding(run_rules::specs::After::after))]
 pub fn begin_interrupts(alloc: Global, plain: &mut Plain, caller: u8) -> Result<(), Memory>
     requires { HasCaller plain.old caller 600 }
@@ -68,7 +68,7 @@ pub fn begin_interrupts(alloc: Global, plain: &mut Plain, caller: u8) -> Result<
     release(alloc, plain, caller, Key::Interrupts)
 }
 
-/// The scan on top is over, and those that were put off to its end begin. See config_defer(9).
+/// The scan on top is over, and those that were deferred to its end begin. See config_defer(9).
 #[tactic(auto, unfolding(run_rules::specs::After::after))]
 pub fn end_scan(alloc: Global, plain: &mut Plain, caller: u8, of: u64) -> Result<(), Memory>
     requires { HasCaller plain.old caller 600 }
@@ -265,7 +265,7 @@ fn arrive(
     }
 }
 
-/// A turn of a scan: the scan moves, and what was found comes.
+/// A turn of a scan: the scan moves, and what was found is attached.
 #[tactic(auto, unfolding(run_rules::specs::After::after))]
 pub fn search(
     alloc: Global,
@@ -329,8 +329,8 @@ fn end_call(plain: &mut Plain, caller: u8, listed: Option<u64>, answer: bool)
     }
 }
 
-/// A call of a finaliser: the late spot that it found is shown, what comes there comes, and the boot's list goes on, or
-/// the frame is over.
+/// A call of a finaliser: the late spot that it found is shown, what a row takes there is attached, and the boot's list
+/// goes on, or the frame is over.
 #[tactic(auto, unfolding(run_rules::specs::After::after))]
 pub fn finalise(
     alloc: Global,

@@ -98,7 +98,7 @@ fn doing_of(callers: &[Caller], caller: u8) -> Activity
     }
 }
 
-/// A condemned device goes; where it is the target of its caller's command, that is over.
+/// A condemned device is freed; if it is the target of its caller's command, that command is over.
 #[tactic(auto, unfolding(run_rules::specs::After::after))]
 fn free(plain: &mut Plain, caller: u8, of: u64)
     requires { HasCaller plain.old caller 500 }
@@ -278,7 +278,7 @@ fn do_quietly(plain: &mut Plain, caller: u8, deed: &Deed)
     }
 }
 
-/// Does what a caller does: the world is the one after the deed. Where memory runs out the world is lost.
+/// Does what a caller does: the world becomes the one after the deed. If memory runs out, the world is lost.
 #[tactic(auto, unfolding(run_rules::specs::After::after))]
 pub fn apply(
     alloc: Global,

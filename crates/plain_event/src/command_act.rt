@@ -1,4 +1,4 @@
-//! What a command is told, as an event has it.
+//! What the event of a command says.
 ghost use Rattle.std.specs.Prelude.{◌≡◌, ◌<◌, ◌≤◌, false, true, IfOk, None, Some, length, option_map};
 ghost use Rattle.std.specs.Option.{option_map_or};
 ghost use Rattle.run_rules.specs.declared.event.Act.TheVariants as act;

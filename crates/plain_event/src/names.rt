@@ -16,7 +16,7 @@ struct Spelled {
 /// How many names are kept.
 const KEPT: u64 = 1024;
 
-/// Names of devices that were told, each at a place that its device's serial has. They save making a name anew, and no
+/// Names of devices that were told, each at a place that its device's serial has. They save making a name again. No
 /// clause speaks of them: whoever takes one compares its driver and its unit first.
 #[derive(Drop)]
 pub struct Names {

@@ -1,4 +1,4 @@
-//! Which row takes a spot, by a look at each row and each match line.
+//! Which row takes a spot, by comparing each row and each match line.
 
 use crate::devices::{Device, is_live_row, parent_ref};
 use cf_types::{Locs, Machine, Memory, ParentSpec, Place, Row, Spot, Tables};

@@ -1,4 +1,4 @@
-//! The device tree: what stands below what, in lists of names and in lines.
+//! The device tree: what is below what, in lists of names and in lines.
 ghost use Rattle.std.specs.Prelude.{◌≡◌, ◌<◌, ◌≤◌, ◌+◌, ◌++◌, ◌∷◌, ◌^◌, ℕ, IfOk, OnOk, length, map};
 ghost use Rattle.run_rules.specs.References as refs;
 ghost use Rattle.run_rules.specs.Run as run;
@@ -33,7 +33,7 @@ fn child_names(
     Ok(names)
 }
 
-/// What `list` tells: the names of children; none where no device has the name. See drvctl(8).
+/// What `list` prints: the names of children; none if no device has the name. See drvctl(8).
 #[tactic(auto, unfolding(run_rules::specs::Run::list_names))]
 pub fn list_names(
     alloc: Global,
@@ -156,7 +156,7 @@ fn names_of_all(alloc: Global, rules: &Rules, live: &[Dev]) -> Result<List<Depth
     Ok(names)
 }
 
-/// What `tree` tells: names with their depths; none where no device has the name. See drvctl(8).
+/// What `tree` prints: names with their depths; none if no device has the name. See drvctl(8).
 #[tactic(auto, unfolding(run_rules::specs::Run::tree_names))]
 pub fn tree_names(
     alloc: Global,

@@ -226,7 +226,7 @@ fn unit_of(rules: &Rules, live: &Live, row: u32) -> u32
     }
 }
 
-/// The device that comes to a spot below a parent, if a row takes it.
+/// The device that is attached to a spot below a parent, if a row takes the spot.
 #[tactic(auto, unfolding(run_rules::specs::Next::arrival))]
 pub fn arrival(rules: &Rules, live: &Live, parent: u64, place: Place, spot: u16) -> Option<Arrival>
     requires fit { AreFit rules.now }

@@ -1,4 +1,4 @@
-//! Who looks for what is to be done next, and what it knows of spots that were searched before.
+//! The search for what is done next, and what it remembers of spots that were searched before.
 ghost use Rattle.std.specs.Prelude.{◌≡◌, ◌≤◌, ℕ, None, Some, IfOk, IsTrue, length};
 ghost use Rattle.std.specs.List.{slice_index_or};
 ghost use Rattle.run_rules.specs.Next as next;
@@ -22,7 +22,7 @@ struct Below {
     bare: bool,
 }
 
-/// By what the next deed is looked for: the rules of a run, and what was noted of each spot.
+/// What the search for the next deed goes by: the rules of a run, and what was noted of each spot.
 #[derive(Drop)]
 pub struct Seeker<'a> {
     pub rules: &'a Rules<'a>,
@@ -92,7 +92,7 @@ impl<'a> Seeker<'a> {
         }
     }
 
-    /// The device that comes to a spot below a parent, if a row takes it.
+    /// The device that is attached to a spot below a parent, if a row takes the spot.
     #[inline(always)]
     #[tactic(auto, unfolding(run_rules::specs::Next::arrival))]
     pub fn arrival(&self, live: &Live, parent: u64, place: Place, spot: u16) -> Option<Arrival>

@@ -57,7 +57,7 @@ fn free_among(rules: &Rules, devices: &[Dev], driver: u32, first: u32) -> u32
     first
 }
 
-/// The least unit of a driver that is not below the first one and that no live device has.
+/// The least unit of a driver that is at least the first one and that no live device has.
 pub fn free_from(rules: &Rules, live: &Live, driver: u32, first: u32) -> u32
     requires first { first ≤ 65536 }
     requires few { length live.now.devices ≤ 1024 }

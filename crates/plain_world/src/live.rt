@@ -1,4 +1,4 @@
-//! The live devices in order of attachment, found by serial at few looks.
+//! The live devices in order of attachment, found quickly by serial.
 ghost use Rattle.std.specs.Prelude.{◌≡◌, ◌<◌, ◌-◌, ◌^◌, ◌==◌, [], false, not, filter, map, length, IfOk, MatchOption, OnOk};
 ghost use Rattle.std.specs.List.{slice_index_or};
 ghost use Rattle.run_rules.specs.After.{with_condemner, with_sleep};
@@ -164,7 +164,7 @@ impl Live {
         self.devices.len()
     }
 
-    /// What every value keeps; nothing is done.
+    /// The facts that every value keeps. It does nothing.
     pub fn stands(&self)
         ensures { AreInOrder self.now.devices self.now.next }
     {
@@ -200,7 +200,7 @@ impl Live {
         is_on(&self.on_spots, spot)
     }
 
-    /// A device comes, with the next serial.
+    /// A device is attached, with the next serial.
     pub fn push(&mut self, arrival: Arrival) -> Result<(), Memory>
         requires { self.old.next < 2 ^ 64 - 1 }
         ensures { OnOk result (self.new ≡ with_device self.old arrival) }
@@ -220,7 +220,7 @@ impl Live {
         Ok(())
     }
 
-    /// The device of a serial goes.
+    /// The device of a serial is removed.
     pub fn remove(&mut self, serial: u64)
         ensures { self.new ≡ record self.old { devices = filter (λ d. not (d.serial == serial)) self.old.devices } }
     {

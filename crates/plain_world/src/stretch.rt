@@ -1,4 +1,4 @@
-//! Between which numbers the spots stand that hang below a spot, so that a scan looks at no others.
+//! Between which numbers the spots below a spot are, so that a scan looks at no others.
 ghost use Rattle.std.specs.Prelude.{◌≡◌, ◌<◌, ◌≤◌, ℕ, Option, IfOk, length};
 ghost use Rattle.plain_world.specs.Stretches.{AreStretchesOf, IsIn, place_in, stretch_at};
 
@@ -62,7 +62,7 @@ pub fn stretches_of(alloc: Global, machine: &Machine) -> Result<Vec<Stretch>, Me
     Ok(stretches)
 }
 
-/// Between which numbers the spots below a spot, or below the root, stand.
+/// Between which numbers the spots below a spot, or below the root, are.
 pub fn stretch_at(stretches: &[Stretch], parent: Option<u16>) -> Stretch
     ensures { result ≡ stretch_at stretches.now parent }
 {

@@ -34,7 +34,7 @@ fn condemns(command: &Command) -> bool
     }
 }
 
-/// The names of the references that may be open behind a command, from those that may be before it.
+/// The names of the references that may be open after a command, from those that may be before it.
 fn go_on(names: &mut Vec<Name>, command: &Command) -> Result<(), Memory>
     ensures { IfOk result (λ done. names.new.items ≡ open_after names.old.items command.now) }
 {

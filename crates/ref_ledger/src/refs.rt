@@ -9,8 +9,9 @@ use run_rules::Ref;
 use std::alloc::Global;
 use std::marker::Model;
 
-/// The references to devices: each is held by a caller from 1 to 16, who may have up to 15 to one device, or the only one
-/// that may be. Contracts see the list of them in the order in which they were granted, and the devices held solely.
+/// The references to devices: each is held by a caller from 1 to 16, who may have up to 15 to one device, or the only
+/// one that there may be. Contracts see the list of them in the order in which they were granted, and the devices held
+/// solely.
 #[derive(Drop)]
 pub struct Refs {
     refs: Vec<Ref>,
@@ -27,7 +28,7 @@ impl Model for Refs {
     ghost invariant = { λ ledger. IsKept ledger.refs.items ledger.sole.items };
 }
 
-/// Who holds a device: bit k-1 stands for caller k.
+/// Who holds a device: bit k-1 is caller k.
 fn mask_of(refs: &[Ref], serial: u64) -> u16
     requires { All (λ r. IsHolder r.caller) refs.now }
     ensures { result ≡ holder_mask refs.now serial }
@@ -171,7 +172,7 @@ impl Refs {
         self.refs.iter().any(|held| held.serial == serial)
     }
 
-    /// Who holds the device: bit k-1 stands for caller k.
+    /// Who holds the device: bit k-1 is caller k.
     pub fn holders(&self, serial: u64) -> u16
         ensures { result ≡ holder_mask self.now.refs serial }
     {

@@ -16,8 +16,8 @@ struct ToldAct {
     ghost spelled: { IfSome text (λ text. text.items ≡ act_text act) } by { Prim.hlevel props },
 }
 
-/// What happened, as events hold it: events that tell the same share it. A clone is a further owner and takes no memory.
-/// Contracts see the act.
+/// What happened, as events hold it: equal events share it. A clone is a further owner and takes no memory. Contracts
+/// see the act.
 #[derive(Drop)]
 pub struct SharedAct {
     told: Arc<ToldAct>,
@@ -44,7 +44,7 @@ impl SharedAct {
         })
     }
 
-    /// This act, with its text as the lines of a history of format 2 have it: for acts that are told again and again.
+    /// This act, with its text as the lines of a history of format 2 have it: for acts that come again and again.
     pub fn with_text(alloc: Global, act: Act, text: Vec<u8>) -> Result<SharedAct, Memory>
         requires { text.items ≡ act_text act }
         ensures { IfOk result (λ shared. shared ≡ act) }

@@ -1,4 +1,4 @@
-//! What is kept of the events that were told, so that later events share it.
+//! What is kept of past events, so that later events share it.
 ghost use Rattle.std.specs.Prelude.{◌≡◌, ◌≤◌, true, IfOk, IfSome, None};
 ghost use Rattle.std.specs.List.{AllByRecursion};
 ghost use Rattle.run_rules.specs.declared.world.Setup.{Setup};
@@ -52,7 +52,7 @@ struct KeptName {
     name: Name,
 }
 
-/// The acts and names that were told last of each spot, and the tree that was told last. They save making them anew; whoever asks
+/// The acts and names last printed of each spot, and the tree last printed. They save making them again; whoever asks
 /// says what for.
 #[derive(Drop)]
 pub struct Recent {
@@ -125,7 +125,7 @@ fn empty<T: Drop>(alloc: Global, places: usize) -> Result<Vec<Option<T>>, Memory
 }
 
 impl Recent {
-    /// Room for what will be told of so many spots; nothing was told.
+    /// Room for what will be printed of so many spots; nothing has been printed.
     pub fn make(alloc: Global, spots: usize) -> Result<Recent, Memory>
         requires { spots ≤ 1024 }
         ensures { (s : Setup) → IfOk result (AreRecent s) }
@@ -181,7 +181,7 @@ impl Recent {
         }
     }
 
-    /// The act that was told last of a tree, if it tells this one.
+    /// The act of the tree last printed, if it is this tree.
     pub fn tree(&self, tree: &Act) -> Option<&SharedAct>
         ensures { IfSome result (λ a. a.now ≡ tree.now) }
     {
@@ -191,7 +191,7 @@ impl Recent {
         }
     }
 
-    /// Keeps an act that tells a tree.
+    /// Keeps the act of a tree.
     pub fn keep_tree(&mut self, tree: SharedAct)
         ensures { (s : Setup) → AreRecent s self.old → AreRecent s self.new }
     {

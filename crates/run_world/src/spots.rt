@@ -1,4 +1,4 @@
-//! What is looked up in the setup: rows, drivers, spots and policies.
+//! Look-ups in the setup: rows, drivers, spots and policies.
 ghost use Rattle.std.specs.Prelude.{◌≡◌, false, slice_get};
 ghost use Rattle.std.specs.Option.{option_map_or};
 ghost use Rattle.run_rules.specs.Search as search;

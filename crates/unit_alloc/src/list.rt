@@ -7,8 +7,9 @@ use cf_types::Memory;
 use std::alloc::Global;
 use std::marker::Model;
 
-/// The units of one device that are taken. All below one number are, and none from another one on is, so that devices which
-/// come one after the other get their units at one look; so does one that comes where another has gone.
+/// The units of one device that are taken. All below one number are, and none from another one on is, so that devices
+/// that are attached one after the other get their units at one look; so does one that is attached after another has
+/// gone.
 #[derive(Drop)]
 pub struct UnitList {
     units: Vec<u32>,
@@ -80,7 +81,7 @@ impl UnitList {
         }
     }
 
-    /// The least unit that is not below the first one and not taken.
+    /// The least unit that is at least the first one and not taken.
     pub fn pick(&self, first: u32) -> u32
         requires first { first ≤ 65536 }
         requires few { PassesFew (λ n. is_in n self.now) }
