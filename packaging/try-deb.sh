@@ -28,7 +28,7 @@ cmp -s "$work/said" examples/outputs/small.boot || fail 'devconf boot prints som
 "$bin/devconf-compare" examples/outputs/small.boot examples/outputs/small.boot >"$work/said" 2>&1 || fail devconf-compare
 (cd "$there/amd64" && "$bin/devconf-machine" -c GENERIC ../dmesg/box) >"$work/machine" 2>"$work/said" || fail devconf-machine
 cmp -s "$work/machine" examples/machines/box || fail 'devconf-machine prints something else than examples/machines/box'
-for page in man1/devconf.1 man1/drvrun.1 man5/devconf.5; do
+for page in man1/devconf.1 man1/drvrun.1 man1/devconf-tools.1 man1/devconf-summary.1 man5/devconf.5; do
     gzip -dc "$root/usr/share/man/$page.gz" 2>/dev/null | grep -q "^\.Os devconf $(cat VERSION)\$" || fail "the page $page has no version"
 done
 [ -f "$root/usr/share/bash-completion/completions/devconf" ] || fail 'no completion for bash'

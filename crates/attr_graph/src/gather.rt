@@ -98,8 +98,8 @@ fn split_last<'a>(attrs: &'a [AttrEntry], names: &'a [u32]) -> (&'a [u32], &'a [
     }
 }
 
-/// Appends those of the numbers that are not there, and takes the marks away. Where none of them is there, as is most often
-/// so, they are copied at once.
+/// Appends those of the numbers that are not there, and clears the marks. If none of them is there, as in most cases,
+/// they are copied at once.
 #[inline(always)]
 fn add_last(list: &mut Vec<u32>, marks: &mut Vec<bool>, numbers: &[u32]) -> Result<(), AllocError>
     requires within { All (λ x. x < length marks.old.items) numbers.now }

@@ -53,7 +53,7 @@ impl Graph {
         }
     }
 
-    /// Makes room for so many more attributes and devices.
+    /// Makes room for this many more attributes and devices.
     pub fn reserve(&mut self, attrs: usize, devices: usize) -> Result<(), AllocError>
         ensures { self.new ≡ self.old }
     {
@@ -62,8 +62,8 @@ impl Graph {
         self.devices.reserve(devices)
     }
 
-    /// Adds an attribute that names earlier ones, of fewer than 65,536, and answers its number. At `TooMany` and
-    /// `Memory` the graph is as before.
+    /// Adds an attribute that names earlier ones, and returns its number. There have to be fewer than 65,536
+    /// attributes. At `TooMany` and `Memory` the graph is as before.
     pub fn add_attr(&mut self, iface: bool, needs: &[u32]) -> Result<u32, GraphStop>
         requires known { All (λ a. a < length self.old.attrs) needs.now }
         requires few { length self.old.attrs < 65536 }
@@ -79,8 +79,8 @@ impl Graph {
         Ok(number)
     }
 
-    /// Adds a device with its own interface attribute, if it has one, and the attributes that it names, of fewer than
-    /// 65,536, and answers its number. At `TooMany` and `Memory` the graph is as before.
+    /// Adds a device with its own interface attribute, if it has one, and the attributes that it names, and returns its
+    /// number. There have to be fewer than 65,536 devices. At `TooMany` and `Memory` the graph is as before.
     pub fn add_device(&mut self, own: Option<u32>, needs: &[u32]) -> Result<u32, GraphStop>
         requires known { All (λ a. a < length self.old.attrs) (option_to_list own ++ needs.now) }
         requires few { length self.old.devices < 65536 }

@@ -25,7 +25,7 @@ fn written_unit(mark: UnitMark) -> u32
     }
 }
 
-/// What matters of an instance for being rooted.
+/// What decides whether an instance is rooted.
 fn inst_of(instance: &Instance) -> Inst
     ensures { result ≡ inst_of instance.now }
 {

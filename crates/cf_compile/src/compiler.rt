@@ -61,8 +61,8 @@ fn compile_placed(
     }
 }
 
-/// The tables of what was read, or its first fault: that of a statement, or else that of the reading. The tokens of free
-/// statements are let go of first, since nobody reads them from here on.
+/// The tables of what was read, or its first fault: that of a statement, or else that of the reading. The tokens of
+/// free statements are freed first, because nobody reads them from here on.
 fn compile_read(alloc: Global, read: Expanded) -> Result<Compiled, CompileStop>
     requires { AreWritten read.placed }
     ensures { Finds (reading_of read) result }

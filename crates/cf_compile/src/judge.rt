@@ -59,8 +59,8 @@ fn push_kept(
     Ok(())
 }
 
-/// The first code of a statement after what is declared and so many instances. Where it has none, what it declares is
-/// added, and an instance is appended, if it survives.
+/// The first code of a statement, given what is declared and the number of instances so far. If it has none, what it
+/// declares is added, and an instance is appended if it survives.
 fn judge_statement(
     alloc: Global,
     standing: &mut Standing,

@@ -5,7 +5,7 @@ ghost use Rattle.cf_compile.specs.Emptied.{emptied_at};
 use cf_types::{List, Memory, Pieces, Placed, Stmt};
 use std::alloc::Global;
 
-/// Takes the tokens away from a statement that may have any.
+/// Removes the tokens of a statement that may have any.
 #[inline(always)]
 fn empty(alloc: Global, statement: &mut Placed) -> Result<(), Memory>
     ensures { OnOk result (statement.new ≡ emptied_at statement.old) }

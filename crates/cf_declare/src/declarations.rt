@@ -37,8 +37,8 @@ impl Model for Declarations {
 }
 
 impl Declarations {
-    /// Nothing is declared yet; names will be found by a hash whose key follows from all names that these statements
-    /// declare. It takes no memory.
+    /// Nothing is declared yet; names will be found by a hash whose key is computed from all names that these
+    /// statements declare. It takes no memory.
     pub fn make(alloc: Global, placed: &[Placed]) -> Declarations
         ensures { result ≡ record { attrs = []; devices = []; attaches = [] } }
     {

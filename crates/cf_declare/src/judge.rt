@@ -124,7 +124,7 @@ fn judged_attach(
     }
 }
 
-/// What a statement that declares something adds after what is declared, or its first code.
+/// What a statement that declares something adds to what is declared, or its first code.
 pub fn judged(
     alloc: Global,
     declared: &Catalog,

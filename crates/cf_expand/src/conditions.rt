@@ -158,7 +158,7 @@ impl Conditions {
         }
     }
 
-    /// Whether a statement with this word may not be here, if so many conditions may be open.
+    /// Whether a statement with this word may not be here, if this many conditions may be open.
     #[inline(always)]
     pub fn is_misplaced(&self, room: usize, word: Option<CondWord>) -> bool
         ensures { result ≡ is_misplaced room word self.now }

@@ -59,8 +59,8 @@ fn is_declared(placed: &[Placed], name: &[u8]) -> bool
     false
 }
 
-/// The placed statements, which keep the limits of the language, with a set of the names that the first of them
-/// declare: those that were there when a condition was last placed. Contracts see the list alone.
+/// The placed statements, which keep the limits of the language, with a set of the names that the statements before the
+/// last condition declare. Contracts see only the list.
 #[derive(Drop)]
 pub struct PlacedList {
     items: Vec<Placed>,

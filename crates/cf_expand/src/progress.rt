@@ -134,14 +134,14 @@ impl Progress {
         self.asked.push(name)
     }
 
-    /// A path after the top prefix, unless it begins with `/` or there is none.
+    /// The path after the top prefix; the path alone, if it begins with `/` or there is no prefix.
     pub fn under_prefix(&self, alloc: Global, path: &[u8]) -> Result<Text, Memory>
         ensures { IfOk result (λ text. text ≡ under_prefix self.now.prefixes path.now) }
     {
         self.prefixes.under(alloc, path)
     }
 
-    /// Puts a path on top of the prefixes: the path of the top one with this one after it.
+    /// Pushes a prefix: the path of the top one with this one after it.
     pub fn push_prefix(&mut self, path: &[u8]) -> Result<(), Memory>
         ensures { OnOk result (self.new ≡ record self.old { prefixes = under_prefix self.old.prefixes path.now ∷ self.old.prefixes }) }
     {

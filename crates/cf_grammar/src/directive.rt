@@ -53,7 +53,7 @@ fn bare_condition(word: CondWord, words: &[Word]) -> Option<Stmt>
     }
 }
 
-/// A condition word and what stands after it.
+/// A condition word and what follows it.
 pub fn condition(alloc: Global, word: CondWord, words: &[Word]) -> Result<Option<Stmt>, Memory>
     ensures { IfOk result (λ s. s ≡ cond_form word (map piece_of words.now)) }
 {

@@ -174,8 +174,8 @@ fn gives_text(first: Word, rest: &[Word]) -> bool
     first.is_chunk() && has_named_text(behind_two(rest))
 }
 
-/// Whether a statement with this first word is left out: by that word where it is no keyword, as an instance gives a locator a
-/// string, or as a definition gives one a string or a size.
+/// Whether a statement with this first word is left out: because of that word, if it is no keyword; because an instance
+/// gives a locator a string; or because a definition gives one a string or a size.
 #[inline(always)]
 fn is_left_out_statement(first: Word, keyword: Option<Keyword>, rest: &[Word]) -> bool
     requires { keyword ≡ keyword_in (piece_of first) }

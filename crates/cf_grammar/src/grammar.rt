@@ -63,9 +63,9 @@ pub fn word_of<'a>(text: &'a [u8], token: Token) -> Word<'a>
     }
 }
 
-/// Puts the tokens with their bytes in place of what is there, and returns whether none is longer than one may be. The
-/// room is held here meanwhile, so that it is not looked up for each of them; inlined where statements are read, the
-/// loop is longer.
+/// Replaces the words by the tokens with their bytes, and returns whether none is longer than a token may be. The
+/// vector is held in a local meanwhile, so that its room is not looked up for each token; inlined into the caller, the
+/// loop would be longer.
 #[inline(never)]
 fn put_words<'a>(
     words: &mut Vec<Word<'a>>,
@@ -101,7 +101,7 @@ fn has_form(known: &mut Known, keyword: Option<Keyword>, words: &[Word]) -> Resu
     Ok(holds)
 }
 
-/// The code of words that are no statement with each number in its range.
+/// The code of words that are no statement in which every number is in its range.
 #[cold]
 fn unread_code(known: &mut Known, keyword: Option<Keyword>, words: &[Word]) -> Result<u8, Memory>
     requires keyword { keyword ≡ first_keyword (map piece_of words.now) }
@@ -115,7 +115,7 @@ fn unread_code(known: &mut Known, keyword: Option<Keyword>, words: &[Word]) -> R
     }
 }
 
-/// The statement that words are, of which none is longer than a token may be, or one is.
+/// The statement that words are; `short` says that none is longer than a token may be.
 #[inline(always)]
 fn read(known: &mut Known, short: bool, words: &[Word]) -> Result<Stmt, GrammarStop>
     requires { short ≡ are_short (map piece_of words.now) }

@@ -46,7 +46,7 @@ fn pair_of(
     }
 }
 
-/// The value after `flags`, where this many words follow it: it must be the last.
+/// The value after `flags`, which must be the last: no word may follow it.
 #[inline(always)]
 fn flags_of(sized: bool, value: Word, behind: usize) -> Option<i64>
     ensures { result ≡ option_and_then (λ value. given (behind == 0) value) (value_of sized (piece_of value.entry)) }

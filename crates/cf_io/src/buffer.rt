@@ -32,7 +32,7 @@ impl<W: Sink + Drop> Model for Buffered<W> {
     ghost invariant = { λ it. (length it.held.items ≤ ROOM) × (ROOM ≤ vec_capacity it.held) };
 }
 
-/// Takes the first bytes away.
+/// Removes the first bytes.
 fn forget(held: &mut Vec<u8>, count: usize)
     requires { count ≤ length held.old.items }
     ensures rest { held.new.items ≡ drop count held.old.items }

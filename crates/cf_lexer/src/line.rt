@@ -30,7 +30,7 @@ impl From<NoMemory> for LexStop {
     }
 }
 
-/// Appends a token. Room is asked for only if there is none.
+/// Appends a token. Memory is asked for only if there is no room.
 #[inline(always)]
 pub fn push_token(tokens: &mut Vec<Token>, token: Token) -> Result<(), NoMemory>
     ensures { OnOk result (tokens.new.items ≡ tokens.old.items ++ token ∷ []) }
@@ -101,7 +101,7 @@ fn push_chunk(
     Ok(len)
 }
 
-/// Appends the token of a part of a line that few parts are, and returns how long the part is.
+/// Appends the token of a part of a rare kind, and returns how long the part is.
 #[cold]
 fn push_rare(
     tokens: &mut Vec<Token>,

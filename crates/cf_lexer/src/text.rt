@@ -38,7 +38,7 @@ fn push_stop(tokens: &mut Vec<Token>) -> Result<(), NoMemory>
     Ok(())
 }
 
-/// Ends the statement so far where the line of a text that begins there begins another.
+/// Ends the statement so far if the line of a text that begins there begins another one.
 #[inline(always)]
 fn end_statement(tokens: &mut Vec<Token>, text: &[u8], start: usize) -> Result<(), NoMemory>
     requires { start ≤ length text.now }
@@ -50,8 +50,8 @@ fn end_statement(tokens: &mut Vec<Token>, text: &[u8], start: usize) -> Result<(
     Ok(())
 }
 
-/// No token, with room for those of so many bytes in most files, so that few are moved as their list grows. What no
-/// token comes to lie in is never touched.
+/// No token, with room for as many as most files of this size have, so that few are moved as the list grows. Room that
+/// no token fills is never touched.
 fn room_for(alloc: Global, bytes: usize) -> Result<Vec<Token>, NoMemory>
     ensures { IfOk result (λ tokens. tokens.items ≡ []) }
 {

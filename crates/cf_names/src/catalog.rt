@@ -12,8 +12,8 @@ use cf_types::{Attach, Attr, Declared, Device, List, Memory, Name};
 use std::alloc::Global;
 use std::marker::Model;
 
-/// Attributes, devices and attachments, each in the order in which they are declared. Contracts see the lists; beside
-/// them the numbers are kept by name and by device, so that no look-up needs a scan. See config(5).
+/// Attributes, devices and attachments, each in the order in which they are declared. Contracts see the lists; besides,
+/// numbers are kept by name and by device, so that no look-up needs a scan. See config(5).
 #[derive(Drop)]
 pub struct Catalog {
     lists: Declared,
@@ -31,7 +31,7 @@ impl Model for Catalog {
     ghost invariant = { λ it. IsIndexOf it.lists it.index };
 }
 
-/// Makes room for so many more attributes, devices and attachments.
+/// Makes room for this many more attributes, devices and attachments.
 fn reserve_lists(lists: &mut Declared, more: Room) -> Result<(), Memory>
     ensures { lists.new ≡ lists.old }
 {
@@ -113,7 +113,7 @@ fn no_lists(alloc: Global) -> Declared
     }
 }
 
-/// Drops what is declared, where memory ran out while it grew.
+/// Drops what is declared, if memory ran out while it grew.
 fn settle(
     alloc: Global,
     lists: &mut Declared,
@@ -133,7 +133,7 @@ fn settle(
 }
 
 impl Catalog {
-    /// Nothing is declared; what will be is found by this hash of its name. It takes no memory.
+    /// Nothing is declared yet; names will be found by this hash. It takes no memory.
     pub fn make(alloc: Global, hash: NameHash) -> Catalog
         ensures { result ≡ record { attrs = []; devices = []; attaches = [] } }
     {
@@ -241,7 +241,7 @@ impl Catalog {
         settle(alloc, &mut self.lists, &mut self.index, added)
     }
 
-    /// The lists alone.
+    /// Only the lists.
     pub fn into_lists(self) -> Declared
         ensures { result ≡ self }
     {

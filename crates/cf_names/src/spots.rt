@@ -34,7 +34,7 @@ pub struct Spots {
     pub count: usize,
 }
 
-/// Notes a spot, unless there is one of its device at its place.
+/// Notes a spot, unless its device has one at this place already.
 fn note(
     first: &mut HashMap<SpotKey, FirstSpot>,
     key: SpotKey,
@@ -129,7 +129,7 @@ fn begin_noting(
     Ok(())
 }
 
-/// Notes the spots of one more attachment, where those of these are noted.
+/// Notes the spots of one more attachment, if those of the earlier ones are noted.
 fn note_more(noted: &mut Option<Spots>, attaches: &[Attach], attach: &Attach) -> Result<(), Memory>
     requires { IfSome noted.old (λ spots. AreSpots spots (all_spots attaches.now)) }
     ensures { OnOk result (IfSome noted.new (λ spots. AreSpots spots (all_spots (attaches.now ++ attach.now ∷ [])))) }
@@ -143,7 +143,7 @@ fn note_more(noted: &mut Option<Spots>, attaches: &[Attach], attach: &Attach) ->
     }
 }
 
-/// Notes the spots of one more attachment after those of these. Nothing is noted until there are many.
+/// Notes the spots of one more attachment after the earlier ones. Nothing is noted until there are many.
 pub fn note_spots(
     alloc: Global,
     noted: &mut Option<Spots>,

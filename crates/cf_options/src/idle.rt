@@ -11,7 +11,7 @@ use crate::standing::{Flags, note_statement, nothing_stands, stands};
 use cf_types::{ItemKind, List, Memory, Name, Placed, Stmt};
 use std::alloc::Global;
 
-/// Appends the place of a negation, if nothing of its kind and name stands.
+/// Appends the place of a negation, if no item of its kind and name is in force.
 fn push_idle_name(
     idle: &mut List<u32>,
     flags: &Flags,
@@ -27,7 +27,7 @@ fn push_idle_name(
     idle.push(place)
 }
 
-/// Appends the place of a negation, once for each of its names of which nothing stands.
+/// Appends the place of a negation, once for each of its names for which no item is in force.
 fn push_idle_names(
     idle: &mut List<u32>,
     flags: &Flags,

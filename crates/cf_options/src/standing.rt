@@ -30,7 +30,7 @@ pub fn nothing_stands<'a>(alloc: Global) -> Flags<'a>
     }
 }
 
-/// Whether an item of this name stands.
+/// Whether an item of this name is in force.
 fn is_set(flags: &HashMap<&Name, bool>, name: &Name) -> bool
     ensures { result ≡ flag_of flags.now name.now }
 {
@@ -52,7 +52,7 @@ pub fn stands(flags: &Flags, kind: ItemKind, name: &Name) -> bool
     }
 }
 
-/// Notes whether an item of this name is at a place, if a negation after it names it: else nobody asks.
+/// Notes whether an item of this name is in force after a place, if a later negation names it: otherwise nobody asks.
 fn set<'a>(
     flags: &mut HashMap<&'a Name, bool>,
     last: &LastPlaces,
@@ -71,7 +71,7 @@ fn set<'a>(
     }
 }
 
-/// Notes of these names whether an item stands at a place.
+/// Notes for these names whether an item is in force after a place.
 fn set_names<'a>(
     flags: &mut HashMap<&'a Name, bool>,
     last: &LastPlaces,
@@ -87,7 +87,7 @@ fn set_names<'a>(
     Ok(())
 }
 
-/// Notes that these items stand at a place.
+/// Notes that these items are in force after a place.
 fn set_items<'a>(
     flags: &mut HashMap<&'a Name, bool>,
     last: &LastPlaces,

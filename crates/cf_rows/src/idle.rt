@@ -56,7 +56,7 @@ fn make_warning(
     })
 }
 
-/// Appends so many warnings of one kind.
+/// Appends this many warnings of one kind.
 fn push_warnings(
     alloc: Global,
     out: &mut List<Warning>,
@@ -73,7 +73,7 @@ fn push_warnings(
     Ok(())
 }
 
-/// How often a place stands at the front.
+/// How often a place is at the beginning.
 fn front_count(places: &[u32], place: usize) -> usize
     ensures count { result ≡ prefix_len (λ p. p == place) places.now }
     ensures within { result ≤ length places.now }
@@ -88,7 +88,7 @@ fn front_count(places: &[u32], place: usize) -> usize
     count
 }
 
-/// Appends a warning for each time that the place stands at the front, and answers the places after.
+/// Appends a warning for each time that the place is at the beginning, and returns the places after that.
 fn push_front<'a>(
     alloc: Global,
     out: &mut List<Warning>,
@@ -108,7 +108,7 @@ fn push_front<'a>(
     Ok(&places[count..])
 }
 
-/// Appends a warning where the first of the orphans is of this statement, and answers the places of those after.
+/// Appends a warning if the first of the orphans is of this statement, and returns the places of the remaining ones.
 fn push_orphan<'a>(
     alloc: Global,
     out: &mut List<Warning>,

@@ -93,7 +93,7 @@ fn push_starred<'a>(ordered: &mut Vec<&'a Instance>, own: &[&'a Instance]) -> Re
     Ok(())
 }
 
-/// Whether the units of these instances of a device ascend, whatever stars stand between them.
+/// Whether the units of these instances of a device ascend; starred ones between them do not matter.
 fn units_ascend(own: &[&Instance]) -> bool
     requires { All UnitFits (seen own.now) }
     ensures { IsTrue result → flat_map (of_unit (seen own.now)) (units_of (seen own.now)) ≡ fixed (seen own.now) }

@@ -116,7 +116,7 @@ fn inst_at(insts: &[Inst], place: usize) -> &Inst
     &insts[place]
 }
 
-/// Marks all that are rooted, where those at the root are marked and the others wait.
+/// Marks all that are rooted, starting from the marked ones at the root; the others wait.
 fn spread(
     alloc: Global,
     graph: &Graph,

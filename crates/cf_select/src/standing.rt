@@ -101,7 +101,7 @@ fn push_idle(idle: &mut List<u32>, is_idle: bool, place: u32) -> Result<(), Memo
     Ok(())
 }
 
-/// Leaves the marks of instances, and takes away all others.
+/// Keeps the marks of instances, and removes all others.
 fn keep_instances(placed: &[Placed], free: &mut Vec<bool>)
     requires { length free.old.items ≡ length placed.now }
     ensures { free.new.items ≡ instances (stmts_of placed.now) free.old.items }

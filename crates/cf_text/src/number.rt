@@ -12,7 +12,7 @@ pub const MAX_NUMBER: i64 = 4_294_967_295;
 /// How far below 0 the least number is.
 const MOST_BELOW: u64 = 2_147_483_648;
 
-/// What stands for all numbers above the greatest.
+/// Stands for every number above the greatest.
 const TOO_GREAT: u64 = 4_294_967_296;
 
 /// How a chunk reads as a number.

@@ -10,7 +10,7 @@ pub struct Spot {
     pub place: Place,
     /// The locator values that the bus finds there.
     pub found: Locs,
-    /// It is hidden until a finaliser shows it.
+    /// It is hidden until a finalizer shows it.
     pub late: bool,
     /// It has no hardware until it is plugged.
     pub absent: bool,

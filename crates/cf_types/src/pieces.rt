@@ -69,7 +69,7 @@ fn part_of<'a>(text: &'a [u8], tokens: &[Token]) -> (u32, &'a [u8])
     (start, &text[start as usize..end as usize])
 }
 
-/// Where the tokens of a text are in the part of it that begins there.
+/// The places of the tokens of a text in the part of it that begins at `start`.
 #[inline(always)]
 fn spans_from(alloc: Global, start: u32, tokens: &[Token]) -> Result<Vec<PieceSpan>, Memory>
     requires { All (IsFrom start) tokens.now }
@@ -86,7 +86,7 @@ fn spans_from(alloc: Global, start: u32, tokens: &[Token]) -> Result<Vec<PieceSp
     Ok(spans)
 }
 
-/// The token that stands there, with bytes of its own.
+/// The token at this place, with bytes of its own.
 fn piece_at(alloc: Global, text: &[u8], span: PieceSpan) -> Result<Piece, Memory>
     requires { IsWithin (length text.now) span }
     ensures { IfOk result (λ piece. piece ≡ piece_at text.now span) }
@@ -99,7 +99,7 @@ fn piece_at(alloc: Global, text: &[u8], span: PieceSpan) -> Result<Piece, Memory
 }
 
 impl Pieces {
-    /// No token, with room for so many tokens and bytes.
+    /// No token, with room for this many tokens and bytes.
     pub fn with_room(alloc: Global, tokens: usize, bytes: usize) -> Result<Pieces, Memory>
         ensures { IfOk result (λ pieces. pieces ≡ []) }
     {

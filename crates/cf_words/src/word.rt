@@ -12,7 +12,7 @@ pub struct Word<'a> {
     pub text: &'a [u8],
 }
 
-/// Whether two texts are the same. Those of two bytes or fewer are told apart without a call.
+/// Whether two texts are the same. Those of two bytes or fewer are compared without a call.
 #[inline(always)]
 fn has_few_bytes(text: &[u8], other: &[u8]) -> bool
     ensures { result ≡ bytes_eq text.now other.now }
@@ -25,7 +25,7 @@ fn has_few_bytes(text: &[u8], other: &[u8]) -> bool
     }
 }
 
-/// Whether two texts are the same. Those of four to six bytes are told apart without a call too.
+/// Whether two texts are the same. Those of four to six bytes are compared without a call, too.
 #[inline(always)]
 fn has_bytes(text: &[u8], other: &[u8]) -> bool
     ensures { result ≡ bytes_eq text.now other.now }
@@ -90,7 +90,7 @@ fn is_comma(word: Word) -> bool
     word.is_mark(b",")
 }
 
-/// How many words stand before the first of these marks; all of them if there is none.
+/// How many words come before the first of these marks; all of them if there is none.
 #[inline(always)]
 fn count_before(words: &[Word], mark: &[u8]) -> usize
     ensures { result ≡ length (take_while (λ word. not (is_mark mark.now (piece_of word))) words.now) }

@@ -69,7 +69,7 @@ fn goes_again(shown: Option<u16>, anew: bool, pass_repeats: bool) -> bool
     shown.is_some() || (!anew && pass_repeats)
 }
 
-/// A call of a finaliser: the late spot that it found is shown, what a row takes there is attached, and the boot's list
+/// A call of a finalizer: the late spot that it found is shown, what a row takes there is attached, and the boot's list
 /// goes on, or the frame is over.
 fn finalise(
     alloc: Global,

@@ -72,7 +72,7 @@ fn condemn_slots<S: Slots>(slots: &mut S, site: &Site, core: &Core, target: u64)
     }
 }
 
-/// Frees a condemned slot; or answers who holds it, bit k-1 for caller k, and nothing changes but the denials.
+/// Frees a condemned slot; or returns who holds it, bit k-1 for caller k, and only the denials change.
 fn bury_slot<S: Slots>(slots: &mut S, slot: u16) -> Result<(), u16>
     requires { slice_get (S.states slots.old) slot ≡ Some Condemned }
     ensures freed { OnOk result (S.states slots.new ≡ slice_set (S.states slots.old) slot Free) }

@@ -142,7 +142,7 @@ fn tree_act(alloc: Global, setup: &Setup, core: &Core, name: &Option<Name>) -> R
     Ok(Act::TreeDev { device, names })
 }
 
-/// The names that a list or a tree tells.
+/// The names in a list or a tree.
 fn listing_act(alloc: Global, setup: &Setup, core: &Core, said: &Command) -> Result<Act, Memory>
     requires names { HaveNames setup.now core.now }
     requires few { length core.now.tree.live + 1 < 2 ^ 32 }
@@ -156,7 +156,7 @@ fn listing_act(alloc: Global, setup: &Setup, core: &Core, said: &Command) -> Res
     }
 }
 
-/// The name that a command gives; none where it is a list or a tree.
+/// The name that a command gives; none if it is a list or a tree.
 fn name_given(said: &Command) -> Option<&Name>
     ensures { name_given said.now ≡ option_map (λ name. name.now) result }
 {

@@ -24,7 +24,7 @@ impl Model for Deferred {
     ghost view = { λ queue. queue.entries.items };
 }
 
-/// Whether a deferred scan to the first key was put off to the second one.
+/// Whether two keys are the same.
 fn same_key(key: Key, which: Key) -> bool
     ensures { result ≡ after.same_key key which }
 {

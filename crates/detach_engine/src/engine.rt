@@ -34,7 +34,7 @@ fn stands_in_way(
 }
 
 /// The device of least serial that keeps the target's subtree from being freed: its driver does not support detaching,
-/// unless that is forced; a scan or a finaliser is busy with it; it is condemned already; or the caller itself holds
+/// unless that is forced; a scan or a finalizer is busy with it; it is condemned already; or the caller itself holds
 /// it. None if all may be freed. See config_detach(9).
 #[tactic(auto, unfolding(crate::specs::Hindrance::hindrance))]
 pub fn hindered(

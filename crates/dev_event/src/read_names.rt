@@ -13,7 +13,7 @@ fn has_blank(text: &[u8]) -> bool
     text.iter().any(|&byte| byte == b' ')
 }
 
-/// The names that stand in a text, between blanks.
+/// The names in a text, separated by blanks.
 fn each_name(alloc: Global, text: &[u8]) -> Result<Option<List<Name>>, Memory>
     ensures { IfOk result (λ names. names ≡ reading.all_named (reading.pieces text.now)) }
 {
@@ -33,7 +33,7 @@ fn each_name(alloc: Global, text: &[u8]) -> Result<Option<List<Name>>, Memory>
     Ok(Some(names))
 }
 
-/// The names that stand in a text, between blanks, each after its depth.
+/// The names in a text, separated by blanks, each after its depth.
 fn each_depth_name(alloc: Global, text: &[u8]) -> Result<Option<List<DepthName>>, Memory>
     ensures { IfOk result (λ names. names ≡ reading.all_deep (reading.pieces text.now)) }
 {

@@ -30,7 +30,7 @@ impl Model for Branches {
 }
 
 impl Branches {
-    /// So many devices, and none has children.
+    /// This many devices, none of which has children.
     fn bare(alloc: Global, devices: usize) -> Result<Branches, Memory>
         ensures { IfOk result (λ b. (live : Items Dev) → length live ≡ devices → AreBranchesIn live [] b) }
     {

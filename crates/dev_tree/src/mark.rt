@@ -20,7 +20,7 @@ pub fn mark_sleep(live: &mut [Dev], serial: u64, asleep: bool)
     }
 }
 
-/// Condemns a device without children, in the name of a caller.
+/// Condemns a device without children, on behalf of a caller.
 fn condemn_one(live: &mut [Dev], serial: u64, caller: u8)
     requires order { AreInOrder live.old }
     requires bare { IsBare live.old serial }

@@ -1,4 +1,4 @@
-//! Between which places the last device awake and the first one asleep are.
+//! The places between which the last device awake and the first one asleep are.
 ghost use Rattle.std.specs.Prelude.{◌≡◌, ◌≢◌, ◌<◌, ◌≤◌, ◌+◌, ◌^◌, ℕ, List, [], ◌∷◌, ◌++◌, Bool, false, true, find, length, map, remove, reverse};
 ghost use Rattle.run_rules.specs.After.{with_sleep};
 ghost use Rattle.run_rules.specs.declared.world.Dev.{Dev};
@@ -27,7 +27,7 @@ impl Resting {
         }
     }
 
-    /// With one device more, awake and the last of so many.
+    /// With one device more, awake and the last one.
     pub fn with_one(self, count: usize) -> Resting
         ensures { (live : List Dev) (d : Dev) → length live + 1 ≡ count → d.asleep ≡ false → AreResting live self → AreResting (live ++ d ∷ []) result }
     {

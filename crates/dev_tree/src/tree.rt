@@ -84,8 +84,8 @@ impl DevTree {
         let _ = &self.live;
     }
 
-    /// Attaches a device below a parent, 0 for the root, on a spot, and answers its serial. At `Memory` all is as before.
-    /// See config_attach(9).
+    /// Attaches a device below a parent, 0 for the root, on a spot, and returns its serial. At `Memory` all is as
+    /// before. See config_attach(9).
     pub fn attach(
         &mut self,
         row: u32,

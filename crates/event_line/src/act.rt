@@ -55,7 +55,7 @@ fn put_scan(out: &mut Vec<u8>, device: &Name) -> Result<(), Memory>
     put_bytes(out, b": done")
 }
 
-/// Appends what a finaliser answered.
+/// Appends what a finalizer answered.
 fn put_finaliser(out: &mut Vec<u8>, device: &Name, shown: &Option<Shown>) -> Result<(), Memory>
     ensures { OnOk result (out.new.items ≡ out.old.items ++ text.said_of (codes "final ") device.now (text.shown_text shown.now)) }
 {
@@ -63,7 +63,7 @@ fn put_finaliser(out: &mut Vec<u8>, device: &Name, shown: &Option<Shown>) -> Res
     put_shown(out, shown)
 }
 
-/// Appends what a finaliser answered: format 1.
+/// Appends what a finalizer answered: format 1.
 fn put_finaliser_1(out: &mut Vec<u8>, device: &Name, shown: &Option<Shown>) -> Result<(), Memory>
     ensures { OnOk result (out.new.items ≡ out.old.items ++ text.said_of (codes "final ") device.now (text.shown_text_1 shown.now)) }
 {

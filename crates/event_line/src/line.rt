@@ -6,7 +6,7 @@ use crate::parts::put_marked;
 use cf_types::{Memory, put_bytes};
 use run_rules::Event;
 
-/// How many bytes serve for most lines.
+/// How many bytes are enough for most lines.
 const USUAL: usize = 96;
 
 /// Appends who did the event, and the number of its command.
@@ -31,7 +31,7 @@ fn put_line(out: &mut Vec<u8>, event: &Event) -> Result<(), Memory>
     }
 }
 
-/// Puts the line of an event where nothing stands. If memory runs out, nothing stands there.
+/// Puts the line of an event into an empty buffer. If memory runs out, the buffer is empty again.
 #[inline(always)]
 fn put_alone(out: &mut Vec<u8>, event: &Event) -> Result<(), Memory>
     requires empty { out.old.items ≡ [] }

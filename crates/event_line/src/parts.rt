@@ -50,7 +50,7 @@ pub fn put_named(out: &mut Vec<u8>, word: &[u8], name: &Name) -> Result<(), Memo
     put_bytes(out, name.bytes())
 }
 
-/// Appends a word, a name, and the colon that comes before what is said of it.
+/// Appends a word, a name, and the colon before what is said about it.
 #[inline(always)]
 pub fn put_said(out: &mut Vec<u8>, word: &[u8], name: &Name) -> Result<(), Memory>
     ensures { OnOk result (out.new.items ≡ out.old.items ++ (word.now ++ name.now ++ codes ": ")) }
@@ -118,7 +118,7 @@ pub fn put_got(out: &mut Vec<u8>, got: &Option<Got>) -> Result<(), Memory>
     }
 }
 
-/// Appends what a finaliser answered: the spot that it showed, and what was attached there.
+/// Appends what a finalizer answered: the spot that it showed, and what was attached there.
 pub fn put_shown(out: &mut Vec<u8>, shown: &Option<Shown>) -> Result<(), Memory>
     ensures { OnOk result (out.new.items ≡ out.old.items ++ shown_text shown.now) }
 {
@@ -141,7 +141,7 @@ pub fn put_got_1(out: &mut Vec<u8>, got: &Option<Got>) -> Result<(), Memory>
     }
 }
 
-/// Appends what a finaliser answered, and what was attached: format 1.
+/// Appends what a finalizer answered, and what was attached: format 1.
 pub fn put_shown_1(out: &mut Vec<u8>, shown: &Option<Shown>) -> Result<(), Memory>
     ensures { OnOk result (out.new.items ≡ out.old.items ++ shown_text_1 shown.now) }
 {

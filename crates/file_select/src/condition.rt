@@ -15,7 +15,7 @@ use std::marker::Model;
 /// The most parentheses and `!` that may be open at a name.
 const MAX_NESTING: u32 = 64;
 
-/// How many are open where one more is; beyond the limit they are not counted.
+/// How many are open if one more is; beyond the limit they are not counted.
 fn deeper(depth: u32) -> u32
     ensures { result ≡ deeper depth }
 {
@@ -261,7 +261,7 @@ pub enum Verdict {
     Value(bool),
 }
 
-/// Reads all symbols. `None` where one may not stand where it stands.
+/// Reads all symbols. `None` if one of them is at a place where it may not be.
 fn evaluate(alloc: Global, names: &TextSet, pieces: &[Piece]) -> Result<Option<Evaluation>, Memory>
     ensures { IfOk result (λ read. read ≡ run (has_name names.now) pieces.now start) }
 {

@@ -16,7 +16,7 @@ use cf_types::{Expanded, List, Memory, Piece, Placed, Stmt, Tables, Text};
 use std::alloc::Global;
 use std::marker::Model;
 
-/// The paths that are selected, each at its first place, with a set of them. Contracts see the list alone.
+/// The paths that are selected, each at its first place, with a set of them. Contracts see only the list.
 #[derive(Drop)]
 struct Selection {
     paths: Vec<Text>,
@@ -66,7 +66,7 @@ impl Selection {
     }
 }
 
-/// Takes what stands after the word of a `file` statement. `Some` tells its code.
+/// Takes what follows the word of a `file` statement. `Some` has its code.
 fn take_pieces(
     alloc: Global,
     names: &TextSet,
@@ -85,7 +85,7 @@ fn take_pieces(
     Ok(None)
 }
 
-/// Takes a statement. `Some` tells the code of a `file` statement that has one.
+/// Takes a statement. `Some` has the code of a `file` statement that has one.
 fn take(
     alloc: Global,
     names: &TextSet,
@@ -103,7 +103,7 @@ fn take(
     }
 }
 
-/// The paths that the statements select, where these names are chosen, or the first of them that has a code.
+/// The paths that the statements select if these names are chosen, or the first of them that has a code.
 fn select_placed(
     alloc: Global,
     names: &TextSet,

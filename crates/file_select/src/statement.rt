@@ -63,14 +63,14 @@ fn is_rule(pieces: &[Piece]) -> bool
     }
 }
 
-/// How many flags stand first.
+/// How many flags come first.
 fn count_flags(pieces: &[Piece]) -> usize
     ensures { result ≡ prefix_len is_flag pieces.now }
 {
     pieces.iter().take_while(|piece| is_flag(piece)).count()
 }
 
-/// How many tokens stand before the first that ends a condition.
+/// How many tokens come before the first that ends a condition.
 fn count_condition(pieces: &[Piece]) -> usize
     ensures { result ≡ position_or_len ends_condition pieces.now }
 {
@@ -96,7 +96,7 @@ fn split_condition(pieces: &[Piece]) -> (&[Piece], &[Piece])
     pieces.split_at(count_condition(pieces))
 }
 
-/// What a condition is found to be, where none is true.
+/// What a condition is found to be; a missing one is true.
 fn judge_optional(alloc: Global, names: &TextSet, pieces: &[Piece]) -> Result<Verdict, Memory>
     ensures { IfOk result (JudgesOptional (has_name names.now) pieces.now) }
 {
@@ -106,7 +106,7 @@ fn judge_optional(alloc: Global, names: &TextSet, pieces: &[Piece]) -> Result<Ve
     judge(alloc, names, pieces)
 }
 
-/// Whether a path stands first.
+/// Whether a path comes first.
 fn has_path(pieces: &[Piece]) -> bool
     ensures { result ≡ is_some (path_in pieces.now) }
 {
@@ -116,7 +116,7 @@ fn has_path(pieces: &[Piece]) -> bool
     }
 }
 
-/// What stands after the first token.
+/// What follows the first token.
 fn behind_path(pieces: &[Piece]) -> &[Piece]
     ensures { result.now ≡ drop 1 pieces.now }
 {

@@ -13,7 +13,7 @@ fn newline_in(text: &[u8]) -> Option<usize>
     memchr(b'\n', text)
 }
 
-/// What stands before a place, and what stands after it.
+/// What is before a place, and what is after it.
 fn cut_at(text: &[u8], place: usize) -> (&[u8], &[u8])
     requires { place < length text.now }
     ensures before { result.0.now ≡ take place text.now }

@@ -9,7 +9,7 @@ use std::alloc::Global;
 /// How many callers there may be, with the one that boots.
 const CALLERS: u8 = 17;
 
-/// How many bytes serve for most heads.
+/// How many bytes are enough for most heads.
 const USUAL: usize = 8;
 
 /// How the lines of a command begin: who gave it, and its number.
@@ -77,7 +77,7 @@ fn begins(
     Ok(is_joined(&head.text, text, line))
 }
 
-/// Of each caller the head of its last lines.
+/// For each caller the head of its last lines.
 #[derive(Drop)]
 pub struct Heads {
     alloc: Global,

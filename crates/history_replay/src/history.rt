@@ -19,7 +19,7 @@ use run_rules::Event;
 use std::alloc::Global;
 use thiserror::Error;
 
-/// What a history tells: its events, and the device tree after them.
+/// What a history says: its events, and the device tree after them.
 #[derive(Drop)]
 pub struct Replayed {
     pub events: List<Event>,

@@ -11,7 +11,8 @@ use crate::row::put_row;
 use attr_graph::{Graph, graph_of};
 use cf_types::{Item, Memory, Tables};
 
-// Each `seek_` puts line `n` of a section of the listing and answers `None`, or answers how far `n` lies behind it.
+// Each `seek_` puts line `n` of a section of the listing and returns `None`, or returns how far `n` is past the
+// section.
 
 fn seek_attr(out: &mut Vec<u8>, tables: &Tables, n: usize) -> Result<Option<usize>, Memory>
     ensures { IfOk result (λ left. Seeks (map attr_line tables.now.attrs) n left out.old.items out.new.items) }
@@ -220,7 +221,7 @@ fn seek_line(
 }
 
 /// Appends line `n` of the listing of the tables, as `put_line_with` does, without a buffer of its own: if memory runs
-/// out, a part of the line may stand there.
+/// out, a part of the line may be left there.
 pub fn put_line_at_once(
     tables: &Tables,
     graph: &Graph,

@@ -21,7 +21,7 @@ use machine_text::LineStop;
 use std::alloc::Global;
 use std::mem;
 
-/// Whether the name is free, and no locator or mark stands twice.
+/// Whether the name is allowed, and no locator or mark is given twice.
 fn is_spot(
     alloc: Global,
     name: &[u8],
@@ -211,7 +211,7 @@ fn add_driver(
     Ok(())
 }
 
-/// Adds what stands after `spot`.
+/// Adds what follows `spot`.
 fn add_spot_line<'t>(
     alloc: Global,
     index: &Index,
@@ -231,7 +231,7 @@ fn add_spot_line<'t>(
     }
 }
 
-/// Adds what stands after `match`.
+/// Adds what follows `match`.
 fn add_match_line(index: &Index, draft: &mut Draft, words: &[&[u8]]) -> Result<(), LineStop>
     requires index { IsIndex index.now }
     requires draft { IsDraft draft.old }
@@ -244,7 +244,7 @@ fn add_match_line(index: &Index, draft: &mut Draft, words: &[&[u8]]) -> Result<(
     }
 }
 
-/// Adds what stands after `style`.
+/// Adds what follows `style`.
 fn add_style_line(index: &Index, draft: &mut Draft, words: &[&[u8]]) -> Result<(), LineStop>
     requires index { IsIndex index.now }
     requires draft { IsDraft draft.old }
@@ -257,7 +257,7 @@ fn add_style_line(index: &Index, draft: &mut Draft, words: &[&[u8]]) -> Result<(
     }
 }
 
-/// Adds what stands after `driver`.
+/// Adds what follows `driver`.
 fn add_driver_line(
     alloc: Global,
     index: &Index,
@@ -275,7 +275,7 @@ fn add_driver_line(
     }
 }
 
-/// Adds what stands after the first word of a line.
+/// Adds what follows the first word of a line.
 fn add_rest<'t>(
     alloc: Global,
     index: &Index,

@@ -26,7 +26,7 @@ fn has_equals(word: &[u8]) -> bool
     word.iter().any(|&byte| byte == b'=')
 }
 
-/// How many bytes stand before the first `=`; all of them if there is none.
+/// How many bytes come before the first `=`; all of them if there is none.
 fn equals_at(word: &[u8]) -> usize
     ensures { result ≡ length (take_while (λ c. not (c == 61)) word.now) }
 {
@@ -39,7 +39,7 @@ fn name_part(word: &[u8]) -> &[u8]
     word.split_at(equals_at(word)).0
 }
 
-/// What stands after the first `=`.
+/// What follows the first `=`.
 fn value_part(word: &[u8]) -> &[u8]
     ensures { result.now ≡ after_first (λ c. c == 61) word.now }
 {
@@ -88,7 +88,7 @@ pub fn given_values<'t>(
     Ok(Some(found))
 }
 
-/// How many words at the front are locators.
+/// How many words at the beginning are locators.
 pub fn count_located(words: &[&[u8]]) -> usize
     ensures { result ≡ length (located (seen words.now)) }
 {
@@ -124,7 +124,7 @@ fn has_number(numbers: &Numbers, name: &[u8], number: usize) -> bool
     }
 }
 
-/// Whether no name stands twice, by the numbers of the names.
+/// Whether no name is there twice, by the numbers of the names.
 fn differ_by_number(numbers: &Numbers, found: &[FoundValue]) -> bool
     requires { AreNumbers numbers.now.items (names_of found.now) }
     ensures { result ≡ differ (names_of found.now) }

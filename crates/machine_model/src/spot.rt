@@ -130,7 +130,7 @@ pub struct Site<'t> {
     locators: &'t [Locator],
 }
 
-/// Whether a parent was given by no earlier line, where this is the spot above.
+/// Whether no earlier line gave the parent; `above` is the spot of the parent.
 fn is_orphan(parent: &[u8], above: Option<u16>) -> bool
     ensures { result ≡ (not (bytes_eq parent.now (codes "root")) && is_none above) }
 {

@@ -41,7 +41,7 @@ impl From<AllocError> for MachineStop {
     }
 }
 
-/// Each byte that is allowed stands at its own place, and a newline at every other place.
+/// Each allowed byte is at its own place; every other place has a newline.
 static ALLOWED_BYTES: [u8; 256] = *b"\
     \n\n\n\n\n\n\n\n\n\t\n\n\n\n\n\n\n\n\n\n\n\n\n\n\n\n\n\n\n\n\n\n\
     \x20!\"#$%&'()*+,-./0123456789:;<=>?\
@@ -89,7 +89,7 @@ fn parted(alloc: Global, bytes: &[u8]) -> Result<List<Text>, NoMemory>
     Ok(words)
 }
 
-/// Replaces the words by those of a line. They are borrowed from the line, and their room is reused.
+/// Replaces the words by those of a line. They are borrowed from the line, and the room of the list is reused.
 pub fn cut_words<'t>(words: &mut Vec<&'t [u8]>, line: &'t [u8]) -> Result<(), NoMemory>
     ensures { OnOk result (seen words.new.items ≡ words_of line.now) }
 {

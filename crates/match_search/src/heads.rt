@@ -1,4 +1,4 @@
-//! What is compared first of each row; it alone rules out most rows that do not suit a spot.
+//! What is compared first for each row; it alone rules out most rows that do not suit a spot.
 ghost use Rattle.std.specs.Prelude.{◌≡◌, map, IfOk};
 ghost use Rattle.match_search.specs.Found.{locators_in};
 ghost use Rattle.match_search.specs.Heads.{could_pass, first_locator, head_of};

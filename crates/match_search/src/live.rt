@@ -5,7 +5,7 @@ use cf_types::{Memory, Tables};
 use std::alloc::Global;
 use std::marker::Model;
 
-/// Of each row whether it is live: starred, or of a name and a unit that no live device has. Contracts see the truth
+/// For each row whether it is live: starred, or of a name and a unit that no live device has. Contracts see the truth
 /// values in the order of the rows.
 #[derive(Drop)]
 pub struct LiveRows {

@@ -70,8 +70,8 @@ fn due_position(
     })
 }
 
-/// Where a search of an indirect bus goes on: at the first pair of an open spot and of the row that takes it, so that no row
-/// is gone through that takes nothing.
+/// Where a search of an indirect bus goes on: at the first pair of an open spot and the row that takes it, so that rows
+/// that take nothing are skipped.
 #[inline(never)]
 fn next_pair(
     site: &Site,
@@ -101,7 +101,7 @@ fn next_pair(
     next
 }
 
-/// Whether a search passes a spot: it is not open, or does not hang on this bus.
+/// Whether a search passes a spot: it is not open, or is not on this bus.
 #[tactic(auto, unfolding(run_rules::specs::Search::is_open))]
 #[inline(always)]
 fn is_passed(

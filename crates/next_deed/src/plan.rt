@@ -62,7 +62,7 @@ pub fn plan_scan(
     }
 }
 
-/// What the finaliser of a device does.
+/// What the finalizer of a device does.
 #[tactic(auto, unfolding(run_rules::specs::Next::finalise))]
 #[inline(never)]
 pub fn plan_call(site: &Site, core: &Core, serial: u64, listed: Option<u64>, anew: bool) -> Deed
@@ -95,7 +95,7 @@ pub fn plan_call(site: &Site, core: &Core, serial: u64, listed: Option<u64>, ane
     }
 }
 
-/// What the boot does without a frame: interrupts first, then the finalisers, in passes until none answers 1. See
+/// What the boot does without a frame: interrupts first, then the finalizers, in passes until none answers 1. See
 /// autoconf(9).
 pub fn plan_boot(site: &Site, core: &Core) -> Deed
     requires books { Books site.now.setup core.now }

@@ -262,7 +262,7 @@ fn plug(rules: &Rules, plain: &Plain, name: &Name) -> Deed
     }
 }
 
-/// Hardware goes from a spot, with what stands on it.
+/// Hardware goes from a spot, with the device on it.
 fn unplugging(rules: &Rules, plain: &Plain, caller: u8, spot: u16) -> Deed
     ensures { next.unplugging (world_of (setup_by rules.now) plain.now) caller spot ≡ result }
 {
@@ -287,7 +287,7 @@ fn unplug(rules: &Rules, plain: &Plain, caller: u8, name: &Name) -> Deed
     }
 }
 
-/// What a command does, which has this number.
+/// What the command of this number does.
 #[tactic(auto, unfolding(run_rules::specs::Next::command_deed))]
 pub fn command_deed(
     alloc: Global,

@@ -17,7 +17,7 @@ pub enum Followed {
     UpTo(u64),
 }
 
-/// What plain looks go by: the tables and the machine, and the devices and references after the events so far.
+/// What linear search uses: the tables and the machine, and the devices and references after the events so far.
 #[derive(Drop)]
 struct Follower<'a> {
     alloc: Global,

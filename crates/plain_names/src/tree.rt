@@ -59,7 +59,7 @@ pub fn list_names(
     }
 }
 
-/// Appends the devices below a parent, of so many levels, each with its depth: depth first, children by serial.
+/// Appends the devices below a parent, this many levels deep, each with its depth: depth first, children by serial.
 fn push_below(
     live: &[Dev],
     levels: u32,
@@ -125,7 +125,7 @@ fn push_names(
     Ok(())
 }
 
-/// The names of a device and of what stands below it.
+/// The names of a device and of what is below it.
 fn names_from(
     alloc: Global,
     rules: &Rules,
@@ -144,7 +144,7 @@ fn names_from(
     Ok(names)
 }
 
-/// The names of all that stands below the root.
+/// The names of all that is below the root.
 fn names_of_all(alloc: Global, rules: &Rules, live: &[Dev]) -> Result<List<DepthName>, Memory>
     requires fit { AreFit rules.now }
     requires few { length live.now ≤ 1024 }

@@ -22,7 +22,7 @@ struct Below {
     bare: bool,
 }
 
-/// What the search for the next deed goes by: the rules of a run, and what was noted of each spot.
+/// What the search for the next deed uses: the rules of a run, and what was noted about each spot.
 #[derive(Drop)]
 pub struct Seeker<'a> {
     pub rules: &'a Rules<'a>,
@@ -49,7 +49,7 @@ fn is_of(below: Below, row: u32, unit: u32, place: Place, spot: u16) -> bool
     below.row == row && below.unit == unit && same_place(below.place, place) && below.spot == spot
 }
 
-/// Whether no row takes a spot at a place below such a device: none takes it where no device is live.
+/// Whether no row takes a spot at a place below such a device: none takes it if no device is live.
 fn is_bare(alloc: Global, rules: &Rules, row: u32, unit: u32, place: Place, spot: u16) -> bool
     requires { AreFit rules.now }
     ensures { IsTrue result → IsBare (setup_by rules.now) row unit place spot }
@@ -61,7 +61,7 @@ fn is_bare(alloc: Global, rules: &Rules, row: u32, unit: u32, place: Place, spot
     winner(rules, &Live::make(alloc), parent, place, spot).is_none()
 }
 
-/// Nothing noted of so many spots.
+/// Nothing noted about this many spots.
 fn none_noted(alloc: Global, spots: usize) -> Result<Vec<Option<Below>>, Memory>
     ensures { (s : Setup) → IfOk result (λ noted. AreSo s noted.items) }
 {

@@ -28,7 +28,7 @@ fn has_value(found: &[i64], wanted: Wanted) -> bool
     }
 }
 
-/// Whether a spot has all locator values that are wanted. Where none is, the spot is not looked at.
+/// Whether a spot has all locator values that are wanted. If none is wanted, the spot is not looked at.
 fn passes_filter(rules: &Rules, spot: u16, filter: &[Wanted]) -> bool
     ensures { result ≡ rule.passes_filter (rule.found_at rules.now.machine.now spot) filter.now }
 {

@@ -39,7 +39,7 @@ pub fn is_live(live: &Live, serial: u64) -> bool
     live.has(serial)
 }
 
-/// Whether a live device stands on a spot.
+/// Whether a live device is on a spot.
 pub fn is_occupied(live: &Live, spot: u16) -> bool
     ensures { result ≡ rule.is_occupied live.now.devices spot }
 {

@@ -1,4 +1,4 @@
-//! How many devices stand on each spot.
+//! How many devices are on each spot.
 ghost use Rattle.std.specs.Prelude.{◌≡◌, ◌<◌, ◌+◌, ◌-◌, ◌==◌, ◌^◌, ℕ, if◌then◌else◌, length, nat_lt, OnOk};
 ghost use Rattle.std.specs.List.{slice_index_or};
 
@@ -34,7 +34,7 @@ pub fn leave(counts: &mut Vec<usize>, spot: u16)
     }
 }
 
-/// Whether any stands on a spot.
+/// Whether any device is on a spot.
 pub fn is_on(counts: &[usize], spot: u16) -> bool
     ensures { result ≡ nat_lt 0 (slice_index_or counts.now spot 0) }
 {

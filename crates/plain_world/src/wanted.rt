@@ -42,7 +42,7 @@ fn wanted_at(place: u8, given: &Given) -> Wanted
     }
 }
 
-/// The value for a locator, before those for the others; none where it is no locator, or is wanted already.
+/// The value for a locator, before those for the others; none if it is no locator, or is wanted already.
 fn with_first(
     locators: &[Locator],
     first: &Given,

@@ -20,7 +20,7 @@ pub struct Plain {
     /// The references, and the devices that are held solely.
     pub refs: Vec<Ref>,
     pub sole: Vec<u64>,
-    /// The spots without hardware, and the late spots that no finaliser has shown yet.
+    /// The spots without hardware, and the late spots that no finalizer has shown yet.
     pub absent: Vec<u16>,
     pub hidden: Vec<u16>,
     /// Whether interrupts work.
@@ -29,7 +29,7 @@ pub struct Plain {
     pub power_owner: Option<u8>,
     /// The deferred scans.
     pub deferred: Vec<Deferred>,
-    /// The devices with a finaliser, the position in this list, and whether one of this pass answered 1.
+    /// The devices with a finalizer, the position in this list, and whether one of this pass answered 1.
     pub finalisers: Vec<u64>,
     pub next_finaliser: u64,
     pub pass_repeats: bool,

@@ -13,7 +13,7 @@ pub fn freed_without_references()
     ensures { (w : World) (k s : ℕ) → next w k ≡ Does (Free s) → is_referred w s ≡ false }
 {}
 
-/// In every boot in which no finaliser is called, each device comes below the root or below a device that lives.
+/// In every boot in which no finalizer is called, each device comes below the root or below a device that lives.
 pub fn parents_live()
     ensures { (s : Setup) (h : List Event) (v : World) → QuietRun (opening s) h v → ParentsLive h }
 {}

@@ -18,7 +18,7 @@ pub enum Deed {
         of: u64,
     },
     BeginInterrupts,
-    /// A finaliser is called: the late spot that it shows, if there is one, and what comes there. One that is called from
+    /// A finalizer is called: the late spot that it shows, if there is one, and what comes there. One that is called from
     /// the boot's list has its place there, and may begin a new pass.
     Finalise {
         of: u64,

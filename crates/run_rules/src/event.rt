@@ -27,7 +27,7 @@ pub enum Act {
     },
     /// Interrupts work from now on. See autoconf(9).
     Interrupts,
-    /// A finaliser was called: the late spot that it showed, if one was left. See autoconf(9).
+    /// A finalizer was called: the late spot that it showed, if one was left. See autoconf(9).
     Final {
         device: Name,
         shown: Option<Shown>,
@@ -155,7 +155,7 @@ pub struct Got {
     pub row: u32,
 }
 
-/// A late spot that a finaliser showed, and the device that was attached there, or none if no driver takes it.
+/// A late spot that a finalizer showed, and the device that was attached there, or none if no driver takes it.
 #[derive(Drop)]
 pub struct Shown {
     pub spot: Name,

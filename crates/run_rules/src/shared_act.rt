@@ -8,7 +8,7 @@ use std::alloc::{AllocError, Global};
 use std::marker::Model;
 use std::sync::Arc;
 
-/// An act, and how it is spelled, where that was kept.
+/// An act, and its spelling, if that was kept.
 #[derive(Drop)]
 struct ToldAct {
     act: Act,
@@ -66,7 +66,7 @@ impl SharedAct {
         &self.told.act
     }
 
-    /// The text of the act, where it was kept.
+    /// The text of the act, if it was kept.
     #[inline(always)]
     pub fn text(&self) -> Option<&[u8]>
         ensures { IfSome result (λ text. text.now ≡ act_text self.now) }

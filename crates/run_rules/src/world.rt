@@ -70,7 +70,7 @@ pub enum Frame {
         filter: List<Wanted>,
         position: Position,
     },
-    /// The finaliser of a device.
+    /// The finalizer of a device.
     Finaliser {
         serial: u64,
     },

@@ -155,7 +155,7 @@ impl CallerState {
         self.settle();
     }
 
-    /// The finaliser of a new device, and above it its scan, if these are their places.
+    /// The finalizer of a new device, and above it its scan, if these are their places.
     pub fn place(&mut self, alloc: Global, finaliser: Placing, scan: Placing, serial: u64)
         requires room { 2 ≤ self.old.stack.room }
         ensures { caller_of self.new ≡ searched_too scan (finalised_too finaliser (caller_of self.old) serial) serial }

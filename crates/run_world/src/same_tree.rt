@@ -3,7 +3,7 @@ ghost use Rattle.std.specs.Prelude.{◌≡◌, true};
 
 use run_rules::{Act, DepthName};
 
-/// Whether two lines tell the same name at the same depth.
+/// Whether two lines have the same name at the same depth.
 fn are_alike(one: &DepthName, other: &DepthName) -> bool
     ensures { result ≡ true → one.now ≡ other.now }
 {

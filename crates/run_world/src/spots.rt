@@ -94,7 +94,7 @@ pub fn has_spot(list: &[u16], spot: u16) -> bool
     list.iter().any(|x| *x == spot)
 }
 
-/// Whether a live device stands on the spot.
+/// Whether a live device is on the spot.
 #[inline(always)]
 pub fn is_occupied(tree: &DevTree, spot: u16) -> bool
     ensures { result ≡ search.is_occupied tree.now.live spot }

@@ -10,7 +10,7 @@ use run_rules::{Frame, Position};
 use std::alloc::Global;
 use std::marker::Model;
 
-/// The frames of a caller. Contracts see them in a list, the top first, and for how many more there is room.
+/// The frames of a caller. Contracts see the list of them, the top first, and for how many more there is room.
 #[derive(Drop)]
 pub struct Stack {
     frames: Vec<Frame>,
@@ -73,7 +73,7 @@ impl Stack {
         }
     }
 
-    /// Makes room for so many more frames. The frames are as before at both answers, and so is the room at `Memory`.
+    /// Makes room for this many more frames. The frames are as before in any case; at `Memory` the room is, too.
     #[inline(always)]
     pub fn reserve(&mut self, n: usize) -> Result<(), Memory>
         ensures frames { self.new.frames ≡ self.old.frames }

@@ -83,7 +83,7 @@ fn depth_name(
     Ok(DepthName { depth, name })
 }
 
-/// Appends the names below a parent, of so many levels.
+/// Appends the names below a parent, this many levels deep.
 fn push_names(
     alloc: Global,
     setup: &Setup,
@@ -120,7 +120,7 @@ fn push_names(
     Ok(())
 }
 
-/// The names of a device and of what stands below it, depth first.
+/// The names of a device and of what is below it, depth first.
 fn names_from(
     alloc: Global,
     setup: &Setup,
@@ -149,7 +149,7 @@ fn names_from(
     Ok(names)
 }
 
-/// The names of all that stands below the root, depth first.
+/// The names of all that is below the root, depth first.
 fn names_of_all(alloc: Global, setup: &Setup, core: &Core) -> Result<List<DepthName>, Memory>
     requires names { HaveNames setup.now core.now }
     requires few { length core.now.tree.live + 1 < 2 ^ 32 }

@@ -115,7 +115,7 @@ fn got_of(
     }
 }
 
-/// The spot that a finaliser showed, and what came there.
+/// The spot that a finalizer showed, and what came there.
 pub fn shown_of(
     alloc: Global,
     setup: &Setup,

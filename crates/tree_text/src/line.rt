@@ -5,10 +5,10 @@ ghost use Rattle.tree_text.specs.Parts.{place_text, state_text};
 use crate::parts::{put_held, put_indent, put_mark};
 use cf_types::{DevLine, Memory, put_bytes, put_decimal};
 
-/// How many bytes serve for most lines.
+/// How many bytes are enough for most lines.
 const USUAL: usize = 96;
 
-/// Appends where a device stands, and by which row.
+/// Appends where a device is, and by which row it came.
 fn put_place(out: &mut Vec<u8>, line: &DevLine) -> Result<(), Memory>
     ensures { OnOk result (out.new.items ≡ out.old.items ++ place_text line.now) }
 {
@@ -38,7 +38,7 @@ fn put_line(out: &mut Vec<u8>, line: &DevLine) -> Result<(), Memory>
     put_state(out, line)
 }
 
-/// Puts the line of a device where nothing stands. If memory runs out, nothing stands there.
+/// Puts the line of a device into an empty buffer. If memory runs out, the buffer is empty again.
 fn put_alone(out: &mut Vec<u8>, line: &DevLine) -> Result<(), Memory>
     requires empty { out.old.items ≡ [] }
     ensures ok { OnOk result (out.new.items ≡ dev_text line.now) }

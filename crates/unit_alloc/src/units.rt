@@ -22,7 +22,7 @@ impl Model for Units {
 }
 
 impl Units {
-    /// So many devices, and no unit of any is taken.
+    /// This many devices, with no unit taken.
     pub fn make(alloc: Global, devices: u32) -> Result<Units, Memory>
         ensures { IfOk result (NoneTaken devices) }
     {
