@@ -23,8 +23,8 @@ pub struct Answer {
 }
 
 impl Answer {
-    /// Whether a call over files that may be read can end so: all was written and nothing is told on standard error, or
-    /// nothing was written and a line says why.
+    /// Whether a call may end like this if its output does not fail: at status 0 nothing is on standard error; at any other
+    /// status the output is empty, and a line on standard error says why.
     pub fn is_fit(&self) -> bool {
         match self.status {
             0 => self.errors.is_empty(),

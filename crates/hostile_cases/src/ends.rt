@@ -7,7 +7,7 @@ use std::alloc::Global;
 /// How many statuses there are.
 const STATUSES: usize = 11;
 
-/// How many calls there were, how many ended with each status, and how many as they must not.
+/// How many calls there were, how many ended with each status, and how many wrongly.
 #[derive(Drop)]
 pub struct Ends {
     calls: u64,
@@ -24,7 +24,7 @@ impl Ends {
         })
     }
 
-    /// How many ended as they must not.
+    /// How many ended wrongly.
     pub fn wrong(&self) -> u64 {
         self.wrong
     }

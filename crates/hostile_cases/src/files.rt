@@ -1,9 +1,9 @@
-//! Hostile files: a load that is refused, a file with other bytes.
+//! Hostile files: a load that is refused memory, a file with other bytes.
 ghost use Rattle.std.specs.Prelude.{None};
 
 use cf_io::{Files, Load, MAX_FILE};
 
-/// Files of which one load is refused for want of memory.
+/// Files, one load of which is refused memory.
 #[derive(Drop)]
 pub struct RefusedLoad<F: Files + Drop> {
     pub files: F,
@@ -30,7 +30,7 @@ impl<F: Files + Drop> Files for RefusedLoad<F> {
     }
 }
 
-/// Files of which one has other bytes.
+/// Files, one of which has other bytes.
 #[derive(Drop)]
 pub struct ChangedFile<'a, F: Files + Drop> {
     pub files: F,

@@ -1,4 +1,4 @@
-//! Memory is refused to one load after the other.
+//! Calls in which each load in turn is refused memory.
 
 use crate::answer::{Answer, answer_over};
 use crate::files::RefusedLoad;
@@ -12,10 +12,10 @@ use std::thread::Threads;
 /// The greatest number of calls of a row.
 const MOST_CALLS: u64 = 100;
 
-/// The status of a call for which memory ran out.
+/// The status of a call that ran out of memory.
 const OUT_OF_MEMORY: u8 = 10;
 
-/// The lines of an output, those of caller 2 behind all others: threads may come in any order, and each has its own.
+/// The lines of an output, those of caller 2 last: threads run in any order, and the order within each is fixed.
 fn by_callers(alloc: Global, output: &[u8]) -> Result<Vec<u8>, Memory> {
     let mut lines = Vec::new(alloc);
     let mut of_second = Vec::new(alloc);
@@ -30,14 +30,14 @@ fn by_callers(alloc: Global, output: &[u8]) -> Result<Vec<u8>, Memory> {
     Ok(lines)
 }
 
-/// Whether a call ended well with this output.
+/// Whether a call ended with status 0 and this output.
 fn is_whole(alloc: Global, answer: &Answer, wanted: &[u8]) -> Result<bool, Memory> {
     let output = by_callers(alloc, &answer.output)?;
     let wanted = by_callers(alloc, wanted)?;
     Ok(answer.status == 0 && answer.is_fit() && output.as_slice() == wanted.as_slice())
 }
 
-/// Calls a row and refuses this load to it; answers whether the row asked for so many, too.
+/// Calls a row and refuses memory to this load. Returns also whether the row asked for so many.
 fn refuse<R: Threads + Wait + Sync>(
     rt: &HostRuntime,
     threads: &R,
@@ -53,8 +53,8 @@ fn refuse<R: Threads + Wait + Sync>(
     Ok((answer, files.loads >= refused))
 }
 
-/// Calls a row, refuses its first load to it, then its second, and so on, and in the end none: answers how many calls there
-/// were, and whether each ended for want of memory, and the last one with the output that is wanted.
+/// Calls a row with its first load refused, then with its second, and so on, and in the end with none. Returns the number of
+/// calls, and whether each ran out of memory and the last one gave the output that is wanted.
 fn refuse_all<R: Threads + Wait + Sync>(
     rt: &HostRuntime,
     threads: &R,
@@ -75,7 +75,7 @@ fn refuse_all<R: Threads + Wait + Sync>(
     Ok((MOST_CALLS, false))
 }
 
-/// Refuses each load of a row in turn, and writes how the calls ended; answers whether each ended as it has to.
+/// Refuses memory to each load of a row in turn, and prints how the calls ended. Returns whether each ended as it should.
 pub fn refuse_each_load<R: Threads + Wait + Sync, S: Sink>(
     rt: &HostRuntime,
     threads: &R,

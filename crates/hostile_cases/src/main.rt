@@ -1,6 +1,6 @@
-//! Calls `devconf` and `drvrun` over hostile files. The file that the first word names has a row a line: a command line, whose
-//! files lie beside it, and what is done to them. For each row a line is written that says how often it was called, and how
-//! these calls ended. A call that ended as it must not has a line of its own, and then the status is 1.
+//! Calls `devconf` and `drvrun` over hostile files. The first word names a file with one row a line: a command line, and
+//! what is done to its files. For each row it prints how many calls there were and how they ended. A call that ends wrongly
+//! is reported, and the status is then 1.
 #![tactic(auto)]
 
 mod answer;
@@ -20,7 +20,7 @@ use std::process::ExitCode;
 use std::sync::Wait;
 use std::thread::Threads;
 
-/// The bytes of a file of the host; none where it is not there or can't be read.
+/// The bytes of a file of the host; none if it is absent or cannot be read.
 fn bytes_of(rt: &HostRuntime, name: &str) -> Vec<u8> {
     let mut bytes = Vec::new(rt.alloc());
     match HostFiles::make(*rt).load(name.as_bytes(), &mut bytes) {
@@ -29,7 +29,7 @@ fn bytes_of(rt: &HostRuntime, name: &str) -> Vec<u8> {
     }
 }
 
-/// Harms the files of a row, and answers whether each call ended as it may.
+/// Harms the files of a row. Returns whether each call ended as it may.
 fn try_row<R: Threads + Wait + Sync, S: Sink>(
     rt: &HostRuntime,
     threads: &R,
@@ -43,7 +43,7 @@ fn try_row<R: Threads + Wait + Sync, S: Sink>(
     }
 }
 
-/// Tries the row that a line tells.
+/// Tries the row of a line. Returns whether each call ended as it may.
 fn try_line<R: Threads + Wait + Sync, S: Sink>(
     rt: &HostRuntime,
     threads: &R,
@@ -60,7 +60,7 @@ fn try_line<R: Threads + Wait + Sync, S: Sink>(
     }
 }
 
-/// Tries each line of a text, and answers whether each call ended as it may.
+/// Tries the row of each line. Returns whether each call ended as it may.
 fn try_lines<R: Threads + Wait + Sync, S: Sink>(
     rt: &HostRuntime,
     threads: &R,

@@ -1,4 +1,4 @@
-//! A file is cut at each place, and each of its bytes is changed.
+//! Calls in which a file is cut at each place, or one of its bytes is changed.
 
 use crate::answer::answer_over;
 use crate::ends::Ends;
@@ -22,7 +22,7 @@ fn changed(alloc: Global, bytes: &[u8], place: usize, byte: u8) -> Result<Vec<u8
     Ok(changed)
 }
 
-/// The texts that are made of one at a place: the bytes before it, and the text with each other byte there.
+/// What is made of the bytes at one place: those before it, and all of them with each other byte there.
 fn texts_at(alloc: Global, bytes: &[u8], place: usize) -> Result<Vec<Vec<u8>>, Memory> {
     let mut texts = Vec::new(alloc);
     let front = bytes.get(..place).unwrap_or(bytes);
@@ -52,8 +52,8 @@ fn try_texts<R: Threads + Wait + Sync>(
     Ok(())
 }
 
-/// Calls a row over each text that its file becomes where it is cut or one byte is changed, and writes how the calls ended;
-/// answers whether each ended as it may.
+/// Calls a row over each text that its file becomes when it is cut or one byte is changed, and prints how the calls ended.
+/// Returns whether each ended as it may.
 pub fn change_each_place<R: Threads + Wait + Sync, S: Sink>(
     rt: &HostRuntime,
     threads: &R,

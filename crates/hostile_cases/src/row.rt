@@ -7,7 +7,7 @@ use std::alloc::Global;
 /// What is done to the files of a command line.
 #[derive(Clone, Copy)]
 pub enum Harm {
-    /// Memory is refused to one load after the other.
+    /// Each load in turn is refused memory.
     Loads,
     /// A file is cut at each place, and each of its bytes is changed.
     Bytes,
@@ -16,10 +16,10 @@ pub enum Harm {
 /// A command line, and what is done to its files.
 #[derive(Drop)]
 pub struct Row {
-    /// The line that tells it.
+    /// The line that it was read from.
     pub line: String,
     pub harm: Harm,
-    /// The file with the output of a call that nothing is done to; or the file that is changed.
+    /// The file with the output of an undisturbed call; or the file that is changed.
     pub file: String,
     pub program: Program,
     /// The words behind the program's name.
@@ -42,7 +42,7 @@ fn program_of(word: Option<&str>) -> Option<Program> {
     }
 }
 
-/// The row of a line: `loads` or `bytes`, a file, the program and its words; nothing where the line tells none.
+/// Reads a row: `loads` or `bytes`, a file, the program and its words. Returns `None` if the line is no row.
 pub fn row_of(alloc: Global, line: &str) -> Result<Option<Row>, Memory> {
     let mut parts = line.split_whitespace();
     let harm = harm_of(parts.next());
