@@ -320,7 +320,7 @@ try_completion() {
         next "$known" '' '' devconf fly ''
         next "$known" '' '-a -c -m -n -s -t FILE' devconf-summary ''
         next "$known" '' FILE devconf-summary -m ''
-        next "$known" '' 'config history machine order script status' devconf-explain ''
+        next "$known" '' 'config history machine order script status watch' devconf-explain ''
         next "$known" '' FILE devconf-check a ''
         next "$known" '' '' devconf-check a b ''
     done
