@@ -1,9 +1,13 @@
 -- What a search brings, and what it brought where memory ran out.
-use Rattle.std.specs.Prelude.{◌≡◌, ℕ, ◌+◌, List, [], ◌∷◌, ◌++◌, length}
+use Rattle.std.specs.Prelude.{◌≡◌, ℕ, ◌+◌, ◌<◌, true, false, List, [], ◌∷◌, ◌++◌, length, ⊤, Result, OnOk, OnErr}
+use Rattle.cf_types.specs.declared.memory.Memory.{Memory}
+use Rattle.cf_types.specs.declared.tables.Place.{Place}
 use Rattle.run_rules.specs.declared.world.Dev.{Dev}
+use Rattle.run_rules.specs.Search.{is_taken, parent_offers, parent_ref, unit_of}
+use Rattle.run_rules.specs.World.{driver_of}
 use Rattle.live_rules.specs.declared.plan.LiveLine.{LiveLine}
-use Rattle.live_rules.specs.Live.{LiveWorld, Site, attached_line}
-use Rattle.live_tables.specs.Running.{Running}
+use Rattle.live_rules.specs.Live.{LiveWorld, Site, attach, attached_line, is_free, is_known, is_on}
+use Rattle.live_tables.specs.Running.{HasSerials, Running}
 
 -- the lines of devices that come one after the other, each as it comes
 unfoldable pub lines_as_they_come : Site → List Dev → List Dev → List LiveLine
@@ -25,12 +29,12 @@ pub record Begins (v whole : LiveWorld) : Type 0 where
   pub live : whole.live ≡ v.live ++ rest
 
 -- a device may come by a row: its parent is the root or lives, its spot is free, and its row is on and gives a unit that is free
-pub record MayCome (r : Running) (p x row : ℕ) : Type 0 where
+pub record MayCome (r : Running) (p x by_row : ℕ) : Type 0 where
   pub known : is_known r.world p ≡ true
   pub free : is_free r.site r.world x ≡ true
-  pub unit : is_taken r.site.setup r.world.live (driver_of r.site.setup row) (unit_of r.site.setup r.world.live row) ≡ false
-  pub on : is_on r.site r.world.on row ≡ true
-  pub row : row < length r.site.setup.tables.rows
+  pub unit : is_taken r.site.setup r.world.live (driver_of r.site.setup by_row) (unit_of r.site.setup r.world.live by_row) ≡ false
+  pub on : is_on r.site r.world.on by_row ≡ true
+  pub row : by_row < length r.site.setup.tables.rows
   pub serials : HasSerials r.world
 
 -- it came

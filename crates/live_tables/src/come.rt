@@ -37,8 +37,8 @@ impl LiveTables {
             self.units.give(driver, unit);
             return Err(Memory);
         }
-        let tables = &self.site.setup.tables;
-        set_rows(tables, &mut self.rows, driver, unit, false);
+        let site = &self.site;
+        set_rows(&site.setup.tables, &mut self.rows, driver, unit, false);
         Ok(())
     }
 

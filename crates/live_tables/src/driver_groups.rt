@@ -1,5 +1,5 @@
 //! The group of each driver.
-ghost use Rattle.std.specs.Prelude.{◌≡◌, ℕ, ◌==◌, Some, None, if◌then◌else◌, is_some, length, IfOk, OnOk};
+ghost use Rattle.std.specs.Prelude.{◌≡◌, ◌<◌, ◌^◌, ℕ, ◌==◌, None, if◌then◌else◌, length, IfOk, OnOk};
 ghost use Rattle.std.specs.List.{slice_index_or};
 ghost use Rattle.live_rules.specs.Live.{group_of};
 ghost use Rattle.live_tables.specs.Joining.{first_number, joined_by};
@@ -34,7 +34,7 @@ fn join_all(table: &mut Vec<Option<u32>>, drivers: &[u32], group: u32) -> Result
 
 /// Of each driver the number of the group that it is in; those beyond the end are in none.
 pub fn driver_groups(alloc: Global, groups: &[Group]) -> Result<Vec<Option<u32>>, Memory>
-    requires { length groups.now < 4294967296 }
+    requires { length groups.now < 2 ^ 32 }
     ensures { IfOk result (λ table. (d : ℕ) → slice_index_or table.items d None ≡ group_of groups.now d) }
 {
     let mut table = Vec::new(alloc);

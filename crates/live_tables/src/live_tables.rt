@@ -1,21 +1,21 @@
 //! Tables whose groups of rows come and go while devices live.
-ghost use Rattle.std.specs.Prelude.{◌≡◌, ◌<◌, ◌^◌, ◌++◌, [], length, IfOk, OnOk, OnErr};
+ghost use Rattle.std.specs.Prelude.{◌≡◌, ◌<◌, ◌≤◌, ◌^◌, [], length, IfOk};
 ghost use Rattle.attr_graph.specs.Graphs.{FitGraph};
 ghost use Rattle.config_rules.specs.Formed.{FormedTables, FittingMachine};
-ghost use Rattle.live_rules.specs.Laws.{IsCutShort, IsSound};
+ghost use Rattle.live_rules.specs.Laws.{IsSound};
 ghost use Rattle.live_rules.specs.Live as rule;
 ghost use Rattle.match_search.specs.Index.{IsIndexOf};
 ghost use Rattle.run_rules.specs.World.{setup_of};
 ghost use Rattle.run_world.specs.Input.{Bounded};
 ghost use Rattle.scan_engine.specs.Spans.{AreSpansOf};
-ghost use Rattle.live_tables.specs.Answers.{Adds, Removes, Scans};
+ghost use Rattle.live_tables.specs.Running.{AreFirst};
 
 use crate::driver_groups::driver_groups;
 use crate::on_groups::OnGroups;
 use attr_graph::graph_of;
-use cf_types::{DevLine, List, Machine, Memory, Tables};
+use cf_types::{List, Machine, Memory, Tables};
 use dev_tree::DevTree;
-use live_rules::{Group, LiveLine, LiveReply};
+use live_rules::Group;
 use match_search::{LiveRows, RowIndex};
 use run_rules::Setup;
 use run_world::Site;
@@ -62,6 +62,23 @@ fn known_of(alloc: Global, setup: &Setup) -> Result<(RowIndex, ChildSpans), Memo
     let index = RowIndex::make(alloc, &setup.tables, &setup.machine)?;
     let spans = ChildSpans::make(alloc, &setup.machine)?;
     Ok((index, spans))
+}
+
+/// What is kept beside the devices before there are any.
+fn parts_of(
+    alloc: Global,
+    setup: &Setup,
+    groups: &[Group],
+) -> Result<(Vec<Option<u32>>, OnGroups, LiveRows, Units), Memory>
+    requires few { length groups.now < 2 ^ 32 }
+    requires devices { length setup.now.tables.devices ≤ 65536 }
+    ensures { IfOk result (λ parts. AreFirst setup.now groups.now parts.0.items parts.1 parts.2 parts.3) }
+{
+    let driver_groups = driver_groups(alloc, groups)?;
+    let on = OnGroups::make(alloc, groups.len())?;
+    let rows = LiveRows::make(alloc, &setup.tables)?;
+    let units = Units::make(alloc, setup.tables.devices.len() as u32)?;
+    Ok((driver_groups, on, rows, units))
 }
 
 /// What is known of these tables and this machine before any device.

@@ -38,7 +38,7 @@ impl LiveTables {
     }
 
     /// Whether a row is in a group.
-    fn is_in(&self, group: u32, row: u32) -> bool
+    pub(crate) fn is_in(&self, group: u32, row: u32) -> bool
         ensures { result ≡ rule.is_in self.now.site group row }
     {
         let driver = driver_of(&self.site.setup, row) as usize;
@@ -60,9 +60,7 @@ impl LiveTables {
         ensures { result ≡ rule.is_free self.now.site self.now.world spot }
     {
         match self.site.setup.machine.spots.items().get(spot as usize) {
-            Some(found) => {
-                !found.absent && !found.late && self.tree.on_spot(spot).is_none()
-            }
+            Some(found) => { !found.absent && !found.late && self.tree.on_spot(spot).is_none() }
             None => false,
         }
     }

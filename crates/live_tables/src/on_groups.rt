@@ -1,5 +1,6 @@
 //! Which groups of rows are on.
-ghost use Rattle.std.specs.Prelude.{◌≡◌, ◌<◌, ◌∷◌, [], ◌==◌, not, filter, false, IfOk};
+ghost use Rattle.std.specs.Prelude.{◌≡◌, ◌<◌, ◌∷◌, [], ◌==◌, not, filter, false, vec_capacity, IfOk};
+ghost use Rattle.std.specs.List.{slice_index_or};
 ghost use Rattle.run_rules.specs.World.{has};
 
 use cf_types::Memory;
@@ -27,6 +28,25 @@ impl Model for OnGroups {
     ghost invariant = { GroupsKept };
 }
 
+/// Whether a group is marked.
+#[inline(always)]
+fn is_marked(marks: &Vec<bool>, group: u32) -> bool
+    ensures { result ≡ slice_index_or marks.now.items group false }
+{
+    match marks.get(group as usize) {
+        Some(on) => *on,
+        None => false,
+    }
+}
+
+/// Takes a group out of a list.
+fn take_out(list: &mut Vec<u32>, group: u32)
+    ensures items { list.new.items ≡ filter (λ h. not (h == group)) list.old.items }
+    ensures capacity { vec_capacity list.new ≡ vec_capacity list.old }
+{
+    list.retain(|other| *other != group);
+}
+
 impl OnGroups {
     /// So many groups, which are off.
     pub fn make(alloc: Global, groups: usize) -> Result<OnGroups, Memory>
@@ -42,10 +62,7 @@ impl OnGroups {
     pub fn has(&self, group: u32) -> bool
         ensures { result ≡ has self.now.on group }
     {
-        match self.marks.get(group as usize) {
-            Some(on) => *on,
-            None => false,
-        }
+        is_marked(&self.marks, group)
     }
 
     /// Turns a group on that is off. It takes no memory.
@@ -64,6 +81,6 @@ impl OnGroups {
         ensures { self.new ≡ record self.old { on = filter (λ h. not (h == group)) self.old.on } }
     {
         self.marks[group as usize] = false;
-        self.list.retain(|on| *on != group);
+        take_out(&mut self.list, group);
     }
 }

@@ -1,9 +1,10 @@
 //! Spots are searched for devices, in the order of a pass. See config_search(9).
-ghost use Rattle.std.specs.Prelude.{◌≡◌, ◌<◌, true, length};
+ghost use Rattle.std.specs.Prelude.{◌≡◌, ◌<◌, Some, true, length, slice_index_or};
+ghost use Rattle.run_rules.specs.declared.world.Dev.{Dev};
 ghost use Rattle.run_rules.specs.Search as search;
 ghost use Rattle.live_rules.specs.Live as rule;
 ghost use Rattle.live_tables.specs.Coming.{IsParent, Searched};
-ghost use Rattle.live_tables.specs.Running.{HasSerials};
+ghost use Rattle.live_tables.specs.Running.{HasSerials, offered_of};
 
 use crate::live_tables::LiveTables;
 use cf_types::{Memory, Place};
@@ -55,15 +56,15 @@ impl LiveTables {
 
     /// How many interface attributes a driver offers.
     fn count_offered(&self, driver: u32) -> usize
-        ensures { result ≡ length (interfaces self.now.site.setup.tables.attrs self.now.site.setup.tables.devices driver) }
+        ensures { result ≡ length (offered_of self.now driver) }
     {
         offered(&self.site.graph, &self.site.setup.tables, driver).len()
     }
 
     /// The interface attribute at a place of those that a driver offers.
     fn offered_at(&self, driver: u32, at: usize) -> u32
-        requires { at < length (interfaces self.now.site.setup.tables.attrs self.now.site.setup.tables.devices driver) }
-        ensures { result ≡ slice_index_or (interfaces self.now.site.setup.tables.attrs self.now.site.setup.tables.devices driver) at 0 }
+        requires { at < length (offered_of self.now driver) }
+        ensures { result ≡ slice_index_or (offered_of self.now driver) at 0 }
     {
         offered(&self.site.graph, &self.site.setup.tables, driver)[at]
     }
