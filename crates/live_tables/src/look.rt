@@ -1,15 +1,15 @@
 //! What is looked up while a plan runs: groups, spots, winners and units.
-ghost use Rattle.std.specs.Prelude.{◌≡◌, ◌||◌, ◌==◌, true, find, option_map};
+ghost use Rattle.std.specs.Prelude.{◌≡◌, ◌&&◌, not, false, true, find, slice_get, slice_index_or};
+ghost use Rattle.std.specs.Option.{option_map_or};
 ghost use Rattle.run_rules.specs.Search as search;
-ghost use Rattle.run_rules.specs.World as world;
 ghost use Rattle.match_search.specs.Index.{hangs_at};
 ghost use Rattle.live_rules.specs.Live as rule;
-ghost use Rattle.live_tables.specs.Open.{is_open_to};
+ghost use Rattle.live_tables.specs.Open.{is_open_to, open_rows};
 
 use crate::live_tables::LiveTables;
 use cf_types::{ParentSpec, Place};
 use run_rules::ParentRef;
-use run_world::driver_of;
+use run_world::{driver_of, is_occupied};
 
 /// Whether what a row says of its parent is true of this one.
 fn names_parent(spec: Option<ParentSpec>, parent: ParentRef) -> bool
@@ -55,14 +55,23 @@ impl LiveTables {
         serial == 0 || self.tree.get(serial).is_some()
     }
 
+    /// Whether a spot is present and not late.
+    #[inline(always)]
+    fn is_searched(&self, spot: u16) -> bool
+        ensures { result ≡ option_map_or (λ spot. not spot.absent && not spot.late) (slice_get self.now.site.setup.machine.spots spot) false }
+    {
+        match self.site.setup.machine.spots.items().get(spot as usize) {
+            Some(found) => !found.absent && !found.late,
+            None => false,
+        }
+    }
+
     /// Whether a spot is present, not late and without a device.
+    #[tactic(auto, unfolding(live_rules::specs::Live::is_free))]
     pub(crate) fn is_free(&self, spot: u16) -> bool
         ensures { result ≡ rule.is_free self.now.site self.now.world spot }
     {
-        match self.site.setup.machine.spots.items().get(spot as usize) {
-            Some(found) => { !found.absent && !found.late && self.tree.on_spot(spot).is_none() }
-            None => false,
-        }
+        self.is_searched(spot) && !is_occupied(&self.tree, spot)
     }
 
     /// The spot of a device; none for the root.
@@ -98,18 +107,34 @@ impl LiveTables {
         }
     }
 
-    /// Whether a row is on, its unit is free, and it names this parent or none.
+    /// Whether a row is on, and its unit is free or any.
+    #[inline(always)]
+    fn is_open(&self, row: u16) -> bool
+        ensures { result ≡ slice_index_or (open_rows self.now.site self.now.world) row false }
+    {
+        let row = u32::from(row);
+        self.rows.is_live(row) && self.is_on(row)
+    }
+
+    /// Whether such a row names this parent or none.
+    #[inline(always)]
     fn is_open_to(&self, parent: ParentRef, row: u16) -> bool
         ensures { result ≡ is_open_to self.now parent row }
     {
-        match self.site.setup.tables.rows.items().get(row as usize) {
-            Some(found) => {
-                self.rows.is_live(u32::from(row))
-                    && self.is_on(u32::from(row))
-                    && names_parent(found.parent, parent)
+        self.is_open(row)
+            && match self.site.setup.tables.rows.items().get(row as usize) {
+                Some(found) => names_parent(found.parent, parent),
+                None => false,
             }
-            None => false,
-        }
+    }
+
+    /// The first of some rows that is open to a parent.
+    fn first_open(&self, parent: ParentRef, rows: &[u16]) -> Option<u16>
+        ensures { result ≡ find (is_open_to self.now parent) rows.now }
+    {
+        rows.iter()
+            .copied()
+            .find(|row| self.is_open_to(parent, *row))
     }
 
     /// The row that takes a spot below a parent, of those that are on.
@@ -118,13 +143,11 @@ impl LiveTables {
         requires here { hangs_at self.now.site.setup.machine spot place ≡ true }
         ensures { result ≡ rule.winner_on self.now.site self.now.world parent place spot }
     {
-        let parent = self.parent_ref(parent);
-        for row in self.site.index.rows(spot) {
-            if self.is_open_to(parent, *row) {
-                return Some(u32::from(*row));
-            }
+        let rows = self.site.index.rows(spot);
+        match self.first_open(self.parent_ref(parent), rows) {
+            Some(row) => Some(u32::from(row)),
+            None => None,
         }
-        None
     }
 
     /// The unit that a row gives: its own, or, where it is starred, the least free one from its first unit on.
