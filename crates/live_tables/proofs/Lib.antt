@@ -1,3 +1,4 @@
 pub mod GroupLaws
 pub mod OpenLaws
 pub mod Counts
+pub mod Joins
