@@ -149,7 +149,7 @@ below_does t w p h known place x = rw known done
 abbrev AreDone : Site → ℕ → LiveWorld → Type 0
 AreDone t n v = IsSound t v × ((q : ℕ) → q < n → (place : Place) (y : ℕ) → IsDone t v q place y)
 
-unknown_same : (t : Site) (v : LiveWorld) (n : ℕ) → is_known v n ≡ false → search_below t v n ≡ v
+pub unknown_same : (t : Site) (v : LiveWorld) (n : ℕ) → is_known v n ≡ false → search_below t v n ≡ v
 unfolding search_below
 unknown_same t v n e = rw e refl
 

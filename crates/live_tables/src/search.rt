@@ -43,12 +43,14 @@ impl LiveTables {
         requires parent { IsParent self.old parent place }
         ensures { Searched self.old self.new (rule.search_place self.old.site parent self.old.world place) lines.old.items lines.new.items result }
     {
+        self.stands();
         let above = self.spot_of(parent);
         let span = self.site.spans.below(above);
         let end = span.end.min(self.site.setup.machine.spots.len() as u16);
         for spot in span.first..end {
             if is_child(&self.site.setup.machine, above, place, spot) {
                 self.search_spot(parent, place, spot, lines)?;
+                self.stands();
             }
         }
         Ok(())
@@ -81,9 +83,11 @@ impl LiveTables {
         requires serials { HasSerials self.old.world }
         ensures { Searched self.old self.new (rule.search_below self.old.site self.old.world parent) lines.old.items lines.new.items result }
     {
+        self.stands();
         for at in 0..self.count_offered(driver) {
             let place = Place::At(self.offered_at(driver, at));
             self.search_place(parent, place, lines)?;
+            self.stands();
         }
         Ok(())
     }
@@ -94,6 +98,7 @@ impl LiveTables {
         requires serials { HasSerials self.old.world }
         ensures { Searched self.old self.new (rule.search_below self.old.site self.old.world parent) lines.old.items lines.new.items result }
     {
+        self.stands();
         match self.driver_at(parent) {
             Some(driver) => self.search_device(parent, driver, lines),
             None if parent == 0 => self.search_place(0, Place::Root, lines),
@@ -121,11 +126,14 @@ impl LiveTables {
         requires serials { HasSerials self.old.world }
         ensures { Searched self.old self.new (rule.pass self.old.site self.old.world) lines.old.items lines.new.items result }
     {
+        self.stands();
         self.search_below(0, lines)?;
+        self.stands();
         let mut at = 0;
         while at < self.count() {
             let serial = self.serial_at(at);
             self.search_below(serial, lines)?;
+            self.stands();
             at += 1;
         }
         Ok(())
