@@ -5,3 +5,5 @@ pub mod Joins
 pub mod Offs
 pub mod Comings
 pub mod Places
+pub mod Offers
+pub mod Passes

@@ -98,7 +98,6 @@ impl LiveTables {
         requires serials { HasSerials self.old.world }
         ensures { Searched self.old self.new (rule.search_below self.old.site self.old.world parent) lines.old.items lines.new.items result }
     {
-        self.stands();
         match self.driver_at(parent) {
             Some(driver) => self.search_device(parent, driver, lines),
             None if parent == 0 => self.search_place(0, Place::Root, lines),
