@@ -7,3 +7,5 @@ pub mod Comings
 pub mod Places
 pub mod Offers
 pub mod Passes
+pub mod Scans
+pub mod Adds

@@ -2,7 +2,7 @@
 ghost use Rattle.std.specs.Prelude.{◌≡◌, ◌<◌, ◌^◌, ◌∷◌, false, length, IfOk, OnOk, OnErr};
 ghost use Rattle.run_rules.specs.World.{has};
 ghost use Rattle.live_rules.specs.declared.plan.LiveReply.TheVariants as replies;
-ghost use Rattle.live_rules.specs.Laws.{IsCutShort};
+ghost use Rattle.live_rules.specs.Laws.{IsCutShort, IsUndone};
 ghost use Rattle.live_rules.specs.Live as rule;
 ghost use Rattle.live_tables.specs.Answers.{Answers, Leaves};
 
@@ -21,8 +21,10 @@ impl LiveTables {
         ensures err { OnErr result (IsCutShort self.old.site self.old.world self.new.world lines.old lines.new) }
         ensures site { self.new.site ≡ self.old.site }
     {
+        self.stands();
         let mut told = replace(lines, List::make(self.alloc)).into_vec();
         let done = self.pass(&mut told);
+        self.stands();
         *lines = List::from_vec(told);
         done
     }
@@ -43,9 +45,11 @@ impl LiveTables {
         requires serials { self.old.world.next < 2 ^ 63 }
         ensures ok { IfOk result (Answers self.old self.new lines.old lines.new (rule.add self.old.site self.old.world group)) }
         ensures settled { IfOk result (λ reply. reply ≡ replies.Ok → rule.Settled self.new.site self.new.world) }
+        ensures undone { IfOk result (λ reply. reply ≡ replies.Ok → rule.Settled self.old.site self.old.world → IsUndone self.old.site self.old.world group self.new.world) }
         ensures err { OnErr result (IsCutShort self.old.site (rule.turned_on self.old.world group) self.new.world lines.old lines.new) }
         ensures site { self.new.site ≡ self.old.site }
     {
+        self.stands();
         if self.on.has(group) {
             return Ok(LiveReply::OnAlready);
         }
