@@ -9,3 +9,5 @@ pub mod Offers
 pub mod Passes
 pub mod Scans
 pub mod Adds
+pub mod Dooms
+pub mod Frees

@@ -32,7 +32,7 @@ impl LiveTables {
         let devices = self.tree.devices();
         let mut marks = Vec::with_capacity(self.alloc, devices.len())?;
         for device in devices {
-            marks.push_reserved(self.is_doomed(group, device.serial));
+            marks.push(self.is_doomed(group, device.serial))?;
         }
         Ok(marks)
     }
