@@ -72,3 +72,19 @@ find_both p q (x ∷ xs) = cases (find_both p q xs) (p x)
 pub hinders_is : (t : Site) (w : LiveWorld) (g : ℕ) → find (λ d. is_doomed t w.live g d.serial && (policy_of t.setup d.row).nodetach) w.live ≡ hinders t w g
 unfolding hinders doomed
 hinders_is t w g = sym (find_both (λ (d : Dev). is_doomed t w.live g d.serial) (λ (d : Dev). (policy_of t.setup d.row).nodetach) w.live)
+
+-- ---- the first of those from one place on
+
+pub find_hit : {A : Type 0} (test : A → Bool) (xs : List A) (i : ℕ) (d : A) → i < length xs → test (get_or xs i d) ≡ true → find test (drop i xs) ≡ Some (get_or xs i d)
+find_hit test [] i d lt e = absurd (omega (arith, lt))
+find_hit test (x ∷ xs) zero d lt e = rw e refl
+find_hit test (x ∷ xs) (suc i) d lt e = find_hit test xs i d (omega (arith, lt)) e
+
+pub find_miss : {A : Type 0} (test : A → Bool) (xs : List A) (i : ℕ) (d : A) → i < length xs → test (get_or xs i d) ≡ false → find test (drop i xs) ≡ find test (drop (suc i) xs)
+find_miss test [] i d lt e = absurd (omega (arith, lt))
+find_miss test (x ∷ xs) zero d lt e = rw e refl
+find_miss test (x ∷ xs) (suc i) d lt e = find_miss test xs i d (omega (arith, lt)) e
+
+-- a device that hinders the removal of the group
+abbrev pub is_hindering : Running → ℕ → Dev → Bool
+is_hindering r g d = is_doomed r.site r.world.live g d.serial && (policy_of r.site.setup d.row).nodetach

@@ -11,3 +11,4 @@ pub mod Scans
 pub mod Adds
 pub mod Dooms
 pub mod Frees
+pub mod Goings

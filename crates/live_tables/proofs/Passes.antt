@@ -43,7 +43,7 @@ skip_unknown t w v n (suc m) le none e = elim (cases_lt m n) [
 unknown : (w : LiveWorld) (k : ℕ) → 0 < k → (is_live w.live k ≡ true → ⊥) → is_known w k ≡ false
 unknown w k low none = rw (ne_eqb k 0 (λ e. absurd (omega (arith, low, e)))) (false_from_ne_true (is_live w.live k) (λ e. absurd (none e)))
 
-serials_rise : (t : Site) (w : LiveWorld) → IsSound t w → EachLater (λ (d e : Dev). d.serial < e.serial) w.live
+pub serials_rise : (t : Site) (w : LiveWorld) → IsSound t w → EachLater (λ (d e : Dev). d.serial < e.serial) w.live
 serials_rise t w h = rise w.live h.devices.apart
   where
     less : (d : Dev) (ds : List Dev) → AllByRecursion (IsApart t.setup d) ds → AllByRecursion (λ (e : Dev). d.serial < e.serial) ds
@@ -54,12 +54,12 @@ serials_rise t w h = rise w.live h.devices.apart
     rise [] a = tt
     rise (d ∷ ds) a = (less d ds a.0, rise ds a.1)
 
-any_default : (xs : List Dev) (i : ℕ) (d e : Dev) → i < length xs → get_or xs i d ≡ get_or xs i e
+pub any_default : (xs : List Dev) (i : ℕ) (d e : Dev) → i < length xs → get_or xs i d ≡ get_or xs i e
 any_default [] i d e lt = absurd (omega (arith, lt))
 any_default (x ∷ xs) zero d e lt = refl
 any_default (x ∷ xs) (suc i) d e lt = any_default xs i d e (omega (arith, lt))
 
-each_at : (P : Dev → Type 0) (xs : List Dev) (i : ℕ) (d : Dev) → AllByRecursion P xs → i < length xs → P (get_or xs i d)
+pub each_at : (P : Dev → Type 0) (xs : List Dev) (i : ℕ) (d : Dev) → AllByRecursion P xs → i < length xs → P (get_or xs i d)
 each_at P [] i d h lt = absurd (omega (arith, lt))
 each_at P (x ∷ xs) zero d h lt = h.0
 each_at P (x ∷ xs) (suc i) d h lt = each_at P xs i d h.1 (omega (arith, lt))

@@ -1,5 +1,6 @@
 //! The devices that go with a group of rows.
-ghost use Rattle.std.specs.Prelude.{◌≡◌, ◌++◌, map, IfOk, OnOk, OnErr};
+ghost use Rattle.std.specs.Prelude.{◌≡◌, ◌++◌, ◌&&◌, map, IfOk, OnOk, OnErr};
+ghost use Rattle.run_rules.specs.World as world;
 ghost use Rattle.live_rules.specs.Live as rule;
 ghost use Rattle.live_tables.specs.Going.{Grows, dooms};
 
@@ -37,13 +38,20 @@ impl LiveTables {
         Ok(marks)
     }
 
+    /// Whether a device may not go, where it is doomed.
+    fn is_hindering(&self, is_doomed: bool, device: &Dev) -> bool
+        ensures { result ≡ (is_doomed && (world.policy_of self.now.site.setup device.now.row).nodetach) }
+    {
+        is_doomed && policy_of(&self.site.setup, device.row).nodetach
+    }
+
     /// The doomed device of least serial that may not go.
     pub(crate) fn hindering(&self, group: u32, doomed: &[bool]) -> Option<Dev>
         requires doomed { doomed.now ≡ dooms self.now group }
         ensures { result ≡ rule.hinders self.now.site self.now.world group }
     {
         for (at, device) in self.tree.devices().iter().enumerate() {
-            if doomed[at] && policy_of(&self.site.setup, device.row).nodetach {
+            if self.is_hindering(doomed[at], device) {
                 return Some(*device);
             }
         }

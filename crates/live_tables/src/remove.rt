@@ -49,6 +49,7 @@ impl LiveTables {
         requires doomed { doomed.now ≡ dooms self.old group }
         ensures { self.new ≡ with_live self.old (rule.spared self.old.site self.old.world group) }
     {
+        self.stands();
         let mut at = doomed.len();
         while at > 0 {
             at -= 1;
