@@ -88,3 +88,11 @@ find_miss test (x ∷ xs) (suc i) d lt e = find_miss test xs i d (omega (arith, 
 -- a device that hinders the removal of the group
 abbrev pub is_hindering : Running → ℕ → Dev → Bool
 is_hindering r g d = is_doomed r.site r.world.live g d.serial && (policy_of r.site.setup d.row).nodetach
+
+pub hindering_is : (r : Running) (g : ℕ) (marks : List Bool) (devices : List Dev) (i : ℕ) (d : Dev) (b : Bool) → marks ≡ dooms r g → devices ≡ r.world.live → i < length devices
+    → b ≡ (get_or marks i false && (policy_of r.site.setup (get_or devices i d).row).nodetach) → is_hindering r g (get_or r.world.live i d) ≡ b
+hindering_is r g marks devices i d b marked are lt is =
+    sym (is ∙ ap (λ (ms : List Bool). get_or ms i false && (policy_of r.site.setup (get_or devices i d).row).nodetach) marked
+    ∙ ap (λ (ds : List Dev). get_or (dooms r g) i false && (policy_of r.site.setup (get_or ds i d).row).nodetach) are
+    ∙ ap (λ (c : Bool). c && (policy_of r.site.setup (get_or r.world.live i d).row).nodetach)
+    (mark_of (λ (e : Dev). is_doomed r.site r.world.live g e.serial) r.world.live i d false (omega (arith, lt, ap length are))))

@@ -12,3 +12,4 @@ pub mod Adds
 pub mod Dooms
 pub mod Frees
 pub mod Goings
+pub mod Removals

@@ -76,6 +76,7 @@ impl LiveTables {
         ensures err { OnErr result (Stays self.old self.new lines.old lines.new) }
         ensures frees { IfOk result (λ reply. reply ≡ replies.Ok → Frees self.old.site self.old.world group (rule.remove self.old.site self.old.world group)) }
     {
+        self.stands();
         if !self.on.has(group) {
             return Ok(LiveReply::OffAlready);
         }

@@ -44,7 +44,8 @@ impl LiveTables {
         if levels == 0 {
             return Ok(());
         }
-        for device in branches.below(&self.tree, parent) {
+        let children = branches.below(&self.tree, parent);
+        for device in children {
             let line = self.tree_line(depth, device)?;
             lines.push(line)?;
             self.push_below(branches, levels - 1, depth + 1, device.serial, lines)?;
