@@ -17,4 +17,7 @@ push_below-requires-clause-shallow c =
 
 pub returns : goal.returns
 unfolding tree_lines
-returns c = ?
+returns c =
+    let r : Running = c.args.self.now in
+    let levels : c.count-levels.result ≡ length r.world.live = c.count-levels.ensures ∙ ap (λ (q : Running). length q.world.live) c.self.view_is in
+    rw (c.make-lines.ensures, levels) at c.in_ok-push_below.ensures
