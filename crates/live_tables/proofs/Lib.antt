@@ -13,3 +13,4 @@ pub mod Dooms
 pub mod Frees
 pub mod Goings
 pub mod Removals
+pub mod PlanLaws

@@ -7,6 +7,7 @@ pub mod Open
 pub mod Coming
 pub mod Going
 pub mod Answers
+pub mod Reading
 pub use Rattle.live_rules.specs.Live
 pub use Rattle.live_rules.specs.Laws
 pub use Rattle.live_rules.specs.PlanText

@@ -8,12 +8,16 @@ mod doomed;
 mod driver_groups;
 mod live_tables;
 mod look;
+mod members;
 mod names;
 mod on_groups;
+mod read;
 mod remove;
 mod rows;
 mod search;
 mod tree;
+mod verb;
 
 pub use live_rules::{Group, LiveLine, LiveReply, Plan, PlanCommand};
 pub use live_tables::LiveTables;
+pub use read::read_plan;

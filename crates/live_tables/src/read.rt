@@ -2,12 +2,12 @@
 ghost use Rattle.std.specs.Prelude.{◌≡◌, ◌≤◌, ◌+◌, ◌++◌, ◌∷◌, [], nat_le, length, IfOk, IsTrue};
 ghost use Rattle.cf_text.specs.Shapes.{is_written};
 ghost use Rattle.config_rules.specs.MachineText.{has_bad_byte, words_of};
-ghost use Rattle.config_rules.specs.Cut.{◌>>=◌};
 ghost use Rattle.machine_text.specs.Words.{seen};
 ghost use Rattle.script_text.specs.Left.{Gives, Leaves};
 ghost use Rattle.live_rules.specs.PlanText as rule;
 ghost use Rattle.live_rules.specs.PlanText.{FormedPlan};
-ghost use Rattle.live_tables.specs.Reading.{Becomes, form_by, named_group};
+ghost use Rattle.live_tables.specs.Reading.{Becomes, group_named, line_by, one_group};
+ghost use Rattle.live_tables.specs.declared.verb.Verb.TheVariants as verbs;
 
 use crate::members::{are_written, group_number, is_written, members_of};
 use crate::verb::{Verb, verb_of};
@@ -20,6 +20,18 @@ use std::alloc::Global;
 
 /// The most lines with words.
 const MAX_LINES: usize = 500;
+
+/// A plan before its first line.
+#[tactic(auto, using(crate::proofs::PlanLaws::none_formed))]
+fn no_plan(alloc: Global) -> Plan
+    ensures empty { result ≡ rule.no_plan }
+    ensures formed { FormedPlan result }
+{
+    Plan {
+        groups: List::make(alloc),
+        commands: List::make(alloc),
+    }
+}
 
 /// Whether a plan has no room for one more line.
 fn is_full(plan: &Plan) -> bool
@@ -41,16 +53,27 @@ fn push_command(plan: &mut Plan, command: PlanCommand) -> Result<(), LineStop>
     Ok(())
 }
 
-/// The group of an earlier line that one word names.
-fn named_group(plan: &Plan, words: &[&[u8]]) -> Result<u32, LineStop>
-    requires few { length plan.now.groups ≤ 500 }
-    ensures { Leaves (named_group plan.now (seen words.now)) result }
+/// The group of an earlier line that a word names.
+fn group_named(groups: &[Group], word: &[u8]) -> Result<u32, LineStop>
+    requires few { length groups.now ≤ 500 }
+    ensures { Leaves (group_named groups.now word.now) result }
+{
+    if !is_written(word) {
+        return Err(LineStop::Code(code::WRONG_WORDS));
+    }
+    match group_number(groups, word) {
+        Some(group) => Ok(group),
+        None => Err(LineStop::Code(plan_code::NO_GROUP)),
+    }
+}
+
+/// The group that the one word of a command names.
+fn one_group(groups: &[Group], words: &[&[u8]]) -> Result<u32, LineStop>
+    requires few { length groups.now ≤ 500 }
+    ensures { Leaves (one_group groups.now (seen words.now)) result }
 {
     match words {
-        [name] if is_written(*name) => match group_number(plan.groups.items(), *name) {
-            Some(group) => Ok(group),
-            None => Err(LineStop::Code(plan_code::NO_GROUP)),
-        },
+        [word] => group_named(groups, *word),
         _ => Err(LineStop::Code(code::WRONG_WORDS)),
     }
 }
@@ -96,7 +119,7 @@ fn group_line(
 ) -> Result<(), LineStop>
     requires few { length plan.old.groups + length plan.old.commands ≤ 500 }
     requires few_devices { length tables.now.devices ≤ 65536 }
-    ensures { Becomes (rule.group_form (seen words.now) >>= λ l. rule.after_line tables.now plan.old l) plan.new result }
+    ensures { Becomes (line_by tables.now plan.old verbs.Group (seen words.now)) plan.new result }
 {
     match words.split_first() {
         Some((name, devices)) if !devices.is_empty() && are_written(words) => {
@@ -116,16 +139,16 @@ fn verb_line(
 ) -> Result<(), LineStop>
     requires few { length plan.old.groups + length plan.old.commands ≤ 500 }
     requires few_devices { length tables.now.devices ≤ 65536 }
-    ensures { Becomes (form_by verb (seen words.now) >>= λ l. rule.after_line tables.now plan.old l) plan.new result }
+    ensures { Becomes (line_by tables.now plan.old verb (seen words.now)) plan.new result }
 {
     match verb {
         Verb::Group => group_line(alloc, tables, plan, words),
         Verb::Add => {
-            let group = named_group(plan, words)?;
+            let group = one_group(plan.groups.items(), words)?;
             push_command(plan, PlanCommand::Add(group))
         }
         Verb::Remove => {
-            let group = named_group(plan, words)?;
+            let group = one_group(plan.groups.items(), words)?;
             push_command(plan, PlanCommand::Remove(group))
         }
         Verb::Scan => match words {
@@ -175,6 +198,7 @@ fn add_line<'t>(
 
 /// Reads a plan of at most 1,048,576 bytes: its groups and commands, at most 500 together, or the first bad line and its
 /// code. Devices are those of the tables. The format is this project's own.
+#[tactic(auto, unfolding(live_rules::specs::PlanText::plan_of))]
 pub fn read_plan(alloc: Global, text: &[u8], tables: &Tables) -> Result<Plan, ScriptStop>
     requires short { length text.now ≤ 1048576 }
     requires few_devices { length tables.now.devices ≤ 65536 }
@@ -182,10 +206,7 @@ pub fn read_plan(alloc: Global, text: &[u8], tables: &Tables) -> Result<Plan, Sc
     ensures formed { IfOk result FormedPlan }
 {
     let mut words = Vec::new(alloc);
-    let mut plan = Plan {
-        groups: List::make(alloc),
-        commands: List::make(alloc),
-    };
+    let mut plan = no_plan(alloc);
     let mut number = 1;
     for line in text.split(|&byte| byte == b'\n') {
         if let Err(stop) = add_line(alloc, tables, &mut plan, &mut words, line) {

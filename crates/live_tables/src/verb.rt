@@ -14,17 +14,25 @@ pub enum Verb {
     Scan,
 }
 
+const GROUP: &[u8] = b"group";
+
+const ADD: &[u8] = b"add";
+
+const REMOVE: &[u8] = b"remove";
+
+const SCAN: &[u8] = b"scan";
+
 /// The verb that a word is.
 pub fn verb_of(word: &[u8]) -> Result<Verb, LineStop>
     ensures { Leaves (verb_or_code word.now) result }
 {
-    if word == b"group" {
+    if word == GROUP {
         Ok(Verb::Group)
-    } else if word == b"add" {
+    } else if word == ADD {
         Ok(Verb::Add)
-    } else if word == b"remove" {
+    } else if word == REMOVE {
         Ok(Verb::Remove)
-    } else if word == b"scan" {
+    } else if word == SCAN {
         Ok(Verb::Scan)
     } else {
         Err(LineStop::Code(code::NO_COMMAND))
