@@ -1,5 +1,5 @@
 # make             proves and builds the programs that are not built yet: the first time takes long, as with ./devconf
-# make install     puts programs, manual pages, pages, tools and completions below PREFIX; run make before.
+# make install     puts programs, manual pages, pages, examples, tools and completions below PREFIX; run make before.
 #                  PROGRAMS=devconf installs that one alone
 # make uninstall   removes what install put there
 # make check       all checks, as .ci/run
@@ -29,11 +29,12 @@ install:
 	done
 	mkdir -p $(root)/bin $(root)/libexec/devconf $(share)/tools/lib $(share)/tools/completion $(share)/docs
 	mkdir -p $(root)/share/man/man1 $(root)/share/man/man5 $(bash) $(zsh)
-	cp tools/lib/*.awk tools/lib/*.sh tools/lib/page.* $(share)/tools/lib
+	cp tools/lib/*.awk tools/lib/*.sh tools/lib/page.* $(share)/tools/lib && chmod 755 $(share)/tools/lib/installed.sh
 	cp tools/completion/devconf.* $(share)/tools/completion
 	cp tools/forms $(share)/tools/forms
 	mkdir -p $(share)/tools/editors && cp -R tools/editors/vim tools/editors/emacs $(share)/tools/editors/
 	cp docs/*.md docs/*.svg docs/*.png $(share)/docs
+	cp -R examples $(share)/ && cd $(share)/examples && rm -f now.sh run.sh contend.sh faults.sh memory.sh
 	for tool in $(TOOLS); do \
 	    cp tools/$$tool $(share)/tools/ && chmod 755 $(share)/tools/$$tool && \
 	    ln -sf ../share/devconf/tools/$$tool $(root)/bin/devconf-$$tool && \
@@ -50,10 +51,11 @@ install:
 	for page in man/*.[15]; do \
 	    sed "s/^\.Os$$/.Os devconf $$(cat VERSION)/" $$page >$(root)/share/man/man$${page##*.}/$${page#man/} || exit 1; \
 	done
+	for tool in $(TOOLS); do ln -sf devconf-tools.1 $(root)/share/man/man1/devconf-$$tool.1 || exit 1; done
 
 uninstall:
 	rm -rf $(share) $(root)/libexec/devconf
-	for name in $(PROGRAMS) $(TOOLS:%=devconf-%); do rm -f $(root)/bin/$$name $(bash)/$$name; done
+	for name in $(PROGRAMS) $(TOOLS:%=devconf-%); do rm -f $(root)/bin/$$name $(bash)/$$name $(root)/share/man/man1/$$name.1; done
 	rm -f $(zsh)/_devconf
 	for page in man/*.1; do rm -f $(root)/share/man/man1/$${page#man/}; done
 	for page in man/*.5; do rm -f $(root)/share/man/man5/$${page#man/}; done

@@ -1,7 +1,9 @@
 # What the launchers of this repository share; each of them is a script that reads this file. `launch NAME WORD..` runs the
 # proved program NAME on these words. Where it is not built yet, or a source is newer, it is proved and built first: as many
-# crates at once as there are processors and memory for, those first on which the longest chain of work stands. Ctrl-C ends
-# that, and what was proved until then stays. tools/lib/terminal.sh says how the program is run.
+# crates at once as there are processors and memory for, those first on which the longest chain of work stands. The first time,
+# the libraries of the other program are proved beside. Ctrl-C ends that, and what was proved until then stays.
+# tools/lib/terminal.sh says how the program is run.
+programs="devconf drvrun"
 explain=$top/tools/explain
 . "$top/tools/lib/terminal.sh"
 
@@ -25,14 +27,15 @@ is_current() {
         \( -name '*.rt' -o -name '*.antt' -o -name crates.txt \) -newer "$program" -print -quit)" ]
 }
 
-# Was the crate $1 proved after the last change of its sources and of those that it stands on, and over these as they are now?
+# Was the crate $1 proved after the last change of its sources, and over the crates below it as they are now? Those were asked before.
 is_proved() {
     stamp=$top/crates/$1/out/rlib/stamp
     [ -f "$stamp" ] || return 1
-    for lower in $(crates_of "$1"); do
-        [ -z "$(find "$top/crates/$lower" "$top/crates.txt" -name out -prune -o -type f -newer "$stamp" -print -quit)" ] || return 1
-        made=$top/crates/$lower/out/rlib/stamp
-        [ -f "$made" ] && [ -z "$(find "$made" -newer "$stamp")" ] || return 1
+    [ -z "$(find "$top/crates/$1" "$top/crates.txt" -name out -prune -o -type f -newer "$stamp" -print -quit)" ] || return 1
+    for lower in $(named_by "$1"); do
+        [ -d "$top/crates/$lower" ] || continue
+        grep -qx "$lower" "$work/done" || return 1
+        [ -z "$(find "$top/crates/$lower/out/rlib/stamp" -newer "$stamp")" ] || return 1
     done
 }
 
@@ -51,10 +54,32 @@ crates_of() {
     END { visit(top) }' "$top/crates.txt"
 }
 
-# These crates, on which the longest chain of lines stands first. The input tells them lowest first, each with its lines.
+# The crates that are wanted, lowest first: those of the program; and behind them, where it is built for the first time, what the
+# other one needs besides, so that its own first call has one crate left.
+wanted() {
+    crates_of "$name"
+    [ -n "$is_first" ] || return 0
+    for other in $programs; do
+        [ "$other" = "$name" ] || crates_of "$other" | sed '$d'
+    done
+}
+
+# Each of these crates with its size, and 1 where the program itself does not need it. To begin a crate at all costs as much as 350
+# lines of code; proofs cost next to nothing beside the code that they are of.
+measured() {
+    crates_of "$name" >"$work/own"
+    while read -r crate; do
+        lines=$(find "$top/crates/$crate/src" -name '*.rt' -exec cat {} + | wc -l)
+        grep -qx "$crate" "$work/own" && beside=0 || beside=1
+        echo "$crate $((lines + 350)) $beside"
+    done
+}
+
+# These crates, the program's own ones first, and of them those on which the longest chain stands. The input has them lowest first,
+# each with its size.
 longest_first() {
     awk '
-    NR == FNR { lines[$1] = $2; order[++count] = $1; next }
+    NR == FNR { lines[$1] = $2; beside[$1] = $3; order[++count] = $1; next }
     { sub(/#.*/, "") }
     /:/ { crate = $1; sub(/:$/, "", crate); sub(/^[^:]*:/, ""); below[crate] = $0 }
     END {
@@ -64,8 +89,36 @@ longest_first() {
             for (i = 1; i <= parts; i++)
                 if (chain[part[i]] < chain[order[n]]) chain[part[i]] = chain[order[n]]
         }
-        for (n = 1; n <= count; n++) print chain[order[n]], order[n]
-    }' - "$top/crates.txt" | sort -rn | cut -d ' ' -f 2
+        for (n = 1; n <= count; n++) print beside[order[n]], chain[order[n]], order[n]
+    }' - "$top/crates.txt" | sort -k 1,1n -k 2,2rn | cut -d ' ' -f 3
+}
+
+# How many minutes are left, by what the crates took that ended in this call: all that is left, shared out among the places, or the
+# longest chain, whichever takes longer. Nothing is written before the first of them has ended.
+minutes_left() {
+    grep '' "$work"/*.began /dev/null 2>/dev/null | sed 's/.*\/\([^/]*\)\.began:/\1 /' >"$work/begun"
+    awk -v now="$(date +%s)" -v places="$places" '
+    FILENAME == ARGV[1] { seconds += $1; lines += $2; next }
+    FILENAME == ARGV[2] { is_done[$1] = 1; next }
+    FILENAME == ARGV[3] { began[$1] = $2; next }
+    FILENAME == ARGV[4] { size[$1] = $2; order[++count] = $1; next }
+    { sub(/#.*/, "") }
+    /:/ { crate = $1; sub(/:$/, "", crate); sub(/^[^:]*:/, ""); below[crate] = $0 }
+    END {
+        if (!lines) exit
+        for (n = count; n; n--) {
+            crate = order[n]
+            own = crate in is_done ? 0 : size[crate] * seconds / lines
+            if (crate in began && !(crate in is_done)) own = own > now - began[crate] + 5 ? own - now + began[crate] : 5
+            sum += own
+            chain[crate] += own
+            if (chain[crate] > longest) longest = chain[crate]
+            parts = split(below[crate], part, " ")
+            for (i = 1; i <= parts; i++) if (chain[part[i]] < chain[crate]) chain[part[i]] = chain[crate]
+        }
+        if (longest < sum / places) longest = sum / places
+        print int(longest / 60) + 1
+    }' "$work/took" "$work/done" "$work/begun" "$work/sizes" "$top/crates.txt"
 }
 
 # How many crates are proved at once: one a processor, and no more than have 2.5 GB of memory each.
@@ -119,6 +172,7 @@ link() {
 # Proves the crate $1 with so many jobs. The text of its stamp is not that of `rt`, which makes libraries of its own.
 prove() {
     rm -f "$top/crates/$1/out/rlib/stamp"
+    date +%s >"$work/$1.began"
     check "$1" "$2" >"$work/$1.log" 2>&1 </dev/null &
     echo $! >"$work/$1.at"
     wait $!
@@ -133,16 +187,29 @@ prove() {
     mv "$work/$1.status" "$work/$1.ended"
 }
 
-# How far it is: on a terminal one line that is written anew, else a line a minute.
+# How far it is: on a terminal one line that is written anew, else a line a minute; and once, as soon as it is known how long it
+# takes, what can be had at once.
 tell() {
     minutes=$((($(date +%s) - began) / 60))
-    line="$name: $(wc -l <"$work/done") of $all crates proved, $minutes min; at work:$(ls "$work" | sed -n 's/\.at$//p' | tr '\n' ' ' | sed 's/^/ /')"
+    [ -t 2 ] || [ "$minutes" != "$told" ] || [ -z "$is_offered" ] || return 0
+    left=$(minutes_left)
+    if [ -z "$is_offered" ] && [ -n "$left" ]; then
+        is_offered=1
+        [ "$left" -lt 3 ] || offer "about $left minutes are left"
+    fi
+    line="$name: $(wc -l <"$work/done") of $all crates proved, $minutes min${left:+, about $left min left}; at work:$(ls "$work" | sed -n 's/\.at$//p' | tr '\n' ' ' | sed 's/^/ /')"
     if [ -t 2 ]; then
         printf '\r\033[K%.*s' "$(($(tput cols 2>/dev/null || echo 80) - 1))" "$line" >&2
     elif [ "$minutes" != "$told" ]; then
         echo "$line" >&2
         told=$minutes
     fi
+}
+
+# What can be had without waiting.
+offer() {
+    [ ! -t 2 ] || printf '\r\033[K' >&2
+    echo "$name: $1; examples/now.sh shows an example at once, by code that is not proved" >&2
 }
 
 # Takes note of the crates that ended. Where one was refused, its last lines are shown.
@@ -156,9 +223,11 @@ collect() {
             tail -n 20 "$work/$crate.log" >&2
             leave 125
         fi
-        rm "$work/$crate.ended" "$work/$crate.at"
+        echo "$(($(date +%s) - $(cat "$work/$crate.began"))) $(awk -v crate="$crate" '$1 == crate { print $2 }' "$work/sizes")" >>"$work/took"
+        rm "$work/$crate.ended" "$work/$crate.at" "$work/$crate.began"
         # What is changed while this call goes on is newer than what it makes.
-        [ "$crate" = "$name" ] || touch -c -r "$work/launcher" "$top/crates/$crate/out/rlib/stamp"
+        if [ "$crate" = "$name" ]; then made=$program; else made=$top/crates/$crate/out/rlib/stamp; fi
+        touch -c -r "$work/launcher" "$made"
         echo "$crate" >>"$work/done"
     done
 }
@@ -220,21 +289,24 @@ build() {
         fi
     done
     echo $$ >"$work/launcher"
-    trap '[ ! -t 2 ] || echo >&2; leave 130' INT TERM HUP
+    trap '[ ! -t 2 ] || echo >&2; offer "the next call goes on from here"; leave 130' INT TERM HUP
     is_current && { rm -rf "$work"; trap - INT TERM HUP; return; }
     places=$(places)
     began=$(date +%s)
     told=
+    is_offered=
+    is_first=
+    [ -x "$program" ] || is_first=1
     : >"$work/done"
-    for crate in $(crates_of "$name"); do
+    : >"$work/took"
+    wanted | awk '!seen[$0]++' | measured >"$work/sizes"
+    longest_first <"$work/sizes" >"$work/todo"
+    while read -r crate _; do
         ! is_proved "$crate" || echo "$crate" >>"$work/done"
-        lines=$(find "$top/crates/$crate" -name out -prune -o \( -name '*.rt' -o -name '*.antt' \) -exec cat {} + | wc -l)
-        # To begin a crate at all costs about as much as 200 lines.
-        echo "$crate $((lines + 200))"
-    done | longest_first >"$work/todo"
+    done <"$work/sizes"
     all=$(wc -l <"$work/todo")
     echo "$name: proving and building the program, $places crates at a time; README.md says how long the first time takes" >&2
-    echo "$name: examples/now.sh shows an example at once, by code that is not proved" >&2
+    offer "$all crates, of which $(wc -l <"$work/done") are proved"
     rm -f "$program"
     while [ "$(wc -l <"$work/done")" -lt "$all" ]; do
         collect
@@ -243,7 +315,6 @@ build() {
         sleep 1
     done
     [ ! -t 2 ] || echo >&2
-    touch -r "$work/launcher" "$program"
     rm -rf "$work"
     trap - INT TERM HUP
 }

@@ -1,6 +1,6 @@
 #!/bin/sh
 # Checks what the documents name: each link with its heading, each file, each line of a file, each function of a crate. A line
-# for each that is not there, and status 1 then. Usage: docs/check.sh [--lines], which first corrects the numbers of lines
+# for each that is not there, and status 1 then. Usage: docs/check.sh [--lines], which first corrects the numbers of lines and edits
 #
 # What is looked at, in the pages of this repository:
 #   [text](page#heading)         the page is there, and has this heading
@@ -9,6 +9,7 @@
 #   `crate/specs/X.antt:7` `Name`   this line of this file has this word
 #   a table's column "function"  `crate`: `name`, `Type::name`, where the crate may be in the row's first column instead
 #   Pa tools/explain             in a manual page
+#   tries 7 edits, these 7 edits    in docs/PROOFS.md: so many lie in crates/*/must-fail and in bench/mutants
 LC_ALL=C
 export LC_ALL
 cd "$(dirname "$(readlink -f "$0")")/.." || exit 1
@@ -51,10 +52,17 @@ mend_lines() {
         print out rest
     }' "$1" >"$work/mended" && { cmp -s "$1" "$work/mended" || cat "$work/mended" >"$1"; }
 }
-if [ "${1-}" = --lines ]; then for page in $pages; do mend_lines "$page"; done; fi
+# The edits that each gate tries, and those beside it.
+tried=$(grep -c '^crates/[^/]*/must-fail/[^/]*\.edit$' "$work/files")
+beside=$(grep -c '^bench/mutants/[^/]*/[^/]*\.edit$' "$work/files")
+if [ "${1-}" = --lines ]; then
+    for page in $pages; do mend_lines "$page"; done
+    sed "s/tries [0-9]* edits/tries $tried edits/; s/these [0-9]* edits/these $beside edits/" docs/PROOFS.md >"$work/counted" \
+        && { cmp -s docs/PROOFS.md "$work/counted" || cat "$work/counted" >docs/PROOFS.md; }
+fi
 
 # shellcheck disable=SC2086
-awk -v files="$work/files" -v items="$work/items" '
+awk -v files="$work/files" -v items="$work/items" -v tried="$tried" -v beside="$beside" '
 function fault(what) { print FILENAME ":" FNR ": " what; faults++ }
 function slug(text) {
     text = tolower(text); gsub(/`/, "", text); gsub(/[^a-z0-9 _-]/, "", text); gsub(/ /, "-", text)
@@ -104,7 +112,7 @@ function span(text, next_span,   word, first, number, k, ok) {
         if (!is_there("crates/" word)) { fault("there is no crates/" word); return }
         if (number == "") return
         lines++
-        if (next_span !~ /^[A-Za-z_0-9]+$/) fault("no name stands behind " text)
+        if (next_span !~ /^[A-Za-z_0-9]+$/) fault("no name follows " text)
         else if (!has_line("crates/" word, number, next_span)) fault("line " number " of " word " does not have " next_span)
     } else if (first ~ /^(docs|man|tools|examples|bench|crates|packaging|\.ci)$/) {
         if (word ~ /(^|\/)(out|NAME|CRATE|WHAT_IS_WRONG\.edit)(\/|$)/) return
@@ -155,6 +163,11 @@ fenced || /^    / { next }
         if (known != "" || cell[2] !~ /^ *$/) row_crates = known
         for (k = 2; k < cells; k++) if (column[k] ~ /^function/) functions(cell[k])
     }
+}
+FILENAME == "docs/PROOFS.md" && match($0, /(tries|these) [0-9]+ edits/) {
+    split(substr($0, RSTART, RLENGTH), part, " ")
+    count = part[1] == "tries" ? tried : beside
+    if (part[2] != count) fault("it says " part[2] " edits where there are " count ": docs/check.sh --lines corrects that")
 }
 {
     rest = $0

@@ -1,5 +1,5 @@
 #!/bin/sh
-# Makes a Debian package of the built programs, with pages, tools and completions, by dpkg-deb: out/devconf_VERSION_ARCH.deb.
+# Makes a Debian package of the built programs, with pages, examples, tools and completions, by dpkg-deb: out/devconf_VERSION_ARCH.deb.
 # Usage: packaging/deb.sh, or make deb; run make before
 set -e
 cd "$(dirname "$(readlink -f "$0")")/.."
@@ -19,9 +19,15 @@ make -s install DESTDIR="$root" PREFIX=/usr
 doc=$root/usr/share/doc/devconf
 mkdir -p "$doc" "$root/DEBIAN"
 cp README.md SECURITY.md "$doc"
+ln -s ../../devconf/docs ../../devconf/examples "$doc"
 cp LICENSE "$doc/copyright"
-gzip -9n <CHANGELOG.md >"$doc/changelog.gz"
-gzip -9n "$root"/usr/share/man/man?/*
+gzip -9n <CHANGELOG.md >"$doc/CHANGELOG.md.gz"
+maintainer=$(git log -1 --format='%an <%ae>' 2>/dev/null || echo 'devconf maintainers <devconf@localhost>')
+printf 'devconf (%s) unstable; urgency=low\n\n  * See CHANGELOG.md.gz.\n\n -- %s  %s\n' "$version" "$maintainer" \
+    "$(git log -1 --format=%aD 2>/dev/null || date -R)" | gzip -9n >"$doc/changelog.gz"
+for page in "$root"/usr/share/man/man?/*; do
+    if [ -L "$page" ]; then ln -s "$(readlink "$page").gz" "$page.gz" && rm "$page"; else gzip -9n "$page"; fi
+done
 
 # The programs may need the C library, or be linked with all that they need.
 depends=
@@ -37,13 +43,14 @@ done
     [ -z "$depends" ] || echo "Depends: $depends"
     echo "Suggests: bash-completion, graphviz"
     echo "Installed-Size: $(du -ks "$root/usr" | cut -f 1)"
-    echo "Maintainer: $(git log -1 --format='%an <%ae>' 2>/dev/null || echo 'devconf maintainers <devconf@localhost>')"
+    echo "Maintainer: $maintainer"
     echo "Description: device configuration of NetBSD, proved"
-    echo " devconf compiles kernel configurations in the language of config(5) of NetBSD and"
-    echo " boots a described machine by them, as autoconf(9) does. Scripts then detach, rescan,"
-    echo " suspend and resume its devices, as drvctl(8) and pmf(9) do. Every step is one line of"
-    echo " a history, which devconf can check again. drvrun runs the scripts in threads."
-    echo " Every function is proved against its contract."
+    echo " devconf compiles kernel configurations in the language of config(5) of"
+    echo " NetBSD and boots a described machine by them, as autoconf(9) does. Scripts"
+    echo " then detach, rescan, suspend and resume its devices, as drvctl(8) and pmf(9)"
+    echo " do. Every step is one line of a history, which devconf can check again."
+    echo " drvrun runs the scripts in threads. Every function is proved against its"
+    echo " contract."
 } >"$root/DEBIAN/control"
 (cd "$root" && find usr -type f -exec md5sum {} +) | LC_ALL=C sort -k 2 >"$root/DEBIAN/md5sums"
 mkdir -p out

@@ -17,7 +17,8 @@ into() { dpkg --root="$root" --force-depends --force-not-root --force-script-chr
 into --install "$package" || fail "dpkg does not install $package"
 bin=$root/usr/bin
 "$bin/devconf" load 5 >"$work/said" 2>&1 || fail 'devconf load 5'
-"$bin/devconf" boot examples/small.conf examples/small.machine >"$work/said" 2>&1 || fail 'devconf boot'
+there=$root/usr/share/doc/devconf/examples
+"$bin/devconf" boot "$there/small.conf" "$there/small.machine" >"$work/said" 2>&1 || fail 'devconf boot'
 cmp -s "$work/said" examples/outputs/small.boot || fail 'devconf boot prints something else than examples/outputs/small.boot'
 (cd examples && "$bin/drvrun" disk.conf disk.machine copy.script eject.script) >"$work/run" 2>"$work/said" || fail drvrun
 (cd examples && "$bin/devconf" replay disk.conf disk.machine "$work/run" copy.script eject.script) >"$work/said" 2>&1 || fail 'devconf replay'
@@ -25,7 +26,9 @@ cmp -s "$work/said" examples/outputs/small.boot || fail 'devconf boot prints som
 "$bin/devconf-summary" examples/outputs/small.boot >"$work/said" 2>&1 || fail devconf-summary
 "$bin/devconf-draw" examples/outputs/small.boot >"$work/said" 2>&1 || fail devconf-draw
 "$bin/devconf-compare" examples/outputs/small.boot examples/outputs/small.boot >"$work/said" 2>&1 || fail devconf-compare
-for page in man1/devconf.1 man1/drvrun.1 man5/devconf.5; do
+(cd "$there/amd64" && "$bin/devconf-machine" -c GENERIC ../dmesg/box) >"$work/machine" 2>"$work/said" || fail devconf-machine
+cmp -s "$work/machine" examples/machines/box || fail 'devconf-machine prints something else than examples/machines/box'
+for page in man1/devconf.1 man1/drvrun.1 man1/devconf-tools.1 man1/devconf-summary.1 man5/devconf.5; do
     gzip -dc "$root/usr/share/man/$page.gz" 2>/dev/null | grep -q "^\.Os devconf $(cat VERSION)\$" || fail "the page $page has no version"
 done
 [ -f "$root/usr/share/bash-completion/completions/devconf" ] || fail 'no completion for bash'

@@ -211,6 +211,22 @@ try_forms() {
     ended "$(wc -l <"$work/forms" | tr -d ' ') forms, and the statements of the examples"
 }
 
+# Each tool that is installed has its paragraph in devconf-tools(1), and its options are in the synopsis there.
+try_manual() {
+    tool=man/devconf-tools.1
+    before=$wrong
+    for each in $(sed -n 's/^TOOLS = //p' "$top/Makefile"); do
+        grep -q "^\.It Nm devconf-$each\$" "$top/man/$(basename "$tool")" || differ "$each" 'it has no paragraph' ''
+        awk -v name="devconf-$each" '
+        /^\.Sh / { in_synopsis = $2 == "SYNOPSIS" }
+        /^\.Nm / { is_it = $2 == name }
+        in_synopsis && is_it { for (n = 1; n < NF; n++) if ($n == "Fl" || $n == ".Fl") print $(n + 1) }' "$top/$tool" | grep -o '[a-z]' | sort -u >"$work/got"
+        sed -n '/^# Usage: /{s///;s/tools\///g;p;}' "$tools/$each" | tr ' []' '\n\n\n' | sed -n 's/^-\([a-z]*\)$/\1/p' | grep -o '[a-z]' | sort -u >"$work/wanted"
+        cmp -s "$work/wanted" "$work/got" || differ "$each" 'its options' "$work/wanted" "$work/got"
+    done
+    ended 'the tools and their options'
+}
+
 # On a terminal the launchers add words to a fault line, and nowhere else; the status is the program's.
 try_terminal() {
     tool=tools/lib/terminal.sh
@@ -502,7 +518,7 @@ try_tour() {
     [ "$count" -ge 8 ] || differ commands "there are $count" ''
     n=1
     while [ "$n" -le "$count" ]; do
-        command=$(sed "s#\.\./\.\./devconf#$DEVCONF#g; s#\.\./\.\./tools/#$shell $tools/#g; s#/tmp/#$work/#g" "$work/tour.$n")
+        command=$(sed "s#/tmp/#$work/#g; s#\.\./\.\./devconf#$DEVCONF#g; s#\.\./\.\./tools/#$shell $tools/#g" "$work/tour.$n")
         (cd "$top/examples/amd64" && eval "$command") 2>&1 | sed "s#$work/#/tmp/#g" >"$work/got"
         cmp -s "$work/told.$n" "$work/got" || differ "$(cat "$work/tour.$n")" 'what it prints' "$work/told.$n" "$work/got"
         n=$((n + 1))
@@ -595,6 +611,7 @@ fi
 try_examples
 try_words
 try_forms
+try_manual
 try_terminal
 make_completers
 try_completion

@@ -12,13 +12,19 @@ BEGIN {
     place_entries()
     find_plan()
     put_machine()
-    if (wedges) print "machine: " source ": " count_of(wedges, "wedge") " (dk), which no row of a configuration attaches" | "cat 1>&2"
+    left_out(wedges, "wedge (dk)", "wedges (dk)")
+    left_out(pseudos, "pseudo-device", "pseudo-devices")
     close("cat 1>&2")
     exit is_skipped
 }
 
 # A device, or a line, that has no place in the machine file.
 function skip(line, text) { is_skipped = 1; note(line, text) }
+
+# What is no fault, since a configuration has no rows for it.
+function left_out(n, one, many) {
+    if (n) print "machine: " source ": " count_of(n, one, many) ", which no row of a configuration attaches" | "cat 1>&2"
+}
 
 function note(line, text) { print "machine: " source ":" line ": " text | "cat 1>&2" }
 

@@ -37,20 +37,20 @@ function add_item(text) { item[++item_count] = text }
 # One item a line, 8 of them or all.
 function put_lines(   n) {
     for (n = 1; n <= item_count; n++) {
-        if (n > 8 && !whole) { print "    and " (item_count - 8) " more; -a tells all"; return }
+        if (n > 8 && !whole) { print "    and " (item_count - 8) " more; -a shows all"; return }
         print "    " item[n]
     }
 }
 
-# As many items a line as there is room for, 6 lines of them or all, with this mark between them.
-function put_list(mark,   n, line, lines) {
+# As many items a line as there is room for, 6 lines of them or all, with this text between them.
+function put_list(between,   n, line, lines) {
     for (n = 1; n <= item_count; n++) {
-        if (line != "" && length(line mark item[n]) > 74) {
-            print "    " line (mark == " " ? "" : ",")
+        if (line != "" && length(line between item[n]) > 74) {
+            print "    " line (between == " " ? "" : ",")
             line = ""
-            if (++lines == 6 && !whole) { print "    and " (item_count - n + 1) " more; -a tells all"; return }
+            if (++lines == 6 && !whole) { print "    and " (item_count - n + 1) " more; -a shows all"; return }
         }
-        line = line == "" ? item[n] : line mark item[n]
+        line = line == "" ? item[n] : line between item[n]
     }
     if (line != "") print "    " line
 }

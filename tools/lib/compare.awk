@@ -10,9 +10,9 @@ BEGIN {
     sections_1 = sections
     keep()
     read_output(ENVIRON["OUTPUT_2"])
-    if (was_there("tree") != has("tree")) complain("one of the outputs has a tree, the other none")
+    if (was_there("tree") != has("tree")) complain("one of the outputs has a tree, and the other has none")
     if (has("tree") && was_there("history") != has("history"))
-        complain("one of the outputs has a history, which tells spots, the other none")
+        complain("one of the outputs has a history, which shows spots; the other has none")
     if (has("tree")) compare_devices()
     else compare_tables()
     exit differences > 0
@@ -165,7 +165,7 @@ function compare_sources(one, other,   n, count_1, count_2) {
 
 function read_list(file, list, known,   line, n, got) {
     while ((got = file == "-" ? (getline line) : (getline line < file)) > 0) {
-        if (line ~ /^(tables|history [12]|tree)$/) complain((file == "-" ? "standard input" : file) ": an output of a run, and the other is a list of sources")
+        if (line ~ /^(tables|history [12]|tree)$/) complain((file == "-" ? "standard input" : file) ": it is the output of a run, but the other is a list of sources")
         list[++n] = line
         known[line] = 1
     }

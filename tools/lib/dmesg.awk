@@ -35,12 +35,14 @@ function forget_entries() {
     split("", is_gone); split("", latest); split("", skipped_line)
 }
 
-# The line without its carriage return and time stamp, and without what syslogd(8) puts before it.
+# The line without its carriage return, the colours of a console, what syslogd(8) puts before it in either of its formats, and
+# the time stamps of dmesg(8), of whatever form.
 function bare(line) {
     sub(/\r$/, "", line)
-    sub(/^[A-Z][a-z][a-z] [ 0-9][0-9] [0-9:]+ [^ ]+ (\/netbsd|kernel): /, "", line)
-    sub(/^\[ *[0-9]+\.[0-9]+\] ?/, "", line)
-    sub(/^\[[A-Z][a-z][a-z] [A-Z][a-z][a-z] [0-9: .A-Z]+\] ?/, "", line)
+    gsub(/\033\[[0-9;]*[A-Za-z]/, "", line)
+    sub(/^([A-Z][a-z][a-z] [ 0-9][0-9] [0-9:]+|[0-9-]+T[0-9:.]+(Z|[-+][0-9:]+)) [^ ]+ (\/netbsd|kernel)(:| - - -) /, "", line)
+    sub(/^\[[^]]*[0-9][^]]*\] ?/, "", line)
+    sub(/^<[ 0-9.]+> ?/, "", line)
     return line
 }
 

@@ -54,20 +54,20 @@ done
 
 play '' || exit 0
 if [ "$count" -lt "$(grep -c '^0\.' "$work/lines")" ]; then
-    echo "  Here should stand: $(sed -n "$((count + 1))p" "$work/lines")"
+    echo "  Here should be: $(sed -n "$((count + 1))p" "$work/lines")"
     [ "${caller:-0}" = 0 ] || echo "  (Caller $caller waits until the boot has ended.)"
     exit 0
 fi
 case $caller in
 '') ;;
-0) echo "  The boot has ended before, and caller 0 has no more lines." ;;
+0) echo "  The boot has ended already, so caller 0 has no more lines." ;;
 *)
     if [ "$caller" -gt "$number" ]; then
-        echo "  There is no caller $caller: $number script$([ "$number" = 1 ] || echo s) were named."
+        echo "  There is no caller $caller: $([ "$number" = 1 ] && echo '1 script was' || echo "$number scripts were") named."
     else
         line=$(line_of_turn "$caller")
-        if [ -n "$line" ]; then echo "  Here should stand: $line" && exit 0; fi
-        if grep -q "^$caller\.[0-9]* end$" "$work/lines"; then echo "  Caller $caller has ended before."
+        if [ -n "$line" ]; then echo "  Here should be: $line" && exit 0; fi
+        if grep -q "^$caller\.[0-9]* end$" "$work/lines"; then echo "  Caller $caller has ended already."
         else echo "  Caller $caller waits here, so it has no line."; fi
     fi
     ;;
@@ -79,8 +79,8 @@ while [ "$other" -lt "$number" ]; do
     [ "$other" != "$caller" ] || continue
     line=$(line_of_turn "$other")
     [ -n "$line" ] || continue
-    [ -n "$told" ] || echo "  What may stand here:"
+    [ -n "$told" ] || echo "  What may be here:"
     told=1
     echo "    $line"
 done
-[ -n "$told" ] || echo "  No caller has a line here: what may stand is \`tree\`."
+[ -n "$told" ] || echo "  No caller has a line here: only \`tree\` may come."

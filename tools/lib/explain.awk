@@ -180,7 +180,7 @@ function explain_fault(kind, file, number, code,   first, is_found) {
     if (!((kind, code) in in_words)) complain("there is no code " code " of the kind " kind)
     tell_code(kind, code)
     if (kind == "script" && ((("order", code) in in_words)) && !given_word[1] && first == "") {
-        print "  or, where " file " is the order file:"
+        print "  or, if " file " is the order file:"
         tell_code("order", code)
     }
 }
@@ -188,7 +188,7 @@ function explain_fault(kind, file, number, code,   first, is_found) {
 # Finds the word that is at fault; answers whether the line as it stands has this fault.
 function find_fault(kind, file, number, line, code) {
     if (line ~ /\r$/ && code <= 3) {
-        say("the line ends with a carriage return, as lines of other systems do; tr -d '\\r' takes it away")
+        say("the line ends with a carriage return, as lines of other systems do; tr -d '\\r' removes it")
         return 1
     }
     if (!number) return 1
@@ -202,7 +202,7 @@ function is_told(kind, file, number, code, is_found) {
     if (is_incomplete && kind == "config" && code ~ /^(8|9|1[0-2]|21)$/) return 0
     if (kind == "config" && code <= 4 && code != 3 && number) is_incomplete = code <= 2
     if (++faults_told > 20) {
-        if (faults_told == 21) print "(20 faults are told, and there are more)"
+        if (faults_told == 21) print "(20 faults are shown, and there are more)"
         return 0
     }
     print kind " " file ":" number ": code " code
@@ -292,7 +292,7 @@ function judge_words(program,   line, word, n, given, takes, names) {
     }
     close(ENVIRON["FORMS"])
     if (takes == "") put("there is no command `" given_word[1] "`" meant(nearest(given_word[1], names)))
-    else put("`" given_word[1] "` takes " takes "; " (given ? count_of(given, "word") " stand" (given == 1 ? "s" : "") " behind it" : "nothing stands behind it"))
+    else put("`" given_word[1] "` takes " takes "; " (given ? count_of(given, "word") " follow" (given == 1 ? "s" : "") " it" : "nothing follows it"))
 }
 
 # The forms of the program, each with what it does.

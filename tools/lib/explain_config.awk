@@ -79,7 +79,7 @@ function open_string(line, at, number) {
 # Does a backslash in the line want to take the meaning from a quote?
 function tell_escape(line, at) {
     if (!index(substr(line, 1, at), "\\\"")) return
-    say("a string ends at its next quote, also behind a backslash: here one ended at column " index(line, "\\\"") + 1)
+    say("a string ends at the next quote, even after a backslash: here one ended at column " index(line, "\\\"") + 1)
     put_left_out_of("\"a \\\"b\\\"\"")
 }
 
@@ -92,12 +92,12 @@ function tell_byte(line, at, number,   value, size, n) {
         value = size == 2 ? value % 32 : size == 3 ? value % 16 : value % 8
         for (n = 1; n < size; n++) value = value * 64 + byte_value[substr(line, at + n, 1)] % 64
         n = sprintf("U+%04X", value)
-        say("at column " at " stands the character " n character_says(n))
+        say("column " at " has the character " n character_says(n))
         return
     }
-    if (value < 32 || value > 126) say("at column " at " stands the byte " sprintf("0x%02x", value))
-    else if (value == 43) say("at column " at " stands `+` without `=`")
-    else say("at column " at " stands `" substr(line, at, 1) "`, which no token has" (value == 39 ? ": strings have double quotes" : \
+    if (value < 32 || value > 126) say("column " at " has the byte " sprintf("0x%02x", value))
+    else if (value == 43) say("column " at " has a `+` without `=`")
+    else say("column " at " has `" substr(line, at, 1) "`, which belongs to no token" (value == 39 ? ": strings have double quotes" : \
         value == 59 ? ": a statement ends with its line" : ""))
     tell_escape(line, at)
 }
@@ -106,7 +106,7 @@ function character_says(name) {
     if (name ~ /^U\+20(1C|1D|1E|18|19|B9|BA)$/) return ", a quote of another kind: write \" in its place"
     if (name ~ /^U\+(00A0|2002|2003|2009|202F|3000)$/) return ", a blank of another kind: write a space in its place"
     if (name ~ /^U\+(2010|2011|2012|2013|2014|2212)$/) return ", a dash: write - in its place"
-    if (name ~ /^U\+(FEFF|200B)$/) return ", which is not seen: delete it"
+    if (name ~ /^U\+(FEFF|200B)$/) return ", which is invisible: delete it"
     return ""
 }
 
@@ -116,11 +116,11 @@ function find_path(s,   path, beside) {
     path = path_of[s]
     if (path == "") return 0
     mark_word(s, 2)
-    say("the file that it looked for is " path (path ~ /^\// ? "" : ", below the current folder"))
+    say("it looked for the file " path (path ~ /^\// ? "" : ", from the current folder"))
     beside = s_file[s]
     if (!sub(/[^\/]*$/, "", beside) || beside == "") beside = ""
     if (beside != "" && path !~ /^\// && is_readable(beside unquoted(word_at(s, 2))))
-        say("there is a file " beside unquoted(word_at(s, 2)) ", beside the including one: write the path from the current folder on")
+        say("there is a file " beside unquoted(word_at(s, 2)) " beside the including file: write its path from the current folder")
     return 1
 }
 
@@ -182,10 +182,10 @@ function tell_misfit(s, word,   t, there) {
     if (stop_at <= piece_count) mark_token(t)
     else mark(tok_line[s_last[s]], tok_at[s_last[s]] + length(tok[s_last[s]]), 1)
     say("its form is `" best_form "`")
-    say((stop_at > piece_count ? "behind `" piece[piece_count] "`" : "in place of `" there "`") " there should be " wanted)
+    say((stop_at > piece_count ? "after `" piece[piece_count] "`" : "instead of `" there "`") " there should be " wanted)
     if (stop_at == 1) tell_first_word(s, word)
     else if (stop_at <= piece_count && tok_line[t] > s_line[s] && t - first_of_line(t) <= 2)
-        say("line " tok_line[t] " begins with a blank, so it goes on with the statement of line " s_line[s] "; take the blank away where it is a statement of its own")
+        say("line " tok_line[t] " begins with a blank, so it continues the statement of line " s_line[s] "; remove the blank if it is a statement of its own")
     if (there ~ /[A-Za-z_-]0[0-9]+$/) say("a unit has no leading zero")
     else if (best_form ~ /PARENT/ && stop_at > 2 && piece[stop_at - 1] == "at" && is_name(there))
         say("write `" there "?` for any " there (there ~ /[0-9]$/ ? "" : ", or its unit, as `" there "0`"))
@@ -196,18 +196,18 @@ function tell_misfit(s, word,   t, there) {
     if (there == "flags" && (best_form ~ /LOCATOR/)) say("`flags` is no locator: every instance may have it without a definition")
     if (piece[stop_at - 1] == "flags" && there == "?") say("`flags` takes a number")
     if (there ~ /^"/ && wanted !~ /string|path/) tell_string(word)
-    if (there == "=" && best_form ~ /^UNIT/) say("between a locator and its value stands a blank, as in `port 0x3f8`")
+    if (there == "=" && best_form ~ /^UNIT/) say("a blank separates a locator from its value, as in `port 0x3f8`")
 }
 
 # The first word is none of those with which a statement begins, and no unit.
 function tell_first_word(s, word,   names) {
     if (s > 1 && s_file[s - 1] == s_file[s] && word_at(s - 1, 2) == "at" && has_locator_named(word)) {
-        say("`" word "` is a locator: where this belongs to line " s_line[s - 1] ", begin it with a blank")
+        say("`" word "` is a locator: if this belongs to line " s_line[s - 1] ", begin it with a blank")
         return
     }
     if (word ~ /[0-9*?]$/) return
     words_of_forms("config", names)
-    say("it is read as a device to look for, since no statement begins with `" word "`" meant(nearest(word, names)))
+    say("it is read as a device to look for, because no statement begins with `" word "`" meant(nearest(word, names)))
 }
 
 function first_of_line(t) { while (t > 1 && tok_line[t - 1] == tok_line[t]) t--; return t }
@@ -226,7 +226,7 @@ function is_too_long_a_list(s,   t, count) {
 function tell_string(word) {
     if (word == "options") put_left_out_of("options \"DDB\"")
     else if (word == "config") put_left_out_of("config netbsd root on \"wedge:root\"")
-    else say("no string may stand here")
+    else say("a string is not allowed here")
 }
 
 # What config(5) has and this language leaves out: the row of docs/CONFIGURATION.md of which the first code span begins so.
@@ -263,7 +263,7 @@ function put_left_out_of(key,   line, cell, n, is_there, count, span) {
         else if (n < 2) is_there = 0
         if (!is_there || !index(cell[1], "`" key "`")) continue
         close(ENVIRON["LANGUAGE"])
-        say("`" key "` is of config(5), and this language leaves it out: " cell[3])
+        say("`" key "` belongs to config(5), but this language leaves it out: " cell[3])
         mend = cell[4]
         return 1
     }
@@ -304,7 +304,7 @@ function tell_unknown(s, t, name, is_parent,   names, where, text) {
     if (is_parent) declared_before(is_device, s, names)
     if (name in is_attr || is_parent && name in is_device) {
         where = name in is_attr ? is_attr[name] : is_device[name]
-        text = where == s ? "it is this very statement that defines `" name "`" : "`" name "` is defined only later, at " stands(where) ", and a name counts for what stands behind its definition"
+        text = where == s ? "this statement itself defines `" name "`" : "`" name "` is defined only later, at " stands(where) ", and a name may be used only after its definition"
     } else if (word_at(s, 1) == "attach" && edits(name, "root") == 1) text = "nothing defines `" name "`; did you mean `root`?"
     else if (name in is_device && is_device[name] < s)
         text = "`" name "` is a device without braces; `device " name " {}` at " stands(is_device[name]) " would make it an attribute, too"
@@ -350,7 +350,7 @@ function find_no_device(s,   word, name, place, names) {
     if (name in is_device && is_device[name] < s) return 0
     mark_word(s, place)
     declared_before(is_device, s, names)
-    if (name in is_device) say("`" name "` is defined only later, at " stands(is_device[name]) ", and a name counts for what stands behind its definition")
+    if (name in is_device) say("`" name "` is defined only later, at " stands(is_device[name]) ", and a name may be used only after its definition")
     else if (name in attachment_by && attachment_by[name] < s)
         say("`" name "` is the name of an attachment, of the device `" word_at(attachment_by[name], 2) "` (" stands(attachment_by[name]) ")")
     else if (name in is_pseudo) say("`" name "` is a pseudo-device, defined at " stands(is_pseudo[name]) ": write `pseudo-device " name "`")
@@ -364,7 +364,7 @@ function find_unattached(s,   name) {
     if (!(name in is_device) || name in has_attachment && has_attachment[name] < s) return 0
     mark_word(s, 1)
     say("the device `" name "` is defined at " stands(is_device[name]) \
-        (name in has_attachment ? ", and attached only later, at " stands(has_attachment[name]) : ", and no `attach " name " at ..` stands anywhere"))
+        (name in has_attachment ? ", and attached only later, at " stands(has_attachment[name]) : ", and there is no `attach " name " at ..`"))
     return 1
 }
 
@@ -376,7 +376,7 @@ function find_unfit_parent(s,   device, above, list, n, word, count, other, name
     if (joined_by(device, word_at(s, 3)) != "") return 0
     mark_word(s, 3)
     list = above in is_device ? offers_of(above) : ""
-    text = above in is_device ? "; the parent " above " offers " (list == " " ? "nothing" : commas(list)) : ", and not at " above
+    text = above in is_device ? "; the parent " above " offers " (list == " " ? "nothing" : commas(list)) : ", but not at " above
     say("the device " device " attaches at " commas(places_of(device)) text)
     count = split(places_of(device), word, " ")
     for (other in is_device) {
@@ -405,7 +405,7 @@ function find_locator(s, code,   device, attr, n, word, count, missing, names, t
         if (code == 14 && !(name in names)) {
             mark_token(t)
             if (attr == "root") say("at root there are no locators")
-            else say("it joins the interface attribute " attr " {" commas(locators[attr] "") "}; not among them: " name meant(nearest(name, names)))
+            else say("it joins the interface attribute " attr " {" commas(locators[attr] "") "}, which has no `" name "`" meant(nearest(name, names)))
             return 1
         }
         if (code == 16 && tok[t + 1] == "?" && (name in names) && names[name] !~ /=/) {
@@ -419,7 +419,7 @@ function find_locator(s, code,   device, attr, n, word, count, missing, names, t
     for (n = 1; n <= count; n++)
         if (word[n] !~ /^\[/ && (name_of_locator(word[n]) in names)) missing = missing " " name_of_locator(word[n])
     if (missing == "") return 0
-    say("it joins the interface attribute " attr " {" commas(locators[attr] "") "}; not written: " commas(missing))
+    say("it joins the interface attribute " attr " {" commas(locators[attr] "") "}; missing: " commas(missing))
     return 1
 }
 
@@ -430,7 +430,7 @@ function find_twice(s,   t, from, step, seen, name) {
         if (step == 1 && (!is_name(name) || tok[t - 1] !~ /^[[{,]$/)) continue
         if (name in seen) {
             mark_token(t)
-            say("`" name "` stands first at " (tok_line[seen[name]] == tok_line[t] ? "" : "line " tok_line[seen[name]] ", ") "column " tok_at[seen[name]])
+            say("`" name "` is first at " (tok_line[seen[name]] == tok_line[t] ? "" : "line " tok_line[seen[name]] ", ") "column " tok_at[seen[name]])
             return 1
         }
         seen[name] = t
@@ -465,7 +465,7 @@ function find_defined(s,   word, name, where, t, n, text) {
     if (stands(where) != stands(s)) say("`" name "` is defined first at " stands(where) ": " words_of(where))
     else for (n = 1; n < s; n++) if (path_of[n] == s_file[s]) text = text (text == "" ? "" : " and ") stands(n)
     if (text != "") say("the file " s_file[s] " is included at " text)
-    if (word == "attach" && tok[t - 1] != "with") say("an attachment without `with` has the name of its device: write `with " name "_" base_of(word_at(s, 4)) "`, say")
+    if (word == "attach" && tok[t - 1] != "with") say("an attachment without `with` has the name of its device: write `with " name "_" base_of(word_at(s, 4)) "`, for example")
     return 1
 }
 
@@ -499,7 +499,7 @@ function find_condition(s,   n, word) {
     if (word ~ /^if/) {
         for (n = s + 1; n <= statement_count; n++) if (branch_at[n] == s && word_at(n, 1) == "endif") return 0
         mark_word(s, 1)
-        say("no `endif` of this condition stands in " s_file[s])
+        say("this condition has no `endif` in " s_file[s])
         return 1
     }
     mark_word(s, 1)

@@ -76,7 +76,7 @@ function misfits(kind,   word, names, n) {
     if (!stop_at) return 0
     mark_piece(stop_at)
     say("its form is `" best_form "`")
-    say((stop_at > piece_count ? "behind `" piece[piece_count] "`" : "in place of `" piece[stop_at] "`") " there should be " wanted)
+    say((stop_at > piece_count ? "after `" piece[piece_count] "`" : "instead of `" piece[stop_at] "`") " there should be " wanted)
     if (piece[stop_at] ~ /^-?0[0-9]*[89]/) say("a `0` in front makes a number octal, with the digits 0 to 7")
     return 1
 }
@@ -118,7 +118,7 @@ function find_machine_form(   n, name, seen) {
     for (n = 5; n <= piece_count; n++) {
         name = piece[n]
         sub(/=.*/, "", name)
-        if (name in seen) { mark_piece(n); say("`" name "` stands first at column " piece_at[seen[name]]); return }
+        if (name in seen) { mark_piece(n); say("`" name "` is first at column " piece_at[seen[name]]); return }
         seen[name] = n
     }
 }
@@ -133,8 +133,8 @@ function tell_policy(word,   list, names, n, near) {
 
 function tell_mark(word,   names) {
     names["late"] = names["absent"] = names["bad"] = 1
-    if (word ~ /^[A-Za-z_][A-Za-z0-9_-]*=/) say("behind `=` there should be a number")
-    else say("behind the locators may stand the marks late, absent and bad" meant(nearest(word, names)))
+    if (word ~ /^[A-Za-z_][A-Za-z0-9_-]*=/) say("after `=` there should be a number")
+    else say("after the locators there may be the marks late, absent and bad" meant(nearest(word, names)))
 }
 
 # The parent of a `spot` line or the spot of a `match` line is given by no earlier line.
@@ -143,7 +143,7 @@ function tell_no_spot(n,   name, names, other) {
     mark_piece(n)
     for (other in spot_line) if (spot_line[other] < line_number) names[other] = 1
     if (name in spot_line && spot_line[name] >= line_number)
-        say("`" name "` is given " (spot_line[name] == line_number ? "by this very line" : "only later, at line " spot_line[name]))
+        say("`" name "` is given " (spot_line[name] == line_number ? "by this line itself" : "only later, at line " spot_line[name]))
     else say("there is no spot `" name "`" meant(nearest(name, names)))
 }
 
@@ -152,12 +152,12 @@ function find_attribute(   n, name) {
     name = piece[n]
     mark_piece(n)
     if (piece[1] == "spot" && (name == "root") != (piece[3] == "root")) {
-        say("a spot that the root finds has `root` in both places; below a spot, as `" (name == "root" ? piece[3] : "mb") "`, stands the interface attribute on which it is found")
+        say("a spot that the root finds has `root` in both places; after a spot, as `" (name == "root" ? piece[3] : "mb") "`, comes the interface attribute on which it is found")
         return
     }
-    if (name == "root") { say("the root is searched directly, and no `style` is said of it"); return }
+    if (name == "root") { say("the root is always searched directly, so it has no `style`"); return }
     if (!is_known) return
-    if (name in is_attr && !(name in is_interface)) say("`" name "` is defined at " stands(is_attr[name]) " without braces, and so it is no interface attribute")
+    if (name in is_attr && !(name in is_interface)) say("`" name "` is defined at " stands(is_attr[name]) " without braces, so it is no interface attribute")
     else if (name in is_device && !(name in is_interface)) say("`" name "` is a device, which offers" (offers_of(name) == " " ? " nothing" : ": " commas(offers_of(name))))
     else say("there is no interface attribute `" name "`" meant(nearest(name, is_interface)))
     if (piece[1] == "spot") tell_offers_above(piece[3])
@@ -193,7 +193,7 @@ function find_attachment(   name, names, a, text) {
     if (!is_known) return
     if (name in is_device) {
         for (a = 1; a <= attach_count; a++) if (attached_device[a] == name) text = text " " attach_name[a]
-        say("`" name "` is a device" (text == "" ? " without attachment" : ", of which the attachments are named: " commas(text)))
+        say("`" name "` is a device" (text == "" ? " without attachment" : ", and its attachments are: " commas(text)))
     } else say("there is no attachment `" name "`" meant(nearest(name, attachment_by)))
 }
 
@@ -232,9 +232,9 @@ function find_in_order(code,   n, callers) {
         if (code == 2 && is_number(piece[n])) continue
         if (code == 3 && value_of(piece[n]) >= 1 && (!callers || value_of(piece[n]) <= callers)) continue
         mark_piece(n)
-        if (code == 3 && value_of(piece[n]) == 0) say("caller 0 boots the machine, and has no turn here")
-        else if (code == 3 && callers) say("there " (callers == 1 ? "is 1 script" : "are " callers " scripts") ", so the callers are " (callers == 1 ? "1 alone" : "1 to " callers))
-        if (code == 2 && index(piece[n], ",")) say("the numbers have blanks between them, and no commas")
+        if (code == 3 && value_of(piece[n]) == 0) say("caller 0 boots the machine and has no turn here")
+        else if (code == 3 && callers) say("there " (callers == 1 ? "is 1 script" : "are " callers " scripts") ", so " (callers == 1 ? "the only caller is 1" : "the callers are 1 to " callers))
+        if (code == 2 && index(piece[n], ",")) say("the numbers are separated by blanks, not by commas")
         return
     }
 }

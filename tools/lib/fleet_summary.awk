@@ -23,8 +23,10 @@ BEGIN { tool = "fleet"; whole = ENVIRON["WHOLE"] }
         lacking[what]++
     }
     if (!(name in lacks)) { lacks[name] = 1; lacking_machines++ }
+    # The least place, so that it does not matter in which order the calls ended.
     if (!(what in places)) places[what] = place
     else if (whole) places[what] = places[what] "\n" place
+    else if (place "" < places[what] "") places[what] = place
     next
 }
 
@@ -38,7 +40,7 @@ END {
     if (!machines && !refused_count) complain("there is no line of tools/fleet")
     print count_of(machines + 0, "machine") " with " count_of(devices + 0, "device") (refused_count ? ", and " refused_count " refused" : "")
     for (n = 1; n <= refused_count && (n <= 8 || whole); n++) print "    " refused[n]
-    if (refused_count > 8 && !whole) print "    and " (refused_count - 8) " more; -a tells all"
+    if (refused_count > 8 && !whole) print "    and " (refused_count - 8) " more; -a shows all"
     print machines - lacking_machines " have a driver for everything; " lacking_machines + 0 " lack " count_of(kinds + 0, "driver")
     sort_kinds()
     for (n = 1; n <= kinds; n++) {

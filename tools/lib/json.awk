@@ -39,7 +39,7 @@ function put_waiting(behind) {
 
 function put_line(section, line,   n, text) {
     take_line(section, line)
-    if (line_of(section) != line) stray("no line of an output of devconf")
+    if (line_of(section) != line) stray("this is no line of an output of devconf")
     put_waiting(",")
     for (n = 1; n <= field_count; n++) text = text (n == 1 ? "" : ", ") json_field(field[n])
     waiting = "{" text "}"

@@ -23,7 +23,7 @@ function judge_instances(   n, key, unit, group, list, count, i, k, first) {
         key = unit SUBSEP word_at(instance[n], 3) SUBSEP i_values[n]
         if (key in first) {
             i = first[key]
-            tell(instance[n], "`" words_of_instance(n) "` stands a second time, and its row is never used; it is first at " place_of_statement(instance[i]) \
+            tell(instance[n], "`" words_of_instance(n) "` is written a second time, and its row is never used; the first is at " place_of_statement(instance[i]) \
                 (i_flags[i] == i_flags[n] ? "" : ", with flags " i_flags[i]))
             continue
         }
@@ -86,7 +86,7 @@ function tell_strange(   n, k, near, list, rest, first) {
             if (rest <= 3) list = list " " option_name[k]
         } else tell(option_at[k], "no " (option_kind[k] == "options" ? "defflag or defparam" : "deffs") " declares `" option_name[k] "`" meant(near))
     }
-    if (rest) tell(first, rest " options have no defflag, defparam or deffs, as " commas(list) " (-a tells each)")
+    if (rest) tell(first, rest " options have no defflag, defparam or deffs, as " commas(list) " (-a shows each)")
 }
 
 # ---- conditions of sources

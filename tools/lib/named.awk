@@ -5,7 +5,7 @@ BEGIN {
     read_machine(ENVIRON["MACHINE"])
     read_output(ENVIRON["OUTPUT"])
     for (n = 1; n <= spot_count; n++) judge(spot_name[n])
-    print "machine: " right " of " count_of(wanted + 0, "device") " attach under their names; " count_of(free + 0, "spot") " without a driver" | "cat 1>&2"
+    print "machine: " right " of " (wanted == 1 ? "1 device attaches under its name; " : wanted + 0 " devices attach under their names; ") count_of(free + 0, "spot") " without a driver" | "cat 1>&2"
     close("cat 1>&2")
     exit right != wanted
 }

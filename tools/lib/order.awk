@@ -1,5 +1,5 @@
 # In which order a boot attaches what place.awk has placed, and so under which units. A driver may search at once, when the
-# search of its parent is over, when interrupts work, or by a finaliser; the text tells the order, but not why. So each
+# search of its parent is over, when interrupts work, or by a finalizer; the text tells the order, but not why. So each
 # is tried, `plan[A]` for the drivers attached by A, until most devices have their names and most lines their order.
 
 function find_plan(   n, k, best, score, kept) {
@@ -104,7 +104,7 @@ function search_kids(n,   k) {
     for (k = 1; k <= deferred_count[n]; k++) search_kids(deferred[n, k])
 }
 
-function come(n, by_finaliser,   way, p) {
+function come(n, by_finalizer,   way, p) {
     if (entry_name[n] == "") { right++; in_order += last_came == n - 1; last_came = n; return }
     if (!take_unit(n)) return
     in_order += last_came == n - 1
@@ -114,7 +114,7 @@ function come(n, by_finaliser,   way, p) {
     if (!kid_count[n]) return
     p = entry_below[n]
     if (way == "interrupts" && !interrupts_work) queue[++queue_count] = n
-    else if (way == "defer" && !by_finaliser) deferred[p, ++deferred_count[p]] = n
+    else if (way == "defer" && !by_finalizer) deferred[p, ++deferred_count[p]] = n
     else search_kids(n)
 }
 

@@ -17,7 +17,7 @@
 #   driverless[S]           no driver took the spot when it was searched last
 #   plugged[S], pulled[S]   it was plugged, or pulled out, last
 #   plugged_at[S], search_at[X]    the lines at which it was plugged and at which a search below the device began last
-#   shown[S]                whether a finaliser showed it
+#   shown[S]                whether a finalizer showed it
 #   caller_count, caller[N], ended[K], last_line[K], last_number[K]    the callers with lines, and the last of each
 #   doing[K], target[K]     the command that it has not ended yet: transfer, detach, suspend or resume; of which device
 #   searches[X, K]          how many searches below X the caller K has not ended, put off or not
@@ -78,11 +78,11 @@ function read_line(section, line) {
     if (section == "live" && read_live(line)) return section
     if (section == "tree" && read_device(line)) return section
     if (section == "notes" && line ~ /^[0-9]+ (none|device-(attach|detach) )/) return section
-    if (line == "history 1") stray("histories of format 1 tell no spots; this tool reads format 2")
+    if (line == "history 1") stray("histories of format 1 have no spots; this tool reads format 2")
     if (line ~ /^usage: | code [0-9]+$|: absent$|: too long$|: refused$|^(read fault|write fault|out of memory)$/)
-        stray("a fault line, so there was no run; tools/explain tells what it means")
-    if (line ~ /^load [0-9]+: devices /) stray("the line of `devconf load` tells numbers alone")
-    stray("no line of an output of devconf")
+        stray("this is a fault line, so there was no run; tools/explain explains it")
+    if (line ~ /^load [0-9]+: devices /) stray("the line of `devconf load` has only numbers")
+    stray("this is no line of an output of devconf")
 }
 
 # ---- the listing
@@ -282,7 +282,7 @@ function read_device(line,   word, n, w, name) {
     tree_name[++tree_count] = name
     depth[name] = RLENGTH / 2
     if (!(name in live)) {
-        if (has("history") || has("live")) stray("the history tells of no " name)
+        if (has("history") || has("live")) stray("the history has no device " name)
         attach_device(0, name, word[3], "", word[5])
     }
     for (w = 6; w <= n && word[w] != "held"; w++) {

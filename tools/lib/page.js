@@ -223,7 +223,7 @@
     World.acts = {
         found: (world, event, caller) => world.attach(event, caller),
         final: (world, event, caller) => {
-            if (event.spot === undefined) world.tell(() => "The finaliser of " + event.parent + " had nothing to show.");
+            if (event.spot === undefined) world.tell(() => "The finalizer of " + event.parent + " had nothing to show.");
             else world.attach(event, caller);
         },
         scan: (world, event, caller) => {
@@ -368,7 +368,14 @@
         return list;
     }
 
-    function badge(kind, words) { return node("em", words, { class: kind }); }
+    // What is to be seen behind the name of a device: kinds and words.
+    function badges(device) {
+        const list = [];
+        if (device.asleep) list.push(["asleep", "asleep"]);
+        if (device.condemner !== null) list.push(["condemned", device.condemner < 0 ? "condemned" : "condemned by " + device.condemner]);
+        if (device.held.size) list.push(["held", "held " + heldText(device)]);
+        return list;
+    }
 
     // Only what differs from before is set: most events change few of the rows.
     function fillRow(it, entry) {
@@ -383,10 +390,10 @@
             it.style.setProperty("--level", entry.level);
             it.classList.toggle("asleep", device.asleep);
             it.classList.toggle("condemned", device.condemner !== null);
-            it.replaceChildren(node("b", device.name), node("span", " row " + device.row + (device.spot ? " on " + device.spot : "")));
-            if (device.asleep) it.append(badge("asleep", "asleep"));
-            if (device.condemner !== null) it.append(badge("condemned", device.condemner < 0 ? "condemned" : "condemned by " + device.condemner));
-            if (device.held.size) it.append(badge("held", "held " + heldText(device)));
+            const place = "row " + device.row + (device.spot ? " on " + device.spot : "");
+            const list = badges(device);
+            it.replaceChildren(node("b", device.name), node("span", " " + place), ...list.map(([kind, words]) => node("em", words, { class: kind })));
+            it.setAttribute("aria-label", [device.name, place].concat(list.map(([, words]) => words)).join(", "));
         }
         put(it, "aria-level", entry.level + 1);
         put(it, "aria-posinset", entry.place);
@@ -576,6 +583,12 @@
     const kindOf = new Map();
     for (const [kind, , acts] of kinds) for (const act of acts) kindOf.set(act, kind);
 
+    // What gets the focus must not be hidden by the header, which stays where it is.
+    function keepBelowHeader() {
+        const header = document.querySelector("header");
+        document.documentElement.style.scrollPaddingTop = getComputedStyle(header).position === "sticky" ? header.offsetHeight + "px" : "";
+    }
+
     function drawLanes() {
         const canvas = byId("lanes");
         const numbers = Array.from(ofCaller.keys()).sort((a, b) => a - b);
@@ -760,12 +773,13 @@
             go(Math.floor((event.clientX - box.left - 20) / (box.width - 20) * events.length));
         });
         document.addEventListener("keydown", key);
-        window.addEventListener("resize", drawLanes);
+        window.addEventListener("resize", () => { drawLanes(); keepBelowHeader(); });
         window.addEventListener("hashchange", () => { if (fromAddress() !== world.at) go(fromAddress()); });
         window.matchMedia("(prefers-color-scheme: dark)").addEventListener("change", drawLanes);
         wanted = fromAddress();
         show();
         drawLanes();
+        keepBelowHeader();
     }
 
     begin();

@@ -30,6 +30,7 @@ function place_entry(n,   below, list, what) {
 function place_device(n, what, list, above_it,   device, r, count, word, best, cost, least, a) {
     device = definition_of(entry_name[n])
     if (device == "dk") { wedges++; return }
+    if (!entry_below[n] && is_pseudo(device)) { pseudos++; return }
     best = -1
     count = split(rows_named[device], word, " ")
     for (r = 1; r <= count; r++) {
@@ -58,6 +59,11 @@ function place_device(n, what, list, above_it,   device, r, count, word, best, c
         settle(n, at_place, attachment[best], -1)
     } else skip(entry_line[n], what ": " (device in offers ? "the configuration has no attachment of " device " there" \
         : "the configuration has no device " device))
+}
+
+function is_pseudo(device,   n) {
+    for (n = 1; n <= setting_count; n++) if (setting_kind[n] == "pseudo" && setting_name[n] == device) return 1
+    return 0
 }
 
 # What the row leaves unsaid of the entry, or -1 where it can't have made it.

@@ -10,7 +10,18 @@ find_devconf() {
     case $program in '' | "$(readlink -f "$lib/../..")"/*) program= ;; esac
 }
 
-# The same for a tool that can do nothing without it.
+# Runs the program for a tool. If it refuses, the tool ends with status 2, after the fault line and, on a terminal, what explains it.
+run_devconf() {
+    {
+        said=$("$program" "$@" 2>&1 >&3 3>&-) || {
+            printf '%s\n' "$said" >&2
+            [ ! -t 2 ] || [ -n "${CI+set}${NO_EXPLAIN+set}" ] || printf '%s\n' "$said" | "$(dirname "$script")/explain" -b -- "$@" >&2
+            exit 2
+        }
+    } 3>&1
+}
+
+# Finds the program for a tool that can do nothing without it.
 need_devconf() {
     find_devconf
     [ -z "$program" ] || return 0

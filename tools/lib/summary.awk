@@ -97,7 +97,7 @@ function ranges(numbers,   n, unit, k, text) {
 # ---- spots
 
 function tell_driverless(   s, n, at) {
-    if (!has("history")) { print "no history, so nothing of spots"; return }
+    if (!has("history")) { print "without a history, nothing is known about spots"; return }
     n = 0
     for (s = 1; s <= found_count; s++)
         if ((found_spot[s] in driverless) && !(found_spot[s] in taken)) at[++n] = found_spot[s]
@@ -201,7 +201,7 @@ function reason_for(name,   x, by) {
     if (mark[name, "absent"] && !(name in plugged)) return "absent, and never plugged"
     by = x == "root" ? "" : row_by[row[x]]
     if (mark[name, "late"] && !(name in shown))
-        return "late, and not shown" (by != "" && !policy[by, "final"] ? " (the driver of " x " has no finaliser)" : "")
+        return "late, and not shown" (by != "" && !policy[by, "final"] ? " (the driver of " x " has no finalizer)" : "")
     if (is_searched(x)) return "the search below " x " is not over"
     if ((name in plugged) && plugged_at[name] > search_at[x])
         return "plugged when the search below " x " was over, and no rescan came"
@@ -259,7 +259,7 @@ function tell_unused_rows(   n, used) {
 # A `no` line for all rows of one spelling that no device uses. Where one of them is in use, or where a starred row of the same
 # device is in use and its units would begin lower, the rows are told in a comment.
 function tell_negations(   n, used, words, is_used, starred, told, device) {
-    if (!has("tables") || !has("tree")) complain(output_name ": no rows and devices, so nothing is known to be without use")
+    if (!has("tables") || !has("tree")) complain(output_name ": it has no rows or no devices, so no row is known to be without use")
     for (n = 1; n <= tree_count; n++) used[row[tree_name[n]]] = 1
     for (n = 0; n < row_count; n++) {
         if (!(n in used)) continue
@@ -312,7 +312,7 @@ function state_of(k,   x, next_device) {
         for (x = first_live; x != ""; x = next_live[x]) if ((x in condemner) && condemner[x] == k) next_device = x
         waits_for[k] = holders(next_device)
         if (waits_for[k] != "") return "is to free " next_device ", and waits: " these_callers(waits_for[k], "hold") " it"
-        return "can go on: it is to free " next_device ", which nobody holds"
+        return "can go on: it frees " next_device " next, which nobody holds"
     }
     if (doing[k] == "suspend") {
         next_device = next_to_sleep(target[k])

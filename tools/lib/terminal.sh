@@ -43,8 +43,8 @@ begin_watch() {
         wait "$sleeper"
         cat >&2 <<END
 drvrun: no end after ${STILL_AFTER:-5} seconds: scripts may be waiting for each other, and ^C ends them.
-    $(beside summary) -t SCRIPT..  tells beforehand whether that can be
-    devconf play FILE MACHINE ORDER SCRIPT..  takes turns in the order of a file, and tells who waits for whom
+    $(beside summary) -t SCRIPT..  says beforehand whether that can happen
+    devconf play FILE MACHINE ORDER SCRIPT..  takes turns in the order of a file, and shows who waits for whom
 END
     ) &
     watch=$!

@@ -83,7 +83,7 @@ function may_carry(up, r,   device, at, unit) {
 }
 
 function put_configuration(   r, n, key) {
-    print "# made by tools/trim: " ENVIRON["CONFIGURATION"] " as far as " ENVIRON["MACHINE"] " needs it"
+    print "# made by tools/trim: what " ENVIRON["MACHINE"] " needs of " ENVIRON["CONFIGURATION"]
     print "include \"" ENVIRON["CONFIGURATION"] "\""
     for (r = 0; r < row_count; r++) {
         key = row_name[r] " at " row_at[r]

@@ -45,7 +45,7 @@ function next_word(   word, c) {
 
 function want(mark,   word) {
     word = next_word()
-    if (word != mark) broken("no JSON of an output: " (word == "" ? "its end" : word) " stands where " mark " has to")
+    if (word != mark) broken("no JSON of an output: " (word == "" ? "its end" : word) " in place of " mark)
 }
 
 # The bytes of a text. What stands there in UTF-8 or as \u0080 to \u00ff is one byte each.
@@ -65,7 +65,7 @@ function bytes_of(word,   n, c, made) {
 }
 
 function byte(n) {
-    if (n < 1 || n > 255) broken("a text has a character that stands for no byte")
+    if (n < 1 || n > 255) broken("a text has a character that is no byte")
     return sprintf("%c", n)
 }
 
@@ -88,8 +88,8 @@ function read_top(   word, name) {
         read_section(name)
     }
     is_whole = 1
-    if (!sections_read) broken("no JSON of an output: it has none of its parts")
-    if (next_word() != "") broken("no JSON of an output: something stands behind it")
+    if (!sections_read) broken("no JSON of an output: it has no part of an output")
+    if (next_word() != "") broken("no JSON of an output: something follows it")
 }
 
 # The lines of a section are kept until those before it are written.
@@ -99,7 +99,7 @@ function read_section(name,   word) {
     want("[")
     for (word = next_word(); word != "]"; word = next_word()) {
         if (word == ",") continue
-        if (word != "{") broken("no JSON of an output: " (word == "" ? "its end" : word) " stands where an object has to")
+        if (word != "{") broken("no JSON of an output: " (word == "" ? "its end" : word) " in place of an object")
         forget_fields()
         read_fields()
         kept[name, ++kept_count[name]] = line_of(name)
@@ -110,7 +110,7 @@ function read_section(name,   word) {
 function read_fields(list, item,   word, name) {
     for (word = next_word(); word != "}"; word = next_word()) {
         if (word == ",") continue
-        if (word !~ /^"/) broken("no JSON of an output: " (word == "" ? "its end" : word) " stands where a field has to")
+        if (word !~ /^"/) broken("no JSON of an output: " (word == "" ? "its end" : word) " in place of a field")
         name = bytes_of(word)
         want(":")
         word = next_word()
@@ -121,7 +121,7 @@ function read_fields(list, item,   word, name) {
 }
 
 function plain(word) {
-    if (word ~ /^[[{,:}]$|^\]$|^$/) broken("no JSON of an output: " word " stands where a value has to")
+    if (word ~ /^[[{,:}]$|^\]$|^$/) broken("no JSON of an output: " word " in place of a value")
     return word ~ /^"/ ? bytes_of(word) : word
 }
 
@@ -140,7 +140,7 @@ function put_sections(   n, k, count, name) {
     count = split(order, name, " ")
     for (n = 1; n <= count; n++) {
         if (!(name[n] in is_there)) continue
-        print name[n] == "history" ? "history 2" : name[n] == "live" ? "live 1" : name[n]
+        print (name[n] == "history" ? "history 2" : name[n] == "live" ? "live 1" : name[n])
         for (k = 1; k <= kept_count[name[n]]; k++) print kept[name[n], k]
     }
 }

@@ -30,8 +30,8 @@ asked_status files (input.Files name) text is = (is.0, is.1)
 asked_status files (input.Boot tables machine) text is = refl
 asked_status files (input.Load n tables machine) text is = refl
 asked_status files (input.Play tables machine scripts order) text is = refl
-asked_status files (input.Replay tables machine scripts history) text (h, w, takes, reliable, is) = sym (ap history_status takes)
-asked_status files (input.Upgrade tables machine scripts history) text (h, w, takes, reliable, is) = sym (ap history_status takes)
+asked_status files (input.Replay tables machine scripts history) text (h, w, takes, reliable, thorough, is) = sym (ap history_status takes)
+asked_status files (input.Upgrade tables machine scripts history) text (h, w, takes, reliable, thorough, is) = sym (ap history_status takes)
 asked_status files (input.Run tables machine scripts) text is = absurd is
 
 -- why the sources were not selected, where no reading failed

@@ -65,7 +65,7 @@ pub boot_ran : (told : Option Files) (asked : Inputs) (tables : Tables) (machine
 unfolding IsAskedText
 boot_ran told asked tables machine b is boots =
     subst (λ (i : Inputs). IsAskedText told i (run_text b.world.setup.tables b.events b.world)) (sym is)
-    (b.events, b.world, boots.boot, boots.reliable, ap (λ (s : Setup). run_text s.tables b.events b.world) boots.made)
+    (b.events, b.world, boots.boot, boots.reliable, boots.thorough, ap (λ (s : Setup). run_text s.tables b.events b.world) boots.made)
 
 pub play_ran : (told : Option Files) (asked : Inputs) (tables : Tables) (machine : Machine) (scripts : List (List Command)) (order turns : List ℕ) (b : Shown)
     → asked ≡ input.Play tables machine scripts order → turns ≡ order → IsPlayOf (setup_of tables machine scripts) turns b
@@ -77,6 +77,7 @@ play_ran told asked tables machine scripts order turns b is same plays =
       b.world,
       subst (λ (ts : List ℕ). IsPlayed (setup_of tables machine scripts) ts b.events b.world) same plays.played,
       plays.reliable,
+      plays.thorough,
       ap (λ (s : Setup). run_text s.tables b.events b.world) plays.made,
     )
 
@@ -123,17 +124,17 @@ not_selected_counted told name before after stop (std.Err status) came why =
 pub tree_retold : (told : Option Files) (asked : Inputs) (tables : Tables) (machine : Machine) (scripts : List (List Command)) (history : List ℕ) (replayed : Replayed)
     → asked ≡ input.Replay tables machine scripts history → Retells (setup_of tables machine scripts) history (std.Ok replayed) → IsAskedText told asked (tree_of replayed.tree)
 unfolding IsAskedText
-tree_retold told asked tables machine scripts history replayed is (w, takes, reliable, tree) =
-    subst (λ (i : Inputs). IsAskedText told i (tree_of replayed.tree)) (sym is) (replayed.events, w, takes, reliable, tree_is w replayed.tree tree)
+tree_retold told asked tables machine scripts history replayed is (w, takes, reliable, thorough, tree) =
+    subst (λ (i : Inputs). IsAskedText told i (tree_of replayed.tree)) (sym is) (replayed.events, w, takes, reliable, thorough, tree_is w replayed.tree tree)
 
 -- what it tells, whole
 pub history_retold : (told : Option Files) (asked : Inputs) (tables : Tables) (machine : Machine) (scripts : List (List Command)) (history : List ℕ) (replayed : Replayed)
     → asked ≡ input.Upgrade tables machine scripts history → Retells (setup_of tables machine scripts) history (std.Ok replayed)
     → IsAskedText told asked (lines replayed.events ++ tree_of replayed.tree)
 unfolding IsAskedText
-history_retold told asked tables machine scripts history replayed is (w, takes, reliable, tree) =
+history_retold told asked tables machine scripts history replayed is (w, takes, reliable, thorough, tree) =
     subst (λ (i : Inputs). IsAskedText told i (lines replayed.events ++ tree_of replayed.tree)) (sym is)
-    (replayed.events, w, takes, reliable, ap (λ (text : List ℕ). lines replayed.events ++ text) (tree_is w replayed.tree tree))
+    (replayed.events, w, takes, reliable, thorough, ap (λ (text : List ℕ). lines replayed.events ++ text) (tree_is w replayed.tree tree))
 
 -- it was not taken
 pub not_retold : (told : Option Files) (asked given : Inputs) (setup : Setup) (history : List ℕ) (status : Status) (result : Result Found Status) → asked ≡ given

@@ -8,6 +8,7 @@ use Rattle.cf_types.specs.declared.tables.Tables.{Tables}
 use Rattle.config_rules.specs.Listing.{listing}
 use Rattle.config_rules.specs.Reading.{Files}
 use Rattle.file_rules.specs.Sources.{Selects}
+use Rattle.boot_laws.specs.Thorough.{IsThorough}
 use Rattle.history_laws.specs.Reliable.{IsReliable}
 use Rattle.replay_laws.specs.Taken.{Takes}
 use Rattle.run_rules.specs.declared.event.Event.{Event}
@@ -29,19 +30,19 @@ abbrev pub IsSelection : Files → List ℕ → List ℕ → Type 0
 IsSelection files name text = (paths : List (List ℕ)) × Selects files name paths × (text ≡ text_of paths)
 
 -- the text of the boot of a machine by the tables; in its history no device is freed before its references are returned
--- and its children are freed
+-- and its children are freed; it has no more events than such a run may have, and the boot left nothing out
 abbrev pub IsBootText : Tables → Machine → List ℕ → Type 0
 IsBootText tables machine text =
-    (h : List Event) × (w : World) × run.Boot (opening (setup_of tables machine [])) h w × IsReliable h w × (text ≡ run_text tables h w)
+    (h : List Event) × (w : World) × run.Boot (opening (setup_of tables machine [])) h w × IsReliable h w × IsThorough h w × (text ≡ run_text tables h w)
 
 -- the text of a boot and of the turns of an order after it, and the same holds of its history
 abbrev pub IsPlayedText : Tables → Machine → List (List Command) → List ℕ → List ℕ → Type 0
 IsPlayedText tables machine scripts order text =
-    (h : List Event) × (w : World) × IsPlayed (setup_of tables machine scripts) order h w × IsReliable h w × (text ≡ run_text tables h w)
+    (h : List Event) × (w : World) × IsPlayed (setup_of tables machine scripts) order h w × IsReliable h w × IsThorough h w × (text ≡ run_text tables h w)
 
 -- the text of what a history is taken as, by its events and the world that they lead to; the same holds of these events
 abbrev pub IsTakenText : (List Event → World → List ℕ) → Setup → List ℕ → List ℕ → Type 0
-IsTakenText text_by setup history text = (h : List Event) × (w : World) × Takes setup history h w × IsReliable h w × (text ≡ text_by h w)
+IsTakenText text_by setup history text = (h : List Event) × (w : World) × Takes setup history h w × IsReliable h w × IsThorough h w × (text ≡ text_by h w)
 
 -- the tree alone
 abbrev pub replay_text : List Event → World → List ℕ

@@ -1,5 +1,6 @@
 -- What is left of a machine on which scripts ran side by side.
 use Rattle.std.specs.Prelude.{◌≡◌, List}
+use Rattle.boot_laws.specs.Thorough.{IsThorough}
 use Rattle.history_laws.specs.Reliable.{IsReliable}
 use Rattle.run_rules.specs.declared.event.Event.{Event}
 use Rattle.run_rules.specs.declared.world.Setup.{Setup}
@@ -8,9 +9,10 @@ use Rattle.run_rules.specs.World.{World, opening}
 use Rattle.script_laws.specs.Whole.{AllRanWhole}
 
 -- the history is one run of this setup, which leaves this world; it begins with the boot, every script has ended in it, and each
--- command of a script was answered once, in the order of its script; the history is reliable
+-- command of a script was answered once, in the order of its script; the history is reliable and thorough
 pub record RanSideBySide (setup : Setup) (h : List Event) (w : World) : Type 0 where
   pub run : Run (opening setup) h w
   pub made : w.setup ≡ setup
   pub whole : AllRanWhole h w
   pub reliable : IsReliable h w
+  pub thorough : IsThorough h w

@@ -5,6 +5,7 @@ mod laws;
 mod scripts;
 mod top;
 
+pub use app_words::Status;
 pub use laws::printed_taken;
 pub use scripts::side_by_side;
 pub use top::drvrun_top;

@@ -1,14 +1,18 @@
 -- What a board that was handed out has done, the turns behind its boot, and the line of its numbers.
-use Rattle.std.proofs.Common.{◌≡◌, ℕ, ◌≤◌, List, [], sym, ◌∙◌, subst, length}
+use Rattle.std.proofs.Common.{◌≡◌, ℕ, ◌≤◌, List, [], sym, ◌∙◌, subst, length, arith}
 use Rattle.std.specs.Global.{Global}
 use Rattle.std.specs.Prelude.{All, IfOk, Result, Vec}
 use Rattle.std.specs.Prelude as std
-use Rattle.std.proofs.lemmas.List.Elements.{recursion_from_All}
+use Rattle.std.proofs.lemmas.List.Elements.{All-nil, recursion_from_All}
 use Rattle.std.specs.List.{AllByRecursion}
 use Rattle.cf_types.specs.Lines.{ended}
 use Rattle.cf_types.specs.declared.machine.Command.{Command}
 use Rattle.cf_types.specs.declared.machine.Machine.{Machine}
 use Rattle.cf_types.specs.declared.tables.Tables.{Tables}
+use Rattle.config_rules.specs.Formed.{FittingMachine, FormedTables}
+use Rattle.config_rules.specs.ScriptText.{FormedScript}
+use Rattle.boot_laws.specs.Thorough.{IsThorough}
+use Rattle.boot_laws.proofs.Thorough.{thorough}
 use Rattle.history_laws.specs.Reliable.{IsReliable}
 use Rattle.ref_ledger.specs.declared.state.SlotState.{SlotState}
 use Rattle.run_rules.specs.declared.world.Setup.{Setup}
@@ -17,19 +21,31 @@ use Rattle.run_rules.proofs.Devices.{all_imp}
 use Rattle.dev_board.specs.Booting.{IsStarted}
 use Rattle.dev_board.specs.Playing.{Plays}
 use Rattle.dev_board.specs.Shown.{Shown}
+use Rattle.dev_board.proofs.ScriptedLaws.{scripts_may}
 use Rattle.dev_board.proofs.TurnLaws.{plays_setup}
 use Rattle.app_tasks.specs.Ran.{IsBootOf, IsPlayOf}
 use Rattle.app_tasks.specs.Summary.{IsSummary, summary}
 
 pub boot_of : (tables : Tables) (machine : Machine) (scripts : List (List Command)) (b : Shown) (slots : List SlotState)
-    → scripts ≡ [] → IsStarted (setup_of tables machine scripts) b slots → IsBootOf (setup_of tables machine []) b
-boot_of tables machine scripts b slots none is =
-    subst (λ (cs : List (List Command)). IsBootOf (setup_of tables machine cs) b) none (record { boot = is.boot; made = is.setup; reliable = is.reliable })
+    → FormedTables tables → FittingMachine tables machine → scripts ≡ [] → IsStarted (setup_of tables machine scripts) b slots → IsBootOf (setup_of tables machine []) b
+boot_of tables machine scripts b slots formed fits none is =
+    let s : Setup = setup_of tables machine [] in
+    let started : IsStarted s b slots = subst (λ (cs : List (List Command)). IsStarted (setup_of tables machine cs) b slots) none is in
+    record {
+      boot = started.boot;
+      made = started.setup;
+      reliable = started.reliable;
+      thorough = thorough s b.events b.world (scripts_may tables machine [] formed fits (omega arith) (All-nil FormedScript)) started.boot.run;
+    }
 
 pub play_of : (s : Setup) (b n : Shown) (slots : List SlotState) (order : List ℕ)
-    → IsStarted s b slots → Plays b order n → IsReliable n.events n.world → IsPlayOf s order n
-play_of s b n slots order is plays reliable =
-    record { played = (b.events, b.world, is.boot, plays.events, plays.world); made = plays_setup b n order plays ∙ is.setup; reliable = reliable }
+    → IsStarted s b slots → Plays b order n → IsReliable n.events n.world → IsThorough n.events n.world → IsPlayOf s order n
+play_of s b n slots order is plays reliable thorough = record {
+  played = (b.events, b.world, is.boot, plays.events, plays.world);
+  made = plays_setup b n order plays ∙ is.setup;
+  reliable = reliable;
+  thorough = thorough;
+}
 
 -- the turns of a play are those of callers of the board
 pub callers_of : (tables : Tables) (machine : Machine) (scripts : List (List Command)) (b : Shown) (slots : List SlotState) (order : List ℕ)

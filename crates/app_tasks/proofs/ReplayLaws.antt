@@ -2,6 +2,7 @@
 use Rattle.std.proofs.Common.{◌≡◌, ◌≤◌, Fits, w32, ℕ, List, length, subst, sym, ap, arith}
 use Rattle.std.specs.Prelude.{Result, Ok, Err}
 use Rattle.cf_io.specs.declared.files.TheConstants.{MAX_FILE}
+use Rattle.boot_laws.proofs.Thorough.{thorough}
 use Rattle.history_replay.specs.Stops.{IsReplay, IsStop}
 use Rattle.history_replay.specs.declared.history.Replayed.{Replayed}
 use Rattle.history_replay.specs.declared.history.ReplayStop.{ReplayStop}
@@ -15,9 +16,11 @@ use Rattle.run_sound.specs.Kept.{MayRun}
 use Rattle.app_tasks.specs.Retold.{Retells}
 use Rattle.app_tasks.proofs.BadLines.{bad_within}
 
--- what is taken may be relied on
+-- what is taken is reliable and thorough
 pub retells : (s : Setup) (history : List ℕ) (told : Replayed) → MayRun s → IsReplay (reread (opening s) history) (Ok told) → Retells s history (Ok told)
-retells s history told may h = (h.0, h.1, (runs_taken s history told.events h.0 may h.1).1, h.2)
+retells s history told may h =
+    let taken = runs_taken s history told.events h.0 may h.1 in
+    (h.0, h.1, taken.1, thorough s told.events h.0 may taken.0, h.2)
 
 is_bad : (r : Result (List Event × World) ℕ) (line : ℕ) → IsStop (stops.Bad line) r → r ≡ Err line
 is_bad (Ok run) line is = absurd is

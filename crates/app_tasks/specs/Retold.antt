@@ -1,6 +1,7 @@
 -- What a history that is read again tells, and why it is not taken.
 use Rattle.std.specs.Prelude.{◌≡◌, ℕ, ◌⊎◌, Result, List}
 use Rattle.std.specs.Prelude as std
+use Rattle.boot_laws.specs.Thorough.{IsThorough}
 use Rattle.history_laws.specs.Reliable.{IsReliable}
 use Rattle.history_replay.specs.declared.history.Replayed.{Replayed}
 use Rattle.replay_laws.specs.Taken.{Takes}
@@ -16,8 +17,8 @@ abbrev pub Untaken : Setup → List ℕ → Status → Type 0
 Untaken setup history (HistoryRefused line) = reread (opening setup) history ≡ std.Err line
 Untaken setup history status = ⊥
 
--- what a history is taken as, and that it may be relied on; or why it is not taken, or memory ran out
+-- what a history is taken as, and that it is reliable and thorough; or why it is not taken, or memory ran out
 abbrev pub Retells : Setup → List ℕ → Result Replayed Status → Type 0
 Retells setup history (std.Ok told) =
-    (w : World) × Takes setup history told.events w × IsReliable told.events w × (told.tree ≡ tree_lines w)
+    (w : World) × Takes setup history told.events w × IsReliable told.events w × IsThorough told.events w × (told.tree ≡ tree_lines w)
 Retells setup history (std.Err status) = (status ≡ Memory) ⊎ Untaken setup history status

@@ -7,7 +7,7 @@ use crate::graph::Graph;
 use cf_types::{Attr, Device, Memory, Tables};
 use std::alloc::Global;
 
-/// Adds an attribute that offers few.
+/// Adds an attribute that offers no more than `MAX_INTERFACES`.
 fn push_attr(graph: &mut Graph, attr: &Attr) -> Result<(), Memory>
     requires known { All (λ a. a < length graph.old.attrs) attr.now.needs }
     requires few { length graph.old.attrs < 65536 }
@@ -21,7 +21,7 @@ fn push_attr(graph: &mut Graph, attr: &Attr) -> Result<(), Memory>
     }
 }
 
-/// Adds a device that offers few.
+/// Adds a device that offers no more than `MAX_INTERFACES`.
 fn push_device(graph: &mut Graph, device: &Device) -> Result<(), Memory>
     requires known { All (λ a. a < length graph.old.attrs) (named_by device.now) }
     requires few { length graph.old.devices < 65536 }
@@ -35,7 +35,7 @@ fn push_device(graph: &mut Graph, device: &Device) -> Result<(), Memory>
     }
 }
 
-/// The graph of attributes alone, with room for so many devices.
+/// The graph of attributes alone, with room for this many devices.
 fn graph_of_attrs(alloc: Global, attrs: &[Attr], devices: usize) -> Result<Graph, Memory>
     requires few { length attrs.now ≤ 65536 }
     requires earlier { AreEarlier (nodes_of attrs.now) }
@@ -64,7 +64,7 @@ fn push_devices(graph: &mut Graph, devices: &[Device]) -> Result<(), Memory>
     Ok(())
 }
 
-/// The graph of the attributes and devices of tables, as formed tables are. The only error is want of memory. See config(5).
+/// The graph of the attributes and devices of formed tables. The only error is `Memory`. See config(5).
 pub fn graph_of(alloc: Global, tables: &Tables) -> Result<Graph, Memory>
     requires { FitGraph tables.now }
     ensures { IfOk result (λ graph. IsGraphOf (declared_by tables.now) graph) }

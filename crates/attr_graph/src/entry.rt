@@ -6,7 +6,8 @@ use smallvec::SmallVec;
 use std::alloc::{AllocError, Global};
 use std::marker::Model;
 
-/// A few numbers, as most attributes and devices name: up to four lie in the entry itself. Contracts see the list of them.
+/// A few numbers. Up to four, which is enough for most attributes and devices, are kept in the entry itself. Contracts
+/// see the list of them.
 #[derive(Drop)]
 pub struct Numbers {
     items: SmallVec<u32, 4>,
@@ -21,7 +22,7 @@ impl Model for Numbers {
 }
 
 impl Numbers {
-    /// A number, where there is one, and these behind it.
+    /// A number, if there is one, and these after it.
     pub fn behind(alloc: Global, first: Option<u32>, numbers: &[u32]) -> Result<Numbers, AllocError>
         ensures { IfOk result (λ all. all ≡ option_to_list first ++ numbers.now) }
     {

@@ -11,7 +11,7 @@ use thiserror::Error;
 /// The greatest number of entries of an interface list.
 pub const MAX_INTERFACES: usize = 64;
 
-/// Why an attribute or a device was not added.
+/// Why an attribute or a device could not be added.
 #[derive(Clone, Copy, Debug, PartialEq, Eq, Error)]
 pub enum GraphStop {
     /// Its interface list would have more than `MAX_INTERFACES` entries.
@@ -42,7 +42,7 @@ impl<T: Drop> From<AllocFailed<T>> for GraphStop {
     }
 }
 
-/// How many entries the lists of these attributes have together, with one more where `own` is true; `None` where they are
+/// How many entries the lists of these attributes have together, with one more if `own` is true; `None` if they are
 /// more than `MAX_INTERFACES`.
 pub fn list_count(attrs: &[AttrEntry], own: bool, names: &[u32]) -> Option<usize>
     requires { All (λ a. a < length attrs.now) names.now }
@@ -59,7 +59,7 @@ pub fn list_count(attrs: &[AttrEntry], own: bool, names: &[u32]) -> Option<usize
     Some(count)
 }
 
-/// What the named attributes offer, behind an attribute's own number: each once, at its first appearance.
+/// An attribute's own number, and then what the named attributes offer: each once, at its first appearance.
 pub fn gather(
     alloc: Global,
     marks: &mut Vec<bool>,
@@ -98,8 +98,8 @@ fn split_last<'a>(attrs: &'a [AttrEntry], names: &'a [u32]) -> (&'a [u32], &'a [
     }
 }
 
-/// Appends those of the numbers that are not there, and takes the marks away. Where none of them is there, as is most often
-/// so, they are copied at once.
+/// Appends those of the numbers that are not there, and clears the marks. If none of them is there, as in most cases,
+/// they are copied at once.
 #[inline(always)]
 fn add_last(list: &mut Vec<u32>, marks: &mut Vec<bool>, numbers: &[u32]) -> Result<(), AllocError>
     requires within { All (λ x. x < length marks.old.items) numbers.now }
@@ -120,7 +120,8 @@ fn add_last(list: &mut Vec<u32>, marks: &mut Vec<bool>, numbers: &[u32]) -> Resu
     added
 }
 
-/// Appends to an empty list an attribute's own number, and then what the named ones offer; nothing is marked behind that.
+/// Appends to an empty list an attribute's own number, and then what the named ones offer; nothing is marked after
+/// that.
 #[inline(always)]
 fn gather_into(
     list: &mut Vec<u32>,

@@ -11,8 +11,8 @@ use crate::prepare::{attr_entry, device_entry, reach_count};
 use std::alloc::{AllocError, Global};
 use std::marker::Model;
 
-/// Which interface attributes attributes and devices offer: their own, and those that they name, directly or by other
-/// attributes, each once, in the order in which a walk along the names meets them. See config(5).
+/// The interface attributes that each attribute and each device offers: its own, and those that it names, directly or
+/// through other attributes, each once, in the order in which a walk along the names meets them. See config(5).
 #[derive(Drop)]
 pub struct Graph {
     attrs: Vec<AttrEntry>,
@@ -53,7 +53,7 @@ impl Graph {
         }
     }
 
-    /// Makes room for so many more attributes and devices.
+    /// Makes room for this many more attributes and devices.
     pub fn reserve(&mut self, attrs: usize, devices: usize) -> Result<(), AllocError>
         ensures { self.new ≡ self.old }
     {
@@ -62,8 +62,8 @@ impl Graph {
         self.devices.reserve(devices)
     }
 
-    /// Adds an attribute that names earlier ones, of fewer than 65,536, and answers its number. At `TooMany` and
-    /// `Memory` the graph is as before.
+    /// Adds an attribute that names earlier ones, and returns its number. There have to be fewer than 65,536
+    /// attributes. At `TooMany` and `Memory` the graph is as before.
     pub fn add_attr(&mut self, iface: bool, needs: &[u32]) -> Result<u32, GraphStop>
         requires known { All (λ a. a < length self.old.attrs) needs.now }
         requires few { length self.old.attrs < 65536 }
@@ -79,8 +79,8 @@ impl Graph {
         Ok(number)
     }
 
-    /// Adds a device with its own interface attribute, where it has one, and the attributes that it names, of fewer than
-    /// 65,536, and answers its number. At `TooMany` and `Memory` the graph is as before.
+    /// Adds a device with its own interface attribute, if it has one, and the attributes that it names, and returns its
+    /// number. There have to be fewer than 65,536 devices. At `TooMany` and `Memory` the graph is as before.
     pub fn add_device(&mut self, own: Option<u32>, needs: &[u32]) -> Result<u32, GraphStop>
         requires known { All (λ a. a < length self.old.attrs) (option_to_list own ++ needs.now) }
         requires few { length self.old.devices < 65536 }
@@ -97,7 +97,7 @@ impl Graph {
         Ok(number)
     }
 
-    /// Whether an attribute or device with these needs would offer no more than `MAX_INTERFACES`, itself included where
+    /// Whether an attribute or device with these needs would offer no more than `MAX_INTERFACES`, itself included if
     /// `own` is true.
     pub fn fits(&mut self, own: bool, names: &[u32]) -> Result<bool, AllocError>
         requires { All (λ a. a < length self.old.attrs) names.now }

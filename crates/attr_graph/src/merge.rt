@@ -24,7 +24,7 @@ pub fn add_new(list: &mut Vec<u32>, marks: &mut Vec<bool>, number: u32) -> Resul
     Ok(())
 }
 
-/// Appends those of the numbers that are not there.
+/// Appends those of the numbers that are not there yet.
 #[inline(always)]
 pub fn add_all(
     list: &mut Vec<u32>,
@@ -43,7 +43,7 @@ pub fn add_all(
     Ok(())
 }
 
-/// Appends what the named attributes offer, as far as it is not there.
+/// Appends what the named attributes offer, each unless it is already there.
 pub fn add_reach(
     list: &mut Vec<u32>,
     marks: &mut Vec<bool>,
@@ -77,7 +77,7 @@ pub fn are_unmarked(marks: &[bool], numbers: &[u32]) -> bool
     true
 }
 
-/// Takes the marks of a list away.
+/// Clears the marks of a list.
 #[inline(always)]
 pub fn unmark(list: &[u32], marks: &mut Vec<bool>)
     requires { AreMarks list.now marks.old.items }

@@ -9,7 +9,7 @@ use crate::gather::{GraphStop, gather};
 use cf_types::List;
 use std::alloc::{AllocError, Global};
 
-/// Makes the number markable.
+/// Makes room for the mark of a number.
 fn make_room(marks: &mut Vec<bool>, number: usize) -> Result<(), AllocError>
     requires room { number ≤ length marks.old.items }
     requires marked { AreMarks [] marks.old.items }
@@ -23,7 +23,7 @@ fn make_room(marks: &mut Vec<bool>, number: usize) -> Result<(), AllocError>
     Ok(())
 }
 
-/// An attribute's own number, where it is an interface attribute.
+/// An attribute's own number, if it is an interface attribute.
 fn own_number(iface: bool, number: u32) -> Option<u32>
     ensures { option_to_list result ≡ (if iface then number ∷ [] else []) }
 {
@@ -79,7 +79,7 @@ pub fn device_entry(
     }
 }
 
-/// How many interface attributes these attributes offer, or `None` where they are more than `MAX_INTERFACES`.
+/// How many interface attributes these attributes offer, or `None` if they are more than `MAX_INTERFACES`.
 pub fn reach_count(
     alloc: Global,
     attrs: &[AttrEntry],

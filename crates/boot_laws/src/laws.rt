@@ -1,7 +1,8 @@
 //! What a boot leaves, and what a device that comes leaves of the candidates. See autoconf(9).
+ghost use Rattle.history_laws.specs.Always.{OfEveryRun};
 ghost use Rattle.history_laws.specs.Calm.{OfEveryBoot};
 ghost use Rattle.boot_laws.specs.Settled.{FewerCandidates, LeavesUnwanted, NoNewWinner, Settles};
-ghost use Rattle.boot_laws.specs.Thorough.{AreThorough};
+ghost use Rattle.boot_laws.specs.Thorough.{IsThorough};
 
 /// A device that comes makes no row a candidate for a spot.
 pub fn fewer_candidates()
@@ -24,7 +25,7 @@ pub fn boot_settled()
     ensures { OfEveryBoot LeavesUnwanted }
 {}
 
-/// A history that begins with its boot has no more events than such a run may have, and its boot left nothing out.
-pub fn begun_thorough()
-    ensures { AreThorough }
+/// Every history is thorough: it has no more events than such a run may have, and the boot that it begins with leaves nothing out.
+pub fn runs_are_thorough()
+    ensures { OfEveryRun IsThorough }
 {}

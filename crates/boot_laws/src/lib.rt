@@ -4,4 +4,4 @@
 
 mod laws;
 
-pub use laws::{begun_thorough, boot_settled, boot_settles, fewer_candidates, no_new_winner};
+pub use laws::{boot_settled, boot_settles, fewer_candidates, no_new_winner, runs_are_thorough};

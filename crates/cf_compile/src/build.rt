@@ -15,7 +15,7 @@ use cf_select::{Inst, rooted};
 use cf_types::{Declared, Instance, List, Memory, Placed, Tables, Text, UnitMark};
 use std::alloc::Global;
 
-/// The unit that is written, 0 where there is a star.
+/// The unit that is written, 0 if there is a star.
 fn written_unit(mark: UnitMark) -> u32
     ensures { result ≡ written_unit mark }
 {
@@ -25,7 +25,7 @@ fn written_unit(mark: UnitMark) -> u32
     }
 }
 
-/// What matters of an instance for being rooted.
+/// What decides whether an instance is rooted.
 fn inst_of(instance: &Instance) -> Inst
     ensures { result ≡ inst_of instance.now }
 {
@@ -70,8 +70,8 @@ fn split_by_root<'a>(
     Ok(split_by_marks(alloc, instances, marks.items())?)
 }
 
-/// The tables of statements that were accepted, with what they declare, the surviving instances among them and the places
-/// of the negations of instances that take back nothing.
+/// The tables of statements that were accepted, with what they declare, the surviving instances among them and the
+/// places of the negations of instances that take nothing back.
 pub fn tables_of(
     alloc: Global,
     files: &[Text],

@@ -6,8 +6,8 @@ use cf_types::{List, Placed, Tables};
 use std::alloc::Global;
 use std::marker::Model;
 
-/// The tables of a configuration, with the graph of their attributes, by which they were made. Contracts see the tables.
-/// The statements that they were made from go with them, so that a program that ends soon need not take these apart.
+/// The tables of a configuration, with the graph of their attributes, by which they were made. Contracts see the
+/// tables. The statements that they were made from go with them, so that a program that ends soon need not free these.
 #[derive(Drop)]
 pub struct Compiled {
     tables: Tables,

@@ -61,8 +61,8 @@ fn compile_placed(
     }
 }
 
-/// The tables of what was read, or its first fault: that of a statement, or else that of the reading. The tokens of free
-/// statements are let go of first, since nobody reads them from here on.
+/// The tables of what was read, or its first fault: that of a statement, or else that of the reading. The tokens of
+/// free statements are freed first, because nobody reads them from here on.
 fn compile_read(alloc: Global, read: Expanded) -> Result<Compiled, CompileStop>
     requires { AreWritten read.placed }
     ensures { Finds (reading_of read) result }
@@ -84,8 +84,8 @@ fn compile_read(alloc: Global, read: Expanded) -> Result<Compiled, CompileStop>
     }
 }
 
-/// Compiles the named configuration with all that it includes: its tables, which have their graph with them, or its first
-/// fault in reading order with its file, line and code. A fault of reading stands before every fault of the configuration.
+/// Compiles the named configuration with all that it includes: its tables, which have their graph with them, or its
+/// first fault in reading order with its file, line and code. A read fault comes before any fault of the configuration.
 /// See config(1) and config(5).
 pub fn compile<F: Files>(alloc: Global, files: &mut F, name: &[u8]) -> Result<Compiled, CompileStop>
     ensures told { F.told files.new ≡ F.told files.old }

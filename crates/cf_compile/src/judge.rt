@@ -59,8 +59,8 @@ fn push_kept(
     Ok(())
 }
 
-/// The first code of a statement behind what is declared and so many instances. Where it has none, what it declares is
-/// added, and an instance is appended, if it survives.
+/// The first code of a statement, given what is declared and the number of instances so far. If it has none, what it
+/// declares is added, and an instance is appended if it survives.
 fn judge_statement(
     alloc: Global,
     standing: &mut Standing,
@@ -133,7 +133,7 @@ fn no_declarations(alloc: Global, placed: &[Placed]) -> Result<Declarations, Mem
     Ok(declarations)
 }
 
-/// Judges the placed statements one after the other, each behind what those before it declare, up to the first code.
+/// Judges the placed statements one after the other, each by what those before it declare, up to the first code.
 pub fn judge(
     alloc: Global,
     files: &[Text],

@@ -1,11 +1,11 @@
-//! Lets go of tokens that nobody reads later.
+//! Drops tokens that nobody reads later.
 ghost use Rattle.std.specs.Prelude.{◌≡◌, map, IfOk, OnOk};
 ghost use Rattle.cf_compile.specs.Emptied.{emptied_at};
 
 use cf_types::{List, Memory, Pieces, Placed, Stmt};
 use std::alloc::Global;
 
-/// Takes the tokens away from a statement that may have any.
+/// Removes the tokens of a statement that may have any.
 #[inline(always)]
 fn empty(alloc: Global, statement: &mut Placed) -> Result<(), Memory>
     ensures { OnOk result (statement.new ≡ emptied_at statement.old) }
@@ -16,7 +16,7 @@ fn empty(alloc: Global, statement: &mut Placed) -> Result<(), Memory>
     Ok(())
 }
 
-/// Placed statements without the tokens of those that may have any, which tell nothing of tables.
+/// Placed statements without the tokens of those that may have any: no table depends on these.
 pub fn without_tokens(alloc: Global, placed: List<Placed>) -> Result<List<Placed>, Memory>
     ensures { IfOk result (λ kept. kept ≡ map emptied_at placed) }
 {

@@ -37,8 +37,8 @@ impl Model for Declarations {
 }
 
 impl Declarations {
-    /// Nothing is declared yet; names will be found by a hash whose key follows from all names that these statements
-    /// declare. It takes no memory.
+    /// Nothing is declared yet; names will be found by a hash whose key is computed from all names that these
+    /// statements declare. It takes no memory.
     pub fn make(alloc: Global, placed: &[Placed]) -> Declarations
         ensures { result ≡ record { attrs = []; devices = []; attaches = [] } }
     {
@@ -48,7 +48,7 @@ impl Declarations {
         }
     }
 
-    /// Makes room for what these statements declare. Where memory runs out, what is declared is as before.
+    /// Makes room for what these statements declare. If memory runs out, what is declared is as before.
     pub fn reserve(&mut self, placed: &[Placed]) -> Result<(), Memory>
         ensures { self.new ≡ self.old }
     {
@@ -66,8 +66,8 @@ impl Declarations {
         join(&self.lists, &self.graph, base, at, pairs)
     }
 
-    /// The first code of a statement that is no instance. Where it has none, what it declares is added. Where memory runs
-    /// out, nothing is declared any more.
+    /// The first code of a statement that is not an instance. If it has none, what it declares is added. If memory runs
+    /// out, nothing remains declared.
     pub fn take(&mut self, alloc: Global, stmt: &Stmt) -> Result<Option<u8>, Memory>
         requires fits { FitsDeclared self.old }
         requires few { HasFewLocators stmt.now }

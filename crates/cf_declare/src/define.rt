@@ -12,7 +12,7 @@ use cf_types::code::configuration as code;
 use cf_types::{List, Locator, Memory, Name};
 use std::alloc::Global;
 
-/// Whether the interface list of these attributes, with its own where there is one, would have more than 64 entries.
+/// Whether the interface list of these attributes, with its own if there is one, would have more than 64 entries.
 fn offers_too_much(graph: &mut Graph, own: bool, numbers: &[u32]) -> Result<bool, Memory>
     requires { All (λ a. a < length graph.old.attrs) numbers.now }
     ensures many { IfOk result (λ many. many ≡ nat_lt 64 ((if own then 1 else 0) + length (interfaces_of graph.old.attrs numbers.now))) }

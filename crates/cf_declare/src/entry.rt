@@ -25,7 +25,7 @@ fn copied_locators(alloc: Global, locators: &[Locator]) -> Result<List<Locator>,
     Ok(List::from_vec(copy))
 }
 
-/// The locators of an attribute, none where no braces are written.
+/// The locators of an attribute; none if no braces are written.
 fn locators_of(alloc: Global, locators: &Option<List<Locator>>) -> Result<List<Locator>, Memory>
     ensures { IfOk result (λ copy. copy ≡ unwrap_or locators.now []) }
 {
@@ -55,7 +55,7 @@ pub fn defined(
     })
 }
 
-/// The interface attribute of a device, where it has braces.
+/// The interface attribute of a device, if it has braces.
 pub fn own_attr(
     alloc: Global,
     name: &Name,

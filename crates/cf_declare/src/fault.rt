@@ -22,7 +22,7 @@ pub fn has_device(declared: &Catalog, name: &Name) -> bool
     declared.device_number(name).is_some()
 }
 
-/// The numbers of these attributes; `None` where one of them is not there.
+/// The numbers of these attributes; `None` if one of them is not there.
 pub fn known_numbers(
     alloc: Global,
     declared: &Catalog,

@@ -10,7 +10,7 @@ use cf_names::Catalog;
 use cf_types::{Attach, Attr, Device, Memory, Stmt};
 use std::alloc::Global;
 
-/// Adds an attribute, where there is one. No accepted one offers too many interface attributes.
+/// Adds an attribute, if there is one. No accepted one offers too many interface attributes.
 fn add_attr(
     alloc: Global,
     declared: &mut Catalog,
@@ -32,7 +32,7 @@ fn add_attr(
     }
 }
 
-/// Adds a device, where there is one. No accepted one offers too many interface attributes.
+/// Adds a device, if there is one. No accepted one offers too many interface attributes.
 fn add_device(
     alloc: Global,
     declared: &mut Catalog,
@@ -54,7 +54,7 @@ fn add_device(
     }
 }
 
-/// Adds an attachment, where there is one.
+/// Adds an attachment, if there is one.
 fn add_attach(alloc: Global, declared: &mut Catalog, attach: Option<Attach>) -> Result<(), Memory>
     ensures { OnOk result (declared.new ≡ record declared.old { attaches = declared.old.attaches ++ option_to_list attach }) }
 {

@@ -104,7 +104,7 @@ fn place_of(declared: &Catalog, graph: &Graph, target: Target, number: usize) ->
     })
 }
 
-/// The numbers of a device's attachments, where it has one.
+/// The numbers of a device's attachments, if it has one.
 fn attachments(declared: &Catalog, device: u32) -> Option<&[usize]>
     ensures some { is_some result ≡ list_any (λ a. a.device == device) declared.now.attaches }
     ensures numbers { IfSome result (λ numbers. numbers.now ≡ attaches_of declared.now.attaches device) }
@@ -155,8 +155,8 @@ fn are_few(declared: &Catalog, numbers: &[usize]) -> bool
     true
 }
 
-/// The first of these attachments of a device, with its first place, that suits: by what is noted of each place where it
-/// is noted, and else, as among few, by going over them. Which way is taken is a matter of speed alone.
+/// The first of these attachments of a device, with its first place, that suits: found by the notes of each place, if
+/// there are any, else by going over the attachments, which are few then. Which way is taken affects only speed.
 fn fitting_place(
     declared: &Catalog,
     graph: &Graph,

@@ -124,7 +124,7 @@ fn judged_attach(
     }
 }
 
-/// What a statement that declares something adds behind what is declared, or its first code.
+/// What a statement that declares something adds to what is declared, or its first code.
 pub fn judged(
     alloc: Global,
     declared: &Catalog,
@@ -171,7 +171,7 @@ fn pseudo_fault(declared: &Catalog, name: &Name) -> Option<u8>
     Some(code::UNKNOWN_DEVICE)
 }
 
-/// The code of a statement that declares nothing and is no instance.
+/// The code of a statement that declares nothing and is not an instance.
 pub fn other_fault(declared: &Catalog, stmt: &Stmt) -> Option<u8>
     requires declares { declares stmt.now ≡ false }
     requires instance { is_instance stmt.now ≡ false }

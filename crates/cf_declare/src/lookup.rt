@@ -5,7 +5,7 @@ ghost use Rattle.config_rules.specs.Declared.{is_root, attr_named, attr_number};
 use cf_names::Catalog;
 use cf_types::{Attr, Name};
 
-/// Whether a name is `root`, which nothing may be called.
+/// Whether a name is `root`, which may name nothing else.
 pub fn is_root(name: &[u8]) -> bool
     ensures { result ≡ is_root name.now }
 {

@@ -6,8 +6,8 @@ ghost use Rattle.cf_declare.specs.Names.{new_name, declared_line, declared_lines
 use cf_names::{HashKey, NameHash, Room};
 use cf_types::{Name, Placed, Stmt};
 
-/// The name that a statement brings. An attachment without a name of its own has that of its device, which another
-/// statement brought, or else it is refused.
+/// The name that a statement introduces. An attachment without a name of its own has that of its device, which another
+/// statement introduced; otherwise it is refused.
 fn new_name(stmt: &Stmt) -> Option<&Name>
     ensures { option_copied result ≡ new_name stmt.now }
 {
@@ -20,7 +20,7 @@ fn new_name(stmt: &Stmt) -> Option<&Name>
     }
 }
 
-/// Adds the name that a statement brings to the key of a hash.
+/// Adds the name that a statement introduces to the key of a hash.
 fn add_declared(key: &mut HashKey, stmt: &Stmt)
     ensures { (taken : List ℕ) → Holds key.old taken → Holds key.new (taken ++ declared_line stmt.now) }
 {
@@ -30,7 +30,7 @@ fn add_declared(key: &mut HashKey, stmt: &Stmt)
     }
 }
 
-/// How much room the statements take that declare something.
+/// How much room the declarations of these statements need.
 pub fn room_of(placed: &[Placed]) -> Room {
     let mut room = Room {
         attrs: 0,

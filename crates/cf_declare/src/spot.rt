@@ -10,7 +10,7 @@ use attr_graph::Graph;
 use cf_names::{Catalog, FirstSpot, SpotKey, Spots};
 use cf_types::{AttachPlace, Place, Target};
 
-/// The one of two spots before which fewer stand.
+/// The earlier one of two spots.
 fn earlier(spot: Option<FirstSpot>, other: Option<FirstSpot>) -> Option<FirstSpot>
     ensures { result ≡ earlier spot other }
 {
@@ -25,7 +25,7 @@ fn earlier(spot: Option<FirstSpot>, other: Option<FirstSpot>) -> Option<FirstSpo
     }
 }
 
-/// The interface list of a device, of none where it is not there.
+/// The interface list of a device; empty if there is no such device.
 fn interfaces_of<'a>(declared: &Catalog, graph: &'a Graph, device: u32) -> &'a [u32]
     requires { IsGraphOf declared.now graph.now }
     ensures { result.now ≡ interfaces declared.now.attrs declared.now.devices device }
@@ -78,7 +78,7 @@ fn first_suiting(
     }
 }
 
-/// The first attachment of a device, with its first place, that suits. It goes over what the parent offers alone.
+/// The first attachment of a device, with its first place, that suits. It looks only at what the parent offers.
 pub fn noted_place(
     declared: &Catalog,
     graph: &Graph,

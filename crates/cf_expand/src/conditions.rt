@@ -43,9 +43,9 @@ fn is_else(word: Option<CondWord>) -> bool
 struct Condition {
     /// The line of its opening.
     line: u32,
-    /// Whether the part in which it stands is not left out.
+    /// Whether the part around it is not left out.
     outer: bool,
-    /// Whether one of its branches was taken.
+    /// Whether one of its branches has been taken.
     taken: bool,
     /// Whether the branch that is open now is taken.
     live: bool,
@@ -158,7 +158,7 @@ impl Conditions {
         }
     }
 
-    /// Whether a statement with this word may not stand here, where so many conditions may be open.
+    /// Whether a statement with this word may not be here, if this many conditions may be open.
     #[inline(always)]
     pub fn is_misplaced(&self, room: usize, word: Option<CondWord>) -> bool
         ensures { result ≡ is_misplaced room word self.now }
@@ -201,7 +201,7 @@ impl Conditions {
         Ok(())
     }
 
-    /// Goes over a statement with this word on this line, whose condition holds or doesn't. Most statements have none.
+    /// Follows a statement with this word on this line, whose condition holds or does not. Most statements have none.
     #[inline(always)]
     pub fn follow(&mut self, word: Option<CondWord>, line: u32, holds: bool) -> Result<(), Memory>
         ensures { OnOk result (self.new ≡ levels_after word line holds self.old) }

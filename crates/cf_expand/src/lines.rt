@@ -15,7 +15,7 @@ fn count_before_stop(tokens: &[Token]) -> usize
         .count()
 }
 
-/// The tokens of the first statement, and those behind its stop; `None` where there is no token.
+/// The tokens of the first statement, and those after its stop; `None` if there is no token.
 #[inline(always)]
 pub fn first_statement(tokens: &[Token]) -> Option<(&[Token], &[Token])>
     ensures { MatchOption result (tokens.now ≡ []) (λ parts. Parts tokens.now parts.0.now parts.1.now) }

@@ -69,7 +69,7 @@ fn ask<F: Files>(
     load(alloc, files, name)
 }
 
-/// Opens a file that was loaded. `None` where it can't be cut into tokens, which is then the fault.
+/// Opens a file that was loaded. `None` if it cannot be cut into tokens; that is noted as the fault.
 fn open(
     alloc: Global,
     progress: &mut Progress,
@@ -135,7 +135,7 @@ pub fn open_first<F: Files>(
     }
 }
 
-/// Places an include whose file is absent, where that may be.
+/// Places an include whose file is absent, if that is allowed.
 fn absent(
     alloc: Global,
     progress: &mut Progress,

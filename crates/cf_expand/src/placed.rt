@@ -59,8 +59,8 @@ fn is_declared(placed: &[Placed], name: &[u8]) -> bool
     false
 }
 
-/// The placed statements, which keep the limits of the language, with a set of the names that the first of them declare:
-/// those that stood there when a condition was placed last. Contracts see the list alone.
+/// The placed statements, which keep the limits of the language, with a set of the names that the statements before the
+/// last condition declare. Contracts see only the list.
 #[derive(Drop)]
 pub struct PlacedList {
     items: Vec<Placed>,
@@ -100,7 +100,7 @@ impl PlacedList {
         self.items.len()
     }
 
-    /// Adds the names that are not noted yet.
+    /// Adds the names that are not yet in the set.
     fn note_all(&mut self) -> Result<(), Memory>
         ensures { self.new ≡ self.old }
     {

@@ -1,4 +1,4 @@
-//! The prefixes that stand, in one text: what a prefix adds to the one below it stands behind that.
+//! The prefixes in force, in one text: what a prefix adds to the one below it comes after that.
 ghost use Rattle.std.specs.Prelude.{◌≡◌, ◌==◌, ◌≤◌, ◌++◌, ◌∷◌, [], IfOk, IfSome, OnOk, length, slice_index, take, drop};
 ghost use Rattle.config_rules.specs.Reading.{under_prefix};
 ghost use Rattle.cf_expand.specs.Paths.{PopsTop, behind, end_of, path_at, top_of};
@@ -8,14 +8,14 @@ use std::alloc::Global;
 use std::collections::VecDeque;
 use std::marker::Model;
 
-/// Where the path of a prefix stands in the text.
+/// Where the path of a prefix is in the text.
 #[derive(Clone, Copy)]
 pub struct PathSpan {
     pub start: usize,
     pub end: usize,
 }
 
-/// The prefixes that stand, the top one first. Contracts see their paths.
+/// The prefixes in force, the top one first. Contracts see their paths.
 #[derive(Drop)]
 pub struct Prefixes {
     text: Vec<u8>,
@@ -33,7 +33,7 @@ impl Model for Prefixes {
     ghost invariant = { λ it. AreNested (length it.text.items) it.spans.items };
 }
 
-/// Whether a path begins with `/`, and so stands for itself.
+/// Whether a path begins with `/`, and so is taken as it is.
 fn is_absolute(path: &[u8]) -> bool
     ensures { result ≡ (slice_index path.now 0 == 47) }
 {
@@ -59,7 +59,7 @@ fn top_of(spans: &VecDeque<PathSpan>) -> Option<PathSpan>
     spans.front().copied()
 }
 
-/// The path that stands there.
+/// The path at this span.
 fn path_at(text: &[u8], span: PathSpan) -> &[u8]
     requires { (span.start ≤ span.end) × (span.end ≤ length text.now) }
     ensures { result.now ≡ path_at text.now span }
@@ -67,7 +67,7 @@ fn path_at(text: &[u8], span: PathSpan) -> &[u8]
     &text[..span.end][span.start..]
 }
 
-/// Makes place for a path behind a prefix, and tells where both begin.
+/// Makes room for a path after a prefix, and returns where both begin.
 fn begin(text: &mut Vec<u8>, top: Option<PathSpan>, path: &[u8]) -> Result<usize, Memory>
     requires { IfSome top (λ s. (s.start ≤ s.end) × (s.end ≤ length text.old.items)) }
     ensures kept { take (end_of top) text.new.items ≡ take (end_of top) text.old.items }
@@ -87,7 +87,7 @@ fn begin(text: &mut Vec<u8>, top: Option<PathSpan>, path: &[u8]) -> Result<usize
     }
 }
 
-/// Appends a path behind a prefix, in place of what stands there, and tells where both stand.
+/// Puts a path after a prefix, replacing what is there, and returns the span of both.
 fn add_path(text: &mut Vec<u8>, top: Option<PathSpan>, path: &[u8]) -> Result<PathSpan, Memory>
     requires { IfSome top (λ s. (s.start ≤ s.end) × (s.end ≤ length text.old.items)) }
     ensures kept { take (end_of top) text.new.items ≡ take (end_of top) text.old.items }
@@ -103,7 +103,7 @@ fn add_path(text: &mut Vec<u8>, top: Option<PathSpan>, path: &[u8]) -> Result<Pa
     })
 }
 
-/// A path behind a prefix and one `/`, or a path that begins with `/` alone.
+/// The prefix, one `/` and the path; or the path alone, if it begins with `/`.
 fn joined(alloc: Global, top: &[u8], path: &[u8]) -> Result<Text, Memory>
     ensures { IfOk result (λ text. text ≡ under_prefix (top.now ∷ []) path.now) }
 {
@@ -127,7 +127,7 @@ impl Prefixes {
         }
     }
 
-    /// A path behind the top prefix, unless it begins with `/` or there is none.
+    /// The path after the top prefix; the path alone, if it begins with `/` or there is no prefix.
     pub fn under(&self, alloc: Global, path: &[u8]) -> Result<Text, Memory>
         ensures { IfOk result (λ text. text ≡ under_prefix self.now path.now) }
     {
@@ -137,7 +137,7 @@ impl Prefixes {
         }
     }
 
-    /// Puts a path on top, itself behind the top one.
+    /// Pushes a prefix: the path of the top one with this one after it.
     pub fn push(&mut self, path: &[u8]) -> Result<(), Memory>
         ensures { OnOk result (self.new ≡ under_prefix self.old path.now ∷ self.old) }
     {
@@ -147,7 +147,7 @@ impl Prefixes {
         Ok(())
     }
 
-    /// Takes the top one away; `false` where there is none.
+    /// Removes the top one; `false` if there is none.
     pub fn pop(&mut self) -> bool
         ensures { PopsTop self.old result self.new }
     {

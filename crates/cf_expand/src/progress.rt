@@ -15,7 +15,7 @@ use cf_words::{Known, Word};
 use std::alloc::Global;
 use std::marker::Model;
 
-/// What was read so far.
+/// What has been read so far.
 #[derive(Drop)]
 pub struct Progress {
     placed: PlacedList,
@@ -134,21 +134,21 @@ impl Progress {
         self.asked.push(name)
     }
 
-    /// A path behind the top prefix, unless it begins with `/` or there is none.
+    /// The path after the top prefix; the path alone, if it begins with `/` or there is no prefix.
     pub fn under_prefix(&self, alloc: Global, path: &[u8]) -> Result<Text, Memory>
         ensures { IfOk result (λ text. text ≡ under_prefix self.now.prefixes path.now) }
     {
         self.prefixes.under(alloc, path)
     }
 
-    /// Puts a path on top of the prefixes, itself behind the top one.
+    /// Pushes a prefix: the path of the top one with this one after it.
     pub fn push_prefix(&mut self, path: &[u8]) -> Result<(), Memory>
         ensures { OnOk result (self.new ≡ record self.old { prefixes = under_prefix self.old.prefixes path.now ∷ self.old.prefixes }) }
     {
         self.prefixes.push(path)
     }
 
-    /// Takes the top prefix away; `false` where there is none.
+    /// Removes the top prefix; `false` if there is none.
     pub fn pop_prefix(&mut self) -> bool
         ensures { Pops self.old result self.new }
     {

@@ -41,8 +41,8 @@ fn read_end(
     }
 }
 
-/// Reads a statement of this form, with the file that it includes. What that needs stays out of the functions that read each
-/// statement.
+/// Reads a statement of this form, with the file that it includes. It is a function of its own so that those which read
+/// each statement stay small.
 #[cycle(statements)]
 #[inline(never)]
 fn read_directive<F: Files>(
@@ -78,7 +78,7 @@ fn read_directive<F: Files>(
     read_source(alloc, files, progress, &inner, unread)
 }
 
-/// Reads a statement that has this form. Few say how to read on, and all others are placed.
+/// Reads a statement that has this form. A few say how to read on; all others are placed.
 #[cycle(statements)]
 #[inline(always)]
 fn read_formed<F: Files>(
@@ -247,10 +247,10 @@ fn read_named<F: Files>(
     read_source(alloc, files, progress, &source, tokens)
 }
 
-/// Reads the named configuration file with all that it includes, as config(5) has it: the statements that stand in no
-/// part that is left out, the names of the files as they were loaded, and the first fault with its file, line and code.
-/// Whatever the files hold, the statements keep the limits of the language. Where it answers `ReadFault`, the count of
-/// faults rose; where it answers `Memory`, nothing is known of the files.
+/// Reads the named configuration file with all that it includes, as config(5) has it: the statements outside the parts
+/// that conditions leave out, the names of the files as they were loaded, and the first fault with its file, line and
+/// code. Whatever the files hold, the statements keep the limits of the language. If it returns `ReadFault`, the count
+/// of faults rose; if it returns `Memory`, nothing is known about the files.
 pub fn expand<F: Files>(alloc: Global, files: &mut F, name: &[u8]) -> Result<Expanded, ExpandStop>
     ensures told { F.told files.new ≡ F.told files.old }
     ensures counted { Counted (F.faults files.old) (F.faults files.new) result }

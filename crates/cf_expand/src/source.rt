@@ -14,7 +14,7 @@ pub struct Source {
     pub text: Text,
     /// How many conditions may be open in it at once.
     pub room: usize,
-    /// How many levels of files may stand below it.
+    /// How many levels of files may be below it.
     pub levels: u32,
 }
 

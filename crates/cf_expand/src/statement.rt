@@ -52,8 +52,8 @@ fn condition_word(text: &[u8], tokens: &[Token]) -> Option<CondWord>
     }
 }
 
-/// A statement of a file by its tokens, with the condition word with which it begins, if it does. Contracts see its line and
-/// its pieces.
+/// A statement of a file by its tokens, with its condition word, if it begins with one. Contracts see its line and its
+/// pieces.
 #[derive(Drop)]
 pub struct Statement<'a, 't> {
     text: &'a [u8],

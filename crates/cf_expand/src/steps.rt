@@ -36,8 +36,8 @@ fn turn_prefix(
     }
 }
 
-/// Reads a statement on this line that begins with this condition word, if with any, and has this form: up to the file
-/// that it includes.
+/// Reads a statement on this line, with its condition word, if it begins with one, and its form, up to the file that it
+/// includes.
 pub fn treat(
     alloc: Global,
     progress: &mut Progress,

@@ -1,4 +1,4 @@
-//! The tokens of a file while it is read; the memory of those that were read is given back.
+//! The tokens of a file while it is read; the memory of those that have been read is given back.
 ghost use Rattle.std.specs.Prelude.{◌≡◌, ◌-◌, ◌≤◌, [], MatchOption, drop, length};
 ghost use Rattle.cf_expand.specs.Lines.{Parts};
 
@@ -6,10 +6,10 @@ use crate::lines::first_statement;
 use cf_types::{List, Token};
 use std::marker::Model;
 
-/// How many tokens are given back at once at least.
+/// The least number of tokens whose memory is given back at once.
 const MANY: usize = 65_536;
 
-/// The tokens of a file that are not read yet. Contracts see them alone.
+/// The tokens of a file that are not read yet. Contracts see only these.
 #[derive(Drop)]
 pub struct Unread {
     tokens: Vec<Token>,
@@ -27,7 +27,7 @@ impl Model for Unread {
     ghost invariant = { λ it. it.read ≤ length it.tokens.items };
 }
 
-/// Moves the tokens from there on to the front, and gives back the memory of all others.
+/// Moves the tokens from this place on to the beginning, and gives back the memory of all others.
 #[tactic(auto, using(crate::proofs::UnreadLemmas::moved_all))]
 fn keep_from(tokens: &mut Vec<Token>, from: usize)
     requires { from ≤ length tokens.old.items }
@@ -52,7 +52,7 @@ impl Unread {
         }
     }
 
-    /// The tokens of the first statement, and those behind its stop; `None` where there is no token.
+    /// The tokens of the first statement, and those after its stop; `None` if there is no token.
     #[inline(always)]
     pub fn first(&self) -> Option<(&[Token], &[Token])>
         ensures { MatchOption result (self.now ≡ []) (λ parts. Parts self.now parts.0.now parts.1.now) }
@@ -61,7 +61,8 @@ impl Unread {
         first_statement(left)
     }
 
-    /// All tokens but the last ones of this number are read. Once a third of those that are kept are read, they go.
+    /// Only this many tokens at the end are still unread. Once a third of the tokens kept have been read, their memory
+    /// is given back.
     #[tactic(auto, using(crate::proofs::UnreadLemmas::unread_last, crate::proofs::UnreadLemmas::last_many))]
     #[inline(always)]
     pub fn keep_last(&mut self, count: usize)

@@ -17,7 +17,7 @@ fn is_named(words: &[Word]) -> bool
     }
 }
 
-/// The places, and the attachment's name behind `with`, where one is written.
+/// The places, and the attachment's name after `with`, if one is written.
 #[inline(always)]
 fn attached(
     known: &mut Known,
@@ -52,7 +52,7 @@ fn attached(
     }
 }
 
-/// `attach`: a device, `at`, one or more places, perhaps `with` and a name, and perhaps attributes behind a colon.
+/// `attach`: a device, `at`, one or more places, perhaps `with` and a name, and optionally attributes after a colon.
 #[inline(always)]
 pub fn attach(known: &mut Known, words: &[Word]) -> Result<Option<Stmt>, Memory>
     ensures { IfOk result (λ s. s ≡ attach_stmt (map piece_of words.now)) }

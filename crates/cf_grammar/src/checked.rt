@@ -7,7 +7,7 @@ use cf_types::{Keyword, Memory, Pieces, Stmt};
 use cf_words::{Known, Word, count_of, is_name_word, is_path_word, name_of, value_of};
 use std::alloc::Global;
 
-/// `pseudo-device`: a name, perhaps with a count from 1 to 65,535.
+/// `pseudo-device`: a name, optionally with a count from 1 to 65,535.
 pub fn pseudo_device(alloc: Global, sized: bool, words: &[Word]) -> Result<Option<Stmt>, Memory>
     ensures { IfOk result (λ s. s ≡ pseudo_stmt sized (map piece_of words.now)) }
 {
@@ -103,7 +103,7 @@ fn is_config(words: &[Word]) -> bool
     }
 }
 
-/// A statement whose form alone is looked at.
+/// A statement of which only the form is checked.
 fn checked(known: &mut Known, keyword: Keyword, holds: bool) -> Result<Option<Stmt>, Memory>
     ensures { IfOk result (λ s. s ≡ checked (spelling_of keyword) holds) }
 {
@@ -178,7 +178,7 @@ fn pieces(alloc: Global, words: &[Word]) -> Result<Pieces, Memory>
     Ok(pieces)
 }
 
-/// A statement that may have any words, one at least.
+/// A statement that may have any words, at least one.
 #[inline(always)]
 pub fn free(known: &mut Known, keyword: Keyword, words: &[Word]) -> Result<Option<Stmt>, Memory>
     ensures { IfOk result (λ s. s ≡ free_form (spelling_of keyword) true (map piece_of words.now)) }

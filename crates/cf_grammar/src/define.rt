@@ -26,7 +26,7 @@ fn make(defines: Defines, name: Name, locs: Option<List<Locator>>, needs: List<N
     }
 }
 
-/// The attributes behind a colon, or none.
+/// The attributes after a colon, or none.
 #[inline(always)]
 pub fn needs_of(known: &mut Known, words: &[Word]) -> Result<Option<List<Name>>, Memory>
     ensures { IfOk result (λ needs. needs ≡ needs_of (map piece_of words.now)) }
@@ -42,7 +42,7 @@ pub fn needs_of(known: &mut Known, words: &[Word]) -> Result<Option<List<Name>>,
     }
 }
 
-/// The locators up to the closing brace, and the attributes behind it.
+/// The locators up to the closing brace, and the attributes after it.
 #[inline(always)]
 fn with_locators(
     known: &mut Known,
@@ -67,7 +67,7 @@ fn with_locators(
     }
 }
 
-/// The locators in braces, where there are any, and the attributes behind a colon.
+/// The locators in braces, if there are any, and the attributes after a colon.
 #[inline(always)]
 fn with_body(
     known: &mut Known,
@@ -89,7 +89,7 @@ fn with_body(
     }
 }
 
-/// `define` or `defpseudo`: a name, perhaps locators in braces, and perhaps attributes behind a colon.
+/// `define` or `defpseudo`: a name, optionally locators in braces, and optionally attributes after a colon.
 pub fn defining(
     known: &mut Known,
     sized: bool,

@@ -16,7 +16,7 @@ pub fn include(alloc: Global, optional: bool, words: &[Word]) -> Result<Option<S
     }
 }
 
-/// `prefix`: a path, or nothing, which takes the top prefix away.
+/// `prefix`: a path, or nothing, which removes the top prefix.
 pub fn prefix(alloc: Global, words: &[Word]) -> Result<Option<Stmt>, Memory>
     ensures { IfOk result (λ s. s ≡ prefix_stmt (map piece_of words.now)) }
 {
@@ -53,7 +53,7 @@ fn bare_condition(word: CondWord, words: &[Word]) -> Option<Stmt>
     }
 }
 
-/// A condition word and what stands behind it.
+/// A condition word and what follows it.
 pub fn condition(alloc: Global, word: CondWord, words: &[Word]) -> Result<Option<Stmt>, Memory>
     ensures { IfOk result (λ s. s ≡ cond_form word (map piece_of words.now)) }
 {

@@ -8,7 +8,7 @@ use cf_text::is_name;
 use cf_types::Keyword;
 use cf_words::{Word, behind_first, split_before};
 
-/// The first word of a statement that is left out of the language.
+/// The first word of a statement that this language leaves out.
 #[derive(Clone, Copy)]
 pub enum LeftOut {
     Package,
@@ -102,7 +102,7 @@ fn begins_size_or_text(words: &[Word]) -> bool
     }
 }
 
-/// Whether the first word may name a locator, and a size or a string is written behind it.
+/// Whether the first word may name a locator, and a size or a string is written after it.
 #[inline(always)]
 fn begins_text_or_size(words: &[Word]) -> bool
     ensures { result ≡ begins_text_or_size (map piece_of words.now) }
@@ -125,7 +125,7 @@ fn has_named_text(words: &[Word]) -> bool
     false
 }
 
-/// Whether somewhere a size or a string is written behind the name of a locator.
+/// Whether somewhere a size or a string is written after the name of a locator.
 fn has_text_or_size(words: &[Word]) -> bool
     ensures { result ≡ has_text_or_size (map piece_of words.now) }
 {
@@ -137,7 +137,7 @@ fn has_text_or_size(words: &[Word]) -> bool
     false
 }
 
-/// What stands between the first `{` and the next `}`, or the end.
+/// What is between the first `{` and the next `}`, or the end.
 #[inline(always)]
 fn braced<'w, 'a>(words: &'w [Word<'a>]) -> &'w [Word<'a>]
     ensures { map piece_of result.now ≡ braced (map piece_of words.now) }
@@ -174,8 +174,8 @@ fn gives_text(first: Word, rest: &[Word]) -> bool
     first.is_chunk() && has_named_text(behind_two(rest))
 }
 
-/// Whether a statement with this first word is left out: by that word where it is no keyword, as an instance gives a locator a
-/// string, or as a definition gives one a string or a size.
+/// Whether a statement with this first word is left out: because of that word, if it is no keyword; because an instance
+/// gives a locator a string; or because a definition gives one a string or a size.
 #[inline(always)]
 fn is_left_out_statement(first: Word, keyword: Option<Keyword>, rest: &[Word]) -> bool
     requires { keyword ≡ keyword_in (piece_of first) }
@@ -187,8 +187,8 @@ fn is_left_out_statement(first: Word, keyword: Option<Keyword>, rest: &[Word]) -
     }
 }
 
-/// Whether the words, of which the first is this keyword or none, are a statement that is left out: by its first word, or
-/// as a locator of it has a string or a size.
+/// Whether the words are a statement that this language leaves out, because of its first word, or because one of its
+/// locators has a string or a size. The first word is this keyword, or no keyword.
 #[inline(always)]
 pub fn is_left_out(keyword: Option<Keyword>, words: &[Word]) -> bool
     requires { keyword ≡ first_keyword (map piece_of words.now) }

@@ -1,4 +1,4 @@
-//! The statement `file`, which most statements of a large configuration are: it is read off its tokens, without words.
+//! The statement `file`, the most common one of a large configuration: it is read directly from its tokens.
 ghost use Rattle.std.specs.Prelude.{◌≡◌, IfOk, IfSome, codes, length, nat_le};
 ghost use Rattle.std.specs.List.{list_all};
 ghost use Rattle.config_rules.specs.Cut.{piece, pieces};
@@ -33,7 +33,7 @@ fn are_short(text: &[u8], tokens: &[Token]) -> bool
     true
 }
 
-/// The statement that these tokens are, if they are `file` and one or more tokens behind it, of which none is too long.
+/// The statement that these tokens are, if they are `file` followed by one or more tokens, none of which is too long.
 #[inline(always)]
 pub fn file(known: &mut Known, text: &[u8], tokens: &[Token]) -> Result<Option<Stmt>, Memory>
     requires { AreWithin text.now tokens.now }

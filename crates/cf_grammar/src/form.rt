@@ -14,7 +14,7 @@ use crate::negation::negation;
 use cf_types::{Keyword, Memory, Stmt};
 use cf_words::{Known, Word};
 
-/// The statement that a keyword and the words behind it are.
+/// The statement that a keyword and the words after it are.
 #[inline(always)]
 fn by_keyword(
     known: &mut Known,
@@ -54,8 +54,8 @@ fn by_keyword(
     }
 }
 
-/// The statement that these words are, of which the first is this keyword or none, and none is too long. Where sizes
-/// don't count, a number out of its range stands for 0.
+/// The statement that these words are; the first is this keyword, or no keyword, and none is too long. If sizes don't
+/// count, a number out of its range counts as 0.
 pub fn form_of(
     known: &mut Known,
     sized: bool,

@@ -26,7 +26,7 @@ pub enum GrammarStop {
     /// count, `NO_FORM` for any other form, `LEFT_OUT` for a statement or a locator that is left out.
     #[error("code {code}")]
     Fault { code: u8 },
-    /// Want of memory.
+    /// Out of memory.
     #[error("out of memory")]
     Memory,
 }
@@ -63,8 +63,9 @@ pub fn word_of<'a>(text: &'a [u8], token: Token) -> Word<'a>
     }
 }
 
-/// Puts the tokens with their bytes in place of what is there, and tells whether none is longer than one may be. The room
-/// is held here meanwhile, so that it is not looked up for each of them; inlined where statements are read, the loop is longer.
+/// Replaces the words by the tokens with their bytes, and returns whether none is longer than a token may be. The
+/// vector is held in a local meanwhile, so that its room is not looked up for each token; inlined into the caller, the
+/// loop would be longer.
 #[inline(never)]
 fn put_words<'a>(
     words: &mut Vec<Word<'a>>,
@@ -100,7 +101,7 @@ fn has_form(known: &mut Known, keyword: Option<Keyword>, words: &[Word]) -> Resu
     Ok(holds)
 }
 
-/// The code of words that are no statement with each number in its range.
+/// The code of words that are no statement in which every number is in its range.
 #[cold]
 fn unread_code(known: &mut Known, keyword: Option<Keyword>, words: &[Word]) -> Result<u8, Memory>
     requires keyword { keyword ≡ first_keyword (map piece_of words.now) }
@@ -114,7 +115,7 @@ fn unread_code(known: &mut Known, keyword: Option<Keyword>, words: &[Word]) -> R
     }
 }
 
-/// The statement that words are, of which none is longer than a token may be, or one is.
+/// The statement that words are; `short` says that none is longer than a token may be.
 #[inline(always)]
 fn read(known: &mut Known, short: bool, words: &[Word]) -> Result<Stmt, GrammarStop>
     requires { short ≡ are_short (map piece_of words.now) }
@@ -140,10 +141,10 @@ fn read(known: &mut Known, short: bool, words: &[Word]) -> Result<Stmt, GrammarS
     }
 }
 
-/// Reads the tokens of one statement, without its `Stop`, as the statement that they are. Their spans lie within the
-/// text, as those that `cut` gives do. The error is the first of the codes `LEFT_OUT`, `NO_FORM` and `OUT_OF_RANGE`
-/// that the tokens have, as the grammar of config(5) is read here, or want of memory. The words stand in place of what was
-/// there; for many statements hand in the same vector, and the same names, so that equal ones share their memory.
+/// Reads the tokens of one statement, without its `Stop`, as the statement that they are. Their spans are within the
+/// text, as those from `cut` are. The error is the first of the codes `LEFT_OUT`, `NO_FORM` and `OUT_OF_RANGE` that
+/// applies to the tokens by the grammar of config(5) as it is read here, or `Memory`. The words replace what was there;
+/// for many statements, pass the same vector and the same names, so that equal names share their memory.
 #[inline(always)]
 pub fn statement<'a>(
     known: &mut Known,

@@ -6,14 +6,14 @@ ghost use Rattle.cf_grammar.specs.Pairs.{parts_of};
 use cf_types::{AtSpec, GivenLoc, List, Memory, Name, Stmt, UnitMark};
 use cf_words::{Known, MarkedUnit, Word, known_name, place_of, unit_chunk, value_of};
 
-/// What an instance gives behind its place: the locators in written order, and the flags.
+/// What an instance gives after its place: the locators in written order, and the flags.
 #[derive(Drop)]
 pub struct Pairs {
     pub pairs: List<GivenLoc>,
     pub flags: i64,
 }
 
-/// The value of a locator: a number, or `None` where `?` is written.
+/// The value of a locator: a number, or `None` if `?` is written.
 #[inline(always)]
 fn given_value(sized: bool, word: Word) -> Option<Option<i64>>
     ensures { result ≡ given_value sized (piece_of word.entry) }
@@ -46,7 +46,7 @@ fn pair_of(
     }
 }
 
-/// The value behind `flags`, where this many words follow it: it has to be the last.
+/// The value after `flags`, which must be the last: no word may follow it.
 #[inline(always)]
 fn flags_of(sized: bool, value: Word, behind: usize) -> Option<i64>
     ensures { result ≡ option_and_then (λ value. given (behind == 0) value) (value_of sized (piece_of value.entry)) }

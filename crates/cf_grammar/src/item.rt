@@ -24,7 +24,7 @@ fn valued(alloc: Global, name: Word, plus: bool, value: Word) -> Result<Option<I
     }
 }
 
-/// An option: a name, perhaps with `=` and a value.
+/// An option: a name, optionally with `=` and a value.
 fn option_item(alloc: Global, words: &[Word]) -> Result<Option<Item>, Memory>
     ensures { IfOk result (λ i. i ≡ option_item (map piece_of words.now)) }
 {
@@ -102,7 +102,7 @@ fn items_of(alloc: Global, form: ItemForm, words: &[Word]) -> Result<Option<List
     Ok(Some(List::from_vec(items)))
 }
 
-/// `options`: options, parted by commas.
+/// `options`: options, separated by commas.
 #[inline(always)]
 pub fn options(alloc: Global, words: &[Word]) -> Result<Option<Stmt>, Memory>
     ensures { IfOk result (λ s. s ≡ option_map Stmt.Options (each option_item (parted (map piece_of words.now)))) }
@@ -113,7 +113,7 @@ pub fn options(alloc: Global, words: &[Word]) -> Result<Option<Stmt>, Memory>
     }
 }
 
-/// `makeoptions`: makeoptions, parted by commas.
+/// `makeoptions`: makeoptions, separated by commas.
 #[inline(always)]
 pub fn make_options(alloc: Global, words: &[Word]) -> Result<Option<Stmt>, Memory>
     ensures { IfOk result (λ s. s ≡ option_map Stmt.MakeOptions (each make_item (parted (map piece_of words.now)))) }

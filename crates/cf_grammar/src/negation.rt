@@ -20,7 +20,7 @@ fn at_place(known: &mut Known, sized: bool, words: &[Word]) -> Result<Option<AtS
     place_of(known, sized, *place)
 }
 
-/// An instance that is taken back, perhaps with what it attaches to.
+/// An instance that is taken back, optionally with what it attaches to.
 #[inline(always)]
 fn no_instance(
     known: &mut Known,
@@ -86,7 +86,7 @@ fn no_device(known: &mut Known, sized: bool, words: &[Word]) -> Result<Option<St
     }
 }
 
-/// What follows `no` by a word of its own.
+/// What follows `no` and has a word of its own.
 #[derive(Clone, Copy)]
 pub enum Negated {
     Options,

@@ -12,8 +12,8 @@ use std::marker::Model;
 /// How many bytes are held back at most.
 pub const ROOM: usize = 65_536;
 
-/// Holds back what is put until there is no room for more, and then hands it on to the sink below. What that does not
-/// take stays held.
+/// Holds back what is put until its room is full, and then hands it on to the sink below. What that sink does not take
+/// stays held.
 #[derive(Drop)]
 pub struct Buffered<W: Sink + Drop> {
     below: W,
@@ -32,7 +32,7 @@ impl<W: Sink + Drop> Model for Buffered<W> {
     ghost invariant = { λ it. (length it.held.items ≤ ROOM) × (ROOM ≤ vec_capacity it.held) };
 }
 
-/// Takes the first bytes away.
+/// Removes the first bytes.
 fn forget(held: &mut Vec<u8>, count: usize)
     requires { count ≤ length held.old.items }
     ensures rest { held.new.items ≡ drop count held.old.items }
@@ -71,7 +71,7 @@ impl<W: Sink + Drop> Buffered<W> {
         }
     }
 
-    /// Passes a piece on, where nothing is held here.
+    /// Passes a piece on, if nothing is held here.
     fn pass_on(&mut self, piece: &[u8]) -> Put
         requires { self.old.held ≡ [] }
         ensures { Puts piece.now result (told_of self.old) (told_of self.new) }
@@ -79,7 +79,7 @@ impl<W: Sink + Drop> Buffered<W> {
         self.below.put(piece)
     }
 
-    /// Flushes the sink below, where nothing is held here.
+    /// Flushes the sink below, if nothing is held here.
     fn flush_below(&mut self) -> Flush
         requires { self.old.held ≡ [] }
         ensures { Flushes result (told_of self.old) (told_of self.new) }

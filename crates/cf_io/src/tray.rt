@@ -30,8 +30,8 @@ impl Model for MemSink {
 }
 
 impl MemSink {
-    /// An empty sink that reserves room for so many bytes, and the numbers of the calls of `put` that are to fail,
-    /// counted from 1. A put past the room fails with as many bytes as still fit.
+    /// An empty sink with room for this many bytes, and the numbers of the calls of `put` that are to fail, counted
+    /// from 1. A put past the room fails with as many bytes as still fit.
     pub fn make(alloc: Global, fail: List<u64>, room: usize) -> Result<MemSink, Memory>
         ensures { IfOk result (λ sink. sink ≡ record { bytes = []; room = room; fail = fail; calls = 0; faults = 0 }) }
     {

@@ -6,7 +6,7 @@ ghost use Rattle.cf_lexer.specs.Front.{IsWithin, front, front_at, front_result, 
 use cf_types::TokenKind;
 use cf_types::code::configuration as code;
 
-/// A token by its place in the part of the line that it is.
+/// A token by its place in its part of the line.
 #[derive(Clone, Copy)]
 pub struct Span {
     pub kind: TokenKind,
@@ -14,7 +14,7 @@ pub struct Span {
     pub end: usize,
 }
 
-/// The part at the front of a line: how long it is, and its token, if it has one.
+/// The first part of a line: its length, and its token, if it has one.
 #[derive(Clone, Copy)]
 pub struct Front {
     pub len: usize,
@@ -32,7 +32,7 @@ static CLASSES: [u8; 256] = *b"\
     ~~~~~~~~~~~~~~~~~~~~~~~~~~~~~~~~\
     ~~~~~~~~~~~~~~~~~~~~~~~~~~~~~~~~";
 
-/// Whether a byte may stand in a chunk.
+/// Whether a byte may be part of a chunk.
 #[inline(always)]
 pub fn is_chunk_byte(byte: u8) -> bool
     ensures { result ≡ is_chunk_byte byte }
@@ -63,7 +63,7 @@ fn is_text_byte(byte: u8) -> bool
     matches!(byte, b'\t' | b' '..=b'~') && byte != b'"'
 }
 
-/// How many bytes of a chunk stand at the front.
+/// The length in bytes of the chunk at the beginning.
 #[inline(always)]
 pub fn chunk_len(bytes: &[u8]) -> usize
     ensures len { result ≡ prefix_len is_chunk_byte bytes.now }
@@ -75,7 +75,7 @@ pub fn chunk_len(bytes: &[u8]) -> usize
         .count()
 }
 
-/// How many bytes of a string stand at the front.
+/// How many bytes of a string are at the beginning.
 #[inline(always)]
 fn text_len(bytes: &[u8]) -> usize
     ensures { result ≡ prefix_len is_text_byte bytes.now }
@@ -83,7 +83,7 @@ fn text_len(bytes: &[u8]) -> usize
     bytes.iter().take_while(|&&byte| is_text_byte(byte)).count()
 }
 
-/// The string behind its first quote, or the code of the byte in the place of its second.
+/// The string after its first quote, or the code of the byte that is there instead of the second quote.
 #[inline(always)]
 fn quoted(bytes: &[u8]) -> Result<Front, u8>
     ensures front { result ≡ front_result (quoted_part (take_while is_text_byte bytes.now) (drop (prefix_len is_text_byte bytes.now) bytes.now)) }
@@ -127,7 +127,7 @@ fn is_plus_equals(first: u8, more: &[u8]) -> bool
     first == b'+' && !more.is_empty() && more[0] == b'='
 }
 
-/// The part at the front of the rest of a line, by its first byte and the bytes behind it, or the code of that byte.
+/// The first part of the rest of a line, from its first byte and the bytes after it, or the code of that byte.
 #[tactic(auto, using(crate::proofs::FrontLemmas::length_chunk))]
 #[inline(always)]
 pub fn front_part(first: u8, more: &[u8]) -> Result<Front, u8>

@@ -7,7 +7,7 @@ use cf_types::{Memory as NoMemory, Token, TokenKind};
 use memchr::memchr;
 use thiserror::Error;
 
-/// Why a text can't be cut into tokens.
+/// Why a text could not be cut into tokens.
 #[derive(Clone, Copy, Debug, PartialEq, Eq, Error)]
 pub enum LexStop {
     /// The line of the first faulty byte, counted from 1, and its code: `BAD_BYTE` for a byte that is not allowed,
@@ -30,7 +30,7 @@ impl From<NoMemory> for LexStop {
     }
 }
 
-/// Appends a token. Room is asked for only where there is none.
+/// Appends a token. Memory is asked for only if there is no room.
 #[inline(always)]
 pub fn push_token(tokens: &mut Vec<Token>, token: Token) -> Result<(), NoMemory>
     ensures { OnOk result (tokens.new.items ≡ tokens.old.items ++ token ∷ []) }
@@ -75,7 +75,7 @@ fn first_line(text: &[u8]) -> &[u8]
     }
 }
 
-/// Appends the chunk that begins with this byte at this place of the text, and tells how long it is.
+/// Appends the chunk that begins with this byte at this place of the text, and returns how long it is.
 #[inline(always)]
 fn push_chunk(
     tokens: &mut Vec<Token>,
@@ -101,7 +101,7 @@ fn push_chunk(
     Ok(len)
 }
 
-/// Appends the token of a part of a line that few parts are, and tells how long the part is.
+/// Appends the token of a part of a rare kind, and returns how long the part is.
 #[cold]
 fn push_rare(
     tokens: &mut Vec<Token>,
@@ -121,7 +121,7 @@ fn push_rare(
     Ok(front.len)
 }
 
-/// Appends the token of a part that is no chunk and no blank, if it has one, and tells how long the part is.
+/// Appends the token of a part that is no chunk and no blank, if it has one, and returns how long the part is.
 #[inline(always)]
 fn push_other(
     tokens: &mut Vec<Token>,
@@ -148,8 +148,8 @@ fn push_other(
     Ok(1)
 }
 
-/// Appends the token of the part of a text that begins there, if it has one, and tells how long the part is; `None` for a
-/// newline, which is no part of a line.
+/// Appends the token of the part of a text that begins there, if it has one, and returns how long the part is; `None`
+/// for a newline, which is no part of a line.
 #[inline(always)]
 fn push_part(
     tokens: &mut Vec<Token>,
@@ -180,7 +180,7 @@ fn push_part(
     }
 }
 
-/// Appends the tokens of the line of a text that begins there, and tells where the next one begins, if there is one.
+/// Appends the tokens of the line that begins there, and returns where the next line begins, if there is one.
 #[inline]
 pub fn cut_line(
     tokens: &mut Vec<Token>,

@@ -21,7 +21,7 @@ fn begins(text: &[u8], start: usize) -> bool
     !is_blank_byte(first) && first != b'#' && first != b'\n'
 }
 
-/// Appends a stop behind the last token, if there is one.
+/// Appends a stop after the last token, if there is one.
 #[inline]
 fn push_stop(tokens: &mut Vec<Token>) -> Result<(), NoMemory>
     ensures { OnOk result (tokens.new.items ≡ tokens.old.items ++ stop_behind tokens.old.items) }
@@ -38,7 +38,7 @@ fn push_stop(tokens: &mut Vec<Token>) -> Result<(), NoMemory>
     Ok(())
 }
 
-/// Ends the statement so far where the line of a text that begins there begins another.
+/// Ends the statement so far if the line of a text that begins there begins another one.
 #[inline(always)]
 fn end_statement(tokens: &mut Vec<Token>, text: &[u8], start: usize) -> Result<(), NoMemory>
     requires { start ≤ length text.now }
@@ -50,16 +50,16 @@ fn end_statement(tokens: &mut Vec<Token>, text: &[u8], start: usize) -> Result<(
     Ok(())
 }
 
-/// No token, with room for those of so many bytes in most files, so that few are moved as their list grows. What no
-/// token comes to lie in is never touched.
+/// No token, with room for as many as most files of this size have, so that few are moved as the list grows. Room that
+/// no token fills is never touched.
 fn room_for(alloc: Global, bytes: usize) -> Result<Vec<Token>, NoMemory>
     ensures { IfOk result (λ tokens. tokens.items ≡ []) }
 {
     Ok(Vec::with_capacity(alloc, bytes / 2)?)
 }
 
-/// The tokens of a configuration file of at most 1,048,576 bytes, with a `Stop` behind those of each statement, or the
-/// fault of the first byte that no token, comment or blank can take. See config(5).
+/// The tokens of a configuration file of at most 1,048,576 bytes, with a `Stop` after those of each statement, or the
+/// fault of the first byte that is part of no token, comment or blank. See config(5).
 pub fn cut(alloc: Global, text: &[u8]) -> Result<List<Token>, LexStop>
     requires { length text.now ≤ 1048576 }
     ensures cut { IfOk result (λ tokens. Cut text.now tokens) }

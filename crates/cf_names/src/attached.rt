@@ -5,8 +5,8 @@ use smallvec::SmallVec;
 use std::alloc::Global;
 use std::marker::Model;
 
-/// The numbers of a device's attachments in order: most devices have one or two, which lie in the list itself. Contracts
-/// see the list of them.
+/// The numbers of a device's attachments in order: one or two, which is enough for most devices, are kept in the list
+/// itself. Contracts see the list of them.
 #[derive(Drop)]
 pub struct Attached {
     numbers: SmallVec<usize, 2>,

@@ -12,8 +12,8 @@ use cf_types::{Attach, Attr, Declared, Device, List, Memory, Name};
 use std::alloc::Global;
 use std::marker::Model;
 
-/// Attributes, devices and attachments, each in the order in which they are declared. Contracts see the lists; beside
-/// them the numbers are kept by name and by device, so that a look-up takes no scan. See config(5).
+/// Attributes, devices and attachments, each in the order in which they are declared. Contracts see the lists; besides,
+/// numbers are kept by name and by device, so that no look-up needs a scan. See config(5).
 #[derive(Drop)]
 pub struct Catalog {
     lists: Declared,
@@ -31,7 +31,7 @@ impl Model for Catalog {
     ghost invariant = { λ it. IsIndexOf it.lists it.index };
 }
 
-/// Makes room for so many more attributes, devices and attachments.
+/// Makes room for this many more attributes, devices and attachments.
 fn reserve_lists(lists: &mut Declared, more: Room) -> Result<(), Memory>
     ensures { lists.new ≡ lists.old }
 {
@@ -40,7 +40,7 @@ fn reserve_lists(lists: &mut Declared, more: Room) -> Result<(), Memory>
     lists.attaches.reserve(more.attaches)
 }
 
-/// Notes the name of an attribute behind the others.
+/// Notes the name of an attribute after the others.
 fn note_attr(alloc: Global, index: &mut Index, lists: &Declared, attr: &Attr) -> Result<(), Memory>
     requires { IsIndexOf lists.now index.old }
     ensures { OnOk result (IsIndexOf (with_attr lists.now attr.now) index.new) }
@@ -50,7 +50,7 @@ fn note_attr(alloc: Global, index: &mut Index, lists: &Declared, attr: &Attr) ->
     Ok(())
 }
 
-/// Notes the name of a device behind the others.
+/// Notes the name of a device after the others.
 fn note_device(
     alloc: Global,
     index: &mut Index,
@@ -65,7 +65,7 @@ fn note_device(
     Ok(())
 }
 
-/// Notes the name, the device and the spots of an attachment behind the others.
+/// Notes the name, the device and the spots of an attachment after the others.
 fn note_attach(
     alloc: Global,
     index: &mut Index,
@@ -113,7 +113,7 @@ fn no_lists(alloc: Global) -> Declared
     }
 }
 
-/// Drops what is declared, where memory ran out while it grew.
+/// Drops what is declared, if memory ran out while it grew.
 fn settle(
     alloc: Global,
     lists: &mut Declared,
@@ -133,7 +133,7 @@ fn settle(
 }
 
 impl Catalog {
-    /// Nothing is declared; what will be is found by this hash of its name. It takes no memory.
+    /// Nothing is declared yet; names will be found by this hash. It takes no memory.
     pub fn make(alloc: Global, hash: NameHash) -> Catalog
         ensures { result ≡ record { attrs = []; devices = []; attaches = [] } }
     {
@@ -143,7 +143,8 @@ impl Catalog {
         }
     }
 
-    /// Makes room for so many more attributes, devices and attachments. Where memory runs out, what is declared is as before.
+    /// Makes room for so many more attributes, devices and attachments. If memory runs out, what is declared is as
+    /// before.
     pub fn reserve(&mut self, more: Room) -> Result<(), Memory>
         ensures { self.new ≡ self.old }
     {
@@ -206,14 +207,14 @@ impl Catalog {
         }
     }
 
-    /// The first spots of devices at places, if they are noted: whether they are is a matter of speed alone.
+    /// The first spots of devices at places, if they are noted. Whether they are noted affects only speed.
     pub fn noted_spots(&self) -> Option<&Spots>
         ensures { IfSome result (λ spots. AreSpots spots.now (all_spots self.now.attaches)) }
     {
         self.index.spots.as_ref()
     }
 
-    /// Adds an attribute. Where memory runs out, nothing is declared any more.
+    /// Adds an attribute. If memory runs out, nothing remains declared.
     pub fn add_attr(&mut self, alloc: Global, attr: Attr) -> Result<(), Memory>
         ensures { OnOk result (self.new ≡ record self.old { attrs = self.old.attrs ++ attr ∷ [] }) }
     {
@@ -222,7 +223,7 @@ impl Catalog {
         settle(alloc, &mut self.lists, &mut self.index, added)
     }
 
-    /// Adds a device. Where memory runs out, nothing is declared any more.
+    /// Adds a device. If memory runs out, nothing remains declared.
     pub fn add_device(&mut self, alloc: Global, device: Device) -> Result<(), Memory>
         ensures { OnOk result (self.new ≡ record self.old { devices = self.old.devices ++ device ∷ [] }) }
     {
@@ -231,7 +232,7 @@ impl Catalog {
         settle(alloc, &mut self.lists, &mut self.index, added)
     }
 
-    /// Adds an attachment. Where memory runs out, nothing is declared any more.
+    /// Adds an attachment. If memory runs out, nothing remains declared.
     pub fn add_attach(&mut self, alloc: Global, attach: Attach) -> Result<(), Memory>
         ensures { OnOk result (self.new ≡ record self.old { attaches = self.old.attaches ++ attach ∷ [] }) }
     {
@@ -240,7 +241,7 @@ impl Catalog {
         settle(alloc, &mut self.lists, &mut self.index, added)
     }
 
-    /// The lists alone.
+    /// Only the lists.
     pub fn into_lists(self) -> Declared
         ensures { result ≡ self }
     {

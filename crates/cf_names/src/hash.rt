@@ -29,7 +29,7 @@ impl Hasher for NameHasher {
     }
 }
 
-/// Hashes names by a key that follows from all names at once, so that nobody can choose names by their hashes.
+/// Hashes names by a key that is computed from all names together, so that nobody can choose names with equal hashes.
 #[derive(Clone, Copy)]
 pub struct NameHash {
     keyed: NameHasher,
@@ -45,7 +45,7 @@ impl BuildHasher for NameHash {
     }
 }
 
-/// Takes the names that are to be hashed, and makes the key of their hash. It takes no memory and never fails.
+/// Takes in the names that are to be hashed, and makes the key of their hash. It needs no memory and never fails.
 #[derive(Drop)]
 pub struct HashKey {
     digest: Sha512,
@@ -61,7 +61,7 @@ impl HashKey {
         }
     }
 
-    /// Takes one more name, or the text of a file, which is told from what follows by a newline.
+    /// Adds one more name, or the text of a file, and a newline after it.
     pub fn add(&mut self, bytes: &[u8])
         ensures { (taken : List ℕ) → Holds self.old taken → Holds self.new (taken ++ line_of bytes.now) }
     {
@@ -69,7 +69,7 @@ impl HashKey {
         self.digest.update(b"\n".as_slice());
     }
 
-    /// The hash by the digest of all that was taken.
+    /// The hash whose key is the digest of all that was added.
     pub fn hash(self) -> NameHash
         ensures { (taken : List ℕ) → Holds self taken → result ≡ hash_of taken }
     {

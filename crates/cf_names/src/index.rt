@@ -26,7 +26,7 @@ pub struct Index {
     pub spots: Option<Spots>,
 }
 
-/// How many attributes, devices and attachments there is to be room for.
+/// For how many attributes, devices and attachments to make room.
 #[derive(Clone, Copy)]
 pub struct Room {
     pub attrs: usize,
@@ -35,7 +35,7 @@ pub struct Room {
 }
 
 impl Index {
-    /// Makes room for the names of so many more.
+    /// Makes room for the names of this many more.
     pub fn reserve(&mut self, more: Room) -> Result<(), Memory>
         ensures { (d : Declared) → IsIndexOf d self.old → IsIndexOf d self.new }
     {

@@ -1,4 +1,4 @@
-//! What is declared, with look-ups by name and by device that take no scan.
+//! What is declared, with look-ups by name and by device that need no scan.
 #![tactic(auto)]
 
 mod attached;

@@ -16,7 +16,7 @@ pub fn no_numbers(alloc: Global, hash: NameHash) -> Numbers
     IndexMap::with_hasher(alloc, hash)
 }
 
-/// Makes room for so many more names.
+/// Makes room for this many more names.
 pub fn reserve_names(numbers: &mut Numbers, more: usize) -> Result<(), Memory>
     ensures { (names : List (List ℕ)) → AreNumbers numbers.old names → AreNumbers numbers.new names }
 {
@@ -34,7 +34,7 @@ pub fn number_in(numbers: &Numbers, name: &Name) -> Option<usize>
     }
 }
 
-/// Adds the next name, with its number. Where an earlier one is the same, its number stays.
+/// Adds the next name, with its number. If an earlier name is the same, the earlier number stays.
 pub fn add_name(numbers: &mut Numbers, name: &Name, number: usize) -> Result<(), Memory>
     ensures { OnOk result ((names : List (List ℕ)) → AreNumbers numbers.old names → length names ≡ number → AreNumbers numbers.new (names ++ name.now ∷ [])) }
 {

@@ -9,7 +9,7 @@ use cf_types::{Attach, Memory, Place};
 use std::alloc::Global;
 use std::collections::HashMap;
 
-/// How many attachments of a device, and how many places of each, are gone over where one is looked for.
+/// How many attachments of a device, and how many places of each, a look-up goes through one by one.
 pub const MAX_SCANNED: usize = 8;
 
 /// A device with a place of one of its attachments.
@@ -19,7 +19,7 @@ pub struct SpotKey {
     pub place: Place,
 }
 
-/// The first spot of a device at a place: how many spots of all devices stand before it, its attachment and its place.
+/// The first spot of a device at a place: how many spots of all devices come before it, its attachment and its place.
 #[derive(Clone, Copy)]
 pub struct FirstSpot {
     pub rank: usize,
@@ -34,7 +34,7 @@ pub struct Spots {
     pub count: usize,
 }
 
-/// Notes a spot, unless there is one of its device at its place.
+/// Notes a spot, unless its device has one at this place already.
 fn note(
     first: &mut HashMap<SpotKey, FirstSpot>,
     key: SpotKey,
@@ -113,7 +113,7 @@ impl Spots {
     }
 }
 
-/// Notes the spots of these attachments, where there are many and none are noted.
+/// Notes the spots of these attachments, if there are many and none are noted.
 fn begin_noting(
     alloc: Global,
     noted: &mut Option<Spots>,
@@ -129,7 +129,7 @@ fn begin_noting(
     Ok(())
 }
 
-/// Notes the spots of one more attachment, where those of these are noted.
+/// Notes the spots of one more attachment, if those of the earlier ones are noted.
 fn note_more(noted: &mut Option<Spots>, attaches: &[Attach], attach: &Attach) -> Result<(), Memory>
     requires { IfSome noted.old (λ spots. AreSpots spots (all_spots attaches.now)) }
     ensures { OnOk result (IfSome noted.new (λ spots. AreSpots spots (all_spots (attaches.now ++ attach.now ∷ [])))) }
@@ -143,7 +143,7 @@ fn note_more(noted: &mut Option<Spots>, attaches: &[Attach], attach: &Attach) ->
     }
 }
 
-/// Notes the spots of one more attachment behind those of these. Nothing is noted before there are many.
+/// Notes the spots of one more attachment after the earlier ones. Nothing is noted until there are many.
 pub fn note_spots(
     alloc: Global,
     noted: &mut Option<Spots>,

@@ -11,7 +11,7 @@ use crate::standing::{Flags, note_statement, nothing_stands, stands};
 use cf_types::{ItemKind, List, Memory, Name, Placed, Stmt};
 use std::alloc::Global;
 
-/// Appends the place of a negation, if nothing of its kind and name stands.
+/// Appends the place of a negation, if no item of its kind and name is in force.
 fn push_idle_name(
     idle: &mut List<u32>,
     flags: &Flags,
@@ -27,7 +27,7 @@ fn push_idle_name(
     idle.push(place)
 }
 
-/// Appends the place of a negation, once for each of its names of which nothing stands.
+/// Appends the place of a negation, once for each of its names for which no item is in force.
 fn push_idle_names(
     idle: &mut List<u32>,
     flags: &Flags,
@@ -43,7 +43,7 @@ fn push_idle_names(
     Ok(())
 }
 
-/// Appends the place of a statement, once for each name of it that takes back nothing.
+/// Appends the place of a statement, once for each name of it that takes nothing back.
 fn push_idle(idle: &mut List<u32>, flags: &Flags, stmt: &Stmt, place: u32) -> Result<(), Memory>
     ensures { OnOk result (idle.new ≡ idle.old ++ idle_of (stands_in flags.now) stmt.now place) }
 {
@@ -62,7 +62,7 @@ fn negate_items(placed: &[Placed]) -> bool
         .any(|statement| matches!(statement.stmt, Stmt::NoItems { .. }))
 }
 
-/// The places of the negations of items, each once for each of its names that takes back nothing.
+/// The places of the negations of items, each once for each of its names that takes nothing back.
 pub fn idle_items(alloc: Global, placed: &[Placed], last: &Negations) -> Result<List<u32>, Memory>
     requires few { length placed.now ≤ 65536 }
     requires last { AreNegations placed.now last.now }

@@ -12,7 +12,7 @@ use crate::parts::{file_systems_in, items_in};
 use cf_types::{Item, ItemKind, List, Memory, Name, Placed, Pseudo, Stmt};
 use std::alloc::Global;
 
-/// Appends a copy of an item, if no negation behind its place takes it back.
+/// Appends a copy of an item, if no negation after its place takes it back.
 fn push_item(
     alloc: Global,
     kept: &mut List<Item>,
@@ -28,7 +28,7 @@ fn push_item(
     kept.push(item_copied(alloc, item)?)
 }
 
-/// Appends those of the items that no negation behind their place takes back.
+/// Appends those of the items that no negation after their place takes back.
 fn push_items(
     alloc: Global,
     kept: &mut List<Item>,
@@ -44,7 +44,7 @@ fn push_items(
     Ok(())
 }
 
-/// Appends a file system, if no negation behind its place takes it back.
+/// Appends a file system, if no negation after its place takes it back.
 fn push_name(
     kept: &mut List<Name>,
     name: &Name,
@@ -59,7 +59,7 @@ fn push_name(
     kept.push(name.clone()?)
 }
 
-/// Appends those of the file systems that no negation behind their place takes back.
+/// Appends those of the file systems that no negation after their place takes back.
 fn push_names(
     kept: &mut List<Name>,
     names: &[Name],
@@ -74,7 +74,7 @@ fn push_names(
     Ok(())
 }
 
-/// Appends the pseudo-device of a statement, if no negation behind its place takes it back.
+/// Appends the pseudo-device of a statement, if no negation after its place takes it back.
 fn push_pseudo(
     kept: &mut List<Pseudo>,
     stmt: &Stmt,

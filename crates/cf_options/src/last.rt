@@ -81,7 +81,7 @@ pub fn last_negations(alloc: Global, placed: &[Placed]) -> Result<Negations<'_>,
     Ok(last)
 }
 
-/// Whether the last negation of a name is behind this place.
+/// Whether the last negation of a name is after this place.
 pub fn is_dropped(last: &LastPlaces, name: &Name, place: usize) -> bool
     ensures { result ≡ is_dropped last.now place name.now }
 {

@@ -11,19 +11,19 @@ use cf_types::{Item, ItemKind, List, Memory, Name, Placed, Pseudo};
 use std::alloc::Global;
 
 /// The items of a configuration that no later negation takes back, each list in the order of the statements, and the
-/// negations of items that take back nothing. See config(5).
+/// negations of items that take nothing back. See config(5).
 #[derive(Drop)]
 pub struct ItemLists {
     pub pseudos: List<Pseudo>,
     pub options: List<Item>,
     pub makeoptions: List<Item>,
     pub file_systems: List<Name>,
-    /// The place of a negation, once for each of its names that takes back nothing.
+    /// The place of a negation, once for each of its names that takes nothing back.
     pub idle: List<u32>,
 }
 
 /// The items of at most 65,536 placed statements. Repeats are kept. Two equal names in one negation both take back what
-/// stands before it. The only error is want of memory.
+/// is before it. The only error is `Memory`.
 pub fn items(alloc: Global, placed: &[Placed]) -> Result<ItemLists, Memory>
     requires { length placed.now ≤ 65536 }
     ensures pseudos { IfOk result (λ lists. lists.pseudos ≡ kept_items of_kind.PseudoDevice pseudos_in (λ p. p.name) (stmts_of placed.now)) }

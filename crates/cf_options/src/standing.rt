@@ -9,7 +9,7 @@ use cf_types::{Item, ItemKind, Memory, Name, Stmt};
 use std::alloc::Global;
 use std::collections::HashMap;
 
-/// For each name that is negated later whether an item of that name stands, by the kind of items.
+/// For each name that is negated later whether an item of that name is in force, by the kind of items.
 #[derive(Drop)]
 pub struct Flags<'a> {
     pub options: HashMap<&'a Name, bool>,
@@ -18,7 +18,7 @@ pub struct Flags<'a> {
     pub file_systems: HashMap<&'a Name, bool>,
 }
 
-/// Nothing stands.
+/// Nothing is in force.
 pub fn nothing_stands<'a>(alloc: Global) -> Flags<'a>
     ensures { (kind : Kind) (q : List ℕ) → stands_in result kind q ≡ false }
 {
@@ -30,7 +30,7 @@ pub fn nothing_stands<'a>(alloc: Global) -> Flags<'a>
     }
 }
 
-/// Whether an item of this name stands.
+/// Whether an item of this name is in force.
 fn is_set(flags: &HashMap<&Name, bool>, name: &Name) -> bool
     ensures { result ≡ flag_of flags.now name.now }
 {
@@ -40,7 +40,7 @@ fn is_set(flags: &HashMap<&Name, bool>, name: &Name) -> bool
     }
 }
 
-/// Whether an item of the kind and name stands.
+/// Whether an item of this kind and name is in force.
 pub fn stands(flags: &Flags, kind: ItemKind, name: &Name) -> bool
     ensures { result ≡ stands_in flags.now kind name.now }
 {
@@ -52,7 +52,7 @@ pub fn stands(flags: &Flags, kind: ItemKind, name: &Name) -> bool
     }
 }
 
-/// Notes whether an item of this name stands at a place, if a negation behind it names it: else nobody asks.
+/// Notes whether an item of this name is in force after a place, if a later negation names it: otherwise nobody asks.
 fn set<'a>(
     flags: &mut HashMap<&'a Name, bool>,
     last: &LastPlaces,
@@ -71,7 +71,7 @@ fn set<'a>(
     }
 }
 
-/// Notes of these names whether an item stands at a place.
+/// Notes for these names whether an item is in force after a place.
 fn set_names<'a>(
     flags: &mut HashMap<&'a Name, bool>,
     last: &LastPlaces,
@@ -87,7 +87,7 @@ fn set_names<'a>(
     Ok(())
 }
 
-/// Notes that these items stand at a place.
+/// Notes that these items are in force after a place.
 fn set_items<'a>(
     flags: &mut HashMap<&'a Name, bool>,
     last: &LastPlaces,
@@ -137,7 +137,7 @@ fn take_back<'a>(
     }
 }
 
-/// Notes what the statement at a place does to the items of all kinds that are negated behind it.
+/// Notes what the statement at a place does to the items of all kinds that are negated after it.
 pub fn note_statement<'a>(
     flags: &mut Flags<'a>,
     last: &Negations,

@@ -5,7 +5,7 @@ ghost use Rattle.cf_rows.specs.Rows.{seen};
 use cf_types::{Instance, List, Memory};
 use std::alloc::Global;
 
-/// So many empty lists.
+/// This many empty lists.
 fn empty_lists<'a>(alloc: Global, count: u32) -> Result<Vec<List<&'a Instance>>, Memory>
     ensures size { IfOk result (λ lists. length lists.items ≡ count) }
     ensures empty { IfOk result (λ lists. (d : ℕ) → slice_index_or lists.items d [] ≡ []) }

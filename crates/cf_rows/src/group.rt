@@ -4,7 +4,7 @@ use cf_types::{Instance, List, Memory};
 use std::alloc::Global;
 use std::marker::Model;
 
-/// The instances of one unit in order. Most units have one, for which no list takes memory. Contracts see the list of all.
+/// The instances of one unit in order. Most units have one, which needs no list. Contracts see the list of all.
 #[derive(Drop)]
 pub struct Group<'a> {
     first: &'a Instance,
@@ -32,7 +32,7 @@ impl<'a> Group<'a> {
         }
     }
 
-    /// Appends an instance. Where memory runs out, the group is as before.
+    /// Appends an instance. If memory runs out, the group is as before.
     pub fn push(&mut self, instance: &'a Instance) -> Result<(), Memory>
         ensures ok { OnOk result (self.new ≡ self.old ++ instance.entry ∷ []) }
         ensures err { OnErr result (self.new ≡ self.old) }

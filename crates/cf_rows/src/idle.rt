@@ -7,7 +7,7 @@ ghost use Rattle.cf_rows.specs.Idle.{ArePlacesOfNegations, ArePlacesOfNames, Are
 use cf_types::{List, Memory, Placed, SharedText, Text, WarnKind, Warning};
 use std::alloc::Global;
 
-/// A copy of the name under which a file was loaded, by its place; empty where there is none.
+/// A copy of the name under which a file was loaded, by its place; empty if there is none.
 pub fn file_name(alloc: Global, files: &[Text], file: u32) -> Result<Text, Memory>
     ensures { IfOk result (λ name. name ≡ slice_index_or files.now file []) }
 {
@@ -28,7 +28,7 @@ fn shared_names(alloc: Global, files: &[Text]) -> Result<List<SharedText>, Memor
     Ok(List::from_vec(names))
 }
 
-/// The name under which a file was loaded, by its place; empty where there is none.
+/// The name under which a file was loaded, by its place; empty if there is none.
 #[inline(always)]
 fn shared_name(alloc: Global, files: &[SharedText], file: u32) -> Result<SharedText, Memory>
     ensures { IfOk result (λ name. name ≡ slice_index_or files.now file []) }
@@ -56,7 +56,7 @@ fn make_warning(
     })
 }
 
-/// Appends so many warnings of one kind.
+/// Appends this many warnings of one kind.
 fn push_warnings(
     alloc: Global,
     out: &mut List<Warning>,
@@ -73,7 +73,7 @@ fn push_warnings(
     Ok(())
 }
 
-/// How often a place stands at the front.
+/// How often a place is at the beginning.
 fn front_count(places: &[u32], place: usize) -> usize
     ensures count { result ≡ prefix_len (λ p. p == place) places.now }
     ensures within { result ≤ length places.now }
@@ -88,7 +88,7 @@ fn front_count(places: &[u32], place: usize) -> usize
     count
 }
 
-/// Appends a warning for each time that the place stands at the front, and answers the places behind.
+/// Appends a warning for each time that the place is at the beginning, and returns the places after that.
 fn push_front<'a>(
     alloc: Global,
     out: &mut List<Warning>,
@@ -108,7 +108,7 @@ fn push_front<'a>(
     Ok(&places[count..])
 }
 
-/// Appends a warning where the first of the orphans is of this statement, and answers the places of those behind.
+/// Appends a warning if the first of the orphans is of this statement, and returns the places of the remaining ones.
 fn push_orphan<'a>(
     alloc: Global,
     out: &mut List<Warning>,
@@ -167,8 +167,8 @@ fn merged(
 }
 
 /// The warnings of a configuration in the order of its statements: one for each negation of instances and for each name
-/// in a negation of items that takes back nothing, and one for each orphan. The places are those of such negations and of
-/// the orphans, in order; one of a negation of items stands once for each such name. See config(5).
+/// in a negation of items that takes nothing back, and one for each orphan. The places are those of such negations and
+/// of the orphans, in order; the place of a negation of items is there once for each such name. See config(5).
 pub fn warnings(
     alloc: Global,
     files: &[Text],

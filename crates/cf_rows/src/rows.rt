@@ -18,7 +18,7 @@ fn copied(locs: &Locs) -> Locs
     copy
 }
 
-/// The row of an instance, where this is the first unit of a starred one.
+/// The row of an instance; `first` is the unit of a starred one.
 fn row(first: u32, instance: &Instance) -> Row
     ensures { result ≡ row first instance.now }
 {
@@ -48,9 +48,9 @@ fn push_device(alloc: Global, rows: &mut List<Row>, own: &[&Instance]) -> Result
     Ok(())
 }
 
-/// The rows of so many devices, in the order of the devices, from the instances that lead to the root: those without
-/// star, equal units together at the place of the first, and then the starred ones, whose unit is one more than the
-/// greatest of the device. See config(5) and the cfdata rows of autoconf(9).
+/// The rows of this many devices, in the order of the devices, from the rooted instances: first those without a star,
+/// equal units together at the place of the first, then the starred ones, whose first unit is one more than the
+/// greatest unit of the device. See config(5) and the cfdata rows of autoconf(9).
 pub fn rows_of(alloc: Global, devices: u32, instances: &[&Instance]) -> Result<List<Row>, Memory>
     requires { All UnitFits (seen instances.now) }
     ensures { IfOk result (λ rows. rows ≡ rows_of devices (seen instances.now)) }

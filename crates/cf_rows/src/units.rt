@@ -19,7 +19,7 @@ pub fn unit_of(instance: &Instance) -> Option<u32>
     }
 }
 
-/// One more than the greatest unit, or 0 where each instance is starred.
+/// One more than the greatest unit, or 0 if each instance is starred.
 pub fn first_unit(own: &[&Instance]) -> u32
     requires { All UnitFits (seen own.now) }
     ensures { result ≡ first_unit (filter_map unit_of (seen own.now)) }
@@ -33,7 +33,7 @@ pub fn first_unit(own: &[&Instance]) -> u32
     first
 }
 
-/// Adds an instance to the group of its unit, or as a new group behind the others.
+/// Adds an instance to the group of its unit, or as a new group after the others.
 fn add<'a>(
     alloc: Global,
     groups: &mut Vec<Group<'a>>,
@@ -93,7 +93,7 @@ fn push_starred<'a>(ordered: &mut Vec<&'a Instance>, own: &[&'a Instance]) -> Re
     Ok(())
 }
 
-/// Whether the units of these instances of a device ascend, whatever stars stand between them.
+/// Whether the units of these instances of a device ascend; starred ones between them do not matter.
 fn units_ascend(own: &[&Instance]) -> bool
     requires { All UnitFits (seen own.now) }
     ensures { IsTrue result → flat_map (of_unit (seen own.now)) (units_of (seen own.now)) ≡ fixed (seen own.now) }

@@ -4,12 +4,12 @@ ghost use Rattle.config_rules.specs.Select.{is_at_root};
 
 use cf_types::{ParentSpec, Place};
 
-/// What matters of an instance for being rooted: its device, its unit or, where it is starred, any, its place and the
+/// What decides whether an instance is rooted: its device, its unit, or any unit if it is starred, its place and the
 /// parent that it names.
 #[derive(Clone, Copy, Debug, PartialEq, Eq)]
 pub struct Inst {
     pub device: u32,
-    /// Its unit; no matter where it is starred.
+    /// Its unit; it has no meaning if the instance is starred.
     pub unit: u32,
     pub star: bool,
     pub place: Place,

@@ -1,4 +1,5 @@
-//! Which instances no later negation takes back, and which of them a chain of carriers leads to from the root. See config(5).
+//! Which instances no later negation takes back, and to which of them a chain of carriers leads from the root. See
+//! config(5).
 #![tactic(auto)]
 
 mod instance;

@@ -7,7 +7,7 @@ use std::alloc::Global;
 use std::collections::HashMap;
 use std::hash::Hash;
 
-/// Takes away the places of a key.
+/// Removes the places of a key.
 pub fn take_places<K: Eq + Hash + Drop>(
     alloc: Global,
     lists: &mut HashMap<K, Places>,

@@ -116,7 +116,7 @@ fn inst_at(insts: &[Inst], place: usize) -> &Inst
     &insts[place]
 }
 
-/// Marks all that are rooted, where those at the root are marked and the others wait.
+/// Marks all that are rooted, starting from the marked ones at the root; the others wait.
 fn spread(
     alloc: Global,
     graph: &Graph,
@@ -188,8 +188,8 @@ fn rooted_marks(alloc: Global, graph: &Graph, insts: &[Inst]) -> Result<Vec<bool
 }
 
 /// For each instance, of a device of the graph, whether it is rooted: a chain of instances, each of which can carry the
-/// next, leads to it from one at the root. Where the graph is that of the tables, these are the instances that are rooted
-/// in the tables. The only error is want of memory. See config(5) on orphans.
+/// next, leads to it from one at the root. If the graph is that of the tables, these are the instances that are rooted
+/// in the tables. The only error is `Memory`. See config(5) on orphans.
 pub fn rooted(alloc: Global, graph: &Graph, insts: &[Inst]) -> Result<List<bool>, Memory>
     requires { All (λ i. i.device < length graph.now.devices) insts.now }
     ensures graph { IfOk result (λ marks. RootedIn graph.now (map inst_of insts.now) marks) }

@@ -4,15 +4,15 @@ ghost use Rattle.cf_select.specs.Hashed.{attachment_input, key_input, unit_numbe
 
 use std::hash::{Hash, Hasher};
 
-/// What a negation or an instance attaches to, as it is written.
+/// What a negation or an instance attaches to, as written.
 #[derive(Clone, Copy, PartialEq, Eq)]
 pub enum Attachment<'a> {
     Root,
     Named(&'a [u8], Option<u32>),
 }
 
-/// Which instances a negation names: those of a base and unit, or starred, those of them with an attachment, or all with
-/// an attachment.
+/// Which instances a negation names: those of a base with a unit or starred, those of them with one attachment, or all
+/// with one attachment.
 #[derive(Clone, Copy, PartialEq, Eq)]
 pub enum Named<'a> {
     Unit(&'a [u8], Option<u32>),
@@ -20,7 +20,7 @@ pub enum Named<'a> {
     At(Attachment<'a>),
 }
 
-/// A unit as a number; where there is none, one that is no unit.
+/// A unit as a number; if there is none, a number that is no unit.
 #[inline(always)]
 fn unit_number(unit: Option<u32>) -> u32
     ensures { result ≡ unit_number unit }

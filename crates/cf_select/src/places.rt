@@ -5,7 +5,8 @@ use smallvec::SmallVec;
 use std::alloc::Global;
 use std::marker::Model;
 
-/// Places in order: most keys have one or two, which lie in the list itself. Contracts see the list of them.
+/// Places in order: one or two, which is enough for most keys, are kept in the list itself. Contracts see the list of
+/// them.
 #[derive(Drop)]
 pub struct Places {
     items: SmallVec<usize, 2>,
@@ -29,7 +30,7 @@ impl Places {
         }
     }
 
-    /// Appends a place. Where memory runs out, the places are as before.
+    /// Appends a place. If memory runs out, the places are as before.
     pub fn push(&mut self, place: usize) -> Result<(), Memory>
         ensures ok { OnOk result (self.new ≡ self.old ++ place ∷ []) }
         ensures err { OnErr result (self.new ≡ self.old) }

@@ -24,7 +24,7 @@ use std::collections::HashMap;
 pub struct Kept {
     /// One truth value for each placed statement: true for an instance that no later negation names.
     pub kept: List<bool>,
-    /// The places of the negations of instances that take back nothing.
+    /// The places of the negations of instances that take nothing back.
     pub idle: List<u32>,
 }
 
@@ -52,7 +52,7 @@ fn take_all(free: &mut Vec<bool>, places: &[usize])
     }
 }
 
-/// Takes back what a negation names, and tells whether there was something.
+/// Takes back what a negation names, and returns whether there was something.
 fn take_named<'a>(
     alloc: Global,
     free: &mut Vec<bool>,
@@ -71,7 +71,7 @@ fn take_named<'a>(
     found
 }
 
-/// Takes back what a negation names, and tells whether a statement is a negation that takes back nothing.
+/// Takes back what a negation names, and returns whether a statement is a negation that takes nothing back.
 fn take_back<'a>(
     alloc: Global,
     free: &mut Vec<bool>,
@@ -101,7 +101,7 @@ fn push_idle(idle: &mut List<u32>, is_idle: bool, place: u32) -> Result<(), Memo
     Ok(())
 }
 
-/// Leaves the marks of instances, and takes away all others.
+/// Keeps the marks of instances, and removes all others.
 fn keep_instances(placed: &[Placed], free: &mut Vec<bool>)
     requires { length free.old.items ≡ length placed.now }
     ensures { free.new.items ≡ instances (stmts_of placed.now) free.old.items }
@@ -143,7 +143,7 @@ fn lists_for<'a>(alloc: Global, placed: &[Placed]) -> Result<HashMap<Named<'a>, 
 }
 
 /// Which of at most 65,536 placed statements are instances that survive, and which negations of instances take back
-/// nothing. The only error is want of memory. See config(5).
+/// nothing. The only error is `Memory`. See config(5).
 pub fn survivors(alloc: Global, placed: &[Placed]) -> Result<Kept, Memory>
     requires { length placed.now ≤ 65536 }
     ensures kept { IfOk result (λ it. it.kept ≡ kept (stmts_of placed.now)) }

@@ -10,7 +10,7 @@ use crate::want::Want;
 use std::alloc::Global;
 use std::collections::HashMap;
 
-/// Lists of places by what the instances there wait for. An attribute that is not noted is one that nobody waits for.
+/// Lists of places by what the instances there wait for. Nobody waits for an attribute that is not noted.
 #[derive(Drop)]
 pub struct Waiting {
     pub lists: HashMap<Want, Places>,
@@ -32,7 +32,7 @@ impl Waiting {
         }
     }
 
-    /// Takes away the places of those that wait for this.
+    /// Removes the places of those that wait for this.
     pub fn take(&mut self, alloc: Global, want: &Want) -> Places
         ensures list { result ≡ list_at block.ghosts.eq self.old.lists want.now }
         ensures rest { (q : Want) → list_at block.ghosts.eq self.new.lists q ≡ (if block.ghosts.eq want.now q then [] else list_at block.ghosts.eq self.old.lists q) }

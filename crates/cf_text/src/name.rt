@@ -2,7 +2,7 @@ ghost use Rattle.std.specs.Prelude.{◌≡◌};
 ghost use Rattle.std.specs.List.{list_all};
 ghost use Rattle.cf_text.specs.Shapes.{begins_name, continues_name, is_name};
 
-/// Each byte of a name stands at its own place, and a comma at every other place.
+/// Each byte that a name may have is at its own place; every other place has a comma.
 static NAME_BYTES: [u8; 256] = *b"\
     ,,,,,,,,,,,,,,,,,,,,,,,,,,,,,,,,\
     ,,,,,,,,,,,,,-,,0123456789,,,,,,\

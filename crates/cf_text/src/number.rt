@@ -12,7 +12,7 @@ pub const MAX_NUMBER: i64 = 4_294_967_295;
 /// How far below 0 the least number is.
 const MOST_BELOW: u64 = 2_147_483_648;
 
-/// What stands for all numbers above the greatest.
+/// Stands for every number above the greatest.
 const TOO_GREAT: u64 = 4_294_967_296;
 
 /// How a chunk reads as a number.
@@ -26,7 +26,7 @@ pub enum NumberRead {
     Value(i64),
 }
 
-/// The number that one or more digits of this radix spell, or `TOO_GREAT` for all from there on.
+/// The number that one or more digits of this radix spell, or `TOO_GREAT` for any greater one.
 #[inline(always)]
 fn read_digits(bytes: &[u8], radix: u32) -> Option<u64>
     requires low { 2 ≤ radix }
@@ -44,7 +44,7 @@ fn read_digits(bytes: &[u8], radix: u32) -> Option<u64>
     Some(value)
 }
 
-/// The number that decimal digits without a leading zero spell, or `TOO_GREAT` for all from there on.
+/// The number that decimal digits without a leading zero spell, or `TOO_GREAT` for any greater one.
 #[inline]
 pub fn read_decimal(bytes: &[u8]) -> Option<u64>
     ensures { result ≡ (if is_decimal bytes.now then Some (min (digits_value 10 bytes.now) TOO_GREAT) else None) }
@@ -55,7 +55,7 @@ pub fn read_decimal(bytes: &[u8]) -> Option<u64>
     }
 }
 
-/// The number that a chunk without a sign spells, or `TOO_GREAT` for all from there on.
+/// The number that a chunk without a sign spells, or `TOO_GREAT` for any greater one.
 fn read_unsigned(chunk: &[u8]) -> Option<u64>
     ensures { result ≡ option_map (λ n. min n TOO_GREAT) (unsigned chunk.now) }
 {
@@ -66,7 +66,7 @@ fn read_unsigned(chunk: &[u8]) -> Option<u64>
     }
 }
 
-/// What the digits behind a `-` spell.
+/// What the digits after a `-` spell.
 fn read_negative(chunk: &[u8]) -> NumberRead
     ensures { result ≡ read_of (option_map (λ n. neg_ℤ (pos n)) (unsigned chunk.now)) }
 {
@@ -99,7 +99,7 @@ fn read_positive(chunk: &[u8]) -> NumberRead
     }
 }
 
-/// Reads a number of any length: decimal, octal behind `0` or hexadecimal behind `0x`, perhaps with a `-` before it.
+/// Reads a number of any length: decimal, octal after `0` or hexadecimal after `0x`, optionally with a `-` before it.
 /// It is `OutOfRange` below `MIN_NUMBER` and above `MAX_NUMBER`. It takes no memory. See config(5).
 pub fn read_number(chunk: &[u8]) -> NumberRead
     ensures { result ≡ read_of (number chunk.now) }

@@ -8,7 +8,7 @@ use crate::number::read_decimal;
 /// The greatest unit that may be written.
 pub const MAX_UNIT: u32 = 65_535;
 
-/// How a chunk falls into a base and a unit: `cut` is the length of the base, in bytes.
+/// How a chunk is split into a base and a unit: `cut` is the length of the base, in bytes.
 #[derive(Clone, Copy, Debug, PartialEq, Eq)]
 pub enum Split {
     /// No unit chunk.
@@ -23,7 +23,7 @@ pub enum Split {
     TooGreat,
 }
 
-/// How much of a chunk stands before the digits at its end, from 0 to its length. It takes no memory.
+/// The length of the part of a chunk before the digits at its end, from 0 to the chunk's length. It takes no memory.
 #[inline]
 pub fn base_len(chunk: &[u8]) -> usize
     ensures len { result ≡ base_len chunk.now }
@@ -61,7 +61,7 @@ fn split_fixed(chunk: &[u8]) -> Split
     }
 }
 
-/// Whether a chunk is a name and this mark behind it.
+/// Whether a chunk is a name and this mark after it.
 fn is_marked(chunk: &[u8], mark: u8) -> bool
     requires { ¬ mark ≡ 0 }
     ensures marked { result ≡ is_marked mark chunk.now }

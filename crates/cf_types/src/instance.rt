@@ -11,7 +11,8 @@ pub struct Joined {
     pub locs: Locs,
 }
 
-/// A device instance: the place of its statement among those that are placed, what it joins, its unit and its flags.
+/// A device instance: the place of its statement in the list of placed statements, what it joins, its unit and its
+/// flags.
 #[derive(Drop)]
 pub struct Instance {
     pub stmt: u32,

@@ -1,18 +1,18 @@
 use crate::{List, Locs, Name, Place};
 
-/// A place of the machine where hardware may sit. Spots are numbered from 0 in file order.
+/// A place of the machine where hardware may be. Spots are numbered from 0 in file order.
 #[derive(Drop)]
 pub struct Spot {
     pub name: Name,
-    /// The number of the spot that it hangs below, `None` below the root.
+    /// The number of the spot above it, `None` below the root.
     pub parent: Option<u16>,
     /// The interface attribute on which it is found.
     pub place: Place,
     /// The locator values that the bus finds there.
     pub found: Locs,
-    /// Hidden until a finaliser shows it.
+    /// It is hidden until a finalizer shows it.
     pub late: bool,
-    /// Empty until it is plugged.
+    /// It has no hardware until it is plugged.
     pub absent: bool,
     /// Each transfer ends with a device error.
     pub bad: bool,
@@ -35,14 +35,14 @@ pub struct StyleLine {
     pub indirect: bool,
 }
 
-/// What the driver of an attachment refuses or puts off.
+/// What the driver of an attachment refuses or defers.
 #[derive(Clone, Copy, Debug)]
 pub struct Policy {
-    /// It can't be detached on request.
+    /// It cannot be detached on request.
     pub nodetach: bool,
-    /// It can't be rescanned.
+    /// It cannot be rescanned.
     pub norescan: bool,
-    /// It can't be suspended.
+    /// It cannot be suspended.
     pub nopower: bool,
     /// Its suspension fails.
     pub failsuspend: bool,
@@ -58,7 +58,7 @@ impl Policy {
     ghost use Rattle.std.specs.Prelude.{◌≡◌};
     ghost use Rattle.cf_types.specs.Policies.{no_policy};
 
-    /// The policy of a driver that refuses nothing and puts nothing off.
+    /// The policy of a driver that refuses nothing and defers nothing.
     pub fn none() -> Policy
         ensures { result ≡ no_policy }
     {
@@ -98,7 +98,7 @@ pub struct Given {
 pub enum Command {
     /// Take a reference to a device.
     OpenDev(Name),
-    /// Take the only reference to a device: no other may be held beside it.
+    /// Take the only reference to a device: nobody may hold another one.
     OpenSole(Name),
     CloseDev(Name),
     Io(Name, u32),

@@ -7,10 +7,10 @@ use std::hash::{Hash, Hasher};
 use std::marker::Model;
 use std::sync::Arc;
 
-/// How many bytes lie in the block of memory that the owners of a name share; more of them have blocks of their own.
+/// How many bytes fit into the block of memory that the owners of a name share; a longer name has another block.
 const SHORT: usize = 14;
 
-/// At most 14 bytes. Contracts see them alone.
+/// At most 14 bytes. Contracts see only the bytes.
 #[derive(Debug, Drop)]
 struct ShortBytes {
     len: u8,

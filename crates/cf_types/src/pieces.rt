@@ -14,8 +14,8 @@ pub struct PieceSpan {
     pub end: u32,
 }
 
-/// The tokens of a statement, which share one text: however many they are, they take two blocks of memory. Contracts see
-/// the list of the tokens.
+/// The tokens of a statement, which share one text: they take two blocks of memory, however many they are. Contracts
+/// see the list of the tokens.
 #[derive(Drop)]
 pub struct Pieces {
     text: Vec<u8>,
@@ -34,7 +34,7 @@ impl Model for Pieces {
     ghost invariant = { λ it. All (IsWithin (length it.text.items)) it.spans.items };
 }
 
-/// Appends the bytes of a token, and tells where they stand. Where memory runs out, the text is as before.
+/// Appends the bytes of a token, and returns where they are. If memory runs out, the text is as before.
 fn add_bytes(text: &mut Vec<u8>, kind: TokenKind, bytes: &[u8]) -> Result<PieceSpan, Memory>
     ensures err { OnErr result (text.new.items ≡ text.old.items) }
     ensures ok { OnOk result (text.new.items ≡ text.old.items ++ bytes.now) }
@@ -50,7 +50,7 @@ fn add_bytes(text: &mut Vec<u8>, kind: TokenKind, bytes: &[u8]) -> Result<PieceS
     Ok(PieceSpan { kind, start, end })
 }
 
-/// The part of a text in which these tokens stand, and where it begins.
+/// The part of a text that holds these tokens, and where it begins.
 #[inline(always)]
 fn part_of<'a>(text: &'a [u8], tokens: &[Token]) -> (u32, &'a [u8])
     requires { AreIn (length text.now) tokens.now }
@@ -69,7 +69,7 @@ fn part_of<'a>(text: &'a [u8], tokens: &[Token]) -> (u32, &'a [u8])
     (start, &text[start as usize..end as usize])
 }
 
-/// Where the tokens of a text stand in the part of it that begins there.
+/// The places of the tokens of a text in the part of it that begins at `start`.
 #[inline(always)]
 fn spans_from(alloc: Global, start: u32, tokens: &[Token]) -> Result<Vec<PieceSpan>, Memory>
     requires { All (IsFrom start) tokens.now }
@@ -86,7 +86,7 @@ fn spans_from(alloc: Global, start: u32, tokens: &[Token]) -> Result<Vec<PieceSp
     Ok(spans)
 }
 
-/// The token that stands there, with bytes of its own.
+/// The token at this place, with bytes of its own.
 fn piece_at(alloc: Global, text: &[u8], span: PieceSpan) -> Result<Piece, Memory>
     requires { IsWithin (length text.now) span }
     ensures { IfOk result (λ piece. piece ≡ piece_at text.now span) }
@@ -99,7 +99,7 @@ fn piece_at(alloc: Global, text: &[u8], span: PieceSpan) -> Result<Piece, Memory
 }
 
 impl Pieces {
-    /// No token, with room for so many tokens and bytes.
+    /// No token, with room for this many tokens and bytes.
     pub fn with_room(alloc: Global, tokens: usize, bytes: usize) -> Result<Pieces, Memory>
         ensures { IfOk result (λ pieces. pieces ≡ []) }
     {
@@ -109,7 +109,7 @@ impl Pieces {
         })
     }
 
-    /// The tokens of a text. The part of it in which they stand is copied at once.
+    /// The tokens of a text. The part of the text that holds them is copied at once.
     #[inline(always)]
     pub fn of_tokens(alloc: Global, text: &[u8], tokens: &[Token]) -> Result<Pieces, Memory>
         requires { AreIn (length text.now) tokens.now }
@@ -128,7 +128,7 @@ impl Pieces {
         self.spans.len()
     }
 
-    /// Appends a token. Where memory runs out, or the text would be too long to be counted, the tokens are as before.
+    /// Appends a token. If memory runs out, or the text would be too long to be counted, the tokens are as before.
     pub fn push(&mut self, kind: TokenKind, bytes: &[u8]) -> Result<(), Memory>
         ensures ok { OnOk result (self.new ≡ self.old ++ record { kind = kind; text = bytes.now } ∷ []) }
         ensures err { OnErr result (self.new ≡ self.old) }

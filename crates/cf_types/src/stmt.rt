@@ -36,14 +36,14 @@ pub enum UnitMark {
     Star,
 }
 
-/// What an instance attaches to: the root, or a device or an attribute, whose unit is `None` where `?` is written.
+/// What an instance attaches to: the root, or a device or an attribute, whose unit is `None` if `?` is written.
 #[derive(Drop)]
 pub enum AtSpec {
     Root,
     Named { base: Name, unit: Option<u32> },
 }
 
-/// A locator that an instance gives. The value is `None` where `?` is written.
+/// A locator that an instance gives. The value is `None` if `?` is written.
 #[derive(Drop)]
 pub struct GivenLoc {
     pub name: Name,
@@ -70,7 +70,7 @@ pub enum ItemKind {
     FileSystem,
 }
 
-/// An option or a makeoption; `plus` where its value is added by `+=`.
+/// An option or a makeoption; `plus` if its value is added by `+=`.
 #[derive(Drop)]
 pub struct Item {
     pub name: Name,
@@ -81,12 +81,12 @@ pub struct Item {
 /// A statement of a configuration file, with its words in written order. See config(5).
 #[derive(Drop)]
 pub enum Stmt {
-    /// `include` or, where it is optional, `cinclude`.
+    /// `include` or, if it is optional, `cinclude`.
     Include {
         path: Text,
         optional: bool,
     },
-    /// `prefix`; without a path it takes the top prefix away.
+    /// `prefix`; without a path it removes the top prefix.
     Prefix {
         path: Option<Text>,
     },
@@ -95,7 +95,7 @@ pub enum Stmt {
         word: CondWord,
         name: Option<Name>,
     },
-    /// `define`; the locators are there exactly where braces are written.
+    /// `define`; the locators are there exactly if braces are written.
     Define {
         name: Name,
         locs: Option<List<Locator>>,
@@ -124,7 +124,7 @@ pub enum Stmt {
         attach_name: Option<Name>,
         needs: List<Name>,
     },
-    /// A device instance, as `com0 at isa?`; the flags are 0 where none are written.
+    /// A device instance, as `com0 at isa?`; the flags are 0 if none are written.
     Inst {
         base: Name,
         mark: UnitMark,
@@ -132,7 +132,7 @@ pub enum Stmt {
         pairs: List<GivenLoc>,
         flags: i64,
     },
-    /// `no` and an instance, perhaps with what it attaches to.
+    /// `no` and an instance, optionally with what it attaches to.
     NoInst {
         base: Name,
         mark: UnitMark,
@@ -159,16 +159,16 @@ pub enum Stmt {
     FileSystems {
         names: List<Name>,
     },
-    /// `pseudo-device`; the count is 1 where none is written.
+    /// `pseudo-device`; the count is 1 if none is written.
     PseudoDevice {
         name: Name,
         count: u32,
     },
-    /// A statement whose form alone is looked at, as `maxusers`.
+    /// A statement of which only the form is checked, such as `maxusers`.
     Checked {
         word: Name,
     },
-    /// A statement that may have any tokens, as `file`.
+    /// A statement that may have any tokens, such as `file`.
     Free {
         word: Name,
         rest: Pieces,

@@ -1,6 +1,6 @@
 use crate::{Item, List, Locs, Name, SharedText, Text};
 
-/// A locator of an attribute, with its default; an instance need not write it where it is optional.
+/// A locator of an attribute, with its default; an instance may leave it out if it is optional.
 #[derive(Drop)]
 pub struct Locator {
     pub name: Name,
@@ -28,7 +28,7 @@ pub struct Attr {
 #[derive(Drop)]
 pub struct Device {
     pub name: Name,
-    /// The interface attribute of its own name, where braces are written.
+    /// The interface attribute of its own name, if braces are written.
     pub own: Option<u32>,
     /// The attributes that it names.
     pub needs: List<u32>,
@@ -51,7 +51,7 @@ pub struct Attach {
     pub needs: List<u32>,
 }
 
-/// The parent device that a row names; the unit is `None` where `?` is written.
+/// The parent device that a row names; the unit is `None` if `?` is written.
 #[derive(Clone, Copy, Debug, PartialEq, Eq)]
 pub struct ParentSpec {
     pub device: u32,
@@ -80,10 +80,10 @@ pub struct Pseudo {
     pub count: u32,
 }
 
-/// What a warning tells of.
+/// What a warning is about.
 #[derive(Clone, Copy, Debug, PartialEq, Eq)]
 pub enum WarnKind {
-    /// A negation took back nothing.
+    /// A negation took nothing back.
     Nothing,
     /// An instance has no parent that leads to the root.
     Orphan,
@@ -98,7 +98,7 @@ pub struct Warning {
     pub kind: WarnKind,
 }
 
-/// What a configuration means, after the tables that config(1) makes.
+/// What a configuration means, modelled on the tables that config(1) makes.
 #[derive(Drop)]
 pub struct Tables {
     pub attrs: List<Attr>,
@@ -112,7 +112,8 @@ pub struct Tables {
     pub warnings: List<Warning>,
 }
 
-/// The first fault of a configuration: the file as it was named, the line, counted from 1, or 0 for the file itself, and the code.
+/// The first fault of a configuration: the file as it was named, the line, counted from 1, or 0 for the file as a
+/// whole, and the code.
 #[derive(Debug, Drop)]
 pub struct Refusal {
     pub file: Text,

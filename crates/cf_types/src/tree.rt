@@ -3,7 +3,7 @@ use crate::{List, Name};
 /// A line of the device tree, as drvctl(8) lists it: one live device.
 #[derive(Drop)]
 pub struct DevLine {
-    /// How many devices stand above it: 0 for a child of the root.
+    /// How many devices are above it: 0 for a child of the root.
     pub depth: u32,
     /// Its driver's name with its unit.
     pub name: Name,
@@ -24,6 +24,6 @@ pub struct Hold {
     pub caller: u8,
     /// How many references it has, 1 to 15.
     pub count: u8,
-    /// Whether its reference is the only one that may be.
+    /// Whether its reference is the only one that there may be.
     pub sole: bool,
 }

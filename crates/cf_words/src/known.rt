@@ -1,4 +1,4 @@
-//! Names that were read, so that one that is read again shares their memory.
+//! Names that have been read, so that one that is read again shares their memory.
 ghost use Rattle.std.specs.Prelude.{◌≡◌, ◌≤◌, IfOk, IfSome, length};
 
 use crate::word::is_same;
@@ -9,30 +9,30 @@ use std::mem::replace;
 /// How many names there is room for at first.
 const FIRST: usize = 512;
 
-/// The most that there is room for.
+/// The most names that there is room for.
 const MOST: usize = 32_768;
 
-/// How many places a name may stand at.
+/// At how many places a name may be.
 const WAYS: usize = 4;
 
-/// Some of the names that were read, each at one of four places that follow from its bytes. A name that is read again is
-/// shared with what has it, if it still stands there.
+/// Some of the names that were read, each at one of four places that are computed from its bytes. A name that is read
+/// again shares the memory of the earlier one, if that one is still there.
 #[derive(Drop)]
 pub struct Known {
     names: Vec<Option<Name>>,
     made: usize,
 }
 
-/// What a number is multiplied by for each part of a name: it spreads names that differ in a digit or two.
+/// The factor by which a number is multiplied for each part of a name: it spreads names that differ in a digit or two.
 const SPREAD: u64 = 0x9E37_79B9_7F4A_7C15;
 
-/// A number that follows from those of two parts.
+/// A number that is computed from those of two parts.
 #[inline(always)]
 fn joined(number: u64, part: u32) -> u64 {
     number.wrapping_mul(SPREAD).wrapping_add(u64::from(part))
 }
 
-/// A number that follows from the bytes of a long name that stand behind its first four.
+/// A number that is computed from the bytes of a long name after its first four.
 fn number_behind(first: u64, bytes: &[u8]) -> u64 {
     let mut number = first;
     for byte in bytes {
@@ -41,7 +41,7 @@ fn number_behind(first: u64, bytes: &[u8]) -> u64 {
     number
 }
 
-/// A number that follows from the bytes of a name: of the first four and the last four, which are all that most names have.
+/// A number that is computed from the first four and the last four bytes of a name, which are all that most names have.
 #[inline(always)]
 fn parts_of(bytes: &[u8]) -> u64 {
     match bytes {
@@ -62,7 +62,7 @@ fn parts_of(bytes: &[u8]) -> u64 {
     }
 }
 
-/// A number that follows from the bytes of a name.
+/// A number that is computed from the bytes of a name.
 #[inline(always)]
 fn number_of(bytes: &[u8]) -> usize {
     (parts_of(bytes).wrapping_mul(SPREAD) >> 32) as usize
@@ -77,7 +77,7 @@ impl Known {
         }
     }
 
-    /// Where what is read takes its memory.
+    /// The allocator that gives memory to what is read.
     #[inline(always)]
     pub fn alloc(&self) -> Global {
         *self.names.allocator()
@@ -89,7 +89,7 @@ impl Known {
         (number ^ way) & self.names.len().saturating_sub(1)
     }
 
-    /// The name with these bytes, if it stands at this place.
+    /// The name with these bytes, if it is at this place.
     #[inline(always)]
     fn at(&self, place: usize, bytes: &[u8]) -> Option<&Name>
         ensures { IfSome result (λ name. name.now ≡ bytes.now) }
@@ -104,7 +104,7 @@ impl Known {
         }
     }
 
-    /// Lets the names at two places change places.
+    /// Swaps the names at two places.
     fn swap(&mut self, place: usize, other: usize) {
         let Some(slot) = self.names.get_mut(place) else {
             return;
@@ -119,7 +119,7 @@ impl Known {
         }
     }
 
-    /// The name with these bytes, if it stands at one of the other places of its number. From then on it stands at the first.
+    /// The name with these bytes, if it is at one of the other places of its number. From then on it is at the first.
     fn find(&mut self, number: usize, bytes: &[u8]) -> Result<Option<Name>, Memory>
         ensures { IfOk result (λ found. IfSome found (λ name. name ≡ bytes.now)) }
     {
@@ -145,7 +145,7 @@ impl Known {
         self.place(number, WAYS - 1)
     }
 
-    /// Puts a name at one of its places, perhaps in place of another name.
+    /// Puts a name at one of its places, perhaps replacing another name.
     fn put(&mut self, number: usize, name: Name) {
         let place = self.free_place(number);
         if let Some(slot) = self.names.get_mut(place) {
@@ -171,7 +171,7 @@ impl Known {
         Ok(())
     }
 
-    /// Keeps a name that was made. Three quarters of the places are left free, so that few names take another's.
+    /// Keeps a name that was made. Three quarters of the places stay free, so that few names replace another one.
     fn keep(&mut self, number: usize, name: &Name) -> Result<(), Memory> {
         if self.made >= self.names.len() / 4 {
             self.grow()?;
@@ -181,7 +181,7 @@ impl Known {
         Ok(())
     }
 
-    /// The name with these bytes and this number, which does not stand at its first place.
+    /// The name with these bytes and this number, which is not at its first place.
     #[inline(never)]
     fn other_name(&mut self, number: usize, bytes: &[u8]) -> Result<Name, Memory>
         requires not_empty { 1 ≤ length bytes.now }

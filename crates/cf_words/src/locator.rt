@@ -54,7 +54,7 @@ fn is_bracketed(first: Word, last: Word) -> bool
     first.is_mark(b"[") && last.is_mark(b"]")
 }
 
-/// A locator: a name, a name with a default, or both in brackets, where it is optional.
+/// A locator: a name, a name with a default, or either in brackets, if it is optional.
 fn locator_of(known: &mut Known, sized: bool, words: &[Word]) -> Result<Option<Locator>, Memory>
     ensures { IfOk result (λ l. l ≡ locator_of sized (map piece_of words.now)) }
 {
@@ -99,7 +99,7 @@ fn each_locator(
     Ok(Some(List::from_vec(locs)))
 }
 
-/// Reads what stands between braces: nothing, or up to 16 locators, parted by commas.
+/// Reads what is between braces: nothing, or up to 16 locators, separated by commas.
 pub fn locators_of(
     known: &mut Known,
     sized: bool,

@@ -65,7 +65,7 @@ fn alone_known(known: &mut Known, words: &[Word]) -> Result<Option<Name>, Memory
     }
 }
 
-/// Reads one or more names, parted by commas.
+/// Reads one or more names, separated by commas.
 pub fn names_of(known: &mut Known, words: &[Word]) -> Result<Option<List<Name>>, Memory>
     ensures { IfOk result (λ names. names ≡ names_of (map piece_of words.now)) }
 {

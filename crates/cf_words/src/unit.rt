@@ -10,7 +10,7 @@ use crate::word::Word;
 use cf_text::{MAX_UNIT, base_len, read_decimal};
 use cf_types::{AtSpec, Memory, Name, UnitMark};
 
-/// A base and the number behind it, as in `com0`.
+/// A base and the number after it, as in `com0`.
 #[derive(Drop)]
 struct FixedUnit {
     base: Name,
@@ -24,7 +24,7 @@ pub struct MarkedUnit {
     pub mark: UnitMark,
 }
 
-/// The unit that decimal digits spell; where sizes don't count, 0 for one that is too great.
+/// The unit that decimal digits spell; if sizes don't count, 0 for one that is too great.
 #[inline(always)]
 fn unit_number(sized: bool, digits: &[u8]) -> Option<u32>
     ensures { result ≡ unit_number sized digits.now }
@@ -39,7 +39,7 @@ fn unit_number(sized: bool, digits: &[u8]) -> Option<u32>
     }
 }
 
-/// The base and the unit of a word, where it has both.
+/// The base and the unit of a word, if it has both.
 #[inline(always)]
 fn fixed_of(known: &mut Known, sized: bool, word: Word) -> Result<Option<FixedUnit>, Memory>
     ensures { IfOk result (λ unit. option_map fixed_parts unit ≡ fixed_of sized (piece_of word.entry)) }
@@ -60,7 +60,7 @@ fn fixed_of(known: &mut Known, sized: bool, word: Word) -> Result<Option<FixedUn
     }))
 }
 
-/// What stands before this mark, where a chunk is a name and the mark.
+/// The name before this mark, if a chunk is a name followed by the mark.
 #[inline(always)]
 fn base_before(chunk: &[u8], mark: u8) -> Option<&[u8]>
     ensures { option_map (λ base. base.now) result ≡ base_before mark chunk.now }

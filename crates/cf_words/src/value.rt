@@ -8,7 +8,8 @@ use cf_text::{NumberRead, read_number};
 /// The greatest count of a pseudo-device.
 const MAX_COUNT: i64 = 65_535;
 
-/// Reads a word as a number: `None` for another shape. One out of its range gives `None` where sizes count, and else 0.
+/// Reads a word as a number: `None` for another shape. One out of its range gives `None` if sizes count, and otherwise
+/// 0.
 pub fn value_of(sized: bool, word: Word) -> Option<i64>
     ensures { result ≡ value_of sized (piece_of word.entry) }
 {
@@ -22,8 +23,8 @@ pub fn value_of(sized: bool, word: Word) -> Option<i64>
     }
 }
 
-/// Reads a word as a count from 1 to 65,535: `None` for no number. One out of its range gives `None` where sizes count,
-/// and else 0.
+/// Reads a word as a count from 1 to 65,535: `None` for no number. One out of its range gives `None` if sizes count,
+/// and otherwise 0.
 pub fn count_of(sized: bool, word: Word) -> Option<u32>
     ensures { result ≡ count_of sized (piece_of word.entry) }
 {

@@ -5,14 +5,14 @@ ghost use Rattle.cf_words.specs.Words.{parts_left, piece_of};
 
 use cf_types::TokenKind;
 
-/// A token of a statement with its bytes, lent from the text.
+/// A token of a statement with its bytes, borrowed from the text.
 #[derive(Clone, Copy, Debug)]
 pub struct Word<'a> {
     pub kind: TokenKind,
     pub text: &'a [u8],
 }
 
-/// Whether two texts are the same. Those of two bytes or fewer are told apart without a call.
+/// Whether two texts are the same. Those of two bytes or fewer are compared without a call.
 #[inline(always)]
 fn has_few_bytes(text: &[u8], other: &[u8]) -> bool
     ensures { result ≡ bytes_eq text.now other.now }
@@ -25,7 +25,7 @@ fn has_few_bytes(text: &[u8], other: &[u8]) -> bool
     }
 }
 
-/// Whether two texts are the same. Those of four to six bytes are told apart without a call too.
+/// Whether two texts are the same. Those of four to six bytes are compared without a call, too.
 #[inline(always)]
 fn has_bytes(text: &[u8], other: &[u8]) -> bool
     ensures { result ≡ bytes_eq text.now other.now }
@@ -38,7 +38,7 @@ fn has_bytes(text: &[u8], other: &[u8]) -> bool
     }
 }
 
-/// Whether two texts are the same, which those of other lengths are not.
+/// Whether two texts are the same. Texts of different lengths are not.
 #[tactic(auto, using(crate::proofs::SameLemmas::long_differs))]
 #[inline(always)]
 pub fn is_same(text: &[u8], other: &[u8]) -> bool
@@ -90,7 +90,7 @@ fn is_comma(word: Word) -> bool
     word.is_mark(b",")
 }
 
-/// How many words stand before the first of these marks; all of them where there is none.
+/// How many words come before the first of these marks; all of them if there is none.
 #[inline(always)]
 fn count_before(words: &[Word], mark: &[u8]) -> usize
     ensures { result ≡ length (take_while (λ word. not (is_mark mark.now (piece_of word))) words.now) }
@@ -114,7 +114,7 @@ pub fn split_before<'w, 'a>(words: &'w [Word<'a>], mark: &[u8]) -> (&'w [Word<'a
     words.split_at(count_before(words, mark))
 }
 
-/// The words before the first of these marks and those behind it; `None` where there is none.
+/// The words before the first of these marks and those after it; `None` if there is none.
 #[inline(always)]
 pub fn parted_at<'w, 'a>(
     words: &'w [Word<'a>],
@@ -129,7 +129,7 @@ pub fn parted_at<'w, 'a>(
     }
 }
 
-/// The words behind the first of these marks; none where there is none.
+/// The words after the first of these marks; none if there is no mark.
 #[inline(always)]
 pub fn behind_first<'w, 'a>(words: &'w [Word<'a>], mark: &[u8]) -> &'w [Word<'a>]
     ensures { map piece_of result.now ≡ after_first (is_mark mark.now) (map piece_of words.now) }
@@ -141,7 +141,7 @@ pub fn behind_first<'w, 'a>(words: &'w [Word<'a>], mark: &[u8]) -> &'w [Word<'a>
     }
 }
 
-/// The words before the first comma, and those behind it, where there is one.
+/// The words before the first comma, and those after it, if there is one.
 #[inline(always)]
 pub fn first_part<'w, 'a>(words: &'w [Word<'a>]) -> (&'w [Word<'a>], Option<&'w [Word<'a>]>)
     ensures parts { parted (map piece_of words.now) ≡ map piece_of result.0.now ∷ parts_left result.1 }

@@ -3,7 +3,7 @@ ghost use Rattle.std.specs.Prelude.{◌≡◌, ◌≤◌, ◌<◌, ◌∷◌, fi
 
 use cf_types::Memory;
 
-/// Takes a spot out of a list.
+/// Removes a spot from a list.
 pub fn remove_spot(spots: &mut Vec<u16>, spot: u16)
     ensures items { spots.new.items ≡ filter (λ y. not (y == spot)) spots.old.items }
     ensures len { vec_len spots.new ≤ vec_len spots.old }

@@ -1,4 +1,5 @@
-//! A device comes: its unit is taken, it is listed, and its scan and its finaliser are placed. See config_attach(9).
+//! A device is attached: its unit is taken, it is listed, and its scan and its finalizer are placed. See
+//! config_attach(9).
 ghost use Rattle.std.specs.Prelude.{◌≡◌, ◌≤◌, ◌<◌, ◌-◌, ◌^◌, ℕ, List, IfOk, IfSome, OnOk, OnErr, length, vec_len, vec_capacity};
 ghost use Rattle.run_rules.specs.After as after;
 ghost use Rattle.run_world.specs.Arrivals.{IsListed, MayArrive, StaysAsIs, called_too, put_off_too, state_at};
@@ -14,7 +15,7 @@ use run_world::{Core, Site, append, driver_of, is_ended, policy_of};
 use scan_engine::offered;
 use std::alloc::Global;
 
-/// Where the finaliser of a new device goes.
+/// Where the finalizer of a new device goes.
 #[tactic(auto, unfolding(run_rules::specs::After::finaliser_placing))]
 fn finaliser_placing(policy: Policy, booted: bool) -> Placing
     ensures { result ≡ after.finaliser_placing policy booted }
@@ -67,7 +68,7 @@ fn put_off(
     }
 }
 
-/// Takes the scan back that was put off last.
+/// Takes back the scan that was put off last.
 fn take_back(deferred: &mut Deferred, placing: Placing, parent: u64)
     ensures { (es : List entry.Deferred) (serial : ℕ) → deferred.old ≡ put_off_too placing es parent serial → deferred.new ≡ es }
 {
@@ -132,7 +133,7 @@ fn list(site: &Site, core: &mut Core, arrival: Arrival, placing: Placing) -> Res
     }
 }
 
-/// Puts the finaliser of a new device on the boot's list, if that is its place.
+/// Puts the finalizer of a new device on the boot's list, if that is its place.
 fn call_later(finalisers: &mut Vec<u64>, placing: Placing, serial: u64)
     requires { vec_len finalisers.old < vec_capacity finalisers.old }
     ensures { finalisers.new.items ≡ called_too placing finalisers.old.items serial }
@@ -145,7 +146,7 @@ fn call_later(finalisers: &mut Vec<u64>, placing: Placing, serial: u64)
     }
 }
 
-/// A device comes by a caller's deed, if one was found.
+/// A device is attached by a caller's deed, if one was found.
 #[tactic(auto, unfolding(run_rules::specs::After::attached))]
 #[inline(always)]
 pub fn arrive(

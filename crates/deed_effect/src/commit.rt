@@ -19,7 +19,7 @@ use run_rules::{Arrival, Deed, Key, Position};
 use run_world::{Core, Site};
 use std::alloc::Global;
 
-/// A turn of a scan: the scan moves, and what was found comes.
+/// A turn of a scan: the scan moves, and what was found is attached.
 #[inline(always)]
 fn search(
     alloc: Global,
@@ -69,8 +69,8 @@ fn goes_again(shown: Option<u16>, anew: bool, pass_repeats: bool) -> bool
     shown.is_some() || (!anew && pass_repeats)
 }
 
-/// A call of a finaliser: the late spot that it found is shown, what comes there comes, and the boot's list goes on, or
-/// the frame is over.
+/// A call of a finalizer: the late spot that it found is shown, what a row takes there is attached, and the boot's list
+/// goes on, or the frame is over.
 fn finalise(
     alloc: Global,
     site: &Site,

@@ -138,7 +138,7 @@ fn rest(core: &mut Core, of: u64, asleep: bool)
     core.tree.set_asleep(of, asleep);
 }
 
-/// The hardware of a spot goes, and the caller frees from now on what stands there. At `Memory` all is as before.
+/// The hardware of a spot goes, and from now on the caller frees the device there. At `Memory` all is as before.
 fn unplug(core: &mut Core, caller: u8, spot: u16, of: Option<u64>) -> Result<(), Memory>
     requires caller { caller < length core.old.callers.items }
     requires low { (state_at core.old.callers.items caller).over < 2 ^ 32 - 1 }

@@ -1,4 +1,4 @@
-//! A condemned device goes. See config_detach(9).
+//! A condemned device is freed. See config_detach(9).
 ghost use Rattle.std.specs.Prelude.{◌≡◌, ◌<◌, ◌-◌, ◌^◌, [], length, IsTrue};
 ghost use Rattle.run_rules.specs.After as rule;
 ghost use Rattle.run_rules.specs.declared.deed.Deed.TheVariants as deed;
@@ -43,7 +43,7 @@ fn free_device(site: &Site, core: &mut Core, of: u64)
     }
 }
 
-/// Whether a caller is over with what it frees, once this device is gone.
+/// Whether a caller has freed all that it frees, once this device is gone.
 fn is_target(doing: Activity, serial: u64) -> bool
     ensures { result ≡ rule.freeing_target doing serial }
 {
@@ -53,7 +53,7 @@ fn is_target(doing: Activity, serial: u64) -> bool
     }
 }
 
-/// A condemned device goes; where it is the target of its caller's command, that is over.
+/// A condemned device is freed; if it is the target of its caller's command, that command is over.
 #[tactic(auto, unfolding(run_rules::specs::After::after))]
 pub fn free(site: &Site, core: &mut Core, caller: u8, of: u64)
     requires books { Books site.now.setup core.old }

@@ -1,4 +1,4 @@
-//! What deeds do to the slots of spots.
+//! What deeds do to the spots' slots.
 ghost use Rattle.std.specs.Prelude.{◌≡◌, ◌≢◌, ◌<◌, ◌-◌, ◌^◌, ℕ, IfErr, OnErr, OnOk, Some, false, true, length, slice_get, slice_set};
 ghost use Rattle.std.specs.Option.{option_map_or};
 ghost use Rattle.ref_ledger.specs.declared.state.SlotState.TheVariants.{Free, Condemned};
@@ -72,7 +72,7 @@ fn condemn_slots<S: Slots>(slots: &mut S, site: &Site, core: &Core, target: u64)
     }
 }
 
-/// Frees a condemned slot; or answers who holds it, bit k-1 for caller k, and nothing changes but the denials.
+/// Frees a condemned slot; or returns who holds it, bit k-1 for caller k, and only the denials change.
 fn bury_slot<S: Slots>(slots: &mut S, slot: u16) -> Result<(), u16>
     requires { slice_get (S.states slots.old) slot ≡ Some Condemned }
     ensures freed { OnOk result (S.states slots.new ≡ slice_set (S.states slots.old) slot Free) }
@@ -89,7 +89,7 @@ fn bury_slot<S: Slots>(slots: &mut S, slot: u16) -> Result<(), u16>
     }
 }
 
-/// A condemned device goes, its slot first; or callers hold the slot, and nothing changes but the denials.
+/// A condemned device is freed, its slot first; or callers hold the slot, and nothing changes except the denials.
 pub fn free_with<S: Slots>(
     site: &Site,
     core: &mut Core,
@@ -215,7 +215,7 @@ fn do_with<S: Slots>(
 }
 
 /// Does a deed that the caller chose, with its slots; or memory runs out, or callers hold the slot of the device that
-/// is to be freed, and nothing changes but the denials.
+/// is to be freed, and nothing changes except the denials.
 #[inline(always)]
 pub fn run_deed<S: Slots>(
     alloc: Global,

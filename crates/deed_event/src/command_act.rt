@@ -1,4 +1,4 @@
-//! What a command is told, as an event has it.
+//! What the event of a command says.
 ghost use Rattle.std.specs.Prelude.{◌≡◌, ◌<◌, ◌+◌, ◌^◌, false, true, IfOk, None, Some, length, option_map};
 ghost use Rattle.std.specs.Option.{option_map_or};
 ghost use Rattle.run_rules.specs.declared.event.Act.TheVariants as act;
@@ -16,7 +16,8 @@ use run_world::{Core, command_of};
 use std::alloc::Global;
 use told_names::{list_names, live_name, tree_names};
 
-/// What a transfer brings: the number of the spot and the value that was sent, modulo 2^32, or the error of a bad spot.
+/// The result of a transfer: the number of the spot plus the value that was sent, modulo 2^32, or the error of a bad
+/// spot.
 #[tactic(auto, unfolding(run_rules::specs::Run::answer_of))]
 pub fn answer_for(ticket: Ticket) -> IoAnswer
     ensures { result ≡ run.answer_of ticket }
@@ -141,7 +142,7 @@ fn tree_act(alloc: Global, setup: &Setup, core: &Core, name: &Option<Name>) -> R
     Ok(Act::TreeDev { device, names })
 }
 
-/// The names that a list or a tree tells.
+/// The names in a list or a tree.
 fn listing_act(alloc: Global, setup: &Setup, core: &Core, said: &Command) -> Result<Act, Memory>
     requires names { HaveNames setup.now core.now }
     requires few { length core.now.tree.live + 1 < 2 ^ 32 }
@@ -155,7 +156,7 @@ fn listing_act(alloc: Global, setup: &Setup, core: &Core, said: &Command) -> Res
     }
 }
 
-/// The name that a command gives; none where it is a list or a tree.
+/// The name that a command gives; none if it is a list or a tree.
 fn name_given(said: &Command) -> Option<&Name>
     ensures { name_given said.now ≡ option_map (λ name. name.now) result }
 {

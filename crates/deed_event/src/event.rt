@@ -53,7 +53,7 @@ fn called_at(core: &Core, serial: u64) -> Option<Called>
     }
 }
 
-/// How many bytes serve for most texts.
+/// How many bytes are enough for most texts.
 const USUAL: usize = 48;
 
 /// An act with its text.
@@ -65,7 +65,7 @@ fn spelled(alloc: Global, act: Act) -> Result<SharedAct, Memory>
     SharedAct::with_text(alloc, act, text)
 }
 
-/// Puts down an act with its text, and keeps it for later events that tell this of the spot, or of the device there.
+/// Makes an act with its text, and keeps it for later events that say this about the spot, or about the device there.
 fn keep(
     alloc: Global,
     core: &mut Core,
@@ -81,7 +81,7 @@ fn keep(
     Ok(act)
 }
 
-/// A search of a spot that found nothing, which is told for the first time below this parent.
+/// A search of a spot that found nothing, for the first time below this parent.
 #[inline(never)]
 fn first_nothing_found(
     alloc: Global,
@@ -159,7 +159,7 @@ fn attached(
     )
 }
 
-/// A call of a finaliser, with what it showed.
+/// A call of a finalizer, with what it showed.
 fn finalised(
     alloc: Global,
     setup: &Setup,
@@ -180,7 +180,7 @@ fn finalised(
     SharedAct::make(alloc, Act::Final { device, shown })
 }
 
-/// That a device fell asleep, or woke, which is told for the first time.
+/// That a device fell asleep, or woke, for the first time.
 #[inline(never)]
 fn first_rest(
     alloc: Global,
@@ -215,7 +215,7 @@ fn rest_act(asleep: bool, device: Name) -> Act
     }
 }
 
-/// What an act tells by which a device fell asleep, or woke.
+/// What the act of a device that fell asleep, or woke, says.
 #[inline(always)]
 fn resting(asleep: bool, of: Called) -> Telling
     ensures { result ≡ resting asleep of }
@@ -253,7 +253,7 @@ fn rest(
     }
 }
 
-/// The line of a deed that tells this device alone, which has this name.
+/// The line of a deed that names only this device, which has this name.
 #[tactic(auto, unfolding(run_rules::specs::Run::printed))]
 #[inline(always)]
 fn line_with(deed: &Deed, of: u64, device: Name) -> Act
@@ -271,7 +271,7 @@ fn line_with(deed: &Deed, of: u64, device: Name) -> Act
     }
 }
 
-/// What happens by a deed that tells this device alone.
+/// What happens by a deed that names only this device.
 #[inline(always)]
 fn device_act(
     alloc: Global,
@@ -291,7 +291,7 @@ fn device_act(
     }
 }
 
-/// What happens by a deed of which nothing is kept; a deed of a command is told by its command.
+/// What happens by a deed of which nothing is kept; a deed of a command is described by its command.
 #[tactic(auto, unfolding(run_rules::specs::Run::printed))]
 #[inline(never)]
 fn other_act(
@@ -336,7 +336,7 @@ fn keep_tree(recent: &mut Recent, tree: SharedAct) -> Result<SharedAct, Memory>
     Ok(tree)
 }
 
-/// A tree. It shares what was told last of a tree, where that is the same; told twice, it has its text.
+/// A tree. It shares the last tree, if that is the same; the second time, it has its text.
 fn tree_told(alloc: Global, recent: &mut Recent, tree: Act) -> Result<SharedAct, Memory>
     ensures act { IfOk result (λ a. a ≡ tree) }
     ensures recent { (s : Setup) → AreRecent s recent.old → AreRecent s recent.new }
@@ -412,7 +412,7 @@ fn deed_act(
     }
 }
 
-/// The event of what a caller does next. An act that was told before is shared; nothing else of the board changes.
+/// The event of what a caller does next. An act that came before is shared; nothing else of the board changes.
 #[tactic(auto, unfolding(run_rules::specs::Run::event_of))]
 #[inline(always)]
 pub fn deed_event(

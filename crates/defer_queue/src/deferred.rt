@@ -8,8 +8,8 @@ use run_rules::{Deferred as Entry, Key};
 use std::alloc::Global;
 use std::marker::Model;
 
-/// The scans that were put off. Contracts see the list of them in the order in which they were put off. See
-/// config_defer(9) and config_interrupts(9).
+/// The deferred scans. Contracts see the list of them in the order in which they were deferred. See config_defer(9) and
+/// config_interrupts(9).
 #[derive(Drop)]
 pub struct Deferred {
     entries: Vec<Entry>,
@@ -24,7 +24,7 @@ impl Model for Deferred {
     ghost view = { λ queue. queue.entries.items };
 }
 
-/// Whether a scan that was put off to the first key was put off to the second one.
+/// Whether two keys are the same.
 fn same_key(key: Key, which: Key) -> bool
     ensures { result ≡ after.same_key key which }
 {
@@ -48,7 +48,7 @@ fn last_place(entries: &[Entry], which: Key) -> Option<usize>
 }
 
 impl Deferred {
-    /// Nothing is put off. It takes no memory.
+    /// Nothing is deferred. It takes no memory.
     pub fn make(alloc: Global) -> Deferred
         ensures { result ≡ [] }
     {
@@ -57,7 +57,7 @@ impl Deferred {
         }
     }
 
-    /// Puts the scan of a device off to a key. At `Memory` all is as before.
+    /// Defers the scan of a device to a key. At `Memory` all is as before.
     pub fn put(&mut self, key: Key, child: u64) -> Result<(), Memory>
         ensures ok { OnOk result (self.new ≡ self.old ++ entry_of key child ∷ []) }
         ensures err { OnErr result (self.new ≡ self.old) }
@@ -66,7 +66,8 @@ impl Deferred {
         Ok(())
     }
 
-    /// Takes off the scan that was put off last to a key, and gives its device; none where nothing was. It takes no memory.
+    /// Removes the scan that was deferred last to a key, and returns its device; none if nothing was deferred. It takes
+    /// no memory.
     pub fn take_last(&mut self, key: Key) -> Option<u64>
         ensures { MatchOption result ((entries_of self.old key ≡ []) × (self.new ≡ self.old)) (λ child. TakesLast self.old key child self.new) }
     {
@@ -75,7 +76,7 @@ impl Deferred {
         Some(entry.child)
     }
 
-    /// How many scans were put off to a key.
+    /// How many scans are deferred to a key.
     pub fn count(&self, key: Key) -> usize
         ensures { result ≡ length (entries_of self.now key) }
     {
@@ -85,7 +86,7 @@ impl Deferred {
             .count()
     }
 
-    /// Whether a scan of the device was put off.
+    /// Whether a scan of the device is deferred.
     pub fn pinned(&self, child: u64) -> bool
         ensures { result ≡ list_any (λ e. e.child == child) self.now }
     {

@@ -1,4 +1,4 @@
-//! The scans that were put off: to the end of their parent's scan, or to the time when interrupts work.
+//! The deferred scans: to the end of their parent's scan, or to the time when interrupts work.
 #![tactic(auto)]
 
 mod deferred;

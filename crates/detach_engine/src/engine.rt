@@ -33,9 +33,9 @@ fn stands_in_way(
     is_kept(refs, marks, caller, forced, device) && tree.is_under(device.serial, target)
 }
 
-/// The device of least serial that keeps the target's subtree from going: its driver does not support detaching, unless
-/// that is forced; a scan or a finaliser is busy with it; it is condemned already; or the caller itself holds it. None where
-/// all may go. See config_detach(9).
+/// The device of least serial that keeps the target's subtree from being freed: its driver does not support detaching,
+/// unless that is forced; a scan or a finalizer is busy with it; it is condemned already; or the caller itself holds
+/// it. None if all may be freed. See config_detach(9).
 #[tactic(auto, unfolding(crate::specs::Hindrance::hindrance))]
 pub fn hindered(
     tree: &DevTree,
@@ -64,8 +64,8 @@ fn is_condemned_by(device: &Dev, caller: u8) -> bool
     }
 }
 
-/// The device that the caller frees next: of those that it condemned the one that came last, so that children go before
-/// their parent. None where it condemned none that lives. See config_detach(9).
+/// The device that the caller frees next: of those that it condemned the one that was attached last, so that children
+/// go before their parent. None if it condemned none that lives. See config_detach(9).
 #[tactic(auto, unfolding(run_rules::specs::Next::next_free))]
 pub fn next_free(tree: &DevTree, caller: u8) -> Option<u64>
     ensures { result ≡ next.next_free tree.now.live caller }

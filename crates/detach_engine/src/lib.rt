@@ -1,4 +1,4 @@
-//! What keeps devices from going, and which of those that go is freed next. See config_detach(9).
+//! What keeps devices from being freed, and which of those to be freed comes next. See config_detach(9).
 #![tactic(auto)]
 
 mod engine;

@@ -4,7 +4,7 @@ ghost use Rattle.run_rules.specs.World.{has};
 use cf_types::List;
 use std::marker::Model;
 
-/// The serials of devices that a scan or a finaliser is busy with, and of those whose driver does not support detaching.
+/// The serials of devices that a scan or a finalizer is busy with, and of those whose driver does not support detaching.
 #[derive(Drop)]
 pub struct Marks {
     pinned: List<u64>,
@@ -30,7 +30,7 @@ impl Marks {
         }
     }
 
-    /// Whether a scan or a finaliser is busy with the device.
+    /// Whether a scan or a finalizer is busy with the device.
     pub fn is_pinned(&self, serial: u64) -> bool
         ensures { result ≡ has self.now.pinned serial }
     {

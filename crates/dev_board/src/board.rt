@@ -4,6 +4,7 @@ ghost use Rattle.std.specs.List.{AllByRecursion};
 ghost use Rattle.std.specs.Option.{option_or};
 ghost use Rattle.config_rules.specs.Formed.{FormedTables, FittingMachine};
 ghost use Rattle.config_rules.specs.ScriptText.{FormedScript};
+ghost use Rattle.boot_laws.specs.Thorough.{IsThorough};
 ghost use Rattle.history_laws.specs.Reliable.{IsReliable};
 ghost use Rattle.history_laws.specs.Tells.{TellsTree};
 ghost use Rattle.run_rules.specs.Counts.{ends_of};
@@ -196,6 +197,7 @@ impl Board {
         ensures serials { self.now.world.next ≤ length self.now.events + 1 }
         ensures formed { AllByRecursion IsFormed self.now.events }
         ensures reliable { IsReliable self.now.events self.now.world }
+        ensures thorough { IsThorough self.now.events self.now.world }
         ensures spots { AllByRecursion (λ d. d.spot < length self.now.world.setup.machine.spots) self.now.world.live }
         ensures scripts { length self.now.world.setup.scripts ≤ 16 }
         ensures may { MayRun self.now.world.setup }

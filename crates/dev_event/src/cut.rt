@@ -19,7 +19,7 @@ pub fn is(text: &[u8], word: &[u8]) -> bool
     text == word
 }
 
-/// What stands before the first such byte: all, where there is none.
+/// What comes before the first such byte: all, if there is none.
 pub fn before(text: &[u8], mark: u8) -> &[u8]
     ensures { result.now ≡ reading.before mark text.now }
 {
@@ -31,7 +31,7 @@ pub fn before(text: &[u8], mark: u8) -> &[u8]
     text
 }
 
-/// What stands behind the first such byte: nothing, where there is none.
+/// What comes after the first such byte: nothing, if there is none.
 pub fn behind(text: &[u8], mark: u8) -> &[u8]
     ensures { result.now ≡ reading.behind mark text.now }
 {

@@ -61,7 +61,7 @@ fn kept(alloc: Global, event: Event, line: &[u8]) -> Result<Option<Event>, Memor
 }
 
 /// Reads a line of a history of format 2, without its newline: the formed event that has this spelling, `None` exactly
-/// where no formed event has it.
+/// if no formed event has it.
 pub fn read_event(alloc: Global, line: &[u8]) -> Result<Option<Event>, Memory>
     ensures { IfOk result (Spells line.now) }
 {
@@ -95,7 +95,7 @@ fn caller_in(digits: &[u8]) -> Option<u8>
     }
 }
 
-/// The caller that a line names, of either format: `Some` exactly where the line begins with a number from 0 to 16, in
+/// The caller that a line names, of either format: `Some` exactly if the line begins with a number from 0 to 16, in
 /// decimal, and a dot. It takes no memory.
 pub fn read_caller(line: &[u8]) -> Option<u8>
     ensures { MatchOption result ((c : ℕ) → NamesCaller line.now c → ⊥) (NamesCaller line.now) }

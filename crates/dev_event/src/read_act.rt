@@ -9,7 +9,7 @@ use cf_types::{Memory, Name};
 use run_rules::{Act, Got, PowerKind, Reply, Shown};
 use std::alloc::Global;
 
-/// What was attached, as `NAME row R` tells it: `Some(None)` where nothing was.
+/// What was attached, as `NAME row R` says it: `Some(None)` if nothing was.
 fn got_in(alloc: Global, text: &[u8]) -> Result<Option<Option<Got>>, Memory>
     ensures { IfOk result (λ got. got ≡ reading.got_in text.now) }
 {
@@ -23,7 +23,7 @@ fn got_in(alloc: Global, text: &[u8]) -> Result<Option<Option<Got>>, Memory>
     Ok(Some(Some(Got { name, row })))
 }
 
-/// The spot, and what was attached there, as `SPOT: NAME row R` tells it.
+/// The spot, and what was attached there, as `SPOT: NAME row R` says it.
 fn placed_in(alloc: Global, text: &[u8]) -> Result<Option<Shown>, Memory>
     ensures { IfOk result (λ shown. shown ≡ reading.placed_in text.now) }
 {
@@ -36,7 +36,7 @@ fn placed_in(alloc: Global, text: &[u8]) -> Result<Option<Shown>, Memory>
     Ok(Some(Shown { spot, got }))
 }
 
-/// What a finaliser showed, as `1 on SPOT: NAME row R` tells it: `Some(None)` where nothing was left.
+/// What a finalizer showed, as `1 on SPOT: NAME row R` says it: `Some(None)` if nothing was left.
 fn shown_in(alloc: Global, text: &[u8]) -> Result<Option<Option<Shown>>, Memory>
     ensures { IfOk result (λ shown. shown ≡ reading.shown_in text.now) }
 {
@@ -49,7 +49,7 @@ fn shown_in(alloc: Global, text: &[u8]) -> Result<Option<Option<Shown>>, Memory>
     }
 }
 
-/// The device and the reply, as `DEVICE: TEXT` tells them.
+/// The device and the reply, as `DEVICE: TEXT` says them.
 fn told_in(alloc: Global, rest: &[u8]) -> Result<Option<(Name, Reply)>, Memory>
     ensures { IfOk result (λ told. told ≡ reading.told_in rest.now) }
 {
@@ -249,7 +249,7 @@ fn said_in(alloc: Global, said: Said, rest: &[u8]) -> Result<Option<Act>, Memory
     Ok(Some(said_act(said, device, reply)))
 }
 
-/// The act that a word begins, by what stands behind it.
+/// The act that a word begins, by what follows it.
 fn act_by(alloc: Global, word: ActWord, rest: &[u8]) -> Result<Option<Act>, Memory>
     ensures { IfOk result (λ act. act ≡ reading.act_by word rest.now) }
 {
@@ -271,7 +271,7 @@ fn act_by(alloc: Global, word: ActWord, rest: &[u8]) -> Result<Option<Act>, Memo
     }
 }
 
-/// The act that a text may spell. It is spelled by no other, and maybe not by this text.
+/// The act that a text may spell. The text spells no other act; it may not spell this one either.
 #[tactic(auto, unfolding(crate::specs::Reading::act_in))]
 pub fn act_in(alloc: Global, text: &[u8]) -> Result<Option<Act>, Memory>
     ensures { IfOk result (λ act. act ≡ reading.act_in text.now) }

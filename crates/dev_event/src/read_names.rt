@@ -13,7 +13,7 @@ fn has_blank(text: &[u8]) -> bool
     text.iter().any(|&byte| byte == b' ')
 }
 
-/// The names that stand in a text, between blanks.
+/// The names in a text, separated by blanks.
 fn each_name(alloc: Global, text: &[u8]) -> Result<Option<List<Name>>, Memory>
     ensures { IfOk result (λ names. names ≡ reading.all_named (reading.pieces text.now)) }
 {
@@ -33,7 +33,7 @@ fn each_name(alloc: Global, text: &[u8]) -> Result<Option<List<Name>>, Memory>
     Ok(Some(names))
 }
 
-/// The names that stand in a text, between blanks, each behind its depth.
+/// The names in a text, separated by blanks, each after its depth.
 fn each_depth_name(alloc: Global, text: &[u8]) -> Result<Option<List<DepthName>>, Memory>
     ensures { IfOk result (λ names. names ≡ reading.all_deep (reading.pieces text.now)) }
 {
@@ -54,7 +54,7 @@ fn each_depth_name(alloc: Global, text: &[u8]) -> Result<Option<List<DepthName>>
     Ok(None)
 }
 
-/// The names of a list that a text may spell: `Some(None)` where it says that there is no device.
+/// The names of a list that a text may spell: `Some(None)` if it says that there is no device.
 pub fn names_in(alloc: Global, text: &[u8]) -> Result<Option<Option<List<Name>>>, Memory>
     ensures { IfOk result (λ names. names ≡ reading.listed_by reading.all_named text.now) }
 {

@@ -75,7 +75,7 @@ pub fn started_in(alloc: Global, text: &[u8]) -> Result<Option<Reply>, Memory>
     reply_in(alloc, text)
 }
 
-/// What a transfer brought, as a text may spell it.
+/// The result of a transfer, as a text may spell it.
 pub fn answer_in(text: &[u8]) -> IoAnswer
     ensures { result ≡ reading.answer_in text.now }
 {

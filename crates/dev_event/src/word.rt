@@ -21,7 +21,7 @@ pub enum ActWord {
     Says(Said),
 }
 
-/// The acts that tell a device and no more.
+/// The acts that name a device and nothing more.
 #[derive(Clone, Copy)]
 pub enum Named {
     Drop,
@@ -30,7 +30,7 @@ pub enum Named {
     Wake,
 }
 
-/// The acts that tell a device or a spot, and a reply.
+/// The acts that name a device or a spot, and have a reply.
 #[derive(Clone, Copy)]
 pub enum Said {
     Close,

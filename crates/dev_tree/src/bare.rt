@@ -1,4 +1,4 @@
-//! Which devices are known to have no children.
+//! Which devices are known to be without children.
 ghost use Rattle.std.specs.Prelude.{◌≡◌, IsTrue, true, length, vec_len, vec_capacity};
 ghost use Rattle.run_rules.specs.World.{is_live};
 ghost use Rattle.dev_tree.specs.Bare.{AreBare, AreUnmarked, IsBare};
@@ -7,7 +7,7 @@ ghost use Rattle.dev_tree.specs.Tree.{AreInOrder};
 use crate::lookup::place_of;
 use run_rules::Dev;
 
-/// Takes away the mark of the device of a serial, which may have children from now on.
+/// Clears the mark of the device of a serial, which may have children from now on.
 #[inline(always)]
 pub fn unmark(live: &[Dev], bare: &mut Vec<bool>, serial: u64)
     requires order { AreInOrder live.now }

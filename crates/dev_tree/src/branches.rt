@@ -12,8 +12,8 @@ use run_rules::Dev;
 use std::alloc::Global;
 use std::marker::Model;
 
-/// The children of the root, and those of each live device. They are listed by one look at each device, and no change of
-/// the tree is followed.
+/// The children of the root, and those of each live device. They are listed by one look at each device, and later
+/// changes of the tree are not followed.
 #[derive(Drop)]
 pub struct Branches {
     top: List<Dev>,
@@ -30,7 +30,7 @@ impl Model for Branches {
 }
 
 impl Branches {
-    /// So many devices, and none has children.
+    /// This many devices, none of which has children.
     fn bare(alloc: Global, devices: usize) -> Result<Branches, Memory>
         ensures { IfOk result (λ b. (live : Items Dev) → length live ≡ devices → AreBranchesIn live [] b) }
     {

@@ -1,4 +1,4 @@
-//! The live devices: which there are, where each stands, and what is below what.
+//! The live devices: which there are, where each is, and what is below what.
 #![tactic(auto)]
 
 mod bare;

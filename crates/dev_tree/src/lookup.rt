@@ -1,4 +1,4 @@
-//! What is looked up among live devices.
+//! Look-ups among live devices.
 ghost use Rattle.std.specs.Prelude.{◌≡◌, ◌<◌, false, true, not, ◌==◌, IfOk, IsTrue, MatchOption, length, map, slice_index_or, option_map, find};
 ghost use Rattle.std.specs.List.{zip};
 ghost use Rattle.run_rules.specs.World as world;
@@ -15,7 +15,7 @@ pub fn place_of(live: &[Dev], serial: u64) -> Option<usize>
     requires { AreInOrder live.now }
     ensures { MatchOption result (world.is_live live.now serial ≡ false) (λ i. (i < length live.now) × ((d : Dev) → (slice_index_or live.now i d).serial ≡ serial)) }
 {
-    // Where no earlier device was freed, the place is one below the serial.
+    // If no earlier device was freed, the place is one below the serial.
     let place = (serial as usize).saturating_sub(1);
     if place < live.len() && live[place].serial == serial {
         return Some(place);
@@ -76,7 +76,7 @@ pub fn subtree(alloc: Global, live: &[Dev], serial: u64) -> Result<List<u64>, Me
     Ok(serials)
 }
 
-/// The parent of a device; 0 for the root, and where no such device is live.
+/// The parent of a device; 0 for the root, and if no such device is live.
 #[inline(always)]
 fn parent_of(live: &[Dev], serial: u64) -> u64
     requires { AreInOrder live.now }
@@ -88,7 +88,7 @@ fn parent_of(live: &[Dev], serial: u64) -> u64
     }
 }
 
-/// Whether a chain of parents leads from the device to the one above. It walks no further than to the root.
+/// Whether a chain of parents leads from the device to the one above. It goes no further than the root.
 pub fn is_under(live: &[Dev], serial: u64, above: u64) -> bool
     requires { AreInOrder live.now }
     ensures { world.is_under live.now above serial ≡ result }

@@ -20,7 +20,7 @@ pub fn mark_sleep(live: &mut [Dev], serial: u64, asleep: bool)
     }
 }
 
-/// Condemns a device without children, in the name of a caller.
+/// Condemns a device without children, on behalf of a caller.
 fn condemn_one(live: &mut [Dev], serial: u64, caller: u8)
     requires order { AreInOrder live.old }
     requires bare { IsBare live.old serial }
@@ -45,7 +45,7 @@ fn condemn_each(live: &mut [Dev], serial: u64, caller: u8)
     }
 }
 
-/// Condemns a device and all that is below it, in the name of a caller. It may be known to have no children.
+/// Condemns a device and all that is below it, on behalf of a caller. The device may be known to be without children.
 pub fn mark_condemned(live: &mut [Dev], bare: bool, serial: u64, caller: u8)
     requires order { AreInOrder live.old }
     requires bare { bare ≡ true → IsBare live.old serial }

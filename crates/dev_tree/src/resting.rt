@@ -1,4 +1,4 @@
-//! Between which places the last device awake and the first one asleep stand.
+//! The places between which the last device awake and the first one asleep are.
 ghost use Rattle.std.specs.Prelude.{◌≡◌, ◌≢◌, ◌<◌, ◌≤◌, ◌+◌, ◌^◌, ℕ, List, [], ◌∷◌, ◌++◌, Bool, false, true, find, length, map, remove, reverse};
 ghost use Rattle.run_rules.specs.After.{with_sleep};
 ghost use Rattle.run_rules.specs.declared.world.Dev.{Dev};
@@ -8,8 +8,8 @@ ghost use Rattle.dev_tree.specs.Tree.{AreInOrder};
 use crate::lookup::place_of;
 use run_rules::Dev;
 
-/// All devices before one place are awake, and all from another one on sleep. Where a whole tree falls asleep or wakes, the
-/// next device stands beside one of the two.
+/// All devices before one place are awake, and all from another one on sleep. When a whole tree falls asleep or wakes,
+/// the next device is beside one of the two.
 #[derive(Clone, Copy)]
 pub struct Resting {
     pub awake_before: usize,
@@ -27,7 +27,7 @@ impl Resting {
         }
     }
 
-    /// With one device more, awake and the last of so many.
+    /// With one device more, awake and the last one.
     pub fn with_one(self, count: usize) -> Resting
         ensures { (live : List Dev) (d : Dev) → length live + 1 ≡ count → d.asleep ≡ false → AreResting live self → AreResting (live ++ d ∷ []) result }
     {
@@ -101,7 +101,7 @@ impl Resting {
         }
     }
 
-    /// The devices up to the last one that may be awake; all behind them sleep.
+    /// The devices up to the last one that may be awake; all after them sleep.
     #[inline(always)]
     pub fn front(self, live: &[Dev]) -> &[Dev]
         requires { AreResting live.now self }

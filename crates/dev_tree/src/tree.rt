@@ -25,9 +25,9 @@ pub struct DevTree {
     drivers: Vec<u32>,
     /// The serial of the device on each spot.
     spots: Vec<Option<u64>>,
-    /// Where the devices awake end, and those asleep begin.
+    /// Where the devices awake end and those asleep begin.
     rest: Resting,
-    /// Of each device whether it is known to have no children. No mark is set anew where the last child goes.
+    /// Of each device whether it is known to have no children. No mark is set again when the last child goes.
     bare: Vec<bool>,
     next: u64,
 }
@@ -77,15 +77,15 @@ impl DevTree {
         }
     }
 
-    /// What every tree keeps; nothing is done.
+    /// The facts that every tree keeps. It does nothing.
     pub fn stands(&self)
         ensures { AreSound self.now }
     {
         let _ = &self.live;
     }
 
-    /// Attaches a device below a parent, 0 for the root, on a spot, and answers its serial. At `Memory` all is as before.
-    /// See config_attach(9).
+    /// Attaches a device below a parent, 0 for the root, on a spot, and returns its serial. At `Memory` all is as
+    /// before. See config_attach(9).
     pub fn attach(
         &mut self,
         row: u32,
@@ -127,7 +127,7 @@ impl DevTree {
         Ok(serial)
     }
 
-    /// Takes a device without children out. Its serial is not given again. See config_detach(9).
+    /// Removes a device without children. Its serial is not given again. See config_detach(9).
     pub fn free(&mut self, serial: u64)
         requires live { IsTrue (world.is_live self.old.live serial) }
         requires children { world.children self.old.live serial ≡ [] }
@@ -176,8 +176,8 @@ impl DevTree {
         &self.live
     }
 
-    /// The devices up to the last one that may be awake, in order. A test that sleeping devices fail finds the same from
-    /// their end as from the end of all.
+    /// The devices up to the last one that may be awake, in order. A search from the end for a test that sleeping
+    /// devices fail finds the same among them as among all.
     #[inline(always)]
     pub fn front(&self) -> &[Dev]
         ensures { (test : Dev → Bool) → ((d : Dev) → d.asleep ≡ true → test d ≡ false) → find test (reverse self.now.live) ≡ find test (reverse result.now) }
@@ -210,7 +210,7 @@ impl DevTree {
         self.next
     }
 
-    /// Whether a device is known to have no children. One that has none may be told to have some.
+    /// Whether a device is known to have no children. The answer may be false for one that has none.
     pub fn is_bare(&self, serial: u64) -> bool
         ensures there { result ≡ true → IsTrue (world.is_live self.now.live serial) }
         ensures children { result ≡ true → world.children self.now.live serial ≡ [] }

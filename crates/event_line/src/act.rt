@@ -55,7 +55,7 @@ fn put_scan(out: &mut Vec<u8>, device: &Name) -> Result<(), Memory>
     put_bytes(out, b": done")
 }
 
-/// Appends what a finaliser answered.
+/// Appends what a finalizer answered.
 fn put_finaliser(out: &mut Vec<u8>, device: &Name, shown: &Option<Shown>) -> Result<(), Memory>
     ensures { OnOk result (out.new.items ≡ out.old.items ++ text.said_of (codes "final ") device.now (text.shown_text shown.now)) }
 {
@@ -63,7 +63,7 @@ fn put_finaliser(out: &mut Vec<u8>, device: &Name, shown: &Option<Shown>) -> Res
     put_shown(out, shown)
 }
 
-/// Appends what a finaliser answered: format 1.
+/// Appends what a finalizer answered: format 1.
 fn put_finaliser_1(out: &mut Vec<u8>, device: &Name, shown: &Option<Shown>) -> Result<(), Memory>
     ensures { OnOk result (out.new.items ≡ out.old.items ++ text.said_of (codes "final ") device.now (text.shown_text_1 shown.now)) }
 {
@@ -117,7 +117,7 @@ fn put_tree(
     put_depth_names(out, names)
 }
 
-/// Appends the text of an act. Where memory runs out, some of it may have been appended.
+/// Appends the text of an act. If memory runs out, some of it may have been appended.
 #[tactic(auto, unfolding(run_rules::specs::Lines::act_text))]
 #[inline(always)]
 pub fn put_act(out: &mut Vec<u8>, act: &Act) -> Result<(), Memory>
@@ -157,7 +157,7 @@ pub fn put_act(out: &mut Vec<u8>, act: &Act) -> Result<(), Memory>
     }
 }
 
-/// Appends the text of an act in format 1. Where memory runs out, some of it may have been appended.
+/// Appends the text of an act in format 1. If memory runs out, some of it may have been appended.
 #[tactic(auto, unfolding(run_rules::specs::Lines::act_text_1))]
 pub fn put_act_1(out: &mut Vec<u8>, act: &Act) -> Result<(), Memory>
     ensures { OnOk result (out.new.items ≡ out.old.items ++ text.act_text_1 act.now) }

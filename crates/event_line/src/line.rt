@@ -6,7 +6,7 @@ use crate::parts::put_marked;
 use cf_types::{Memory, put_bytes};
 use run_rules::Event;
 
-/// How many bytes serve for most lines.
+/// How many bytes are enough for most lines.
 const USUAL: usize = 96;
 
 /// Appends who did the event, and the number of its command.
@@ -18,7 +18,7 @@ fn put_head(out: &mut Vec<u8>, event: &Event) -> Result<(), Memory>
     put_marked(out, event.number, b' ')
 }
 
-/// Appends the line of an event. Where memory runs out, some of it may have been appended.
+/// Appends the line of an event. If memory runs out, some of it may have been appended.
 #[tactic(auto, unfolding(run_rules::specs::Lines::line_of))]
 #[inline(always)]
 fn put_line(out: &mut Vec<u8>, event: &Event) -> Result<(), Memory>
@@ -31,7 +31,7 @@ fn put_line(out: &mut Vec<u8>, event: &Event) -> Result<(), Memory>
     }
 }
 
-/// Puts the line of an event where nothing stands. Where memory runs out, nothing stands there.
+/// Puts the line of an event into an empty buffer. If memory runs out, the buffer is empty again.
 #[inline(always)]
 fn put_alone(out: &mut Vec<u8>, event: &Event) -> Result<(), Memory>
     requires empty { out.old.items ≡ [] }
@@ -47,7 +47,7 @@ fn put_alone(out: &mut Vec<u8>, event: &Event) -> Result<(), Memory>
     }
 }
 
-/// Appends the line of an event, without its newline: format 2. Where memory runs out, nothing is appended.
+/// Appends the line of an event, without its newline: format 2. If memory runs out, nothing is appended.
 #[inline(always)]
 pub fn put_event(event: &Event, out: &mut Vec<u8>) -> Result<(), Memory>
     ensures ok { OnOk result (out.new.items ≡ out.old.items ++ line_of event.now) }
@@ -62,8 +62,8 @@ pub fn put_event(event: &Event, out: &mut Vec<u8>) -> Result<(), Memory>
     Ok(())
 }
 
-/// Appends the line that an event has in a history of format 1, without its newline: a search tells no spot there, and an
-/// attachment no row. Where memory runs out, nothing is appended.
+/// Appends the line that an event has in a history of format 1, without its newline: there, a search names no spot and
+/// an attachment no row. If memory runs out, nothing is appended.
 #[tactic(auto, unfolding(run_rules::specs::Lines::line_of_1))]
 pub fn put_event_1(event: &Event, out: &mut Vec<u8>) -> Result<(), Memory>
     ensures ok { OnOk result (out.new.items ≡ out.old.items ++ line_of_1 event.now) }

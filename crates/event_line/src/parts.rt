@@ -1,4 +1,4 @@
-//! The pieces of a line. Where memory runs out, some of a piece may have been appended.
+//! The pieces of a line. If memory runs out, some of a piece may have been appended.
 ghost use Rattle.std.specs.Prelude.{◌≡◌, ◌++◌, ◌∷◌, [], OnOk, codes, decimal, flat_map};
 ghost use Rattle.run_rules.specs.Lines.{reply_text, started_text, answer_text, got_text, got_text_1, shown_text, shown_text_1, of_text, names_text, depth_names_text};
 
@@ -18,7 +18,7 @@ pub fn put_number(out: &mut Vec<u8>, number: u32) -> Result<(), Memory>
     put_decimal(out, i64::from(number))
 }
 
-/// Appends a number in decimal, and a byte behind it. Up to three digits are put in place.
+/// Appends a number in decimal, and a byte after it. Up to three digits are put in place.
 #[inline(always)]
 pub fn put_marked(out: &mut Vec<u8>, number: u32, mark: u8) -> Result<(), Memory>
     ensures { OnOk result (out.new.items ≡ out.old.items ++ (decimal number ++ mark ∷ [])) }
@@ -50,7 +50,7 @@ pub fn put_named(out: &mut Vec<u8>, word: &[u8], name: &Name) -> Result<(), Memo
     put_bytes(out, name.bytes())
 }
 
-/// Appends a word, a name, and the colon behind which follows what is said of it.
+/// Appends a word, a name, and the colon before what is said about it.
 #[inline(always)]
 pub fn put_said(out: &mut Vec<u8>, word: &[u8], name: &Name) -> Result<(), Memory>
     ensures { OnOk result (out.new.items ≡ out.old.items ++ (word.now ++ name.now ++ codes ": ")) }
@@ -92,7 +92,7 @@ pub fn put_started(out: &mut Vec<u8>, reply: &Reply) -> Result<(), Memory>
     }
 }
 
-/// Appends what a transfer brought.
+/// Appends the result of a transfer.
 #[inline(always)]
 pub fn put_answer(out: &mut Vec<u8>, answer: IoAnswer) -> Result<(), Memory>
     ensures { OnOk result (out.new.items ≡ out.old.items ++ answer_text answer) }
@@ -118,7 +118,7 @@ pub fn put_got(out: &mut Vec<u8>, got: &Option<Got>) -> Result<(), Memory>
     }
 }
 
-/// Appends what a finaliser answered: the spot that it showed, and what was attached there.
+/// Appends what a finalizer answered: the spot that it showed, and what was attached there.
 pub fn put_shown(out: &mut Vec<u8>, shown: &Option<Shown>) -> Result<(), Memory>
     ensures { OnOk result (out.new.items ≡ out.old.items ++ shown_text shown.now) }
 {
@@ -141,7 +141,7 @@ pub fn put_got_1(out: &mut Vec<u8>, got: &Option<Got>) -> Result<(), Memory>
     }
 }
 
-/// Appends what a finaliser answered, and what was attached: format 1.
+/// Appends what a finalizer answered, and what was attached: format 1.
 pub fn put_shown_1(out: &mut Vec<u8>, shown: &Option<Shown>) -> Result<(), Memory>
     ensures { OnOk result (out.new.items ≡ out.old.items ++ shown_text_1 shown.now) }
 {
@@ -186,7 +186,7 @@ fn put_each(out: &mut Vec<u8>, names: &[Name]) -> Result<(), Memory>
     Ok(())
 }
 
-/// Appends the names of a tree, each behind its depth.
+/// Appends the names of a tree, each after its depth.
 pub fn put_depth_names(out: &mut Vec<u8>, names: &Option<List<DepthName>>) -> Result<(), Memory>
     ensures { OnOk result (out.new.items ≡ out.old.items ++ depth_names_text names.now) }
 {

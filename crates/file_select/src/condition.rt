@@ -1,4 +1,5 @@
-//! Reads a condition from left to right, and evaluates it on the way. It takes no recursion, however long and however deep.
+//! Reads a condition from left to right, and evaluates it on the way. It uses no recursion, however long and deep the
+//! condition is.
 ghost use Rattle.std.specs.Prelude.{◌≡◌, true, false, IfOk};
 ghost use Rattle.config_rules.specs.Select.{has_name};
 ghost use Rattle.file_select.specs.Findings.{Judges};
@@ -14,7 +15,7 @@ use std::marker::Model;
 /// The most parentheses and `!` that may be open at a name.
 const MAX_NESTING: u32 = 64;
 
-/// How many are open where one more is; beyond the limit they are not counted.
+/// How many are open if one more is; beyond the limit they are not counted.
 fn deeper(depth: u32) -> u32
     ensures { result ≡ deeper depth }
 {
@@ -34,9 +35,9 @@ pub struct Level {
     all: bool,
     /// Whether the term is negated.
     negated: bool,
-    /// How many are open around the disjunction.
+    /// How many parentheses and `!` are open around the disjunction.
     around: u32,
-    /// How many are open at the term.
+    /// How many parentheses and `!` are open at the term.
     depth: u32,
 }
 
@@ -197,7 +198,7 @@ impl Evaluation {
         })
     }
 
-    /// Reads a symbol where a term is next.
+    /// Reads a symbol if a term is next.
     fn wanting(self, symbol: Symbol) -> Result<Option<Evaluation>, Memory>
         requires { self.wants ≡ true }
         ensures { IfOk result (λ next. next ≡ step symbol self) }
@@ -211,7 +212,7 @@ impl Evaluation {
         }
     }
 
-    /// Reads a symbol behind a term.
+    /// Reads a symbol after a term.
     fn behind(self, symbol: Symbol) -> Option<Evaluation>
         requires { self.wants ≡ false }
         ensures { result ≡ step symbol self }
@@ -225,7 +226,7 @@ impl Evaluation {
         }
     }
 
-    /// Reads one symbol more. `None` where it may not stand here.
+    /// Reads one more symbol. `None` if it may not be here.
     fn step(self, symbol: Symbol) -> Result<Option<Evaluation>, Memory>
         ensures { IfOk result (λ next. next ≡ step symbol self) }
     {
@@ -252,7 +253,7 @@ impl Evaluation {
 /// What a condition is found to be.
 #[derive(Clone, Copy)]
 pub enum Verdict {
-    /// It is none.
+    /// It is not a condition.
     NoForm,
     /// More parentheses and `!` are open at a name than may be.
     TooDeep,
@@ -260,7 +261,7 @@ pub enum Verdict {
     Value(bool),
 }
 
-/// Reads all symbols. `None` where one may not stand where it stands.
+/// Reads all symbols. `None` if one of them is at a place where it may not be.
 fn evaluate(alloc: Global, names: &TextSet, pieces: &[Piece]) -> Result<Option<Evaluation>, Memory>
     ensures { IfOk result (λ read. read ≡ run (has_name names.now) pieces.now start) }
 {
@@ -277,7 +278,7 @@ fn evaluate(alloc: Global, names: &TextSet, pieces: &[Piece]) -> Result<Option<E
     Ok(Some(state))
 }
 
-/// What these tokens are as a condition, where these names are true.
+/// What these tokens are as a condition, if these names are true.
 pub fn judge(alloc: Global, names: &TextSet, pieces: &[Piece]) -> Result<Verdict, Memory>
     ensures { IfOk result (Judges (has_name names.now) pieces.now) }
 {

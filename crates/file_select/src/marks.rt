@@ -112,7 +112,8 @@ fn mark_named(marks: &mut [bool], attrs: &[Attr], names: &TextSet)
     }
 }
 
-/// Marks the attributes that those need that are marked, and so on: from the last on, since each needs earlier ones.
+/// Marks the attributes that marked ones need, and so on; it goes from the last to the first, because each needs
+/// earlier ones.
 fn mark_needs(marks: &mut [bool], attrs: &[Attr])
     requires room { length marks.old ≡ length attrs.now }
     requires earlier { AreEarlier (nodes_of attrs.now) }
@@ -130,7 +131,7 @@ fn mark_needs(marks: &mut [bool], attrs: &[Attr])
     }
 }
 
-/// Marks the attributes that a row or a pseudo-device needs, where none is marked.
+/// Marks the attributes that a row or a pseudo-device needs; none is marked before.
 fn mark_reached(alloc: Global, tables: &Tables, marks: &mut [bool]) -> Result<(), Memory>
     requires formed { FormedTables tables.now }
     requires room { length marks.old ≡ length tables.now.attrs }

@@ -125,9 +125,9 @@ pub fn chosen_set(alloc: Global, tables: &Tables) -> Result<TextSet, Memory>
     Ok(names)
 }
 
-/// The names that the tables of a configuration choose, each once, in the order of their bytes: those of the devices and
-/// attachments that have rows, of the attributes that these and the pseudo-devices need, and of the options and file
-/// systems, in lower case. The only error is want of memory. See config(5).
+/// The names that the tables of a configuration choose, each once, in the order of their bytes: those of the devices
+/// and attachments that have rows, of the attributes that these and the pseudo-devices need, and of the options and
+/// file systems, in lower case. The only error is `Memory`. See config(5).
 pub fn chosen(alloc: Global, tables: &Tables) -> Result<List<Name>, Memory>
     requires { FormedTables tables.now }
     ensures { IfOk result (AreChosen tables.now) }

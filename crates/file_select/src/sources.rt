@@ -16,7 +16,7 @@ use cf_types::{Expanded, List, Memory, Piece, Placed, Stmt, Tables, Text};
 use std::alloc::Global;
 use std::marker::Model;
 
-/// The paths that are selected, each at its first place, with a set of them. Contracts see the list alone.
+/// The paths that are selected, each at its first place, with a set of them. Contracts see only the list.
 #[derive(Drop)]
 struct Selection {
     paths: Vec<Text>,
@@ -66,7 +66,7 @@ impl Selection {
     }
 }
 
-/// Takes what stands behind the word of a `file` statement. `Some` tells its code.
+/// Takes what follows the word of a `file` statement. `Some` has its code.
 fn take_pieces(
     alloc: Global,
     names: &TextSet,
@@ -85,7 +85,7 @@ fn take_pieces(
     Ok(None)
 }
 
-/// Takes a statement. `Some` tells the code of a `file` statement that has one.
+/// Takes a statement. `Some` has the code of a `file` statement that has one.
 fn take(
     alloc: Global,
     names: &TextSet,
@@ -103,7 +103,7 @@ fn take(
     }
 }
 
-/// The paths that the statements select, where these names are chosen, or the first of them that has a code.
+/// The paths that the statements select if these names are chosen, or the first of them that has a code.
 fn select_placed(
     alloc: Global,
     names: &TextSet,
@@ -156,8 +156,8 @@ fn select_read(alloc: Global, tables: &Tables, read: Expanded) -> Result<List<Te
 
 /// The paths of the sources that the named configuration selects by its `file` statements, in reading order, each once:
 /// of those without a condition and of those whose condition is true by the names that it chooses. It compiles the
-/// configuration and then reads it once more. A refusal is the first fault of the configuration, or else that of its first
-/// `file` statement without a form. A fault of reading stands before every fault of the configuration. See config(5).
+/// configuration and then reads it again. A refusal is the first fault of the configuration, or else that of its first
+/// `file` statement without a form. A read fault comes before any fault of the configuration. See config(5).
 pub fn select<F: Files>(
     alloc: Global,
     files: &mut F,

@@ -20,11 +20,11 @@ use std::alloc::Global;
 pub enum Finding {
     /// It has this code.
     Bad(u8),
-    /// It has none, and its source is selected or not.
+    /// It has no code, and its source is selected or not.
     Good(bool),
 }
 
-/// What stands behind the word of a statement, if it is a `file` statement.
+/// What follows the first word of a statement, if it is a `file` statement.
 pub fn file_pieces(stmt: &Stmt) -> Option<&Pieces>
     ensures { option_copied result ≡ file_pieces stmt.now }
 {
@@ -63,14 +63,14 @@ fn is_rule(pieces: &[Piece]) -> bool
     }
 }
 
-/// How many flags stand first.
+/// How many flags come first.
 fn count_flags(pieces: &[Piece]) -> usize
     ensures { result ≡ prefix_len is_flag pieces.now }
 {
     pieces.iter().take_while(|piece| is_flag(piece)).count()
 }
 
-/// How many tokens stand before the first that ends a condition.
+/// How many tokens come before the first that ends a condition.
 fn count_condition(pieces: &[Piece]) -> usize
     ensures { result ≡ position_or_len ends_condition pieces.now }
 {
@@ -88,7 +88,7 @@ fn is_tail(pieces: &[Piece]) -> bool
     is_rule(behind)
 }
 
-/// The tokens of the condition, and those behind it.
+/// The tokens of the condition, and those after it.
 fn split_condition(pieces: &[Piece]) -> (&[Piece], &[Piece])
     ensures condition { result.0.now ≡ before_first ends_condition pieces.now }
     ensures behind { result.1.now ≡ drop (position_or_len ends_condition pieces.now) pieces.now }
@@ -96,7 +96,7 @@ fn split_condition(pieces: &[Piece]) -> (&[Piece], &[Piece])
     pieces.split_at(count_condition(pieces))
 }
 
-/// What a condition is found to be, where none is true.
+/// What a condition is found to be; a missing one is true.
 fn judge_optional(alloc: Global, names: &TextSet, pieces: &[Piece]) -> Result<Verdict, Memory>
     ensures { IfOk result (JudgesOptional (has_name names.now) pieces.now) }
 {
@@ -106,7 +106,7 @@ fn judge_optional(alloc: Global, names: &TextSet, pieces: &[Piece]) -> Result<Ve
     judge(alloc, names, pieces)
 }
 
-/// Whether a path stands first.
+/// Whether a path comes first.
 fn has_path(pieces: &[Piece]) -> bool
     ensures { result ≡ is_some (path_in pieces.now) }
 {
@@ -116,7 +116,7 @@ fn has_path(pieces: &[Piece]) -> bool
     }
 }
 
-/// What stands behind the first token.
+/// What follows the first token.
 fn behind_path(pieces: &[Piece]) -> &[Piece]
     ensures { result.now ≡ drop 1 pieces.now }
 {
@@ -126,7 +126,7 @@ fn behind_path(pieces: &[Piece]) -> &[Piece]
     }
 }
 
-/// What a `file` statement is found to be by what stands behind its word, where these names are chosen.
+/// What a `file` statement is found to be by what follows its first word, if these names are chosen.
 pub fn find(alloc: Global, names: &TextSet, pieces: &[Piece]) -> Result<Finding, Memory>
     ensures { IfOk result (Finds (has_name names.now) pieces.now) }
 {

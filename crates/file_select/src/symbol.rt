@@ -8,7 +8,7 @@ use crate::texts::TextSet;
 use cf_types::Piece;
 use cf_words::{Word, is_name_word};
 
-/// A symbol of a condition; a word is a name, true where it is chosen.
+/// A symbol of a condition; a word is a name, true if it is chosen.
 #[derive(Clone, Copy)]
 pub enum Symbol {
     Word(bool),

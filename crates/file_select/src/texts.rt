@@ -36,7 +36,7 @@ impl TextSet {
         }
     }
 
-    /// Adds a text, and tells whether it is new. Where memory runs out, the texts are as before.
+    /// Adds a text, and returns whether it is new. If memory runs out, the texts are as before.
     pub fn insert(&mut self, alloc: Global, text: &[u8]) -> Result<bool, Memory>
         ensures err { OnErr result (self.new ≡ self.old) }
         ensures texts { OnOk result (self.new ≡ with_text self.old text.now) }

@@ -22,7 +22,7 @@ ghost use Rattle.history_laws.specs.Always.{
   ComesBelowAwake,
 };
 
-/// What is counted on the lines of a run is what the world has that the run leads to.
+/// What is counted on the lines of a run is what the world after it has.
 pub fn counted()
     ensures { OfEveryRun Counted }
 {}
@@ -97,8 +97,8 @@ pub fn tree_told()
     ensures { OfEveryRun (λ h v. TellsTree h (tree_lines v)) }
 {}
 
-/// What may be relied on in what a run prints: no device is freed before its references are returned and its children are
-/// freed, its history is lawful, and its tree tells what the history tells.
+/// What may be relied on in what a run prints: no device is freed before its references are returned and its children
+/// are freed, its history is lawful, and its tree shows what the history says.
 pub fn reliable()
     ensures { OfEveryRun IsReliable }
 {}

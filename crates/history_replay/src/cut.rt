@@ -13,7 +13,7 @@ fn newline_in(text: &[u8]) -> Option<usize>
     memchr(b'\n', text)
 }
 
-/// What stands before a place, and what stands behind it.
+/// What is before a place, and what is after it.
 fn cut_at(text: &[u8], place: usize) -> (&[u8], &[u8])
     requires { place < length text.now }
     ensures before { result.0.now ≡ take place text.now }
@@ -22,7 +22,7 @@ fn cut_at(text: &[u8], place: usize) -> (&[u8], &[u8])
     (&text[..place], &text[place + 1..])
 }
 
-/// The first line of a text, without its newline, and the text behind it; none where nothing is left.
+/// The first line of a text, without its newline, and the text after it; none if nothing is left.
 pub fn first_line(text: &[u8]) -> Option<(&[u8], &[u8])>
     ensures { MatchOption result (rule.lines_of text.now ≡ []) (λ p. IsCut text.now p.0.now p.1.now) }
 {

@@ -9,7 +9,7 @@ use std::alloc::Global;
 /// How many callers there may be, with the one that boots.
 const CALLERS: u8 = 17;
 
-/// How many bytes serve for most heads.
+/// How many bytes are enough for most heads.
 const USUAL: usize = 8;
 
 /// How the lines of a command begin: who gave it, and its number.
@@ -49,7 +49,7 @@ fn turn_to(head: &mut Head, alloc: Global, caller: u8, number: u32) -> Result<()
     Ok(())
 }
 
-/// Whether a line is a text with another one behind it.
+/// Whether a line is a text with another one after it.
 #[inline(always)]
 fn is_joined(first: &[u8], second: &[u8], line: &[u8]) -> bool
     ensures { result ≡ bytes_eq (first.now ++ second.now) line.now }
@@ -61,7 +61,7 @@ fn is_joined(first: &[u8], second: &[u8], line: &[u8]) -> bool
     is(first, parts.0) && is(second, parts.1)
 }
 
-/// Whether a line is the head of a command's lines with a text behind it.
+/// Whether a line is the head of a command's lines with a text after it.
 #[inline(always)]
 fn begins(
     head: &mut Head,
@@ -77,7 +77,7 @@ fn begins(
     Ok(is_joined(&head.text, text, line))
 }
 
-/// Of each caller the head of its last lines.
+/// For each caller the head of its last lines.
 #[derive(Drop)]
 pub struct Heads {
     alloc: Global,
@@ -94,7 +94,7 @@ impl Heads {
         Ok(Heads { alloc, heads })
     }
 
-    /// Whether a line is that of a caller's command of a number, with a text behind its head.
+    /// Whether a line is that of a caller's command of a number, with a text after its head.
     #[inline(always)]
     pub fn is_line(
         &mut self,

@@ -19,18 +19,18 @@ use run_rules::Event;
 use std::alloc::Global;
 use thiserror::Error;
 
-/// What a history tells: its events, and the device tree after them.
+/// What a history says: its events, and the device tree after them.
 #[derive(Drop)]
 pub struct Replayed {
     pub events: List<Event>,
     pub tree: List<DevLine>,
 }
 
-/// Why a history is not taken.
+/// Why a history is not accepted.
 #[derive(Clone, Copy, Debug, PartialEq, Eq, Error)]
 pub enum ReplayStop {
-    /// The first bad line, counted from 1: it is not that of the event that its caller does next. Line 0 where there is no
-    /// line `history 1` or `history 2`, and one more than there are lines where no line `tree` follows.
+    /// The first bad line, counted from 1: it is not the line of the event that its caller does next. Line 0 if there
+    /// is no line `history 1` or `history 2`; one more than there are lines if no line `tree` follows.
     #[error("line {line}: refused")]
     Bad { line: u64 },
     /// Memory ran out.
@@ -38,9 +38,9 @@ pub enum ReplayStop {
     Memory,
 }
 
-/// Reads a history of either format, from its head up to the next line `tree`, beside tables, a machine that fits them and
-/// at most 16 formed scripts: each line has to be that of the event that its caller does next. It answers the events and
-/// the device tree that they lead to, or the first bad line. The events that it answers are lawful.
+/// Reads a history of either format, from its head up to the next line `tree`, beside tables, a machine that fits them
+/// and at most 16 formed scripts: each line must be that of the event that its caller does next. It returns the events
+/// and the device tree that they lead to, or the first bad line. The events that it returns are lawful.
 pub fn reread(
     alloc: Global,
     tables: &Tables,

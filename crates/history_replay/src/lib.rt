@@ -1,4 +1,4 @@
-//! Replay: what a printed history says, read by an independent reader over plain lists.
+//! Replay: a printed history, read by an independent reader over plain lists.
 #![tactic(auto)]
 
 mod cut;

@@ -1,4 +1,4 @@
-//! By what the lines of a history are read.
+//! What the reader of the lines of a history uses.
 ghost use Rattle.std.specs.Prelude.{◌≡◌, IfOk};
 
 use crate::head::Heads;
@@ -9,11 +9,11 @@ use plain_world::Rules;
 use run_rules::Format;
 use std::alloc::Global;
 
-/// How many bytes serve for most lines.
+/// How many bytes are enough for most lines.
 const USUAL: usize = 96;
 
-/// By what lines are read: who looks for what is done next, who tells events, the format, room for the line that is due, and
-/// the heads of lines.
+/// What the reader of lines uses: the search for the next deed, the maker of its event, the format, room for the line
+/// that is due, and the heads of lines.
 #[derive(Drop)]
 pub struct Reader<'a> {
     pub seeker: Seeker<'a>,

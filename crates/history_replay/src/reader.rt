@@ -43,7 +43,7 @@ fn is_line_of(due: &mut Vec<u8>, format: Format, event: &Event, line: &[u8]) -> 
     Ok(is(due, line))
 }
 
-/// An event where the test has passed.
+/// An event, if the test has passed.
 fn where_so(is: bool, event: Event) -> Option<Event>
     ensures { given is event ≡ result }
 {
@@ -72,7 +72,7 @@ fn event_if(
     }
 }
 
-/// The event of what a caller does next, if a line is that of it: the line is put for that.
+/// The event of what a caller does next, if a line is that of it; the line is made for that.
 fn event_anew(
     reader: &mut Reader,
     plain: &Plain,
@@ -92,7 +92,7 @@ fn event_anew(
     }
 }
 
-/// The event of an act that was told before, if a line is that of it: only its head is looked at anew.
+/// The event of an act that was kept, if a line is that of it: only its head is made again.
 fn event_again(
     heads: &mut Heads,
     plain: &Plain,
@@ -240,7 +240,7 @@ fn told_by(
     }
 }
 
-/// The event that a line tells, if it is that of what its caller does next: the world is then the one after it.
+/// The event of a line, if it is what its caller does next: the world is then the one after it.
 fn step(reader: &mut Reader, plain: &mut Plain, line: &[u8]) -> Result<Option<Event>, Memory>
     requires fit { AreFit reader.old.teller.rules.now }
     requires going { IsGoing (setup_in reader.old) plain.old }
@@ -305,7 +305,7 @@ fn read_lines(
     Err(ReplayStop::Bad { line: number })
 }
 
-/// The events of the lines of a format behind its head.
+/// The events of the lines of a format after its head.
 fn read_behind_head(
     alloc: Global,
     rules: &Rules,

@@ -65,7 +65,7 @@ fn put_spaced_attr(out: &mut Vec<u8>, tables: &Tables, attr: u32) -> Result<(), 
     put_attr_name(out, tables, attr)
 }
 
-/// What a device offers, where it offers anything.
+/// What a device offers, if it offers anything.
 fn put_offers(out: &mut Vec<u8>, tables: &Tables, interfaces: &[u32]) -> Result<(), Memory>
     ensures { OnOk result (out.new.items ≡ out.old.items ++ offers_text tables.now interfaces.now) }
 {

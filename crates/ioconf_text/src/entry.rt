@@ -11,7 +11,8 @@ use crate::row::put_row;
 use attr_graph::{Graph, graph_of};
 use cf_types::{Item, Memory, Tables};
 
-// Each `seek_` puts line `n` of a section of the listing and answers `None`, or answers how far `n` lies behind it.
+// Each `seek_` puts line `n` of a section of the listing and returns `None`, or returns how far `n` is past the
+// section.
 
 fn seek_attr(out: &mut Vec<u8>, tables: &Tables, n: usize) -> Result<Option<usize>, Memory>
     ensures { IfOk result (λ left. Seeks (map attr_line tables.now.attrs) n left out.old.items out.new.items) }
@@ -202,7 +203,7 @@ fn seek_tail(out: &mut Vec<u8>, tables: &Tables, n: usize) -> Result<Option<usiz
     seek_end(out, tables, n)
 }
 
-/// A line behind the first.
+/// A line after the first.
 fn seek_line(
     out: &mut Vec<u8>,
     tables: &Tables,
@@ -219,8 +220,8 @@ fn seek_line(
     seek_tail(out, tables, n)
 }
 
-/// Appends line `n` of the listing of the tables, as `put_line_with` does, without a buffer of its own: where memory runs
-/// out, a part of the line may stand there.
+/// Appends line `n` of the listing of the tables, as `put_line_with` does, without a buffer of its own: if memory runs
+/// out, a part of the line may be left there.
 pub fn put_line_at_once(
     tables: &Tables,
     graph: &Graph,
@@ -241,8 +242,8 @@ pub fn put_line_at_once(
 /// The room that is made for a line at first, in bytes. Most lines are shorter.
 const LINE_ROOM: usize = 120;
 
-/// Appends line `n` of the listing of the tables, counted from 0 and without its newline, and answers whether there is
-/// one; the graph tells what devices offer. Where there is none, or memory runs out, nothing is appended.
+/// Appends line `n` of the listing of the tables, counted from 0 and without its newline, and returns whether there is
+/// one; the graph gives what devices offer. If there is none, or memory runs out, nothing is appended.
 pub fn put_line_with(
     tables: &Tables,
     graph: &Graph,
@@ -259,8 +260,8 @@ pub fn put_line_with(
     Ok(more)
 }
 
-/// Appends line `n` of the listing of formed tables, as `put_line_with` does. It finds what all devices offer, so for
-/// many lines make the graph once.
+/// Appends line `n` of the listing of formed tables, as `put_line_with` does. It makes the graph of what devices offer
+/// for itself; for many lines, make the graph once and use `put_line_with`.
 pub fn put_line(tables: &Tables, n: u32, out: &mut Vec<u8>) -> Result<bool, Memory>
     requires { FormedTables tables.now }
     ensures ok { IfOk result (λ more. PutsLine (slice_get (lines tables.now) n) more out.old.items out.new.items) }

@@ -26,7 +26,7 @@ fn put_value(out: &mut Vec<u8>, item: &Item) -> Result<(), Memory>
     Ok(())
 }
 
-/// An option or a makeoption behind its word.
+/// An option or a makeoption after its word.
 pub fn put_item(out: &mut Vec<u8>, word: &[u8], item: &Item) -> Result<(), Memory>
     ensures { OnOk result (out.new.items ≡ out.old.items ++ item_line word.now item.now) }
 {

@@ -1,4 +1,4 @@
-//! Tables that come and go: what the commands of a plan mean. Nothing here runs: its definitions stand in specs/, and the
+//! Tables that come and go: what the commands of a plan mean. Nothing here runs: its definitions are in specs/, and the
 //! contract of each function is a law.
 #![tactic(auto)]
 

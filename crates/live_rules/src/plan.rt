@@ -1,6 +1,6 @@
 use cf_types::{List, Name};
 
-/// The rows of these devices of the configuration come and go together. A group is told by its place in the plan.
+/// The rows of these devices of the configuration come and go together. A group is identified by its place in the plan.
 #[derive(Drop)]
 pub struct Group {
     pub name: Name,

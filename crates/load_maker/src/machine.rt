@@ -20,7 +20,8 @@ fn put_spot(out: &mut Vec<u8>, number: u32) -> Result<(), Memory>
     Ok(())
 }
 
-/// Appends the line that tells how well a disk matches the spot: not at all for each third one, from the first on.
+/// Appends the line that says how well a disk matches the spot: not at all for every third one, beginning with the
+/// first.
 fn put_match(out: &mut Vec<u8>, number: u32) -> Result<(), Memory>
     ensures { OnOk result (out.new.items ≡ out.old.items ++ ended (generated.match_line number)) }
 {
@@ -40,7 +41,7 @@ fn put_lines(out: &mut Vec<u8>, number: u32) -> Result<(), Memory>
     put_match(out, number)
 }
 
-/// The generated machine: a bus with so many spots, 1 to 1,000.
+/// The generated machine: a bus with this many spots, 1 to 1,000.
 pub fn machine_text(alloc: Global, n: u32) -> Result<Text, Memory>
     requires some { 1 ≤ n }
     requires few { n ≤ 1000 }

@@ -27,7 +27,7 @@ fn is_given(given: &[GivenLoc], name: &Name) -> bool
     given_named(given, name).is_some()
 }
 
-/// The first code of a pair behind those before it.
+/// The first code of a pair after those before it.
 fn pair_fault(locs: &[Locator], before: &[GivenLoc], pair: &GivenLoc) -> Option<u8>
     ensures { result ≡ pair_fault locs.now before.now pair.now }
 {
@@ -94,9 +94,10 @@ fn filled(given: &[GivenLoc], locator: &Locator) -> i64
     written.or(locator.default).unwrap_or(0)
 }
 
-/// The values of the locators of an attribute, in order, where an instance writes these pairs. The error is the first
-/// code, pair by pair `UNKNOWN_LOCATOR`, `LOCATOR_TWICE`, or `NO_DEFAULT` for `?`, and then `MISSING_LOCATOR` for one
-/// without brackets that is not written. The attribute has at most 16 locators, whose names differ. See config(5).
+/// The values of the locators of an attribute, in order, for an instance that writes these pairs. The error is the
+/// first code: for each pair in turn `UNKNOWN_LOCATOR`, `LOCATOR_TWICE`, or `NO_DEFAULT` for `?`; then
+/// `MISSING_LOCATOR` for a locator without brackets that is not written. The attribute has at most 16 locators, whose
+/// names differ. See config(5).
 #[tactic(auto, unfolding(config_rules::specs::Joined::fill))]
 pub fn fill(attr: &Attr, given: &[GivenLoc]) -> Result<Locs, u8>
     requires few { length attr.now.locs ≤ 16 }

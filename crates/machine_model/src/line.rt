@@ -21,7 +21,7 @@ use machine_text::LineStop;
 use std::alloc::Global;
 use std::mem;
 
-/// Whether the name is free, and no locator or mark stands twice.
+/// Whether the name is allowed, and no locator or mark is given twice.
 fn is_spot(
     alloc: Global,
     name: &[u8],
@@ -211,7 +211,7 @@ fn add_driver(
     Ok(())
 }
 
-/// Adds what stands behind `spot`.
+/// Adds what follows `spot`.
 fn add_spot_line<'t>(
     alloc: Global,
     index: &Index,
@@ -231,7 +231,7 @@ fn add_spot_line<'t>(
     }
 }
 
-/// Adds what stands behind `match`.
+/// Adds what follows `match`.
 fn add_match_line(index: &Index, draft: &mut Draft, words: &[&[u8]]) -> Result<(), LineStop>
     requires index { IsIndex index.now }
     requires draft { IsDraft draft.old }
@@ -244,7 +244,7 @@ fn add_match_line(index: &Index, draft: &mut Draft, words: &[&[u8]]) -> Result<(
     }
 }
 
-/// Adds what stands behind `style`.
+/// Adds what follows `style`.
 fn add_style_line(index: &Index, draft: &mut Draft, words: &[&[u8]]) -> Result<(), LineStop>
     requires index { IsIndex index.now }
     requires draft { IsDraft draft.old }
@@ -257,7 +257,7 @@ fn add_style_line(index: &Index, draft: &mut Draft, words: &[&[u8]]) -> Result<(
     }
 }
 
-/// Adds what stands behind `driver`.
+/// Adds what follows `driver`.
 fn add_driver_line(
     alloc: Global,
     index: &Index,
@@ -275,7 +275,7 @@ fn add_driver_line(
     }
 }
 
-/// Adds what stands behind the first word of a line.
+/// Adds what follows the first word of a line.
 fn add_rest<'t>(
     alloc: Global,
     index: &Index,
@@ -303,7 +303,7 @@ fn add_rest<'t>(
     Err(LineStop::Code(code::BAD_LINE))
 }
 
-/// Adds what a line of these words says; nothing where there are none.
+/// Adds what a line of these words says; nothing if there are none.
 pub fn add_words<'t>(
     alloc: Global,
     index: &Index,

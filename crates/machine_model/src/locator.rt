@@ -13,7 +13,7 @@ use crate::word::ranged;
 use cf_types::{List, Memory};
 use std::alloc::Global;
 
-/// A value that a spot gives for a locator, `None` where the number is out of its range.
+/// A value that a spot gives for a locator, `None` if the number is out of its range.
 #[derive(Drop)]
 pub struct FoundValue<'t> {
     pub name: &'t [u8],
@@ -26,7 +26,7 @@ fn has_equals(word: &[u8]) -> bool
     word.iter().any(|&byte| byte == b'=')
 }
 
-/// How many bytes stand before the first `=`; all of them where there is none.
+/// How many bytes come before the first `=`; all of them if there is none.
 fn equals_at(word: &[u8]) -> usize
     ensures { result ≡ length (take_while (λ c. not (c == 61)) word.now) }
 {
@@ -39,7 +39,7 @@ fn name_part(word: &[u8]) -> &[u8]
     word.split_at(equals_at(word)).0
 }
 
-/// What stands behind the first `=`.
+/// What follows the first `=`.
 fn value_part(word: &[u8]) -> &[u8]
     ensures { result.now ≡ after_first (λ c. c == 61) word.now }
 {
@@ -71,7 +71,7 @@ fn located_value(word: &[u8]) -> Option<FoundValue>
     }
 }
 
-/// Reads locators and their values; `None` where a word is not `loc=V`.
+/// Reads locators and their values; `None` if a word is not `loc=V`.
 pub fn given_values<'t>(
     alloc: Global,
     words: &[&'t [u8]],
@@ -88,7 +88,7 @@ pub fn given_values<'t>(
     Ok(Some(found))
 }
 
-/// How many words at the front are locators.
+/// How many words at the beginning are locators.
 pub fn count_located(words: &[&[u8]]) -> usize
     ensures { result ≡ length (located (seen words.now)) }
 {
@@ -124,7 +124,7 @@ fn has_number(numbers: &Numbers, name: &[u8], number: usize) -> bool
     }
 }
 
-/// Whether no name stands twice, by the numbers of the names.
+/// Whether no name is there twice, by the numbers of the names.
 fn differ_by_number(numbers: &Numbers, found: &[FoundValue]) -> bool
     requires { AreNumbers numbers.now.items (names_of found.now) }
     ensures { result ≡ differ (names_of found.now) }
@@ -137,7 +137,7 @@ fn differ_by_number(numbers: &Numbers, found: &[FoundValue]) -> bool
     true
 }
 
-/// Whether no locator stands twice.
+/// Whether no locator is given twice.
 pub fn names_differ(alloc: Global, found: &[FoundValue]) -> Result<bool, Memory>
     ensures { IfOk result (λ apart. apart ≡ differ (map (λ g. g.name) (map given_of found.now))) }
 {

@@ -63,7 +63,7 @@ pub fn spot_above(draft: &Draft, parent: &[u8]) -> Option<u16>
     spot_number(draft, parent)
 }
 
-/// The place of a spot, where its attribute is one and `root` stands on both sides or on none.
+/// The place of a spot, if its attribute is one and both sides are `root`, or neither is.
 pub fn spot_place(index: &Index, parent: &[u8], attr: &[u8]) -> Option<Place>
     requires { IsIndex index.now }
     ensures { result ≡ spot_place index.now.tables.now parent.now attr.now }

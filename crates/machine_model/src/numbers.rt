@@ -1,4 +1,4 @@
-//! Names with their numbers, found by halves.
+//! Names with their numbers, found by binary search.
 ghost use Rattle.std.specs.Prelude.{◌≡◌, ℕ, List, ◌∷◌, ◌++◌, [], IfErr, IfOk, None, OnOk, Some, length};
 ghost use Rattle.machine_model.specs.Numbers.{AreInOrder, AreNumbers, HaveNumbers, IsPlaceOf, number_in};
 
@@ -38,7 +38,7 @@ fn number_at(numbers: &Numbers, place: usize, name: &[u8]) -> Option<usize>
     }
 }
 
-/// The number of a name, or its place where it is not there.
+/// The number of a name, or its place if it is not there.
 pub fn find(numbers: &Numbers, name: &[u8]) -> Result<usize, usize>
     requires { AreInOrder numbers.now.items }
     ensures found { IfOk result (λ number. number_in numbers.now.items name.now ≡ Some number) }
@@ -83,7 +83,7 @@ pub fn push<'t>(numbers: &mut Numbers<'t>, name: &'t [u8], number: usize) -> Res
     Ok(())
 }
 
-/// Puts names in order that stand as they came.
+/// Sorts names that are in the order in which they came.
 pub fn put_in_order(numbers: &mut Numbers) -> Result<(), Memory>
     ensures { OnOk result ((names : List (List ℕ)) → HaveNumbers numbers.old.items names → AreNumbers numbers.new.items names) }
 {

@@ -121,7 +121,7 @@ fn depth_below(spots: &[Spot], above: Option<u16>) -> usize
     depth
 }
 
-/// Where a spot hangs, and the place of its name among those of the spots.
+/// What a spot is below, and the place of its name among those of the spots.
 #[derive(Drop)]
 pub struct Site<'t> {
     pub at: usize,
@@ -130,7 +130,7 @@ pub struct Site<'t> {
     locators: &'t [Locator],
 }
 
-/// Whether a parent was given by no earlier line, where this is the spot above.
+/// Whether no earlier line gave the parent; `above` is the spot of the parent.
 fn is_orphan(parent: &[u8], above: Option<u16>) -> bool
     ensures { result ≡ (not (bytes_eq parent.now (codes "root")) && is_none above) }
 {

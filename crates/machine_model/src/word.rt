@@ -67,7 +67,7 @@ pub fn is_one(words: &[&[u8]], word: &[u8]) -> bool
     words.iter().any(|other| word == *other)
 }
 
-/// Whether no word stands twice.
+/// Whether no word is there twice.
 pub fn differ(words: &[&[u8]]) -> bool
     ensures { result ≡ differ (seen words.now) }
 {
@@ -79,7 +79,7 @@ pub fn differ(words: &[&[u8]]) -> bool
     true
 }
 
-/// The number that a word spells, `Some(None)` where it is out of its range.
+/// The number that a word spells, `Some(None)` if it is out of its range.
 pub fn ranged(word: &[u8]) -> Option<Option<i64>>
     ensures { result ≡ ranged word.now }
 {
@@ -109,7 +109,7 @@ fn within_match(value: Option<i64>) -> Option<u32>
     }
 }
 
-/// The match value that a word spells, `Some(None)` where it is not from 0 to 65,535.
+/// The match value that a word spells, `Some(None)` if it is not from 0 to 65,535.
 pub fn match_value(word: &[u8]) -> Option<Option<u32>>
     ensures { result ≡ match_value word.now }
 {

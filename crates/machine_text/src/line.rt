@@ -8,7 +8,7 @@ use memchr::memchr;
 use std::alloc::{AllocError, Global};
 use thiserror::Error;
 
-/// Why a machine file can't be read.
+/// Why a machine file could not be read.
 #[derive(Clone, Copy, Debug, PartialEq, Eq, Error)]
 pub enum MachineStop {
     /// The first bad line, counted from 1, and its code, of those of machine files.
@@ -41,7 +41,7 @@ impl From<AllocError> for MachineStop {
     }
 }
 
-/// Each byte that is allowed stands at its own place, and a newline at every other place.
+/// Each allowed byte is at its own place; every other place has a newline.
 static ALLOWED_BYTES: [u8; 256] = *b"\
     \n\n\n\n\n\n\n\n\n\t\n\n\n\n\n\n\n\n\n\n\n\n\n\n\n\n\n\n\n\n\n\n\
     \x20!\"#$%&'()*+,-./0123456789:;<=>?\
@@ -59,7 +59,7 @@ fn is_allowed(byte: u8) -> bool
     ALLOWED_BYTES[byte as usize] != b'\n'
 }
 
-/// What stands before the first `#`: a line without its comment.
+/// What comes before the first `#`: a line without its comment.
 pub fn uncommented(line: &[u8]) -> &[u8]
     ensures { result.now ≡ uncommented line.now }
 {
@@ -69,7 +69,7 @@ pub fn uncommented(line: &[u8]) -> &[u8]
     }
 }
 
-/// Whether a byte that is not allowed stands outside the comment.
+/// Whether there is a byte that is not allowed outside the comment.
 pub fn has_bad_byte(line: &[u8]) -> bool
     ensures { result ≡ has_bad_byte line.now }
 {
@@ -89,7 +89,7 @@ fn parted(alloc: Global, bytes: &[u8]) -> Result<List<Text>, NoMemory>
     Ok(words)
 }
 
-/// Puts the words of a line in the place of others. They are lent, and stand in room that is used again.
+/// Replaces the words by those of a line. They are borrowed from the line, and the room of the list is reused.
 pub fn cut_words<'t>(words: &mut Vec<&'t [u8]>, line: &'t [u8]) -> Result<(), NoMemory>
     ensures { OnOk result (seen words.new.items ≡ words_of line.now) }
 {
@@ -102,7 +102,7 @@ pub fn cut_words<'t>(words: &mut Vec<&'t [u8]>, line: &'t [u8]) -> Result<(), No
     Ok(())
 }
 
-/// The words of a line, parted by spaces and tabs.
+/// The words of a line, separated by spaces and tabs.
 pub fn words_of(alloc: Global, line: &[u8]) -> Result<List<Text>, NoMemory>
     ensures { IfOk result (λ words. words ≡ words_of line.now) }
 {

@@ -2,7 +2,7 @@ use cf_types::Memory as NoMemory;
 use std::alloc::AllocError;
 use thiserror::Error;
 
-/// Why a line can't be taken.
+/// Why a line is refused.
 #[derive(Clone, Copy, Debug, PartialEq, Eq, Error)]
 pub enum LineStop {
     /// Its first code.

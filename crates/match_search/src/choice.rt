@@ -93,7 +93,7 @@ fn best_of_all(
     best
 }
 
-/// Whether a spot hangs at a place.
+/// Whether a spot is at a place.
 #[inline(always)]
 fn hangs_at(machine: &Machine, spot: u16, place: Place) -> bool
     ensures { result ≡ listed.hangs_at machine.now spot place }
@@ -124,7 +124,7 @@ fn first_open(tables: &Tables, live: &LiveRows, parent: ParentRef, rows: &[u16])
         .find(|row| is_open_to(tables, live, parent, *row))
 }
 
-/// The best row for a spot. Where the spot hangs at the place, only the rows that suit it are looked at, the best first.
+/// The best row for a spot. If the spot is at the place, only the rows that suit it are looked at, the best first.
 #[inline(always)]
 fn best_row_of(
     tables: &Tables,
@@ -156,9 +156,9 @@ fn best_row_of(
     }
 }
 
-/// The row that takes a spot below a parent at a place: of those that are marked live, fit, pass submatch and have a match
-/// value above 0 the one of greatest match value, the earliest among equals. None where there is none. The truth values
-/// may be any. See autoconf(9).
+/// The row that takes a spot below a parent at a place: of those that are marked live, fit, pass submatch and have a
+/// match value above 0, the one of greatest match value, the earliest among equals. None if there is none. Any truth
+/// values may be given. See autoconf(9).
 #[inline(always)]
 pub fn best(
     tables: &Tables,
@@ -175,7 +175,7 @@ pub fn best(
     requires few { length tables.now.rows ≤ 8192 }
     ensures row { result ≡ best_row tables.now machine.now live.now parent place spot }
 
-    // So it is the winner of each world whose rows are live as the truth values say.
+    // So it is the winner in each world whose rows are live as the truth values say.
     ensures winner { (s : Setup) (devices : List Dev) → s.tables ≡ tables.now → s.machine ≡ machine.now → live.now ≡ live_rows s devices → winner s devices parent place spot ≡ result }
 {
     best_row_of(tables, graph, index, machine, live, parent, place, spot)

@@ -90,7 +90,7 @@ pub fn attr_at(tables: &Tables, place: Place) -> Option<&Attr>
     }
 }
 
-/// The locator values that are found at a spot, or those given where there is no such spot.
+/// The locator values that are found at a spot, or those given if there is no such spot.
 pub fn found_or<'a>(machine: &'a Machine, spot: u16, none: &'a Locs) -> &'a Locs
     requires { none.now ≡ [] }
     ensures { result.now ≡ rule.found_at machine.now spot }

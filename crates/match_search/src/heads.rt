@@ -1,4 +1,4 @@
-//! What is looked at first of each row, so that most rows that do not suit a spot are told by it alone.
+//! What is compared first for each row; it alone rules out most rows that do not suit a spot.
 ghost use Rattle.std.specs.Prelude.{◌≡◌, map, IfOk};
 ghost use Rattle.match_search.specs.Found.{locators_in};
 ghost use Rattle.match_search.specs.Heads.{could_pass, first_locator, head_of};
@@ -34,7 +34,7 @@ impl RowHead {
     }
 }
 
-/// What is looked at first of these rows, in their order.
+/// What is compared first of these rows, in their order.
 pub fn heads_of(alloc: Global, rows: &[Row]) -> Result<Vec<RowHead>, Memory>
     ensures { IfOk result (λ heads. heads.items ≡ map head_of rows.now) }
 {
@@ -45,7 +45,7 @@ pub fn heads_of(alloc: Global, rows: &[Row]) -> Result<Vec<RowHead>, Memory>
     Ok(heads)
 }
 
-/// The first locator of an attribute with the first value that is found, where there are both.
+/// The first locator of an attribute with the first value that is found, if there are both.
 pub fn first_locator(attr: Option<&Attr>, found: &Locs) -> Option<FirstLocator>
     ensures { result ≡ first_locator (locators_in attr.entry) found.now }
 {

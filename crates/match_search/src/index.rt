@@ -38,8 +38,8 @@ struct Candidate {
     row: u16,
 }
 
-/// Whether a row of this match value suits a place with the locators of this attribute, where these values are found. What
-/// is looked at first tells most rows that do not.
+/// Whether a row of this match value suits a place with the locators of this attribute, at which these values are
+/// found. Most rows that do not are ruled out by what is compared first.
 #[inline(always)]
 fn is_suited(
     place: Place,

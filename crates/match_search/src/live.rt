@@ -5,7 +5,7 @@ use cf_types::{Memory, Tables};
 use std::alloc::Global;
 use std::marker::Model;
 
-/// Of each row whether it is live: starred, or of a name and a unit that no live device has. Contracts see the truth
+/// For each row whether it is live: starred, or of a name and a unit that no live device has. Contracts see the truth
 /// values in the order of the rows.
 #[derive(Drop)]
 pub struct LiveRows {
@@ -40,7 +40,7 @@ impl LiveRows {
         self.marks[row as usize] = live;
     }
 
-    /// The truth value of a row; false where there is no such row.
+    /// The truth value of a row; false if there is no such row.
     pub fn is_live(&self, row: u32) -> bool
         ensures { result ≡ slice_index_or self.now row false }
     {

@@ -6,7 +6,7 @@ ghost use Rattle.cf_types.specs.declared.machine.MatchLine.{MatchLine as Line};
 use cf_types::{MatchLine, Memory, Spot};
 use std::alloc::Global;
 
-/// For each spot no line.
+/// No line for any spot.
 fn no_lines(alloc: Global, spots: &[Spot]) -> Result<Vec<Vec<MatchLine>>, Memory>
     ensures { IfOk result (λ lists. AreOwnLines (length spots.now) [] (lines_in lists.items)) }
 {
@@ -17,7 +17,7 @@ fn no_lines(alloc: Global, spots: &[Spot]) -> Result<Vec<Vec<MatchLine>>, Memory
     Ok(lists)
 }
 
-/// Adds a line to those of its spot, if it is for one that there is.
+/// Adds a line to those of its spot, if it names a spot that exists.
 fn add_line(lists: &mut Vec<Vec<MatchLine>>, line: &MatchLine) -> Result<(), Memory>
     ensures { OnOk result ((n : ℕ) (lines : List Line) → AreOwnLines n lines (lines_in lists.old.items) → AreOwnLines n (lines ++ line.now ∷ []) (lines_in lists.new.items)) }
 {
@@ -30,7 +30,7 @@ fn add_line(lists: &mut Vec<Vec<MatchLine>>, line: &MatchLine) -> Result<(), Mem
     Ok(())
 }
 
-/// Of each spot its own lines, in their order.
+/// The lines of each spot, in their order.
 pub fn own_lines(
     alloc: Global,
     spots: &[Spot],

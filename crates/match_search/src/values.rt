@@ -5,7 +5,7 @@ ghost use Rattle.match_search.specs.Index.{AreValuesAt, is_for, last_value};
 
 use cf_types::{Machine, MatchLine, Memory};
 
-/// Sets the value of an attachment; those beyond the end are 0.
+/// Sets the value of an attachment; values beyond the end are 0.
 fn set_value(values: &mut Vec<u32>, attach: u32, value: u32) -> Result<(), Memory>
     ensures { OnOk result ((a : ℕ) → slice_index_or values.new.items a 0 ≡ (if attach == a then value else slice_index_or values.old.items a 0)) }
 {
@@ -17,7 +17,7 @@ fn set_value(values: &mut Vec<u32>, attach: u32, value: u32) -> Result<(), Memor
     Ok(())
 }
 
-/// The value of an attachment; those beyond the end are 0.
+/// The value of an attachment; values beyond the end are 0.
 pub fn value_of(values: &Vec<u32>, attach: u32) -> u32
     ensures { result ≡ slice_index_or values.now.items attach 0 }
 {

@@ -210,7 +210,7 @@ fn plan_detach(
     }
 }
 
-/// Hardware goes from a spot, with what stands on it.
+/// Hardware goes from a spot, with the device on it.
 fn plan_unplug(
     alloc: Global,
     setup: &Setup,
@@ -233,7 +233,7 @@ fn plan_unplug(
     }
 }
 
-/// A device is to be searched again.
+/// A command to search a device again.
 fn plan_rescan(
     site: &Site,
     core: &Core,
@@ -292,7 +292,7 @@ fn ask_power(setup: &Setup, core: &Core, kind: PowerKind, name: &Name) -> Deed
     answered_deed(plan_begin(setup, core, kind, name.bytes()))
 }
 
-/// What a command does, which has this number.
+/// What the command of this number does.
 #[tactic(auto, unfolding(run_rules::specs::Next::command_deed))]
 pub fn plan_command(
     alloc: Global,

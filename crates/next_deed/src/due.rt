@@ -16,7 +16,7 @@ use run_rules::{ParentRef, Position, Setup, Turn, Wanted};
 use run_world::{Core, Site, attach_of, driver_of, has_spot, is_occupied};
 use scan_engine::next_turn;
 
-/// What searches: the driver, the attachment and the spot of a device, none of them for the root; and as what rows name it.
+/// Who searches: the driver, the attachment and the spot of a device, none of them for the root; and how rows name it.
 #[derive(Clone, Copy)]
 pub struct Searcher {
     pub driver: Option<u32>,
@@ -60,7 +60,7 @@ fn has_value(found: &[i64], wanted: Wanted) -> bool
     }
 }
 
-/// Whether a spot has all locator values that are wanted. Where none is, the spot is not looked at.
+/// Whether a spot has all locator values that are wanted. If none is wanted, the spot is not looked at.
 #[inline(always)]
 fn passes_filter(machine: &Machine, spot: u16, filter: &[Wanted]) -> bool
     ensures { result ≡ rule.passes_filter (rule.found_at machine.now spot) filter.now }

@@ -11,7 +11,7 @@ use detach_engine::next_free;
 use run_rules::{Choice, Deed, Wait};
 use run_world::Core;
 
-/// How a detachment goes on: what was condemned last is freed once nobody holds it.
+/// How a detachment goes on: the device condemned that was attached last is freed once nobody holds it.
 #[tactic(auto, unfolding(run_rules::specs::Next::freeing))]
 #[inline(always)]
 pub fn plan_free(core: &Core, caller: u8) -> Choice
@@ -29,7 +29,7 @@ pub fn plan_free(core: &Core, caller: u8) -> Choice
     }
 }
 
-/// What is done after the last command: what the caller holds is given back, and then it ends.
+/// What is done after the last command: the caller gives back what it holds, and then it ends.
 pub fn plan_closing(core: &Core, caller: u8) -> Choice
     requires later { EachLater (λ d e. d.serial < e.serial) core.now.tree.live }
     requires lives { AllByRecursion (λ r. IsTrue (is_live core.now.tree.live r.serial)) core.now.refs.refs }

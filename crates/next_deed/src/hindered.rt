@@ -1,4 +1,4 @@
-//! What keeps devices from going, or from being searched: see config_detach(9).
+//! What keeps devices from being freed, or from being searched: see config_detach(9).
 ghost use Rattle.std.specs.Prelude.{◌≡◌, ◌==◌, [], ℕ, Bool, IfOk, IsTrue};
 ghost use Rattle.std.specs.List.{list_any};
 ghost use Rattle.run_rules.specs.Next as next;
@@ -23,14 +23,14 @@ fn is_framed(callers: &[CallerState], serial: u64) -> bool
     callers.iter().any(|caller| caller.stack.pins(serial))
 }
 
-/// Whether a frame of a caller, or a scan that was put off, is for the device.
+/// Whether a frame of a caller, or a deferred scan, is for the device.
 pub fn is_pinned(core: &Core, serial: u64) -> bool
     ensures { (s : from.Setup) → result ≡ world.is_pinned (world_of s core.now) serial }
 {
     is_framed(&core.callers, serial) || core.deferred.pinned(serial)
 }
 
-/// The live devices that a frame or a scan that was put off is for.
+/// The live devices that a frame or a deferred scan is for.
 fn pinned_of(alloc: Global, core: &Core) -> Result<List<u64>, Memory>
     ensures { (s : from.Setup) → IfOk result (λ list. list ≡ serials_where (λ d. world.is_pinned (world_of s core.now) d.serial) core.now.tree.live) }
 {
@@ -101,7 +101,7 @@ fn alone_in_the_way(
     }
 }
 
-/// The device that keeps the target's subtree from going. See config_detach(9).
+/// The device that keeps the target's subtree from being freed. See config_detach(9).
 pub fn in_the_way(
     alloc: Global,
     setup: &Setup,

@@ -1,4 +1,4 @@
-//! The late spots that finalisers show.
+//! The late spots that finalizers show.
 ghost use Rattle.std.specs.Prelude.{◌≡◌, ◌<◌, length, find, false, slice_get};
 ghost use Rattle.std.specs.Option.{option_map_or};
 ghost use Rattle.cf_types.specs.Numbers.{below};
@@ -31,7 +31,7 @@ fn offers_place(offered: &[u32], place: Place) -> bool
     }
 }
 
-/// Whether a spot hangs below the device, on an attribute that the device offers.
+/// Whether a spot is below the device, on an attribute that the device offers.
 fn is_below(site: &Site, device: Dev, spot: &Spot) -> bool
     ensures { result ≡ next.hangs_below site.now.setup device spot.now }
 {
@@ -43,7 +43,7 @@ fn is_below(site: &Site, device: Dev, spot: &Spot) -> bool
     offers_place(offers, spot.place)
 }
 
-/// Whether the spot of a number does.
+/// The same for the spot of a number.
 fn hangs_below(site: &Site, device: Dev, spot: u16) -> bool
     ensures { result ≡ option_map_or (next.hangs_below site.now.setup device) (slice_get site.now.setup.machine.spots spot) false }
 {
@@ -53,7 +53,7 @@ fn hangs_below(site: &Site, device: Dev, spot: u16) -> bool
     }
 }
 
-/// Whether a finaliser of the device would show the spot.
+/// Whether a finalizer of the device would show the spot.
 fn is_late_below(site: &Site, core: &Core, device: Dev, spot: u16) -> bool
     ensures { is_late_at site.now core.now device spot ≡ result }
 {
@@ -63,7 +63,7 @@ fn is_late_below(site: &Site, core: &Core, device: Dev, spot: u16) -> bool
     hidden && !absent && below
 }
 
-/// The first spot that is late, hidden and present, and hangs below the device.
+/// The first spot that is late, hidden and present, and is below the device.
 fn late_spot(site: &Site, core: &Core, device: Dev) -> Option<u16>
     ensures { find (is_late_at site.now core.now device) (below (length site.now.setup.machine.spots)) ≡ result }
 {
@@ -75,7 +75,7 @@ fn late_spot(site: &Site, core: &Core, device: Dev) -> Option<u16>
     None
 }
 
-/// The spot that the finaliser of a device shows.
+/// The spot that the finalizer of a device shows.
 pub fn shown_by(site: &Site, core: &Core, serial: u64) -> Option<u16>
     ensures { late.shown_by (world_at site.now core.now) serial ≡ result }
 {

@@ -109,7 +109,7 @@ fn plan_frame(site: &Site, core: &Core, frame: &Frame) -> Deed
     }
 }
 
-/// What a caller does next that is in no transfer, detachment or power command: its frames go first.
+/// What a caller that is in no transfer, detachment or power command does next: its frames go first.
 #[inline(always)]
 fn plan_stack(alloc: Global, site: &Site, core: &Core, caller: u8) -> Result<Choice, Memory>
     requires may { MayRun site.now.setup }
@@ -131,7 +131,7 @@ fn plan_stack(alloc: Global, site: &Site, core: &Core, caller: u8) -> Result<Cho
     }
 }
 
-/// What a caller does next that is in the middle of this.
+/// What a caller that is in the middle of this does next.
 #[inline(always)]
 fn plan_activity(
     alloc: Global,
@@ -182,7 +182,7 @@ pub fn goes_by_frames(core: &Core, caller: u8) -> bool
     }
 }
 
-/// What a caller does next that goes on by its frames, where a scan is on top; none where `choose` has to tell.
+/// What a caller that goes on by its frames does next, if a scan is on top; none if `choose` has to decide.
 #[inline(always)]
 pub fn next_on_scan(site: &Site, core: &Core, caller: u8) -> Option<Deed>
     requires kept { Kept (world_at site.now core.now) }
@@ -203,7 +203,7 @@ pub fn next_on_scan(site: &Site, core: &Core, caller: u8) -> Option<Deed>
     }
 }
 
-/// What a caller does next that is in the middle of a power command; none where `choose` has to tell.
+/// What a caller that is in the middle of a power command does next; none if `choose` has to decide.
 #[inline(always)]
 pub fn next_in_power(site: &Site, core: &Core, caller: u8) -> Option<Deed>
     requires kept { Kept (world_at site.now core.now) }

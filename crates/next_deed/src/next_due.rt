@@ -1,4 +1,4 @@
-//! Where a scan goes on behind a turn that is not due.
+//! Where a scan goes on after a turn that is not due.
 ghost use Rattle.std.specs.Prelude.{◌≡◌, ◌≤◌, ◌<◌, ℕ, true, false, length, IfSome};
 ghost use Rattle.run_rules.specs.Search as rule;
 ghost use Rattle.run_rules.specs.declared.world.Position as places;
@@ -22,7 +22,7 @@ fn is_before(a: Position, b: Position) -> bool
     a.attr < b.attr || (a.attr == b.attr && (a.row < b.row || (a.row == b.row && a.spot < b.spot)))
 }
 
-/// The sooner of two positions; the second one counts only if it is there and behind a third.
+/// The sooner of two positions; the second one counts only if it is there and after a third.
 #[tactic(auto, unfolding(run_rules::specs::Search::is_before))]
 #[inline(always)]
 fn sooner(behind: Position, next: Position, found: Option<Position>) -> Position
@@ -70,8 +70,8 @@ fn due_position(
     })
 }
 
-/// Where a search of an indirect bus goes on: at the first pair of an open spot and of the row that takes it, so that no row
-/// is gone through that takes nothing.
+/// Where a search of an indirect bus goes on: at the first pair of an open spot and the row that takes it, so that rows
+/// that take nothing are skipped.
 #[inline(never)]
 fn next_pair(
     site: &Site,
@@ -101,7 +101,7 @@ fn next_pair(
     next
 }
 
-/// Whether a search passes a spot: it is not open, or does not hang on this bus.
+/// Whether a search passes a spot: it is not open, or is not on this bus.
 #[tactic(auto, unfolding(run_rules::specs::Search::is_open))]
 #[inline(always)]
 fn is_passed(
@@ -119,7 +119,7 @@ fn is_passed(
         || !is_open(setup, core, filter, spot)
 }
 
-/// The first spot from a number on that a search of this bus does not pass; behind all spots where there is none.
+/// The first spot from a number on that a search of this bus does not pass; after all spots if there is none.
 #[inline(always)]
 fn next_open(
     setup: &Setup,
@@ -164,7 +164,7 @@ fn next_on_bus(
     }
 }
 
-/// Where a search goes on behind a turn that is not due: no turn that is due stands between.
+/// Where a search goes on after a turn that is not due: no turn that is due is between.
 #[inline(always)]
 pub fn next_position(
     site: &Site,

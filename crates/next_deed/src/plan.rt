@@ -13,7 +13,7 @@ use crate::search::{arrival, parent_ref};
 use run_rules::{Deed, Position, Turn, Wanted};
 use run_world::{Core, Site, place_of};
 
-/// The position after a turn: behind it, or at the first pair of the same row.
+/// The position after a turn: after it, or at the first pair of the same row.
 #[tactic(auto, unfolding(run_rules::specs::Search::after_turn))]
 #[inline(always)]
 fn after_turn(turn: Turn) -> Position
@@ -62,7 +62,7 @@ pub fn plan_scan(
     }
 }
 
-/// What the finaliser of a device does.
+/// What the finalizer of a device does.
 #[tactic(auto, unfolding(run_rules::specs::Next::finalise))]
 #[inline(never)]
 pub fn plan_call(site: &Site, core: &Core, serial: u64, listed: Option<u64>, anew: bool) -> Deed
@@ -95,7 +95,7 @@ pub fn plan_call(site: &Site, core: &Core, serial: u64, listed: Option<u64>, ane
     }
 }
 
-/// What the boot does without a frame: interrupts first, then the finalisers, in passes until none answers 1. See
+/// What the boot does without a frame: interrupts first, then the finalizers, in passes until none answers 1. See
 /// autoconf(9).
 pub fn plan_boot(site: &Site, core: &Core) -> Deed
     requires books { Books site.now.setup core.now }

@@ -55,7 +55,7 @@ fn are_wanted(locators: &[Locator], given: &[Given]) -> bool
     }
 }
 
-/// Whether there is nothing in a list.
+/// Whether a list is empty.
 fn is_nothing(offers: &[u32]) -> bool
     ensures { result ≡ has_nothing offers.now }
 {
@@ -105,7 +105,7 @@ fn only_of(
     }
 }
 
-/// A device is to be searched again.
+/// A command to search a device again.
 pub fn plan_search(
     site: &Site,
     core: &Core,

@@ -1,4 +1,4 @@
-//! What comes to a spot.
+//! What is attached to a spot.
 ghost use Rattle.std.specs.Prelude.{◌≡◌, ◌≤◌, ◌<◌, length};
 ghost use Rattle.run_rules.specs.Next as next;
 ghost use Rattle.run_rules.specs.Search as rule;
@@ -53,7 +53,7 @@ pub fn winner_at(site: &Site, core: &Core, parent: u64, place: Place, spot: u16)
     winner_below(site, core, named, place, spot)
 }
 
-/// The device that comes to a spot below a parent, which rows name so, if a row takes it.
+/// The device that is attached to a spot below a parent, as rows name it, if a row takes the spot.
 #[tactic(auto, unfolding(run_rules::specs::Next::arrival))]
 #[inline(always)]
 pub fn arrival(

@@ -9,8 +9,8 @@ ghost use Rattle.unit_alloc.specs.Taken.{PassesFew, is_taken};
 use run_rules::Setup;
 use unit_alloc::Units;
 
-/// The unit that a row gives: its own, or, where it is starred, the least free one from its first unit on. It is that of
-/// each list of live devices whose units are those that are taken.
+/// The unit that a row gives: its own, or, if it is starred, the least free one from its first unit on. It is the same
+/// for each list of live devices whose units are those that are taken.
 #[tactic(auto, unfolding(run_rules::specs::Search::unit_of))]
 #[inline(always)]
 pub fn unit_of(setup: &Setup, units: &Units, row: u32) -> u32

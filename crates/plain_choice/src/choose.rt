@@ -15,7 +15,7 @@ use plain_world::{Caller, Plain, Rules, command_at, has_ended};
 use run_rules::{Activity, Choice, Deed, Frame, Wait};
 use std::alloc::Global;
 
-/// What the boot does without a frame: interrupts first, then the finalisers, in passes until none answers 1. See
+/// What the boot does without a frame: interrupts first, then the finalizers, in passes until none answers 1. See
 /// autoconf(9).
 #[tactic(auto, unfolding(run_rules::specs::Next::next_boot))]
 fn next_boot(rules: &Rules, plain: &Plain) -> Choice
@@ -38,7 +38,7 @@ fn next_boot(rules: &Rules, plain: &Plain) -> Choice
     Choice::Does(Deed::EndCaller)
 }
 
-/// The device at a place of the boot's list; 0 where there is none.
+/// The device at a place of the boot's list; 0 if there is none.
 fn finaliser_at(finalisers: &[u64], place: u64) -> u64
     ensures { slice_index_or finalisers.now place 0 ≡ result }
 {
@@ -140,7 +140,7 @@ fn next_frame(seeker: &Seeker, plain: &Plain, frame: &Frame) -> Deed
     }
 }
 
-/// What a caller does that is in no transfer, detachment or power command: its frames go first.
+/// What a caller that is in no transfer, detachment or power command does: its frames go first.
 #[inline(always)]
 fn on_top(
     alloc: Global,
@@ -166,7 +166,7 @@ fn on_top(
     }
 }
 
-/// What a caller does that is in the middle of something.
+/// What a caller that is in the middle of something does.
 #[inline(always)]
 fn by_activity(
     alloc: Global,

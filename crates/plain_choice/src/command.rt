@@ -147,7 +147,7 @@ fn is_hindrance(
             || holds(&plain.refs, caller, device.serial))
 }
 
-/// The first device that keeps the target's subtree from going. See config_detach(9).
+/// The first device that keeps the target's subtree from being freed. See config_detach(9).
 #[tactic(auto, unfolding(run_rules::specs::Next::hindered))]
 fn hindered(rules: &Rules, plain: &Plain, target: u64, caller: u8, forced: bool) -> Option<Dev>
     ensures { result ≡ next.hindered (world_of (setup_by rules.now) plain.now) target caller forced }
@@ -194,7 +194,7 @@ fn detach(
     Ok(unless_hindered(rules, plain, caller, device.serial, false, deed))
 }
 
-/// A device is to be searched again.
+/// A command to search a device again.
 fn rescan(
     alloc: Global,
     rules: &Rules,
@@ -262,7 +262,7 @@ fn plug(rules: &Rules, plain: &Plain, name: &Name) -> Deed
     }
 }
 
-/// Hardware goes from a spot, with what stands on it.
+/// Hardware goes from a spot, with the device on it.
 fn unplugging(rules: &Rules, plain: &Plain, caller: u8, spot: u16) -> Deed
     ensures { next.unplugging (world_of (setup_by rules.now) plain.now) caller spot ≡ result }
 {
@@ -287,7 +287,7 @@ fn unplug(rules: &Rules, plain: &Plain, caller: u8, name: &Name) -> Deed
     }
 }
 
-/// What a command does, which has this number.
+/// What the command of this number does.
 #[tactic(auto, unfolding(run_rules::specs::Next::command_deed))]
 pub fn command_deed(
     alloc: Global,

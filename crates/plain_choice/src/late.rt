@@ -1,4 +1,4 @@
-//! The late spots that finalisers show.
+//! The late spots that finalizers show.
 ghost use Rattle.std.specs.Prelude.{◌≡◌, ◌≤◌, false, length, slice_get};
 ghost use Rattle.std.specs.Option.{option_map_or};
 ghost use Rattle.run_rules.specs.Next as next;
@@ -22,7 +22,7 @@ fn offers_place(offered: &[u32], place: Place) -> bool
     }
 }
 
-/// Whether a spot hangs below a device, on an attribute that the device offers.
+/// Whether a spot is below a device, on an attribute that the device offers.
 fn hangs_below(rules: &Rules, device: Dev, spot: u16) -> bool
     requires { AreFit rules.now }
     ensures { result ≡ option_map_or (next.hangs_below (setup_by rules.now) device) (slice_get rules.now.machine.now.spots spot) false }
@@ -36,7 +36,7 @@ fn hangs_below(rules: &Rules, device: Dev, spot: u16) -> bool
     }
 }
 
-/// Whether a finaliser of a device would show a spot.
+/// Whether a finalizer of a device would show a spot.
 fn is_late_below(rules: &Rules, plain: &Plain, device: Dev, spot: u16) -> bool
     requires { AreFit rules.now }
     ensures { result ≡ is_late_below (world_of (setup_by rules.now) plain.now) device spot }
@@ -47,7 +47,7 @@ fn is_late_below(rules: &Rules, plain: &Plain, device: Dev, spot: u16) -> bool
     hidden && !absent && below
 }
 
-/// The first spot that is late, hidden and present, and hangs below a device.
+/// The first spot that is late, hidden and present, and is below a device.
 #[tactic(auto, unfolding(run_rules::specs::Next::late_spot))]
 fn late_spot(rules: &Rules, plain: &Plain, device: Dev) -> Option<u16>
     requires { AreFit rules.now }
@@ -61,7 +61,7 @@ fn late_spot(rules: &Rules, plain: &Plain, device: Dev) -> Option<u16>
     None
 }
 
-/// The spot that the finaliser of a device shows.
+/// The spot that the finalizer of a device shows.
 fn shown_by(rules: &Rules, plain: &Plain, serial: u64) -> Option<u16>
     requires { AreFit rules.now }
     ensures { shown_by (world_of (setup_by rules.now) plain.now) serial ≡ result }
@@ -72,7 +72,7 @@ fn shown_by(rules: &Rules, plain: &Plain, serial: u64) -> Option<u16>
     }
 }
 
-/// What the finaliser of a device does. See config_finalize_register(9).
+/// What the finalizer of a device does. See config_finalize_register(9).
 #[tactic(auto, unfolding(run_rules::specs::Next::finalise))]
 pub fn finalise(rules: &Rules, plain: &Plain, serial: u64, listed: Option<u64>, anew: bool) -> Deed
     requires fit { AreFit rules.now }

@@ -33,7 +33,7 @@ fn next_free(live: &[Dev], caller: u8) -> Option<u64>
     Some(device.serial)
 }
 
-/// How a caller goes on that frees devices.
+/// How a caller that frees devices goes on.
 #[tactic(auto, unfolding(run_rules::specs::Next::freeing))]
 pub fn freeing(plain: &Plain, caller: u8) -> Choice
     ensures { (s : Setup) → next.freeing (world_of s plain.now) caller ≡ result }
@@ -78,8 +78,8 @@ fn is_to_wake(live: &Live, device: Dev, target: u64, whole: bool) -> bool
             || (whole && is_under(live, target, device.serial)))
 }
 
-/// The device that a resumption of the target wakes next: of the sleeping ones among it and its ancestors, and below it
-/// where that is asked for, the first one.
+/// The device that a resumption of the target wakes next: the first of the sleeping ones among it and its ancestors,
+/// and among those below it if that is asked for.
 #[tactic(auto, unfolding(run_rules::specs::Next::next_wake))]
 fn next_wake(live: &Live, target: u64, whole: bool) -> Option<Dev>
     ensures { result ≡ next.next_wake live.now.devices target whole }

@@ -46,7 +46,7 @@ fn rescan_of(
     }
 }
 
-/// A device is to be searched again.
+/// A command to search a device again.
 pub fn rescanning(
     alloc: Global,
     rules: &Rules,

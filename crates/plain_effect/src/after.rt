@@ -1,4 +1,4 @@
-//! The world after a deed: what becomes of callers, frames and devices that come.
+//! The world after a deed: what becomes of callers, frames and attached devices.
 ghost use Rattle.std.specs.Prelude.{◌≡◌, ◌<◌, ◌+◌, ◌-◌, ◌^◌, ◌==◌, not, filter, ℕ, IfSome, OnOk};
 ghost use Rattle.run_rules.specs.After as after;
 ghost use Rattle.run_rules.specs.World as world;
@@ -32,7 +32,7 @@ pub fn begin(plain: &mut Plain, caller: u8, doing: Activity)
     plain.callers[caller as usize].begin(doing);
 }
 
-/// A frame is put before a caller.
+/// A frame is put on a caller's stack.
 pub fn push(plain: &mut Plain, caller: u8, frame: Frame) -> Result<(), Memory>
     requires { HasCaller plain.old caller 600 }
     ensures caller { (n : ℕ) → HasCaller plain.old caller n → OnOk result (HasCaller plain.new caller (n + 1)) }
@@ -41,14 +41,14 @@ pub fn push(plain: &mut Plain, caller: u8, frame: Frame) -> Result<(), Memory>
     plain.callers[caller as usize].push(frame)
 }
 
-/// Takes out what was put off to a key.
+/// Removes what was put off to a key.
 fn forget(deferred: &mut Vec<Deferred>, which: Key)
     ensures { deferred.new.items ≡ filter (λ e. not (after.same_key e.key which)) deferred.old.items }
 {
     deferred.retain(|put_off| !same_key(put_off.key, which));
 }
 
-/// The scans that were put off to a key begin.
+/// The deferred scans to a key begin.
 fn release(alloc: Global, plain: &mut Plain, caller: u8, which: Key) -> Result<(), Memory>
     requires { HasCaller plain.old caller 600 }
     ensures { (s : Setup) → OnOk result (world_of s plain.new ≡ after.released (world_of s plain.old) caller which (state_at plain.old.callers.items caller).stack) }
@@ -58,7 +58,7 @@ fn release(alloc: Global, plain: &mut Plain, caller: u8, which: Key) -> Result<(
     Ok(())
 }
 
-/// Interrupts work from here on, and the scans that waited for them begin. See config_interrupts(9).
+/// Interrupts work from now on, and the scans that waited for them begin. See config_interrupts(9).
 #[tactic(auto, unfolding(run_rules::specs::After::after))]
 pub fn begin_interrupts(alloc: Global, plain: &mut Plain, caller: u8) -> Result<(), Memory>
     requires { HasCaller plain.old caller 600 }
@@ -68,7 +68,7 @@ pub fn begin_interrupts(alloc: Global, plain: &mut Plain, caller: u8) -> Result<
     release(alloc, plain, caller, Key::Interrupts)
 }
 
-/// The scan on top is over, and those that were put off to its end begin. See config_defer(9).
+/// The scan on top is over, and those that were deferred to its end begin. See config_defer(9).
 #[tactic(auto, unfolding(run_rules::specs::After::after))]
 pub fn end_scan(alloc: Global, plain: &mut Plain, caller: u8, of: u64) -> Result<(), Memory>
     requires { HasCaller plain.old caller 600 }
@@ -106,7 +106,7 @@ fn list(plain: &mut Plain, arrival: Arrival) -> Result<(), Memory>
     plain.live.push(arrival)
 }
 
-/// Where the finaliser of a new device goes.
+/// Where the finalizer of a new device goes.
 #[tactic(auto, unfolding(run_rules::specs::After::finaliser_placing))]
 fn finaliser_placing(policy: Policy, booted: bool) -> Placing
     ensures { result ≡ after.finaliser_placing policy booted }
@@ -138,7 +138,7 @@ fn scan_placing(policy: Policy, offers: &[u32], interrupts_on: bool, may_defer: 
     }
 }
 
-/// Puts the finaliser of a new device where it goes.
+/// Puts the finalizer of a new device where it goes.
 fn put_finaliser(plain: &mut Plain, placing: Placing, caller: u8, serial: u64) -> Result<(), Memory>
     requires { HasCaller plain.old caller 501 }
     ensures world { (s : Setup) → OnOk result (world_of s plain.new ≡ after.place_finaliser placing (world_of s plain.old) caller serial) }
@@ -155,7 +155,7 @@ fn put_finaliser(plain: &mut Plain, placing: Placing, caller: u8, serial: u64) -
     }
 }
 
-/// The finaliser of a new device goes where the policy says. See config_finalize_register(9).
+/// The finalizer of a new device goes where the policy says. See config_finalize_register(9).
 #[tactic(auto, unfolding(run_rules::specs::After::finaliser_placed))]
 fn place_finaliser(plain: &mut Plain, policy: Policy, caller: u8, serial: u64) -> Result<(), Memory>
     requires { HasCaller plain.old caller 501 }
@@ -221,7 +221,7 @@ fn place_scan(
     put_scan(alloc, plain, placing, caller, arrival.parent, serial)
 }
 
-/// A device comes: it is listed, and its finaliser and its scan go where they belong. See config_attach(9).
+/// A device comes: it is listed, and its finalizer and its scan go where they belong. See config_attach(9).
 #[tactic(auto, unfolding(run_rules::specs::After::attached))]
 fn attach(
     alloc: Global,
@@ -265,7 +265,7 @@ fn arrive(
     }
 }
 
-/// A turn of a scan: the scan moves, and what was found comes.
+/// A turn of a scan: the scan moves, and what was found is attached.
 #[tactic(auto, unfolding(run_rules::specs::After::after))]
 pub fn search(
     alloc: Global,
@@ -284,7 +284,7 @@ pub fn search(
     arrive(alloc, rules, plain, caller, got, true)
 }
 
-/// Takes a spot out of a list.
+/// Removes a spot from a list.
 pub fn remove_spot(spots: &mut Vec<u16>, spot: u16)
     ensures { spots.new.items ≡ filter (λ y. not (y == spot)) spots.old.items }
 {
@@ -302,7 +302,7 @@ fn show(plain: &mut Plain, spot: Option<u16>)
     }
 }
 
-/// The place in the boot's list moves on, if a finaliser of the list was called.
+/// The place in the boot's list moves on, if a finalizer of the list was called.
 fn move_list(plain: &mut Plain, listed: Option<u64>, anew: bool, answer: bool)
     requires { IfSome listed (λ place. place < 2 ^ 64 - 1) }
     ensures world { (s : Setup) → world_of s plain.new ≡ after.list_moved (world_of s plain.old) listed anew answer }
@@ -314,7 +314,7 @@ fn move_list(plain: &mut Plain, listed: Option<u64>, anew: bool, answer: bool)
     }
 }
 
-/// The frame of a finaliser goes at answer 0.
+/// The frame of a finalizer goes at answer 0.
 fn end_call(plain: &mut Plain, caller: u8, listed: Option<u64>, answer: bool)
     requires { HasCaller plain.old caller 503 }
     ensures { (s : Setup) → world_of s plain.new ≡ after.finaliser_done (world_of s plain.old) caller listed answer }
@@ -329,8 +329,8 @@ fn end_call(plain: &mut Plain, caller: u8, listed: Option<u64>, answer: bool)
     }
 }
 
-/// A call of a finaliser: the late spot that it found is shown, what comes there comes, and the boot's list goes on, or
-/// the frame is over.
+/// A call of a finalizer: the late spot that it found is shown, what a row takes there is attached, and the boot's list
+/// goes on, or the frame is over.
 #[tactic(auto, unfolding(run_rules::specs::After::after))]
 pub fn finalise(
     alloc: Global,

@@ -38,7 +38,7 @@ fn place_of(refs: &[Ref], caller: u8, of: u64) -> Option<usize>
         .position(|held| held.serial == of && held.caller == caller)
 }
 
-/// Takes out one reference of a caller to a device, where it has any.
+/// Removes one reference of a caller to a device, if it has any.
 fn take_out(refs: &mut Vec<Ref>, caller: u8, of: u64)
     ensures { refs.new.items ≡ given_back refs.old.items caller of }
 {
@@ -47,7 +47,7 @@ fn take_out(refs: &mut Vec<Ref>, caller: u8, of: u64)
     }
 }
 
-/// Takes a device out of those that are held solely.
+/// Removes a device from those that are held solely.
 fn share_again(sole: &mut Vec<u64>, of: u64)
     ensures { sole.new.items ≡ shared_again sole.old.items of }
 {
@@ -78,7 +78,7 @@ fn rest(plain: &mut Plain, of: u64, asleep: bool)
     plain.live.rest(of, asleep);
 }
 
-/// Whether a caller is over with what it frees, once this device is gone.
+/// Whether a caller has freed all that it frees, once this device is gone.
 fn is_target(doing: Activity, serial: u64) -> bool
     ensures { result ≡ after.freeing_target doing serial }
 {
@@ -98,7 +98,7 @@ fn doing_of(callers: &[Caller], caller: u8) -> Activity
     }
 }
 
-/// A condemned device goes; where it is the target of its caller's command, that is over.
+/// A condemned device is freed; if it is the target of its caller's command, that command is over.
 #[tactic(auto, unfolding(run_rules::specs::After::after))]
 fn free(plain: &mut Plain, caller: u8, of: u64)
     requires { HasCaller plain.old caller 500 }
@@ -194,7 +194,7 @@ fn detach(alloc: Global, plain: &mut Plain, caller: u8, of: u64) -> Result<(), M
     Ok(())
 }
 
-/// The hardware of a spot goes, and the caller frees from now on what stands there.
+/// The hardware of a spot goes, and from now on the caller frees the device there.
 #[tactic(auto, unfolding(run_rules::specs::After::after))]
 fn unplug(
     alloc: Global,
@@ -278,7 +278,7 @@ fn do_quietly(plain: &mut Plain, caller: u8, deed: &Deed)
     }
 }
 
-/// Does what a caller does: the world is the one after the deed. Where memory runs out the world is lost.
+/// Does what a caller does: the world becomes the one after the deed. If memory runs out, the world is lost.
 #[tactic(auto, unfolding(run_rules::specs::After::after))]
 pub fn apply(
     alloc: Global,

@@ -1,11 +1,11 @@
-//! An act that is told again and again, with its text.
+//! An act that comes again and again, with its text.
 ghost use Rattle.std.specs.Prelude.{◌≡◌};
 ghost use Rattle.run_rules.specs.Lines.{act_text};
 
 use run_rules::SharedAct;
 
-/// What is told again and again of a device: that a spot below it was searched and nothing came, that it fell asleep, that it
-/// woke.
+/// What is said again and again about a device: that a spot below it was searched and nothing came, that it fell
+/// asleep, that it woke.
 #[derive(Clone, Copy, PartialEq, Eq)]
 pub enum Again {
     Nothing,
@@ -13,8 +13,8 @@ pub enum Again {
     Awake,
 }
 
-/// Which act it is: what it tells, the row and the unit of the device that it names, and the spot that was searched, or on which
-/// the device stands.
+/// Which act it is: what it says, the row and the unit of the device that it names, and the spot that was searched, or
+/// on which the device is.
 #[derive(Clone, Copy, PartialEq, Eq)]
 pub struct Key {
     pub again: Again,
@@ -23,7 +23,7 @@ pub struct Key {
     pub spot: u16,
 }
 
-/// An act that was told, with its text.
+/// An act that came before, with its text.
 #[derive(Drop)]
 pub struct Kept {
     pub key: Key,

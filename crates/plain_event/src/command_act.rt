@@ -1,4 +1,4 @@
-//! What a command is told, as an event has it.
+//! What the event of a command says.
 ghost use Rattle.std.specs.Prelude.{◌≡◌, ◌<◌, ◌≤◌, false, true, IfOk, None, Some, length, option_map};
 ghost use Rattle.std.specs.Option.{option_map_or};
 ghost use Rattle.run_rules.specs.declared.event.Act.TheVariants as act;
@@ -129,7 +129,7 @@ fn tree_act(teller: &Teller, plain: &Plain, name: &Option<Name>) -> Result<Act, 
     Ok(Act::TreeDev { device, names })
 }
 
-/// The names that a list or a tree tells.
+/// The names in a list or a tree.
 fn listing_act(teller: &Teller, plain: &Plain, said: &Command) -> Result<Act, Memory>
     requires fit { AreFit teller.now.rules.now }
     requires few { length plain.now.live.devices ≤ 1024 }
@@ -143,7 +143,7 @@ fn listing_act(teller: &Teller, plain: &Plain, said: &Command) -> Result<Act, Me
     }
 }
 
-/// The name that a command gives; none where it is a list or a tree.
+/// The name that a command gives; none if it is a list or a tree.
 fn name_given(said: &Command) -> Option<&Name>
     ensures { name_given said.now ≡ option_map (λ name. name.now) result }
 {

@@ -1,4 +1,4 @@
-//! Acts that are told again and again, kept with their texts.
+//! Acts that come again and again, kept with their texts.
 ghost use Rattle.std.specs.Prelude.{◌≡◌, ℕ, IfOk, IfSome, IsTrue, None, Some};
 ghost use Rattle.std.specs.List.{slice_index_or};
 ghost use Rattle.run_rules.specs.Run as run;
@@ -16,19 +16,19 @@ use plain_world::{Live, Plain, device_at};
 use run_rules::{Deed, SharedAct};
 use std::alloc::Global;
 
-/// How many bytes serve for most texts.
+/// How many bytes are enough for most texts.
 const USUAL: usize = 48;
 
 /// How many kinds of acts are kept of a spot.
 const KINDS: usize = 3;
 
-/// At most how many acts are kept of so many spots.
+/// The most acts that are kept for this many spots.
 pub fn places(spots: usize) -> usize {
     spots.min(u16::MAX as usize) * KINDS
 }
 
-/// Where the act of a key is kept, of so many spots. Acts of a kind stand side by side, since spots are searched one after the
-/// other.
+/// Where the act of a key is kept, among those of this many spots. Acts of a kind are side by side, because spots are
+/// searched one after the other.
 #[inline(always)]
 pub fn place_of(key: Key, spots: usize) -> usize {
     let kind = match key.again {
@@ -97,7 +97,7 @@ fn power_key(live: &Live, of: u64, again: Again) -> Option<Key>
     }
 }
 
-/// The key of what is told of a deed, if it is told again and again.
+/// The key of the act of a deed, if it comes again and again.
 #[inline(always)]
 #[tactic(auto, unfolding(run_rules::specs::Run::printed))]
 pub fn key_of(plain: &Plain, deed: &Deed) -> Option<Key>

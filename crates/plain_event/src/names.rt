@@ -1,4 +1,4 @@
-//! Names of devices, kept for the next event that tells them.
+//! Names of devices, kept for the next event that has them.
 ghost use Rattle.std.specs.Prelude.{◌≡◌, ◌++◌, IfSome, decimal};
 
 use cf_types::{Memory, Name};
@@ -16,8 +16,8 @@ struct Spelled {
 /// How many names are kept.
 const KEPT: u64 = 1024;
 
-/// Names of devices that were told, each at a place that its device's serial has. They save making a name anew, and no
-/// clause speaks of them: whoever takes one compares its driver and its unit first.
+/// Names of devices from earlier events, each at a place that is computed from its device's serial, so that it need not
+/// be made again. No clause speaks of them: whoever takes one compares its driver and its unit first.
 #[derive(Drop)]
 pub struct Names {
     kept: Vec<Option<Spelled>>,

@@ -1,4 +1,4 @@
-//! Who tells what happens, and what it keeps of what was told.
+//! The maker of events, and what it keeps of earlier ones.
 ghost use Rattle.std.specs.Prelude.{◌≡◌, IfOk, IfSome};
 ghost use Rattle.run_rules.specs.declared.world.Setup.{Setup};
 ghost use Rattle.plain_event.specs.Kept.{AreKept, IsKept, act_by};
@@ -11,7 +11,7 @@ use cf_types::Memory;
 use plain_world::Rules;
 use std::alloc::Global;
 
-/// What events are told by: the rules of a run, and the names and the acts that were told before.
+/// What events are made from: the rules of a run, and the names and the acts of earlier events.
 #[derive(Drop)]
 pub struct Teller<'a> {
     pub alloc: Global,
@@ -21,7 +21,7 @@ pub struct Teller<'a> {
     ghost kept_so: { AreKept (setup_by rules.now) kept.items },
 }
 
-/// Room for so many acts.
+/// Room for this many acts.
 fn room_for(alloc: Global, places: usize) -> Result<Vec<Option<Kept>>, Memory>
     ensures { (s : Setup) → IfOk result (λ kept. AreKept s kept.items) }
 {
@@ -58,7 +58,7 @@ impl<'a> Teller<'a> {
         }
     }
 
-    /// Keeps an act in the place of the one that was kept there.
+    /// Keeps an act, replacing the one that was kept at its place.
     pub fn put(&mut self, kept: Kept)
         requires { IsKept (setup_by self.old.rules.now) kept }
         ensures { self.new.rules.now ≡ self.old.rules.now }

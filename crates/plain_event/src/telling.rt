@@ -29,7 +29,7 @@ fn driver_at<'a>(rules: &'a Rules, row: u32) -> Option<&'a Name>
     }
 }
 
-/// What was told before of such a deed, if it is kept.
+/// The earlier act of such a deed, if it is kept.
 #[inline(always)]
 pub fn told_before<'a>(teller: &'a Teller, plain: &Plain, deed: &Deed) -> Option<&'a Kept>
     ensures { (k : ℕ) → IfSome result (λ kept. kept.now.act ≡ run.printed (world_in teller.now plain.now) k deed.now) }
@@ -40,7 +40,7 @@ pub fn told_before<'a>(teller: &'a Teller, plain: &Plain, deed: &Deed) -> Option
     }
 }
 
-/// Keeps the act of a deed, if it is told again and again.
+/// Keeps the act of a deed, if it comes again and again.
 pub fn keep(
     teller: &mut Teller,
     plain: &Plain,

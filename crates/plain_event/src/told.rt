@@ -64,7 +64,7 @@ fn scan_end_act(teller: &mut Teller, live: &Live, of: u64) -> Result<Act, Memory
     Ok(Act::ScanEnd { device })
 }
 
-/// A call of a finaliser, with what it showed.
+/// A call of a finalizer, with what it showed.
 #[inline(never)]
 fn final_act(
     teller: &mut Teller,
@@ -86,7 +86,7 @@ fn final_act(
     Ok(Act::Final { device, shown })
 }
 
-/// The line of a deed that tells this device alone, which has this name.
+/// The line of a deed that names only this device, which has this name.
 #[tactic(auto, unfolding(run_rules::specs::Run::printed))]
 fn line_with(deed: &Deed, of: u64, device: Name) -> Act
     requires { device_told deed.now ≡ Some of }
@@ -105,7 +105,7 @@ fn line_with(deed: &Deed, of: u64, device: Name) -> Act
     }
 }
 
-/// What happens by a deed that tells this device alone.
+/// What happens by a deed that names only this device.
 fn device_act(teller: &mut Teller, plain: &Plain, of: u64, deed: &Deed) -> Result<Act, Memory>
     requires fit { AreFit teller.old.rules.now }
     requires live { world.is_live plain.now.live.devices of ≡ true }
@@ -119,7 +119,7 @@ fn device_act(teller: &mut Teller, plain: &Plain, of: u64, deed: &Deed) -> Resul
     }
 }
 
-/// What happens by a deed; a deed of a command is told by its command.
+/// What happens by a deed; a deed of a command is described by its command.
 #[tactic(auto, unfolding(run_rules::specs::Run::printed))]
 fn act_of(teller: &mut Teller, plain: &Plain, caller: u8, deed: &Deed) -> Result<Act, Memory>
     requires fit { AreFit teller.old.rules.now }
@@ -184,7 +184,7 @@ fn act_anew(
     Ok(shared)
 }
 
-/// The event of a deed that was told before.
+/// The event of a deed whose act was kept.
 fn event_again(plain: &Plain, caller: u8, kept: &Kept) -> Result<Event, Memory>
     requires caller { HasCaller plain.now caller 500 }
     ensures { (s : Setup) → IfOk result (λ e. e ≡ event_with (world_of s plain.now) caller kept.now.act) }
@@ -215,7 +215,7 @@ fn event_anew(teller: &mut Teller, plain: &Plain, caller: u8, deed: &Deed) -> Re
     })
 }
 
-/// The event of what a caller does next. What it tells of devices is shared with what was told before.
+/// The event of what a caller does next. What it says about devices is shared with earlier events.
 #[tactic(auto, unfolding(run_rules::specs::Run::event_of))]
 pub fn event_of(
     teller: &mut Teller,

@@ -24,7 +24,7 @@ pub fn name_of(alloc: Global, tables: &Tables, device: Device) -> Result<Vec<u8>
     Ok(name)
 }
 
-/// The device of this name, by a look at the name of each.
+/// The device of this name, by comparing the name of each.
 pub fn device_named(
     alloc: Global,
     tables: &Tables,
@@ -39,7 +39,7 @@ pub fn device_named(
     Ok(None)
 }
 
-/// Whether a device stands on a spot.
+/// Whether a device is on a spot.
 pub fn is_occupied(devices: &[Device], spot: u16) -> bool {
     devices.iter().any(|device| device.spot == spot)
 }
@@ -116,7 +116,7 @@ fn depth_at(list: &[Deep], place: usize) -> u32 {
     }
 }
 
-/// Puts a device behind all that stands below its parent.
+/// Puts a device after all that is below its parent.
 fn put_deep(list: &mut Vec<Deep>, device: Device) -> Result<(), Memory> {
     let parent = list
         .iter()

@@ -1,4 +1,4 @@
-//! A history followed by plain looks.
+//! A history re-checked by linear search.
 
 use crate::devices::{Deep, Device, device_named, is_occupied, name_of, part_of, tree_of, unit_by};
 use crate::refs::{Held, give_back, is_held};
@@ -8,16 +8,16 @@ use dev_event::{Act, DepthName, Event, Got, Reply, read_event};
 use std::alloc::Global;
 use std::mem::drop;
 
-/// How far a text was followed. Lines that spell no event are passed.
+/// How far a text was followed. Lines that spell no event are skipped.
 #[derive(Clone, Copy, Debug, PartialEq, Eq)]
 pub enum Followed {
-    /// To its end: so many events.
+    /// To its end, with so many events.
     Whole(u64),
-    /// Up to the line of this number, counted from 1, which plain looks would have otherwise.
+    /// Up to the line of this number, counted from 1, which linear search would have written otherwise.
     UpTo(u64),
 }
 
-/// What plain looks go by: the tables and the machine, and the devices and references after the events so far.
+/// What linear search uses: the tables and the machine, and the devices and references after the events so far.
 #[derive(Drop)]
 struct Follower<'a> {
     alloc: Global,
@@ -45,7 +45,7 @@ impl<'a> Follower<'a> {
         None
     }
 
-    /// Whether the device of this row comes to a spot under this name; it is live from here on.
+    /// Whether the device of this row is attached to a spot under this name; it is live from now on.
     fn comes(
         &mut self,
         parent: Option<Device>,
@@ -235,7 +235,7 @@ impl<'a> Follower<'a> {
         }
     }
 
-    /// Whether plain looks would have this event here; it takes effect.
+    /// Whether linear search gives this event here; it takes effect.
     fn would_have(&mut self, event: &Event) -> Result<bool, Memory> {
         match event.act.get() {
             Act::Found { parent, spot, got } => self.finds_below(parent, spot, got),
@@ -260,7 +260,7 @@ impl<'a> Follower<'a> {
         Ok(Some(answer?))
     }
 
-    /// Whether plain looks would have this line here; nothing where it spells no event.
+    /// Whether linear search gives this line here; nothing if it spells no event.
     fn would_have_line(&mut self, line: &[u8]) -> Result<Option<bool>, Memory> {
         match read_event(self.alloc, line)? {
             Some(event) => self.would_have_all(event),
@@ -283,7 +283,7 @@ impl<'a> Follower<'a> {
     }
 }
 
-/// Follows the events that the lines of a text spell, by plain looks at these tables and this machine.
+/// Follows the events that the lines of a text spell, by linear search in these tables and this machine.
 pub fn follow(
     alloc: Global,
     tables: &Tables,

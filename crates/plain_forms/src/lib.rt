@@ -1,5 +1,5 @@
-//! What the board keeps in indexes, looked up plainly: each answer by a look at every row, every device or every reference.
-//! A history is followed by these looks, event by event; cases compare the programs with them.
+//! What the board keeps in indexes, found by linear search over every row, every device or every reference. A history
+//! is followed by these searches, event by event; cases compare the programs with them.
 #![tactic(auto)]
 
 mod devices;

@@ -14,7 +14,7 @@ pub fn is_held(refs: &[Held], serial: u64) -> bool {
     refs.iter().any(|held| held.serial == serial)
 }
 
-/// Takes one reference of a caller to a device away. Answers whether there was one.
+/// Removes one reference of a caller to a device. Returns whether there was one.
 pub fn give_back(refs: &mut Vec<Held>, serial: u64, caller: u8) -> bool {
     let place = refs
         .iter()

@@ -1,4 +1,4 @@
-//! Which row takes a spot, by a look at each row and each match line.
+//! Which row takes a spot, by comparing each row and each match line.
 
 use crate::devices::{Device, is_live_row, parent_ref};
 use cf_types::{Locs, Machine, Memory, ParentSpec, Place, Row, Spot, Tables};
@@ -44,7 +44,7 @@ fn mark(marks: &mut Vec<bool>, attr: u32) {
     }
 }
 
-/// Of each attribute whether a driver has it: what it names, and what these name, all of them earlier.
+/// For each attribute whether a driver has it: those that it names, and those that these name, all of them earlier.
 fn attrs_of(alloc: Global, tables: &Tables, driver: u32) -> Result<Vec<bool>, Memory> {
     let mut marks = Vec::new(alloc);
     marks.resize(tables.attrs.len(), false)?;
@@ -98,7 +98,7 @@ fn passes(tables: &Tables, row: &Row, spot: &Spot) -> bool {
     }
 }
 
-/// What searches of a spot go by.
+/// What a search of a spot uses.
 #[derive(Clone, Copy)]
 struct Search<'a> {
     tables: &'a Tables,
@@ -117,7 +117,7 @@ fn is_open(search: Search, row: &Row) -> bool {
         && passes(search.tables, row, search.spot)
 }
 
-/// The match value of a row, 0 where it is not open.
+/// The match value of a row; 0 if it is not open.
 fn worth_of(search: Search, row: &Row) -> u32 {
     if is_open(search, row) {
         match_value(search.machine, row.attach, search.number)

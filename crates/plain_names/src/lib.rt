@@ -1,4 +1,4 @@
-//! How a world in plain lists is told: the names of its devices and spots, and the lines of its tree.
+//! What is printed of a world in plain lists: the names of its devices and spots, and the lines of its tree.
 #![tactic(auto)]
 
 mod names;

@@ -9,7 +9,7 @@ use plain_world::{Live, Rules, device_at, driver_of};
 use run_rules::{Arrival, Dev, Got, Shown};
 use std::alloc::Global;
 
-/// How many bytes serve for most names.
+/// How many bytes are enough for most names.
 const USUAL: usize = 24;
 
 /// The name of a driver.
@@ -81,7 +81,7 @@ pub fn got_of(alloc: Global, rules: &Rules, got: Option<Arrival>) -> Result<Opti
     }
 }
 
-/// The spot that a finaliser showed, and what came there.
+/// The spot that a finalizer showed, and what came there.
 pub fn shown_of(
     alloc: Global,
     rules: &Rules,

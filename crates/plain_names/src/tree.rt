@@ -1,4 +1,4 @@
-//! The device tree: what stands below what, in lists of names and in lines.
+//! The device tree: what is below what, in lists of names and in lines.
 ghost use Rattle.std.specs.Prelude.{◌≡◌, ◌<◌, ◌≤◌, ◌+◌, ◌++◌, ◌∷◌, ◌^◌, ℕ, IfOk, OnOk, length, map};
 ghost use Rattle.run_rules.specs.References as refs;
 ghost use Rattle.run_rules.specs.Run as run;
@@ -33,7 +33,7 @@ fn child_names(
     Ok(names)
 }
 
-/// What `list` tells: the names of children; none where no device has the name. See drvctl(8).
+/// What `list` prints: the names of children; none if no device has the name. See drvctl(8).
 #[tactic(auto, unfolding(run_rules::specs::Run::list_names))]
 pub fn list_names(
     alloc: Global,
@@ -59,7 +59,7 @@ pub fn list_names(
     }
 }
 
-/// Appends the devices below a parent, of so many levels, each with its depth: depth first, children by serial.
+/// Appends the devices below a parent, this many levels deep, each with its depth: depth first, children by serial.
 fn push_below(
     live: &[Dev],
     levels: u32,
@@ -125,7 +125,7 @@ fn push_names(
     Ok(())
 }
 
-/// The names of a device and of what stands below it.
+/// The names of a device and of what is below it.
 fn names_from(
     alloc: Global,
     rules: &Rules,
@@ -144,7 +144,7 @@ fn names_from(
     Ok(names)
 }
 
-/// The names of all that stands below the root.
+/// The names of all that is below the root.
 fn names_of_all(alloc: Global, rules: &Rules, live: &[Dev]) -> Result<List<DepthName>, Memory>
     requires fit { AreFit rules.now }
     requires few { length live.now ≤ 1024 }
@@ -156,7 +156,7 @@ fn names_of_all(alloc: Global, rules: &Rules, live: &[Dev]) -> Result<List<Depth
     Ok(names)
 }
 
-/// What `tree` tells: names with their depths; none where no device has the name. See drvctl(8).
+/// What `tree` prints: names with their depths; none if no device has the name. See drvctl(8).
 #[tactic(auto, unfolding(run_rules::specs::Run::tree_names))]
 pub fn tree_names(
     alloc: Global,

@@ -106,7 +106,7 @@ fn parent_offers(rules: &Rules, parent: ParentRef, place: Place) -> bool
     }
 }
 
-/// Whether a row fits a parent at a place, where it is known whether the parent offers the place.
+/// Whether a row fits a parent at a place; whether the parent offers the place is given.
 fn fits(rules: &Rules, offers: bool, parent: ParentRef, place: Place, row: &Row) -> bool
     requires { offers ≡ rule.parent_offers rules.now.tables.now parent place }
     ensures { result ≡ rule.fits rules.now.tables.now parent place row.now }
@@ -207,7 +207,7 @@ pub fn winner_at(rules: &Rules, live: &Live, parent: u64, place: Place, spot: u1
     winner(rules, live, parent_ref(rules, live, parent), place, spot)
 }
 
-/// The unit that a row gives: its own, or, where it is starred, the least free one from its first unit on.
+/// The unit that a row gives: its own, or, if it is starred, the least free one from its first unit on.
 #[tactic(auto, unfolding(run_rules::specs::Search::unit_of))]
 fn unit_of(rules: &Rules, live: &Live, row: u32) -> u32
     requires fit { AreFit rules.now }
@@ -226,7 +226,7 @@ fn unit_of(rules: &Rules, live: &Live, row: u32) -> u32
     }
 }
 
-/// The device that comes to a spot below a parent, if a row takes it.
+/// The device that is attached to a spot below a parent, if a row takes the spot.
 #[tactic(auto, unfolding(run_rules::specs::Next::arrival))]
 pub fn arrival(rules: &Rules, live: &Live, parent: u64, place: Place, spot: u16) -> Option<Arrival>
     requires fit { AreFit rules.now }

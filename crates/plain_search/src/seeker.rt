@@ -1,4 +1,4 @@
-//! Who looks for what is to be done next, and what it knows of spots that were searched before.
+//! The search for what is done next, and what it remembers of spots that were searched before.
 ghost use Rattle.std.specs.Prelude.{◌≡◌, ◌≤◌, ℕ, None, Some, IfOk, IsTrue, length};
 ghost use Rattle.std.specs.List.{slice_index_or};
 ghost use Rattle.run_rules.specs.Next as next;
@@ -22,7 +22,7 @@ struct Below {
     bare: bool,
 }
 
-/// By what the next deed is looked for: the rules of a run, and what was noted of each spot.
+/// What the search for the next deed uses: the rules of a run, and what was noted about each spot.
 #[derive(Drop)]
 pub struct Seeker<'a> {
     pub rules: &'a Rules<'a>,
@@ -49,7 +49,7 @@ fn is_of(below: Below, row: u32, unit: u32, place: Place, spot: u16) -> bool
     below.row == row && below.unit == unit && same_place(below.place, place) && below.spot == spot
 }
 
-/// Whether no row takes a spot at a place below such a device: none takes it where no device is live.
+/// Whether no row takes a spot at a place below such a device: none takes it if no device is live.
 fn is_bare(alloc: Global, rules: &Rules, row: u32, unit: u32, place: Place, spot: u16) -> bool
     requires { AreFit rules.now }
     ensures { IsTrue result → IsBare (setup_by rules.now) row unit place spot }
@@ -61,7 +61,7 @@ fn is_bare(alloc: Global, rules: &Rules, row: u32, unit: u32, place: Place, spot
     winner(rules, &Live::make(alloc), parent, place, spot).is_none()
 }
 
-/// Nothing noted of so many spots.
+/// Nothing noted about this many spots.
 fn none_noted(alloc: Global, spots: usize) -> Result<Vec<Option<Below>>, Memory>
     ensures { (s : Setup) → IfOk result (λ noted. AreSo s noted.items) }
 {
@@ -92,7 +92,7 @@ impl<'a> Seeker<'a> {
         }
     }
 
-    /// The device that comes to a spot below a parent, if a row takes it.
+    /// The device that is attached to a spot below a parent, if a row takes the spot.
     #[inline(always)]
     #[tactic(auto, unfolding(run_rules::specs::Next::arrival))]
     pub fn arrival(&self, live: &Live, parent: u64, place: Place, spot: u16) -> Option<Arrival>

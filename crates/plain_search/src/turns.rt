@@ -28,7 +28,7 @@ fn has_value(found: &[i64], wanted: Wanted) -> bool
     }
 }
 
-/// Whether a spot has all locator values that are wanted. Where none is, the spot is not looked at.
+/// Whether a spot has all locator values that are wanted. If none is wanted, the spot is not looked at.
 fn passes_filter(rules: &Rules, spot: u16, filter: &[Wanted]) -> bool
     ensures { result ≡ rule.passes_filter (rule.found_at rules.now.machine.now spot) filter.now }
 {
@@ -108,7 +108,7 @@ fn is_next(rules: &Rules, plain: &Plain, scan: &Going, turn: Turn) -> bool
     !is_before(turn.at, scan.from) && is_due(rules, plain, scan.serial, scan.filter, turn)
 }
 
-/// Whether a spot hangs below another one, or below the root, at a place.
+/// Whether a spot is below another one, or below the root, at a place.
 fn is_child(rules: &Rules, parent: Option<u16>, place: Place, spot: u16) -> bool
     ensures { result ≡ rule.is_child rules.now.machine.now parent place spot }
 {
@@ -334,7 +334,7 @@ fn due_turn(rules: &Rules, plain: &Plain, scan: &Going, only: Option<u32>) -> Op
     }
 }
 
-/// The position after a turn: behind it, or at the first pair of the same row.
+/// The position after a turn: after it, or at the first pair of the same row.
 #[tactic(auto, unfolding(run_rules::specs::Search::after_turn))]
 fn after_turn(turn: Turn) -> Position
     requires { turn.at.spot < 1024 }

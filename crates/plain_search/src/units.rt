@@ -7,7 +7,7 @@ ghost use Rattle.plain_world.specs.Rules.{setup_by};
 use plain_world::{Live, Rules, driver_of};
 use run_rules::Dev;
 
-/// How far a unit is from the first one, where it is meant and is one of so many.
+/// How far a unit is from the first one, if it is meant and among `count` units from there on.
 fn distance(meant: bool, unit: u32, first: u32, count: usize) -> Option<usize>
     ensures { MatchOption result ((k : ℕ) → k < count → (meant && unit == first + k) ≡ false) (λ j. (j < count) × ((k : ℕ) → (meant && unit == first + k) ≡ (j == k))) }
 {
@@ -20,7 +20,7 @@ fn distance(meant: bool, unit: u32, first: u32, count: usize) -> Option<usize>
     None
 }
 
-/// Marks a unit among those from the first one on, where it is meant and is one of them.
+/// Marks a unit among those from the first one on, if it is meant and one of them.
 fn mark(marks: &mut [bool], meant: bool, unit: u32, first: u32)
     ensures { (k : ℕ) → k < length marks.new → slice_index_or marks.new k false ≡ (slice_index_or marks.old k false || (meant && unit == first + k)) }
 {
@@ -57,7 +57,7 @@ fn free_among(rules: &Rules, devices: &[Dev], driver: u32, first: u32) -> u32
     first
 }
 
-/// The least unit of a driver that is not below the first one and that no live device has.
+/// The least unit of a driver that is at least the first one and that no live device has.
 pub fn free_from(rules: &Rules, live: &Live, driver: u32, first: u32) -> u32
     requires first { first ≤ 65536 }
     requires few { length live.now.devices ≤ 1024 }

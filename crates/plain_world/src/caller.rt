@@ -1,4 +1,4 @@
-//! The callers, and what each is about to go on with.
+//! The callers, and what each goes on with.
 ghost use Rattle.std.specs.Prelude.{◌≡◌, ◌<◌, ◌+◌, ◌-◌, ◌^◌, ◌++◌, ◌∷◌, [], IfOk, OnOk};
 ghost use Rattle.run_rules.specs.After.{settled, moved_top, same_key, under_top};
 ghost use Rattle.run_rules.specs.World as world;
@@ -57,7 +57,7 @@ fn move_frame(frame: &mut Frame, to: Position)
     }
 }
 
-/// Whether a scan that was put off to one key was put off to another one.
+/// Whether a deferred scan to one key was put off to another one.
 pub fn same_key(key: Key, which: Key) -> bool
     ensures { result ≡ same_key key which }
 {
@@ -68,7 +68,7 @@ pub fn same_key(key: Key, which: Key) -> bool
     }
 }
 
-/// The scans that were put off to a key, the first of them first.
+/// The deferred scans to a key, the first of them first.
 fn released(alloc: Global, deferred: &[Deferred], which: Key) -> Result<Vec<Frame>, Memory>
     ensures { IfOk result (λ frames. frames.items ≡ released_frames deferred.now which) }
 {
@@ -93,7 +93,7 @@ impl Caller {
         }
     }
 
-    /// The caller that boots, with the scan of the root before it.
+    /// The caller that boots, with the scan of the root as its frame.
     pub fn booting(alloc: Global) -> Result<Caller, Memory>
         ensures { IfOk result (λ c. c ≡ world.beginning (world.scan_of 0 ∷ [])) }
     {
@@ -150,7 +150,7 @@ impl Caller {
         self.doing = doing;
     }
 
-    /// A rescan is over where no frame is left.
+    /// A rescan is over if no frame is left.
     fn settle(&mut self)
         requires low { self.old.over < 2 ^ 32 - 1 }
         ensures { self.new ≡ settled self.old }
@@ -202,7 +202,7 @@ impl Caller {
         }
     }
 
-    /// The scans that were put off to a key come before its frames, the first of them on top.
+    /// The deferred scans to a key come before its frames, the first of them on top.
     pub fn release(
         &mut self,
         alloc: Global,

@@ -1,4 +1,4 @@
-//! A world in plain lists, apart from the board: what stands in it, and what it goes by.
+//! A world in plain lists, apart from the board: what it holds, and what it goes by.
 #![tactic(auto)]
 
 mod caller;

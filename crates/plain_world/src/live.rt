@@ -1,4 +1,4 @@
-//! The live devices in order of attachment, found by serial at few looks.
+//! The live devices in order of attachment, found quickly by serial.
 ghost use Rattle.std.specs.Prelude.{◌≡◌, ◌<◌, ◌-◌, ◌^◌, ◌==◌, [], false, not, filter, map, length, IfOk, MatchOption, OnOk};
 ghost use Rattle.std.specs.List.{slice_index_or};
 ghost use Rattle.run_rules.specs.After.{with_condemner, with_sleep};
@@ -21,7 +21,7 @@ use std::marker::Model;
 pub struct Live {
     devices: Vec<Dev>,
     next: u64,
-    /// How many devices stand on each spot.
+    /// How many devices are on each spot.
     on_spots: Vec<usize>,
 }
 
@@ -35,7 +35,7 @@ impl Model for Live {
     ghost invariant = { λ live. AreInOrder live.devices.items live.next × AreCounted live.devices.items live.on_spots.items };
 }
 
-/// The place of the device of a serial, found by halves.
+/// The place of the device of a serial, found by binary search.
 fn place_by_halves(devices: &[Dev], serial: u64) -> Option<usize>
     requires { EachLater (λ d e. d.serial < e.serial) devices.now }
     ensures { MatchOption result (world.is_live devices.now serial ≡ false) (λ i. (i < length devices.now) × ((d : Dev) → (slice_index_or devices.now i d).serial ≡ serial)) }
@@ -81,7 +81,7 @@ fn has_at(devices: &[Dev], serial: u64) -> bool
     }
 }
 
-/// Takes the device of a serial out, and answers the spot on which it stood.
+/// Removes the device of a serial, and returns the spot on which it was.
 fn remove_at(devices: &mut Vec<Dev>, serial: u64) -> Option<u16>
     requires { EachLater (λ d e. d.serial < e.serial) devices.old.items }
     ensures gone { devices.new.items ≡ filter (λ d. not (d.serial == serial)) devices.old.items }
@@ -107,7 +107,7 @@ fn rest_at(devices: &mut Vec<Dev>, serial: u64, asleep: bool)
     }
 }
 
-/// A device, condemned where it is the one above or below it.
+/// A device, condemned if it is the one named or below it.
 fn condemned(live: &Live, caller: u8, above: u64, device: Dev) -> Dev
     ensures { result ≡ with_condemner live.now.devices caller above device }
 {
@@ -164,7 +164,7 @@ impl Live {
         self.devices.len()
     }
 
-    /// What every value keeps; nothing is done.
+    /// The facts that every value keeps. It does nothing.
     pub fn stands(&self)
         ensures { AreInOrder self.now.devices self.now.next }
     {
@@ -193,14 +193,14 @@ impl Live {
         has_at(&self.devices, serial)
     }
 
-    /// Whether a device stands on a spot.
+    /// Whether a device is on a spot.
     pub fn is_on(&self, spot: u16) -> bool
         ensures { result ≡ is_occupied self.now.devices spot }
     {
         is_on(&self.on_spots, spot)
     }
 
-    /// A device comes, with the next serial.
+    /// A device is attached, with the next serial.
     pub fn push(&mut self, arrival: Arrival) -> Result<(), Memory>
         requires { self.old.next < 2 ^ 64 - 1 }
         ensures { OnOk result (self.new ≡ with_device self.old arrival) }
@@ -220,7 +220,7 @@ impl Live {
         Ok(())
     }
 
-    /// The device of a serial goes.
+    /// The device of a serial is removed.
     pub fn remove(&mut self, serial: u64)
         ensures { self.new ≡ record self.old { devices = filter (λ d. not (d.serial == serial)) self.old.devices } }
     {

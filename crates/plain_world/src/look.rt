@@ -1,4 +1,4 @@
-//! What is looked up among live devices, references and frames.
+//! Look-ups among live devices, references and frames.
 ghost use Rattle.std.specs.Prelude.{◌≡◌, ◌==◌, ◌&&◌, ◌||◌};
 ghost use Rattle.std.specs.List.{list_any};
 ghost use Rattle.run_rules.specs.declared.world.Setup.{Setup};
@@ -39,14 +39,14 @@ pub fn is_live(live: &Live, serial: u64) -> bool
     live.has(serial)
 }
 
-/// Whether a live device stands on a spot.
+/// Whether a live device is on a spot.
 pub fn is_occupied(live: &Live, spot: u16) -> bool
     ensures { result ≡ rule.is_occupied live.now.devices spot }
 {
     live.is_on(spot)
 }
 
-/// The parent of a device; 0 for the root, and where no such device is live.
+/// The parent of a device; 0 for the root, and if no such device is live.
 pub fn parent_of(live: &Live, serial: u64) -> u64
     ensures { result ≡ world.parent_of live.now.devices serial }
 {
@@ -128,7 +128,7 @@ fn has_frames(callers: &[Caller], serial: u64) -> bool
     callers.iter().any(|caller| has_frame(caller, serial))
 }
 
-/// Whether a frame of any caller, or a scan that was put off, is for a device.
+/// Whether a frame of any caller, or a deferred scan, is for a device.
 #[tactic(auto, unfolding(run_rules::specs::World::is_pinned))]
 pub fn is_pinned(plain: &Plain, serial: u64) -> bool
     ensures { (s : Setup) → result ≡ world.is_pinned (world_of s plain.now) serial }

@@ -1,4 +1,4 @@
-//! What is looked up in the tables and in the machine.
+//! Look-ups in the tables and in the machine.
 ghost use Rattle.std.specs.Prelude.{◌≡◌, ◌≤◌, false, bytes_eq, length, option_copied, position, slice_get};
 ghost use Rattle.std.specs.Option.{option_map_or};
 ghost use Rattle.cf_types.specs.Offers as offer;
@@ -54,7 +54,7 @@ pub fn policy_of(rules: &Rules, row: u32) -> Policy
     }
 }
 
-/// The interface attributes that a driver offers, in the order in which they are searched; none where there is no such
+/// The interface attributes that a driver offers, in the order in which they are searched; none if there is no such
 /// driver. See config(5).
 pub fn offered<'a>(rules: &'a Rules, driver: u32) -> &'a [u32]
     requires { AreFit rules.now }
@@ -132,7 +132,7 @@ pub fn has(list: &[u32], number: u32) -> bool
     list.iter().any(|other| *other == number)
 }
 
-/// Whether there is nothing in a list.
+/// Whether a list is empty.
 pub fn is_nothing(offers: &[u32]) -> bool
     ensures { result ≡ next.has_nothing offers.now }
 {

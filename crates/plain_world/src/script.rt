@@ -10,7 +10,7 @@ use crate::rules::Rules;
 use crate::world::Plain;
 use cf_types::Command;
 
-/// The command of a caller of which so many are over.
+/// The command that is next for a caller with so many commands over.
 pub fn command_at<'a>(rules: &'a Rules, caller: u8, over: u32) -> Option<&'a Command>
     ensures { slice_get (slice_index_or rules.now.scripts.now (caller - 1) []) over ≡ option_copied result }
 {
@@ -20,7 +20,7 @@ pub fn command_at<'a>(rules: &'a Rules, caller: u8, over: u32) -> Option<&'a Com
     }
 }
 
-/// Whether a caller has ended, or is none.
+/// Whether a caller has ended, or there is no such caller.
 pub fn has_ended(callers: &[Caller], caller: u8) -> bool
     ensures { result ≡ world.is_ended (state_at callers.now caller).doing }
 {

@@ -1,10 +1,10 @@
-//! How many devices stand on each spot.
+//! How many devices are on each spot.
 ghost use Rattle.std.specs.Prelude.{◌≡◌, ◌<◌, ◌+◌, ◌-◌, ◌==◌, ◌^◌, ℕ, if◌then◌else◌, length, nat_lt, OnOk};
 ghost use Rattle.std.specs.List.{slice_index_or};
 
 use cf_types::Memory;
 
-/// Makes the counts reach a spot. Nothing stands on those that they did not reach.
+/// Makes the counts reach a spot. Nothing is on those that they did not reach.
 pub fn reach(counts: &mut Vec<usize>, spot: u16) -> Result<(), Memory>
     ensures same { (x : ℕ) → slice_index_or counts.new.items x 0 ≡ slice_index_or counts.old.items x 0 }
     ensures ok { OnOk result (spot < length counts.new.items) }
@@ -16,7 +16,7 @@ pub fn reach(counts: &mut Vec<usize>, spot: u16) -> Result<(), Memory>
     Ok(())
 }
 
-/// A device more stands on a spot.
+/// One more device is on a spot.
 pub fn enter(counts: &mut Vec<usize>, spot: u16)
     requires reached { spot < length counts.old.items }
     requires low { slice_index_or counts.old.items spot 0 < 2 ^ 64 - 1 }
@@ -25,7 +25,7 @@ pub fn enter(counts: &mut Vec<usize>, spot: u16)
     counts[spot as usize] += 1;
 }
 
-/// A device less stands on a spot.
+/// One device fewer is on a spot.
 pub fn leave(counts: &mut Vec<usize>, spot: u16)
     ensures { (x : ℕ) → slice_index_or counts.new.items x 0 ≡ slice_index_or counts.old.items x 0 - (if spot == x then 1 else 0) }
 {
@@ -34,7 +34,7 @@ pub fn leave(counts: &mut Vec<usize>, spot: u16)
     }
 }
 
-/// Whether any stands on a spot.
+/// Whether any device is on a spot.
 pub fn is_on(counts: &[usize], spot: u16) -> bool
     ensures { result ≡ nat_lt 0 (slice_index_or counts.now spot 0) }
 {

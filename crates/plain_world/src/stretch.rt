@@ -1,4 +1,4 @@
-//! Between which numbers the spots stand that hang below a spot, so that a scan looks at no others.
+//! The numbers between which the spots below a spot are, so that a scan looks at no others.
 ghost use Rattle.std.specs.Prelude.{◌≡◌, ◌<◌, ◌≤◌, ℕ, Option, IfOk, length};
 ghost use Rattle.plain_world.specs.Stretches.{AreStretchesOf, IsIn, place_in, stretch_at};
 
@@ -22,7 +22,7 @@ fn place_in(parent: Option<u16>) -> usize
     }
 }
 
-/// A stretch that was reached up to a number takes this number in.
+/// A stretch that now also contains this number.
 fn reaching(stretch: Stretch, spot: u16) -> Stretch
     requires { spot < 1024 }
     ensures here { IsIn result spot }
@@ -62,7 +62,7 @@ pub fn stretches_of(alloc: Global, machine: &Machine) -> Result<Vec<Stretch>, Me
     Ok(stretches)
 }
 
-/// Between which numbers the spots below a spot, or below the root, stand.
+/// The numbers between which the spots below a spot, or below the root, are.
 pub fn stretch_at(stretches: &[Stretch], parent: Option<u16>) -> Stretch
     ensures { result ≡ stretch_at stretches.now parent }
 {

@@ -42,7 +42,7 @@ fn wanted_at(place: u8, given: &Given) -> Wanted
     }
 }
 
-/// The value for a locator, before those for the others; none where it is no locator, or is wanted already.
+/// The value for a locator, before those for the others; none if it is no locator, or is wanted already.
 fn with_first(
     locators: &[Locator],
     first: &Given,
@@ -62,7 +62,7 @@ fn with_first(
     Ok(Some(list))
 }
 
-/// The locator values that a rescan gives, each by its place; none where one is no locator or is given twice.
+/// The locator values that a rescan gives, each by its place; none if one is not a locator or is given twice.
 pub fn wanted_of(
     alloc: Global,
     locators: &[Locator],
@@ -80,7 +80,7 @@ pub fn wanted_of(
     }
 }
 
-/// The values that a rescan of an attribute wants by what is given; none where it is of all attributes.
+/// The values that a rescan of an attribute wants by what is given; none if it is of all attributes.
 pub fn wanted_by(
     alloc: Global,
     rules: &Rules,

@@ -20,16 +20,16 @@ pub struct Plain {
     /// The references, and the devices that are held solely.
     pub refs: Vec<Ref>,
     pub sole: Vec<u64>,
-    /// The spots without hardware, and the late spots that no finaliser has shown yet.
+    /// The spots without hardware, and the late spots that no finalizer has shown yet.
     pub absent: Vec<u16>,
     pub hidden: Vec<u16>,
     /// Whether interrupts work.
     pub interrupts_on: bool,
-    /// The caller in whose hands the power commands are.
+    /// The caller that has the power turn.
     pub power_owner: Option<u8>,
-    /// The scans that were put off.
+    /// The deferred scans.
     pub deferred: Vec<Deferred>,
-    /// The devices with a finaliser, the place in this list, and whether one of this pass answered 1.
+    /// The devices with a finalizer, the position in this list, and whether one of this pass answered 1.
     pub finalisers: Vec<u64>,
     pub next_finaliser: u64,
     pub pass_repeats: bool,
@@ -85,7 +85,7 @@ fn absent_spots(alloc: Global, rules: &Rules) -> Result<Vec<u16>, Memory>
     Ok(spots)
 }
 
-/// The callers before any event: the one that boots has the scan of the root before it.
+/// The callers before any event: the one that boots has the scan of the root as its frame.
 #[tactic(auto, unfolding(run_rules::specs::World::opening))]
 fn beginning(alloc: Global, rules: &Rules) -> Result<Vec<Caller>, Memory>
     ensures { IfOk result (λ callers. callers.items ≡ (world.opening (setup_by rules.now)).callers) }

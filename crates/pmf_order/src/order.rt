@@ -24,8 +24,8 @@ fn last_to_sleep(tree: &DevTree, among: &[Dev], target: u64) -> Option<u64>
     Some(device.serial)
 }
 
-/// The device that a suspension of the target puts to sleep next: of those awake in its subtree the one that came last, so
-/// that children sleep before their parent. None where all sleep. See pmf(9).
+/// The device that a suspension of the target puts to sleep next: of those awake in its subtree the one that came last,
+/// so that children sleep before their parent. None if all sleep. See pmf(9).
 pub fn next_sleep(tree: &DevTree, target: u64) -> Option<u64>
     requires { IsTrue (is_live tree.now.live target) }
     ensures { result ≡ serial_of (next.next_sleep tree.now.live target) }
@@ -51,9 +51,9 @@ fn first_to_wake(tree: &DevTree, among: &[Dev], target: u64, whole: bool) -> Opt
     Some(device.serial)
 }
 
-/// The device that a resumption of the target wakes next: of the sleeping ones among it and its ancestors, and of the whole
-/// subtree where that is asked for, the one that came first, so that a parent wakes before its children. None where all are
-/// awake. See pmf(9).
+/// The device that a resumption of the target wakes next: of the sleeping ones among it and its ancestors, and of the
+/// whole subtree if that is asked for, the one that came first, so that a parent wakes before its children. None if all
+/// are awake. See pmf(9).
 pub fn next_wake(tree: &DevTree, target: u64, whole: bool) -> Option<u64>
     requires { IsTrue (is_live tree.now.live target) }
     ensures { result ≡ serial_of (next.next_wake tree.now.live target whole) }

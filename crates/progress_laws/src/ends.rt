@@ -7,12 +7,12 @@ pub fn each_lowers()
     ensures { EachLowers }
 {}
 
-/// A run has no more events than a number that follows from its machine and its scripts.
+/// A run has no more events than a number that is computed from its machine and its scripts.
 pub fn runs_end()
     ensures { OfEveryRun EndsInTime }
 {}
 
-/// Whatever was done so far, the run can be gone on with until no caller does anything.
+/// Whatever was done so far, the run can be continued until no caller does anything.
 pub fn comes_to_rest()
     ensures { OfEveryRun ComesToRest }
 {}

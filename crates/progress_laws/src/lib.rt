@@ -1,6 +1,6 @@
-//! Laws of progress: every run ends; who waits for ever stands in a ring of callers, each of which waits for a device that the
-//! next one holds; and scripts that let go of what they hold before they take devices away never come to that. The contracts of
-//! the functions that do nothing are the laws.
+//! Laws of progress: every run ends; whoever waits forever is in a ring of callers, each of which waits for a device
+//! that the next one holds; and scripts that give back what they hold before they remove devices never come to that.
+//! The contracts of the functions that do nothing are the laws.
 #![tactic(auto)]
 
 mod ends;

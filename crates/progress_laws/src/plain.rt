@@ -14,7 +14,7 @@ fn place_of(names: &[Name], name: &Name) -> Option<usize>
     names.iter().position(|n| n == name)
 }
 
-/// Takes a name away once, where it stands there.
+/// Removes a name once, if it is there.
 fn take_out(names: &mut Vec<Name>, name: &Name)
     ensures { names.new.items ≡ without_first (λ n. bytes_eq n name.now) names.old.items }
 {
@@ -34,7 +34,7 @@ fn condemns(command: &Command) -> bool
     }
 }
 
-/// The names of the references that may be open behind a command, from those that may be before it.
+/// The names of the references that may be open after a command, from those that may be before it.
 fn go_on(names: &mut Vec<Name>, command: &Command) -> Result<(), Memory>
     ensures { IfOk result (λ done. names.new.items ≡ open_after names.old.items command.now) }
 {
@@ -47,7 +47,8 @@ fn go_on(names: &mut Vec<Name>, command: &Command) -> Result<(), Memory>
     Ok(())
 }
 
-/// Whether a script passes the test: no `detach` and no `unplug` stands where the commands before it may leave a reference open.
+/// Whether a script passes the test: no `detach` and no `unplug` comes where the commands before it may leave a
+/// reference open.
 pub fn passes(alloc: Global, script: &[Command]) -> Result<bool, Memory>
     ensures { IfOk result (λ yes. yes ≡ lets_go_first script.now) }
 {
@@ -86,7 +87,7 @@ pub fn plain_scripts_go_on()
     ensures { OfEveryRun PlainScriptsGoOn }
 {}
 
-/// If each script passes the test, every run can be gone on with until all callers have ended.
+/// If each script passes the test, every run can be continued until all callers have ended.
 pub fn ends_for_all()
     ensures { OfEveryRun EndsForAll }
 {}
@@ -96,3 +97,28 @@ pub fn ends_for_all()
 pub fn rounds_end_for_all()
     ensures { RoundsEndForAll }
 {}
+
+#[cfg(test)]
+mod tests {
+    use super::*;
+    use std::test::Fail;
+
+    // Whether a script passes that holds com0 while it detaches com1, and whether it does once it closes com0 first.
+    fn answers(alloc: Global) -> Result<(bool, bool), Memory> {
+        let com0 = Name::make(alloc, b"com0")?;
+        let com1 = Name::make(alloc, b"com1")?;
+        let mut script = Vec::new(alloc);
+        script.push(Command::OpenSole(com0.clone()?))?;
+        script.push(Command::Detach(com1))?;
+        let holds = passes(alloc, &script)?;
+        script.insert(1, Command::CloseDev(com0))?;
+        let closes = passes(alloc, &script)?;
+        Ok((holds, closes))
+    }
+
+    #[test]
+    fn a_script_that_closes_first_passes(rt: HostRuntime) -> Result<(), Fail> {
+        assert_eq!(rt; answers(rt.alloc()), Ok((false, true)));
+        Ok(())
+    }
+}

@@ -23,7 +23,7 @@ pub fn never_stuck()
     ensures { OfEveryRun NeverStuck }
 {}
 
-/// A script alone never waits for ever: some caller does something, or all have ended.
+/// A script alone never waits forever: some caller does something, or all have ended.
 pub fn ends_alone()
     ensures { OfEveryRun EndsAlone }
 {}

@@ -2,7 +2,7 @@ ghost use Rattle.std.specs.Prelude.{◌≡◌};
 
 use std::marker::Model;
 
-/// The token of a slot that was taken from condemned to free. It can't be dropped: whoever frees the device spends it.
+/// The token of a slot that was taken from condemned to free. It cannot be dropped: whoever frees the device spends it.
 pub struct Buried {
     slot: u16,
     generation: u64,
@@ -17,7 +17,7 @@ impl Model for Buried {
 }
 
 impl Buried {
-    /// The token of a slot and of the generation that ended. It is there for implementations of `Slots`.
+    /// The token of a slot and of the generation that ended. Only implementations of `Slots` make one.
     pub fn make(slot: u16, generation: u64) -> Buried
         ensures { result ≡ record { slot = slot; generation = generation } }
     {
@@ -34,7 +34,7 @@ impl Buried {
     }
 }
 
-/// What a burial answers: the slot is free, or callers hold it, bit k-1 of the mask for caller k.
+/// The answer of a burial: the slot is free, or callers hold it: bit k-1 of the mask is caller k.
 pub enum Bury {
     Buried(Buried),
     Held(u16),

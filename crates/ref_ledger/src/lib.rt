@@ -1,4 +1,4 @@
-//! The references to devices, and the slots of the spots: whether a spot's device may be held, and when it may be freed.
+//! The references to devices, and the spots' slots: whether a spot's device may be held, and when it may be freed.
 #![tactic(auto)]
 
 mod buried;

@@ -25,7 +25,7 @@ impl Model for PlainSlots {
 }
 
 impl PlainSlots {
-    /// So many slots, all free.
+    /// This many slots, all free.
     pub fn make(alloc: Global, slots: u16) -> Result<PlainSlots, Memory>
         ensures { IfOk result (λ plain. plain ≡ replicate slots Free) }
     {

@@ -9,8 +9,9 @@ use run_rules::Ref;
 use std::alloc::Global;
 use std::marker::Model;
 
-/// The references to devices: each is held by a caller from 1 to 16, who may have up to 15 to one device, or the only one
-/// that may be. Contracts see the list of them in the order in which they were granted, and the devices held solely.
+/// The references to devices: each is held by a caller from 1 to 16, who may have up to 15 to one device, or the only
+/// one that there may be. Contracts see the list of them in the order in which they were granted, and the devices held
+/// solely.
 #[derive(Drop)]
 pub struct Refs {
     refs: Vec<Ref>,
@@ -27,7 +28,7 @@ impl Model for Refs {
     ghost invariant = { λ ledger. IsKept ledger.refs.items ledger.sole.items };
 }
 
-/// Who holds a device: bit k-1 stands for caller k.
+/// Who holds a device: bit k-1 is caller k.
 fn mask_of(refs: &[Ref], serial: u64) -> u16
     requires { All (λ r. IsHolder r.caller) refs.now }
     ensures { result ≡ holder_mask refs.now serial }
@@ -59,7 +60,7 @@ fn place_of(refs: &[Ref], serial: u64, caller: u8) -> Option<usize>
         .position(|held| held.serial == serial && held.caller == caller)
 }
 
-/// Takes out one reference of a caller to a device, where it has any.
+/// Removes one reference of a caller to a device, if it has any.
 fn take_out(refs: &mut Vec<Ref>, serial: u64, caller: u8)
     ensures { refs.new.items ≡ given_back refs.old.items caller serial }
 {
@@ -68,7 +69,7 @@ fn take_out(refs: &mut Vec<Ref>, serial: u64, caller: u8)
     }
 }
 
-/// Takes a device out of those that are held solely.
+/// Removes a device from those that are held solely.
 fn share_again(sole: &mut Vec<u64>, serial: u64)
     ensures { sole.new.items ≡ shared_again sole.old.items serial }
 {
@@ -104,8 +105,8 @@ impl Refs {
         }
     }
 
-    /// Grants a reference to a device, to a caller from 1 to 16: the only one, where nobody has any, or one more, where
-    /// nobody has the only one and the caller fewer than 15. At `Memory` all is as before.
+    /// Grants a reference to a device to a caller from 1 to 16: the only one, if nobody has any; or one more, if nobody
+    /// has the only one and the caller has fewer than 15. At `Memory` all is as before.
     pub fn grant(&mut self, serial: u64, caller: u8, sole: bool) -> Result<(), Memory>
         requires caller { IsHolder caller }
         requires free { MayGrant self.old serial caller sole }
@@ -146,7 +147,7 @@ impl Refs {
         count_of(&self.refs, serial, caller) as u8
     }
 
-    /// The caller that has the only reference to the device; none where nobody has the device solely.
+    /// The caller that has the only reference to the device; none if nobody has the device solely.
     pub fn sole(&self, serial: u64) -> Option<u8>
         ensures { MatchOption result (has self.now.sole serial ≡ false) (IsSoleHolder self.now serial) }
     {
@@ -171,7 +172,7 @@ impl Refs {
         self.refs.iter().any(|held| held.serial == serial)
     }
 
-    /// Who holds the device: bit k-1 stands for caller k.
+    /// Who holds the device: bit k-1 is caller k.
     pub fn holders(&self, serial: u64) -> u16
         ensures { result ≡ holder_mask self.now.refs serial }
     {
@@ -198,7 +199,7 @@ impl Refs {
         Ok(holds)
     }
 
-    /// The least serial of a device that the caller holds; none where it holds none. It takes no memory.
+    /// The least serial of a device that the caller holds; none if it holds none. It takes no memory.
     pub fn first_held(&self, caller: u8) -> Option<u64>
         ensures { MatchOption result ((s : ℕ) → holds_in self.now.refs caller s ≡ false) (IsLeastHeld self.now.refs caller) }
     {

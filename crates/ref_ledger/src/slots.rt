@@ -28,7 +28,7 @@ pub trait Slots {
         ensures denials { denials self.new ≡ denials self.old }
         ensures last { last_denial self.new ≡ last_denial self.old };
 
-    /// Takes a slot from condemned to free, or answers who holds it; then nothing changes but the denials.
+    /// Takes a slot from condemned to free, or returns who holds it; then nothing changes except the denials.
     fn bury(&mut self, slot: u16) -> Bury
         requires { slice_get (states self.old) slot ≡ Some Condemned }
         ensures states { Answers slot (states self.old) result (states self.new) }

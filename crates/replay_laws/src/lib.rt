@@ -1,5 +1,5 @@
-//! Laws of rereading: which texts are taken as a history, and as which. Nothing here runs: each function's contract is a
-//! law.
+//! Laws of rereading: which texts are accepted as a history, and as which. Nothing here runs: each function's contract
+//! is a law.
 #![tactic(auto)]
 
 mod laws;

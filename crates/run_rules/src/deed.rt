@@ -2,8 +2,8 @@ use crate::event::PowerKind;
 use crate::world::{Arrival, Position, Wait};
 use cf_types::Ticket;
 
-/// What a caller's next event does, with all that its line leaves out. Devices are told by serial, spots by number. A deed
-/// of a command is of the one that its caller is at.
+/// What a caller's next event does, with all that its line leaves out. Devices are given by serial, spots by number. A
+/// deed of a command is of the command that its caller is at.
 #[derive(Clone, Copy)]
 pub enum Deed {
     /// A turn of a scan: the spot that is searched, the position after it, and what comes. See autoconf(9).
@@ -18,7 +18,7 @@ pub enum Deed {
         of: u64,
     },
     BeginInterrupts,
-    /// A finaliser is called: the late spot that it shows, if there is one, and what comes there. One that is called from
+    /// A finalizer is called: the late spot that it shows, if there is one, and what comes there. One that is called from
     /// the boot's list has its place there, and may begin a new pass.
     Finalise {
         of: u64,
@@ -34,7 +34,7 @@ pub enum Deed {
     },
     /// A command ends at once with this reply, and nothing else changes.
     Refuse(Refusal),
-    /// A reference is granted; a sole one leaves room for no other.
+    /// A reference is granted; a sole one excludes all others.
     Open {
         of: u64,
         sole: bool,
@@ -49,7 +49,7 @@ pub enum Deed {
     Detach {
         of: u64,
     },
-    /// A condemned device goes.
+    /// A condemned device is freed.
     Free {
         of: u64,
     },
@@ -73,12 +73,12 @@ pub enum Deed {
     Plug {
         spot: u16,
     },
-    /// The hardware of a spot goes, and what stands there is condemned.
+    /// The hardware of a spot goes, and the device there is condemned.
     Unplug {
         spot: u16,
         of: Option<u64>,
     },
-    /// A list or a tree is told.
+    /// A list or a tree is printed.
     Tell,
 }
 
@@ -92,7 +92,7 @@ pub enum Refusal {
     Shared,
     NotHeld,
     Asleep,
-    /// The device of this serial stands in the way.
+    /// The device of this serial is in the way.
     Busy(u64),
     NoRescan,
     BadAttribute,

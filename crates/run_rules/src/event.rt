@@ -15,7 +15,7 @@ pub struct Event {
 /// What happened. A device is named by its external name, the root by `root`.
 #[derive(Drop)]
 pub enum Act {
-    /// A spot was searched: the device that was attached there, or none where no driver takes it. See autoconf(9).
+    /// A spot was searched: the device that was attached there, or none if no driver takes it. See autoconf(9).
     Found {
         parent: Name,
         spot: Name,
@@ -25,9 +25,9 @@ pub enum Act {
     ScanEnd {
         device: Name,
     },
-    /// Interrupts work from here on. See autoconf(9).
+    /// Interrupts work from now on. See autoconf(9).
     Interrupts,
-    /// A finaliser was called: the late spot that it showed, if one was left. See autoconf(9).
+    /// A finalizer was called: the late spot that it showed, if one was left. See autoconf(9).
     Final {
         device: Name,
         shown: Option<Shown>,
@@ -64,26 +64,26 @@ pub enum Act {
         device: Name,
         answer: IoAnswer,
     },
-    /// A device was to go with all that is below it. See drvctl(8).
+    /// A device was to be detached with all that is below it. See drvctl(8).
     Detach {
         device: Name,
         reply: Reply,
     },
-    /// A device that was to go is gone.
+    /// A device that was to be detached is freed.
     Free {
         device: Name,
     },
-    /// A device was to be searched again. See drvctl(8).
+    /// A rescan of a device was asked for. See drvctl(8).
     Rescan {
         device: Name,
         reply: Reply,
     },
-    /// The children of a device, or of the root, by serial; no names where there is no such device.
+    /// The children of a device, or of the root, by serial; no names if there is no such device.
     ListDev {
         device: Option<Name>,
         names: Option<List<Name>>,
     },
-    /// The tree below a device, or below the root, depth first; no names where there is no such device.
+    /// The tree below a device, or below the root, depth first; no names if there is no such device.
     TreeDev {
         device: Option<Name>,
         names: Option<List<DepthName>>,
@@ -119,7 +119,7 @@ pub enum Act {
     },
 }
 
-/// What a command was told. `Ok` alone says that it had an effect.
+/// The reply to a command. Only `Ok` says that it had an effect.
 #[derive(Drop)]
 pub enum Reply {
     Ok,
@@ -127,15 +127,15 @@ pub enum Reply {
     NoDevice,
     /// The device is condemned, or is no longer live.
     Gone,
-    /// A caller has the only reference that may be.
+    /// A caller has the only reference that there may be.
     Exclusive,
     /// The caller has 15 references already.
     TooMany,
-    /// There is a reference, so none can be the only one.
+    /// There is a reference already, so none can be the only one.
     Shared,
     NotHeld,
     Asleep,
-    /// The device that stands in the way.
+    /// The device that is in the way.
     Busy(Name),
     /// The device whose driver does not support it.
     NotSupported(Name),
@@ -155,21 +155,21 @@ pub struct Got {
     pub row: u32,
 }
 
-/// A late spot that a finaliser showed, and the device that was attached there, or none where no driver takes it.
+/// A late spot that a finalizer showed, and the device that was attached there, or none if no driver takes it.
 #[derive(Drop)]
 pub struct Shown {
     pub spot: Name,
     pub got: Option<Got>,
 }
 
-/// What a transfer brought: a number, modulo 2^32, or the error of a bad spot.
+/// The result of a transfer: a number, modulo 2^32, or the error of a bad spot.
 #[derive(Clone, Copy, Debug, PartialEq, Eq)]
 pub enum IoAnswer {
     Number(u32),
     DeviceError,
 }
 
-/// A device in a tree: how many levels it stands below the first one, and its name.
+/// A device in a tree: how many levels it is below the first one, and its name.
 #[derive(Drop)]
 pub struct DepthName {
     pub depth: u32,
@@ -184,7 +184,8 @@ pub enum PowerKind {
     ResumeTree,
 }
 
-/// How the lines of a history are written: without the spots of searches and the rows of devices, as before, or with them.
+/// How the lines of a history are written: without the spots of searches and the rows of devices (format 1), or with
+/// them (format 2).
 #[derive(Clone, Copy, Debug, PartialEq, Eq)]
 pub enum Format {
     First,

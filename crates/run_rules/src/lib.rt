@@ -1,4 +1,4 @@
-//! What a run of the machine means: the types of events and of the world; its definitions stand in specs/.
+//! What a run of the machine means: the types of events and of the world; its definitions are in specs/.
 #![tactic(auto)]
 
 mod deed;

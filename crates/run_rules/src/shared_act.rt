@@ -8,7 +8,7 @@ use std::alloc::{AllocError, Global};
 use std::marker::Model;
 use std::sync::Arc;
 
-/// An act, and how it is spelled, where that was kept.
+/// An act, and its spelling, if that was kept.
 #[derive(Drop)]
 struct ToldAct {
     act: Act,
@@ -16,8 +16,8 @@ struct ToldAct {
     ghost spelled: { IfSome text (λ text. text.items ≡ act_text act) } by { Prim.hlevel props },
 }
 
-/// What happened, as events hold it: events that tell the same share it. A clone is a further owner and takes no memory.
-/// Contracts see the act.
+/// What happened, as events hold it: equal events share it. A clone is a further owner and takes no memory. Contracts
+/// see the act.
 #[derive(Drop)]
 pub struct SharedAct {
     told: Arc<ToldAct>,
@@ -44,7 +44,7 @@ impl SharedAct {
         })
     }
 
-    /// This act, with its text as the lines of a history of format 2 have it: for acts that are told again and again.
+    /// This act, with its text as the lines of a history of format 2 have it: for acts that come again and again.
     pub fn with_text(alloc: Global, act: Act, text: Vec<u8>) -> Result<SharedAct, Memory>
         requires { text.items ≡ act_text act }
         ensures { IfOk result (λ shared. shared ≡ act) }
@@ -66,7 +66,7 @@ impl SharedAct {
         &self.told.act
     }
 
-    /// The text of the act, where it was kept.
+    /// The text of the act, if it was kept.
     #[inline(always)]
     pub fn text(&self) -> Option<&[u8]>
         ensures { IfSome result (λ text. text.now ≡ act_text self.now) }

@@ -27,7 +27,7 @@ pub struct Dev {
     pub condemned: Option<u8>,
 }
 
-/// Where a scan stands: at a place in the list of what its device offers, at a row where the bus is indirect, at a spot.
+/// The position of a scan: a place in the list of what its device offers, a row if the bus is indirect, and a spot.
 #[derive(Clone, Copy)]
 pub struct Position {
     pub attr: u16,
@@ -44,7 +44,7 @@ pub struct Turn {
     pub indirect: bool,
 }
 
-/// A device that comes: its row and its unit, the serial of its parent, and its spot.
+/// A device that is attached: its row and its unit, the serial of its parent, and its spot.
 #[derive(Clone, Copy)]
 pub struct Arrival {
     pub row: u32,
@@ -53,14 +53,14 @@ pub struct Arrival {
     pub spot: u16,
 }
 
-/// A locator value that a spot has to have in a rescan: the place of the locator in its attribute, and the value.
+/// A locator value that a spot must have in a rescan: the place of the locator in its attribute, and the value.
 #[derive(Clone, Copy)]
 pub struct Wanted {
     pub place: u8,
     pub value: i64,
 }
 
-/// What a caller is about to go on with.
+/// What a caller goes on with.
 #[derive(Drop)]
 pub enum Frame {
     /// The search below a device: of one attribute alone or of all, for spots that pass the filter, from a position on.
@@ -70,7 +70,7 @@ pub enum Frame {
         filter: List<Wanted>,
         position: Position,
     },
-    /// The finaliser of a device.
+    /// The finalizer of a device.
     Finaliser {
         serial: u64,
     },
@@ -83,14 +83,14 @@ pub struct Ref {
     pub caller: u8,
 }
 
-/// What a scan is put off to: the end of its parent's scan, or the time when interrupts work. See autoconf(9).
+/// What a scan is deferred to: the end of its parent's scan, or the time when interrupts work. See autoconf(9).
 #[derive(Clone, Copy)]
 pub enum Key {
     Parent(u64),
     Interrupts,
 }
 
-/// A scan that was put off: to what, and of which device.
+/// A deferred scan: to what, and of which device.
 #[derive(Clone, Copy)]
 pub struct Deferred {
     pub key: Key,
@@ -103,7 +103,7 @@ pub enum Placing {
     Nowhere,
     /// To the boot's list, or for a scan to the interrupts queue.
     Queued,
-    /// To the parent's queue.
+    /// To the queue of the parent.
     PutOff,
     Pushed,
 }

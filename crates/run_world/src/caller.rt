@@ -1,4 +1,4 @@
-//! The callers, and the frames that are before them.
+//! The callers and their frames.
 ghost use Rattle.std.specs.Prelude.{◌≡◌, ◌≤◌, ◌<◌, ◌+◌, ◌-◌, ◌^◌, ◌++◌, ◌∷◌, [], IsTrue, length};
 ghost use Rattle.run_rules.specs.After.{settled, moved_top, under_top};
 ghost use Rattle.defer_queue.specs.Queue.{entries_of, others_of};
@@ -40,7 +40,7 @@ pub fn new_scan(alloc: Global, serial: u64) -> Frame
     }
 }
 
-/// Begins the scans that were put off to a key, the first of them on top.
+/// Begins the deferred scans to a key, the first of them on top.
 fn push_released(alloc: Global, stack: &mut Stack, deferred: &mut Deferred, which: Key)
     requires room { length (entries_of deferred.old which) ≤ stack.old.room }
     ensures frames { stack.new.frames ≡ released_frames deferred.old which ++ stack.old.frames }
@@ -63,7 +63,7 @@ impl CallerState {
         }
     }
 
-    /// A rescan is over where the stack is empty.
+    /// A rescan is over if the stack is empty.
     #[inline(always)]
     fn settle(&mut self)
         requires low { self.old.doing ≡ Scans → self.old.over < 2 ^ 32 - 1 }
@@ -91,7 +91,7 @@ impl CallerState {
         self.stack.push(frame);
     }
 
-    /// Where the scan on top stands.
+    /// The position of the scan on top.
     #[inline(always)]
     pub fn position(&self) -> Position
         requires top { IsTrue (is_scanning self.now.stack.frames) }
@@ -131,7 +131,7 @@ impl CallerState {
         self.settle();
     }
 
-    /// The scans that were put off to a key begin.
+    /// The deferred scans to a key begin.
     pub fn release(&mut self, alloc: Global, deferred: &mut Deferred, which: Key)
         requires low { self.old.doing ≡ Scans → self.old.over < 2 ^ 32 - 1 }
         requires room { length (entries_of deferred.old which) ≤ self.old.stack.room }
@@ -142,7 +142,7 @@ impl CallerState {
         self.settle();
     }
 
-    /// The scan on top is over, and those that were put off to its end begin.
+    /// The scan on top is over, and those that were deferred to its end begin.
     pub fn end_scan(&mut self, alloc: Global, deferred: &mut Deferred, which: Key)
         requires low { self.old.doing ≡ Scans → self.old.over < 2 ^ 32 - 1 }
         requires top { 0 < length self.old.stack.frames }
@@ -155,7 +155,7 @@ impl CallerState {
         self.settle();
     }
 
-    /// The finaliser of a new device, and above it its scan, if these are their places.
+    /// The finalizer of a new device, and above it its scan, if these are their places.
     pub fn place(&mut self, alloc: Global, finaliser: Placing, scan: Placing, serial: u64)
         requires room { 2 ≤ self.old.stack.room }
         ensures { caller_of self.new ≡ searched_too scan (finalised_too finaliser (caller_of self.old) serial) serial }

@@ -6,8 +6,8 @@ use crate::parts::Core;
 use crate::spots::{driver_name, driver_of};
 use run_rules::{Dev, Setup};
 
-/// Whether a name is a beginning with the digits of a number behind it. Names of devices differ mostly in their last digit, so
-/// they are compared from there.
+/// Whether a name is this beginning followed by the digits of a number. Names of devices differ mostly in their last
+/// digit, so they are compared from there.
 fn is_unit_name(name: &[u8], front: &[u8], unit: u32) -> bool
     ensures { bytes_eq (front.now ++ decimal unit) name.now ≡ result }
 {

@@ -19,21 +19,21 @@ use unit_alloc::Units;
 #[derive(Drop)]
 pub struct Core {
     pub tree: DevTree,
-    /// Of each row whether it is live.
+    /// For each row whether it is live.
     pub rows: LiveRows,
     /// The units of live devices.
     pub units: Units,
     pub refs: Refs,
-    /// The spots without hardware, and the late spots that no finaliser has shown yet.
+    /// The spots without hardware, and the late spots that no finalizer has shown yet.
     pub absent: Vec<u16>,
     pub hidden: Vec<u16>,
     /// Whether interrupts work.
     pub interrupts_on: bool,
-    /// The caller in whose hands the power commands are.
+    /// The caller that has the power turn.
     pub power_owner: Option<u8>,
-    /// The scans that were put off.
+    /// The deferred scans.
     pub deferred: Deferred,
-    /// The devices with a finaliser, the place in this list, and whether one of this pass answered 1.
+    /// The devices with a finalizer, the position in this list, and whether one of this pass answered 1.
     pub finalisers: Vec<u64>,
     pub next_finaliser: u64,
     pub pass_repeats: bool,
@@ -42,7 +42,7 @@ pub struct Core {
     pub stops: u64,
     pub stopped: Option<u8>,
     pub events: Vec<Event>,
-    /// What was told last of each spot. It saves making it anew, and the world does not show it.
+    /// What was last printed for each spot, so that it need not be made again. The world does not show it.
     pub recent: Recent,
 }
 
@@ -74,7 +74,7 @@ fn absent_spots(alloc: Global, setup: &Setup) -> Result<Vec<u16>, Memory>
     Ok(spots)
 }
 
-/// The callers before any event: the one that boots has the scan of the root before it.
+/// The callers before any event: the one that boots has the scan of the root as its frame.
 fn beginning(alloc: Global, setup: &Setup) -> Result<Vec<CallerState>, Memory>
     ensures { IfOk result (λ callers. callers_of callers.items ≡ (world.opening setup.now).callers) }
 {

@@ -1,4 +1,4 @@
-//! What is kept of the events that were told, so that later events share it.
+//! What is kept of past events, so that later events share it.
 ghost use Rattle.std.specs.Prelude.{◌≡◌, ◌≤◌, true, IfOk, IfSome, None};
 ghost use Rattle.std.specs.List.{AllByRecursion};
 ghost use Rattle.run_rules.specs.declared.world.Setup.{Setup};
@@ -29,8 +29,8 @@ impl Called {
     }
 }
 
-/// What an act tells that is told again and again: a search below a device, or below the root, which found nothing, or that a
-/// device fell asleep or woke.
+/// What an act that comes again and again says: that a search below a device, or below the root, found nothing, or that
+/// a device fell asleep or woke.
 #[derive(Clone, Copy)]
 pub enum Telling {
     NothingFound { parent: Option<Called>, spot: u16 },
@@ -38,7 +38,7 @@ pub enum Telling {
     Wakes(Called),
 }
 
-/// An act, with what it tells.
+/// An act, with what it says.
 #[derive(Drop)]
 struct KeptAct {
     telling: Telling,
@@ -52,8 +52,8 @@ struct KeptName {
     name: Name,
 }
 
-/// The acts and names that were told last of each spot, and the tree that was told last. They save making them anew; whoever asks
-/// says what for.
+/// The acts and names last printed for each spot, and the tree last printed, so that they need not be made again;
+/// whoever asks says what for.
 #[derive(Drop)]
 pub struct Recent {
     acts: Vec<Option<KeptAct>>,
@@ -72,7 +72,7 @@ fn are_alike(a: Called, b: Called) -> bool
     a.row == b.row && a.unit == b.unit
 }
 
-/// Whether two acts tell the same.
+/// Whether two acts say the same.
 #[inline(always)]
 fn tell_the_same(a: Telling, b: Telling) -> bool
     ensures { result ≡ true → a ≡ b }
@@ -101,8 +101,8 @@ fn tell_the_same(a: Telling, b: Telling) -> bool
     }
 }
 
-/// Where an act is kept that tells this of one of so many spots, or of the device there. Acts of a kind stand side by side, since
-/// spots are searched one after the other.
+/// Where an act is kept that says this about one of so many spots, or about the device there. Acts of a kind are side
+/// by side, because spots are searched one after the other.
 #[inline(always)]
 fn place_of(telling: &Telling, spot: u16, spots: usize) -> usize {
     let kind = match telling {
@@ -113,7 +113,7 @@ fn place_of(telling: &Telling, spot: u16, spots: usize) -> usize {
     kind * spots.min(u16::MAX as usize) + spot as usize
 }
 
-/// So many places, in which nothing is kept.
+/// This many places, in which nothing is kept.
 fn empty<T: Drop>(alloc: Global, places: usize) -> Result<Vec<Option<T>>, Memory>
     ensures { IfOk result (λ kept. AllByRecursion (λ place. place ≡ None) kept.items) }
 {
@@ -125,7 +125,7 @@ fn empty<T: Drop>(alloc: Global, places: usize) -> Result<Vec<Option<T>>, Memory
 }
 
 impl Recent {
-    /// Room for what will be told of so many spots; nothing was told.
+    /// Room for what will be printed about this many spots; nothing has been printed.
     pub fn make(alloc: Global, spots: usize) -> Result<Recent, Memory>
         requires { spots ≤ 1024 }
         ensures { (s : Setup) → IfOk result (AreRecent s) }
@@ -139,7 +139,7 @@ impl Recent {
         })
     }
 
-    /// The act that tells this of a spot, or of the device there, if it is kept.
+    /// The act that says this about a spot, or about the device there, if it is kept.
     #[inline(always)]
     pub fn act(&self, telling: Telling, spot: u16) -> Option<&SharedAct>
         ensures { (s : Setup) → AreRecent s self.now → IfSome result (λ a. a.now ≡ act_telling s telling) }
@@ -150,7 +150,7 @@ impl Recent {
         }
     }
 
-    /// Keeps an act that tells this of a spot, or of the device there.
+    /// Keeps an act that says this about a spot, or about the device there.
     pub fn keep_act(&mut self, telling: Telling, spot: u16, act: SharedAct)
         ensures { (s : Setup) → AreRecent s self.old → act ≡ act_telling s telling → AreRecent s self.new }
     {
@@ -171,7 +171,7 @@ impl Recent {
         }
     }
 
-    /// Keeps the name of a device that is called so, for the spot on which it stands.
+    /// Keeps the name of a device that is called so, for the spot on which it is.
     pub fn keep_name(&mut self, of: Called, spot: u16, name: Name)
         ensures { (s : Setup) → AreRecent s self.old → name ≡ name_called s of → AreRecent s self.new }
     {
@@ -181,7 +181,7 @@ impl Recent {
         }
     }
 
-    /// The act that was told last of a tree, if it tells this one.
+    /// The act of the tree last printed, if it is this tree.
     pub fn tree(&self, tree: &Act) -> Option<&SharedAct>
         ensures { IfSome result (λ a. a.now ≡ tree.now) }
     {
@@ -191,7 +191,7 @@ impl Recent {
         }
     }
 
-    /// Keeps an act that tells a tree.
+    /// Keeps the act of a tree.
     pub fn keep_tree(&mut self, tree: SharedAct)
         ensures { (s : Setup) → AreRecent s self.old → AreRecent s self.new }
     {

@@ -50,7 +50,7 @@ fn wanted_of(alloc: Global, locators: &[Locator], given: &[Given]) -> Result<Lis
     Ok(list)
 }
 
-/// The values that a rescan of an attribute wants by what is given; none where it is of all attributes.
+/// The values that a rescan of an attribute wants by what is given; none if it is of all attributes.
 pub fn wanted_by(
     alloc: Global,
     setup: &Setup,

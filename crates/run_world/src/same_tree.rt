@@ -1,9 +1,9 @@
-//! Whether two acts tell one tree.
+//! Whether two acts have the same tree.
 ghost use Rattle.std.specs.Prelude.{◌≡◌, true};
 
 use run_rules::{Act, DepthName};
 
-/// Whether two lines tell the same name at the same depth.
+/// Whether two lines have the same name at the same depth.
 fn are_alike(one: &DepthName, other: &DepthName) -> bool
     ensures { result ≡ true → one.now ≡ other.now }
 {
@@ -25,7 +25,7 @@ fn have_same_names(one: &[DepthName], other: &[DepthName]) -> bool
     true
 }
 
-/// Whether both acts tell a tree, and it is the same.
+/// Whether both acts have a tree, and it is the same.
 pub fn tell_one_tree(one: &Act, other: &Act) -> bool
     ensures { result ≡ true → one.now ≡ other.now }
 {

@@ -8,7 +8,7 @@ use crate::parts::Core;
 use cf_types::{Command, Given};
 use run_rules::Setup;
 
-/// The command of a caller of which so many are over.
+/// The command that is next for a caller with so many commands over.
 #[inline(always)]
 fn command_at(setup: &Setup, caller: u8, over: u32) -> Option<&Command>
     ensures { slice_get (slice_index_or setup.now.scripts (caller - 1) []) over ≡ option_copied result }
@@ -19,7 +19,7 @@ fn command_at(setup: &Setup, caller: u8, over: u32) -> Option<&Command>
     }
 }
 
-/// The command that a caller is at; none where its script is over.
+/// The command that a caller is at; none if its script is over.
 #[inline(always)]
 pub fn command_of<'a>(setup: &'a Setup, core: &Core, caller: u8) -> Option<&'a Command>
     requires { caller < length core.now.callers.items }

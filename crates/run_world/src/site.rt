@@ -1,4 +1,4 @@
-//! What a run stands on, and what never changes in it.
+//! What a run goes by, which never changes.
 ghost use Rattle.std.proofs.Props.{props};
 ghost use Rattle.attr_graph.specs.Graphs.{IsGraphOf, declared_by};
 ghost use Rattle.match_search.specs.Index.{IsIndexOf};
@@ -10,9 +10,9 @@ use match_search::RowIndex;
 use run_rules::Setup;
 use scan_engine::ChildSpans;
 
-/// The tables, the machine and the scripts of a run, the graph of what devices offer, the rows that suit each spot, and where
-/// the spots below each one stand. Each value keeps that graph, index and spans are those of its tables and machine, and the
-/// limits that a board goes by.
+/// The tables, the machine and the scripts of a run, the graph of what devices offer, the rows that suit each spot, and
+/// where the spots below each one are. Each value keeps that graph, index and spans are those of its tables and
+/// machine, and the limits that a board goes by.
 #[derive(Drop)]
 pub struct Site {
     pub setup: Setup,

@@ -1,4 +1,4 @@
-//! What is looked up in the setup: rows, drivers, spots and policies.
+//! Look-ups in the setup: rows, drivers, spots and policies.
 ghost use Rattle.std.specs.Prelude.{◌≡◌, false, slice_get};
 ghost use Rattle.std.specs.Option.{option_map_or};
 ghost use Rattle.run_rules.specs.Search as search;
@@ -94,7 +94,7 @@ pub fn has_spot(list: &[u16], spot: u16) -> bool
     list.iter().any(|x| *x == spot)
 }
 
-/// Whether a live device stands on the spot.
+/// Whether a live device is on the spot.
 #[inline(always)]
 pub fn is_occupied(tree: &DevTree, spot: u16) -> bool
     ensures { result ≡ search.is_occupied tree.now.live spot }

@@ -101,8 +101,8 @@ fn board_of(alloc: Global, inputs: Inputs) -> Option<Board>
     }
 }
 
-// The inputs of a run with these scripts; none where they are refused.
-fn inputs_of(alloc: Global, scripts: &[&[u8]]) -> Result<Inputs, Status>
+/// The inputs of a run of this machine with these scripts, from words and files in memory; or why they are refused.
+pub fn inputs_of(alloc: Global, scripts: &[&[u8]]) -> Result<Inputs, Status>
     ensures formed { IfOk result FormedInputs }
     ensures kind { IfOk result (IsInputsOf Program.Drvrun) }
 {

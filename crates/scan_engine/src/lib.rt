@@ -1,4 +1,4 @@
-//! What a search for devices goes through: the stack of what is begun, and the next turn of a scan.
+//! What a search for devices goes through: the stack of what has begun, and the next turn of a scan.
 #![tactic(auto)]
 
 mod bus;

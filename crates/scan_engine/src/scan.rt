@@ -16,7 +16,7 @@ use attr_graph::Graph;
 use cf_types::{Machine, Place, StyleLine, Tables};
 use run_rules::{Position, Turn};
 
-/// The interface attributes that a driver offers, in the order in which they are searched; none where there is no such
+/// The interface attributes that a driver offers, in the order in which they are searched; none if there is no such
 /// driver. See config(5).
 #[inline(always)]
 pub fn offered<'a>(graph: &'a Graph, tables: &Tables, device: u32) -> &'a [u32]
@@ -178,10 +178,10 @@ fn scan_turn(
     }
 }
 
-/// The first turn of a scan, due or not, that is not before a position; none where there is none. The scan is that of a
-/// device by its driver, attachment and spot, or without all three that of the root, and of one attribute alone where one
-/// is given. All spots below its own stand in the span. It takes no memory, and looks at nothing before the position. See
-/// autoconf(9).
+/// The first turn of a scan, due or not, that is not before a position; none if there is none. The scan is that of a
+/// device by its driver, attachment and spot, or, without all three, that of the root; it is of one attribute alone if
+/// one is given. All spots below its own are in the span. It takes no memory, and looks at nothing before the position.
+/// See autoconf(9).
 #[inline(always)]
 pub fn next_turn(
     tables: &Tables,

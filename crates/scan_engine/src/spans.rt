@@ -1,4 +1,4 @@
-//! Between which numbers the spots stand that hang below a spot.
+//! The numbers between which the spots below a spot are.
 ghost use Rattle.std.specs.Prelude.{◌≡◌, ◌<◌, ◌≤◌, ℕ, Option, IfOk, length};
 ghost use Rattle.scan_engine.specs.Spans.{AreSpansOf, Covers, seat_of, span_at};
 
@@ -39,7 +39,7 @@ impl Span {
     }
 }
 
-/// Where the span of a parent stands: that of the root first, and then those of the spots.
+/// The place of a parent's span: that of the root is first, then those of the spots.
 #[inline(always)]
 fn seat_of(parent: Option<u16>) -> usize
     ensures { result ≡ seat_of parent }
@@ -50,7 +50,7 @@ fn seat_of(parent: Option<u16>) -> usize
     }
 }
 
-/// For the root and for each spot the numbers between which the spots below it stand. Contracts see the list of spans.
+/// For the root and for each spot, the numbers between which the spots below it are. Contracts see the list of spans.
 #[derive(Drop)]
 pub struct ChildSpans {
     spans: Vec<Span>,
@@ -92,7 +92,7 @@ impl ChildSpans {
         Ok(spans)
     }
 
-    /// Between which numbers the spots below a spot, or below the root, stand. It takes no memory.
+    /// The numbers between which the spots below a spot, or below the root, are. It takes no memory.
     #[inline(always)]
     pub fn below(&self, parent: Option<u16>) -> Span
         ensures { result ≡ span_at self.now parent }

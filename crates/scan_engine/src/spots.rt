@@ -1,4 +1,4 @@
-//! The spots that hang below a spot.
+//! The spots below a spot.
 ghost use Rattle.std.specs.Prelude.{◌≡◌, ◌≤◌, ◌&&◌, not, nat_lt, find, length};
 ghost use Rattle.cf_types.specs.Numbers.{below};
 ghost use Rattle.run_rules.specs.Search as rule;
@@ -7,7 +7,7 @@ ghost use Rattle.scan_engine.specs.Spans.{HoldsChildren};
 use crate::spans::Span;
 use cf_types::{Machine, Place};
 
-/// Whether a spot hangs below another one, or below the root, at a place.
+/// Whether a spot is below another one, or below the root, at a place.
 #[inline(always)]
 pub fn is_child(machine: &Machine, parent: Option<u16>, place: Place, spot: u16) -> bool
     ensures { result ≡ rule.is_child machine.now parent place spot }
@@ -18,7 +18,7 @@ pub fn is_child(machine: &Machine, parent: Option<u16>, place: Place, spot: u16)
     }
 }
 
-/// The first such spot from a number on, in file order. All of them stand in the span.
+/// The first such spot from a number on, in file order. All of them are in the span.
 #[inline(always)]
 pub fn next_child(
     machine: &Machine,

@@ -1,4 +1,4 @@
-//! What a caller is about to go on with.
+//! What a caller goes on with.
 ghost use Rattle.std.specs.Prelude.{◌≡◌, ◌<◌, ◌≤◌, ◌+◌, ◌==◌, [], ◌∷◌, length, IsTrue, OnErr, OnOk, option_copied};
 ghost use Rattle.std.specs.List.{list_any};
 ghost use Rattle.run_rules.specs.World.{frame_serial};
@@ -10,7 +10,7 @@ use run_rules::{Frame, Position};
 use std::alloc::Global;
 use std::marker::Model;
 
-/// The frames of a caller. Contracts see them in a list, the top first, and for how many more there is room.
+/// The frames of a caller. Contracts see the list of them, the top first, and for how many more there is room.
 #[derive(Drop)]
 pub struct Stack {
     frames: Vec<Frame>,
@@ -73,7 +73,7 @@ impl Stack {
         }
     }
 
-    /// Makes room for so many more frames. The frames are as before at both answers, and at `Memory` so is the room.
+    /// Makes room for this many more frames. The frames are as before in any case; at `Memory` the room is, too.
     #[inline(always)]
     pub fn reserve(&mut self, n: usize) -> Result<(), Memory>
         ensures frames { self.new.frames ≡ self.old.frames }
@@ -93,7 +93,7 @@ impl Stack {
         self.frames.len()
     }
 
-    /// Puts a frame on top, for which there has to be room. It takes no memory.
+    /// Puts a frame on top; there must be room for it. It takes no memory.
     #[inline(always)]
     pub fn push(&mut self, frame: Frame)
         requires { 0 < self.old.room }
@@ -111,7 +111,7 @@ impl Stack {
         self.frames.last()
     }
 
-    /// Takes the top frame away.
+    /// Removes the top frame.
     #[inline(always)]
     pub fn pop(&mut self)
         requires { 0 < length self.old.frames }
@@ -121,7 +121,7 @@ impl Stack {
         let _ = self.frames.pop();
     }
 
-    /// Whether a frame is for the device of this serial, which pins it.
+    /// Whether a frame is for the device of this serial, and so pins it.
     pub fn pins(&self, serial: u64) -> bool
         ensures { result ≡ list_any (λ f. frame_serial f == serial) self.now.frames }
     {

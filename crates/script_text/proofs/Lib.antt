@@ -4,3 +4,4 @@ pub mod OrderLemmas
 pub mod PairLemmas
 pub mod ScriptLemmas
 pub mod VerbLemmas
+pub mod WatchLemmas

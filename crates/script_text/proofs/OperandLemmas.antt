@@ -10,7 +10,8 @@ use Rattle.cf_text.specs.Shapes.{in_range, number}
 use Rattle.cf_types.specs.declared.code.script.TheConstants.{OUT_OF_RANGE, WRONG_WORDS}
 use Rattle.config_rules.specs.Cut.{◌>>=◌}
 use Rattle.config_rules.specs.Form.{given}
-use Rattle.config_rules.specs.ScriptText.{is_caller, is_number, is_value, natural_within, number_within, within}
+use Rattle.script_text.specs.WatchText.{between}
+use Rattle.config_rules.specs.ScriptText.{is_number, is_value, natural_within, number_within, within}
 
 -- ---- what a chunk reads as
 
@@ -93,7 +94,7 @@ natural_read fits word v o range h is =
     let by : Option ℕ → Result ℕ ℕ = λ o. option_map_or Ok o (Err OUT_OF_RANGE) in
     natural_is fits word v h ∙ ap (λ z. by (given (fits z) (nat_abs z))) (sym (to_z-of_z range)) ∙ ap by (sym is)
 
--- ---- the ranges of values and callers
+-- ---- the ranges of values, and from one number to another
 
 far : (n m k : ℕ) → k ≤ 4294967295 → nat_le n 4294967295 ≡ false → (nat_le m n && nat_le n k) ≡ false
 far n m k few h = grind (arith, nat_tests)
@@ -102,6 +103,6 @@ pub values_narrow : Narrow is_value
 values_narrow (pos n) h = far n 0 4294967295 (omega arith) h
 values_narrow (negsuc n) h = refl
 
-pub callers_narrow : (callers : ℕ) → callers ≤ 255 → Narrow (is_caller callers)
-callers_narrow callers few (pos n) h = far n 1 callers (omega arith) h
-callers_narrow callers few (negsuc n) h = refl
+pub between_narrow : (low high : ℕ) → high ≤ 255 → Narrow (between low high)
+between_narrow low high few (pos n) h = far n low high (omega arith) h
+between_narrow low high few (negsuc n) h = refl

@@ -22,7 +22,7 @@ Leaves whole (Err (Code code)) = whole ≡ Err code
 Leaves whole (Err Memory) = ⊤
 
 -- the same of what may say nothing
-abbrev pub Says : Option (Result Command ℕ) → Result (Option Command) LineStop → Type 0
+abbrev pub Says : {A : Type 0} → Option (Result A ℕ) → Result (Option A) LineStop → Type 0
 Says said (Ok None) = said ≡ None
 Says said (Ok (Some c)) = said ≡ Some (Ok c)
 Says said (Err (Code code)) = said ≡ Some (Err code)

@@ -1,5 +1,5 @@
-//! Reads scripts and order files: the commands of a caller, and who takes the next turn. The commands follow drvctl(8);
-//! the formats are this project's own.
+//! Reads scripts, order files and watch files: the commands of a caller, who takes the next turn, and who reads what came of it. The
+//! commands follow drvctl(8); the formats are this project's own.
 #![tactic(auto)]
 
 mod command;
@@ -9,7 +9,12 @@ mod pairs;
 mod script;
 mod stop;
 mod verb;
+mod watch;
+mod watch_code;
+mod watch_line;
 
 pub use order::read_order;
 pub use script::read_script;
 pub use stop::ScriptStop;
+pub use watch::read_watch;
+pub use watch_line::WatchLine;

@@ -1,9 +1,10 @@
-ghost use Rattle.std.specs.Prelude.{◌≡◌, ◌≤◌, IsTrue, length, nat_abs};
+ghost use Rattle.std.specs.Prelude.{◌≡◌, ◌≤◌, IfOk, IfSome, IsTrue, length, nat_abs};
 ghost use Rattle.cf_text.specs.Shapes.{in_range};
 ghost use Rattle.config_rules.specs.Form.{given};
 ghost use Rattle.config_rules.specs.ScriptText.{is_caller, is_number, is_operand, is_value, natural_within, number_within, one_operand, operand, operand_or_none};
 ghost use Rattle.machine_text.specs.Words.{seen};
 ghost use Rattle.script_text.specs.Left.{Leaves};
+ghost use Rattle.script_text.specs.WatchText.{between};
 
 use cf_text::{NumberRead, is_name, read_number};
 use cf_types::Name;
@@ -88,10 +89,11 @@ fn in_transfer_range(value: i64) -> Option<u32>
     }
 }
 
-fn in_caller_range(callers: u8, value: i64) -> Option<u8>
-    ensures { result ≡ given (is_caller callers value) (nat_abs value) }
+fn in_bounds(low: u8, high: u8, value: i64) -> Option<u8>
+    ensures value { result ≡ given (between low high value) (nat_abs value) }
+    ensures within { IfSome result (λ n. (low ≤ n) × (n ≤ high)) }
 {
-    if 1 <= value && value <= i64::from(callers) {
+    if i64::from(low) <= value && value <= i64::from(high) {
         Some(value as u8)
     } else {
         None
@@ -108,12 +110,20 @@ pub fn transfer_value(word: &[u8]) -> Result<u32, LineStop>
     }
 }
 
+/// The number from `low` to `high` that a word spells.
+pub fn number_between(low: u8, high: u8, word: &[u8]) -> Result<u8, LineStop>
+    ensures leaves { Leaves (natural_within (between low high) word.now) result }
+    ensures within { IfOk result (λ n. (low ≤ n) × (n ≤ high)) }
+{
+    match in_bounds(low, high, written_value(word)?) {
+        Some(number) => Ok(number),
+        None => Err(LineStop::Code(code::OUT_OF_RANGE)),
+    }
+}
+
 /// The caller whose number a word spells, from 1 to `callers`.
 pub fn caller_number(callers: u8, word: &[u8]) -> Result<u8, LineStop>
     ensures { Leaves (natural_within (is_caller callers) word.now) result }
 {
-    match in_caller_range(callers, written_value(word)?) {
-        Some(caller) => Ok(caller),
-        None => Err(LineStop::Code(code::OUT_OF_RANGE)),
-    }
+    number_between(1, callers, word)
 }

@@ -1,4 +1,5 @@
-//! How a world is told: the names of its devices and spots, the lists of names that events tell, and the lines of its tree.
+//! What is printed of a world: the names of its devices and spots, the lists of names in events, and the lines of its
+//! tree.
 #![tactic(auto)]
 
 mod listed_names;

@@ -1,4 +1,4 @@
-//! The names that events tell: of one device, of children, and of trees.
+//! The names in events: of one device, of children, and of trees.
 ghost use Rattle.std.specs.Prelude.{◌≡◌, ◌<◌, ◌+◌, ◌++◌, ◌^◌, ◌∷◌, IfOk, OnOk, length, map};
 ghost use Rattle.run_rules.specs.Run as run;
 ghost use Rattle.run_rules.specs.Tree.{tree_below};
@@ -41,7 +41,7 @@ fn child_names(alloc: Global, setup: &Setup, core: &Core, serial: u64) -> Result
     Ok(names)
 }
 
-/// What `list` tells: the names of children; none where no device has the name. See drvctl(8).
+/// What `list` prints: the names of children; none if no device has the name. See drvctl(8).
 #[tactic(auto, unfolding(run_rules::specs::Run::list_names))]
 pub fn list_names(
     alloc: Global,
@@ -83,7 +83,7 @@ fn depth_name(
     Ok(DepthName { depth, name })
 }
 
-/// Appends the names below a parent, of so many levels.
+/// Appends the names below a parent, this many levels deep.
 fn push_names(
     alloc: Global,
     setup: &Setup,
@@ -120,7 +120,7 @@ fn push_names(
     Ok(())
 }
 
-/// The names of a device and of what stands below it, depth first.
+/// The names of a device and of what is below it, depth first.
 fn names_from(
     alloc: Global,
     setup: &Setup,
@@ -149,7 +149,7 @@ fn names_from(
     Ok(names)
 }
 
-/// The names of all that stands below the root, depth first.
+/// The names of all that is below the root, depth first.
 fn names_of_all(alloc: Global, setup: &Setup, core: &Core) -> Result<List<DepthName>, Memory>
     requires names { HaveNames setup.now core.now }
     requires few { length core.now.tree.live + 1 < 2 ^ 32 }
@@ -170,7 +170,7 @@ fn names_of_all(alloc: Global, setup: &Setup, core: &Core) -> Result<List<DepthN
     Ok(names)
 }
 
-/// What `tree` tells: names with their depths; none where no device has the name. See drvctl(8).
+/// What `tree` prints: names with their depths; none if no device has the name. See drvctl(8).
 #[tactic(auto, unfolding(run_rules::specs::Run::tree_names))]
 pub fn tree_names(
     alloc: Global,

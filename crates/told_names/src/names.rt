@@ -34,8 +34,8 @@ pub fn unit_name(alloc: Global, setup: &Setup, row: u32, unit: u32) -> Result<Na
     joined(alloc, driver_name(setup, driver_of(setup, row)), unit)
 }
 
-/// The name of a device. It is shared with the event that told the device when it came; where that is not kept, the name is
-/// made anew.
+/// The name of a device. It is shared with the event in which the device came; if that is not kept, the name is made
+/// again.
 #[inline(always)]
 pub fn device_name(alloc: Global, setup: &Setup, core: &Core, device: &Dev) -> Result<Name, Memory>
     requires names { HaveNames setup.now core.now }
@@ -115,7 +115,7 @@ fn got_of(
     }
 }
 
-/// The spot that a finaliser showed, and what came there.
+/// The spot that a finalizer showed, and what came there.
 pub fn shown_of(
     alloc: Global,
     setup: &Setup,

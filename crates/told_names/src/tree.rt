@@ -39,7 +39,7 @@ fn line_of(
     })
 }
 
-/// Appends the lines below a parent, of so many levels.
+/// Appends the lines below a parent, this many levels deep.
 fn push_below(
     alloc: Global,
     setup: &Setup,

@@ -5,10 +5,10 @@ ghost use Rattle.tree_text.specs.Parts.{place_text, state_text};
 use crate::parts::{put_held, put_indent, put_mark};
 use cf_types::{DevLine, Memory, put_bytes, put_decimal};
 
-/// How many bytes serve for most lines.
+/// How many bytes are enough for most lines.
 const USUAL: usize = 96;
 
-/// Appends where a device stands, and by which row.
+/// Appends where a device is, and by which row it came.
 fn put_place(out: &mut Vec<u8>, line: &DevLine) -> Result<(), Memory>
     ensures { OnOk result (out.new.items ≡ out.old.items ++ place_text line.now) }
 {
@@ -28,7 +28,7 @@ fn put_state(out: &mut Vec<u8>, line: &DevLine) -> Result<(), Memory>
     put_held(out, line.holders.items())
 }
 
-/// Appends the line of a device. Where memory runs out, some of it may have been appended.
+/// Appends the line of a device. If memory runs out, some of it may have been appended.
 #[tactic(auto, unfolding(run_rules::specs::Tree::dev_text))]
 fn put_line(out: &mut Vec<u8>, line: &DevLine) -> Result<(), Memory>
     ensures { OnOk result (out.new.items ≡ out.old.items ++ dev_text line.now) }
@@ -38,7 +38,7 @@ fn put_line(out: &mut Vec<u8>, line: &DevLine) -> Result<(), Memory>
     put_state(out, line)
 }
 
-/// Puts the line of a device where nothing stands. Where memory runs out, nothing stands there.
+/// Puts the line of a device into an empty buffer. If memory runs out, the buffer is empty again.
 fn put_alone(out: &mut Vec<u8>, line: &DevLine) -> Result<(), Memory>
     requires empty { out.old.items ≡ [] }
     ensures ok { OnOk result (out.new.items ≡ dev_text line.now) }
@@ -53,7 +53,8 @@ fn put_alone(out: &mut Vec<u8>, line: &DevLine) -> Result<(), Memory>
     }
 }
 
-/// Appends the line of a device, without its newline. Where memory runs out, nothing is appended. See drvctl(8) for the tree.
+/// Appends the line of a device, without its newline. If memory runs out, nothing is appended. See drvctl(8) for the
+/// tree.
 pub fn put_dev(line: &DevLine, out: &mut Vec<u8>) -> Result<(), Memory>
     ensures ok { OnOk result (out.new.items ≡ out.old.items ++ dev_text line.now) }
     ensures err { OnErr result (out.new.items ≡ out.old.items) }

@@ -1,4 +1,4 @@
-//! The pieces of a line. Where memory runs out, some of a piece may have been appended.
+//! The pieces of a line. If memory runs out, some of a piece may have been appended.
 ghost use Rattle.std.specs.Prelude.{◌≡◌, ◌++◌, OnOk, codes, decimal, flat_map, nat_lt};
 ghost use Rattle.run_rules.specs.Tree.{marked_by, hold_text, held_text};
 ghost use Rattle.cf_types.specs.Numbers.{below};

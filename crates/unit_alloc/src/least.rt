@@ -4,7 +4,7 @@ ghost use Rattle.std.specs.List.{slice_index_or};
 ghost use Rattle.cf_types.specs.Gather.{is_in};
 ghost use Rattle.unit_alloc.specs.Taken.{IsLeastFree, PassesFew};
 
-/// How far a number is from the first one, where it is one of so many.
+/// How far a number is from the first one, if it is among `count` numbers from there on.
 fn distance(number: u32, first: u32, count: usize) -> Option<usize>
     ensures { MatchOption result ((k : ℕ) → k < count → (number == first + k) ≡ false) (λ j. (j < count) × ((k : ℕ) → (number == first + k) ≡ (j == k))) }
 {

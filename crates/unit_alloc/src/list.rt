@@ -7,14 +7,15 @@ use cf_types::Memory;
 use std::alloc::Global;
 use std::marker::Model;
 
-/// The units of one device that are taken. All below one number are, and none from another one on is, so that devices which
-/// come one after the other get their units at one look; so does one that comes where another has gone.
+/// The units of one device that are taken. All below one number are taken, and none from another number on, so that
+/// devices that are attached one after the other get their units at once; so does one that is attached after another
+/// has gone.
 #[derive(Drop)]
 pub struct UnitList {
     units: Vec<u32>,
     all_below: u64,
     none_from: u64,
-    /// A unit that is not taken, where one is known.
+    /// A unit that is not taken, if one is known.
     free: Option<u64>,
 }
 
@@ -29,7 +30,7 @@ impl Model for UnitList {
     ghost invariant = { λ list. AreBetween list.all_below list.none_from list.free list.units.items };
 }
 
-/// The number that follows one where the unit is that one.
+/// One more than the number, if the unit is that number; else the number.
 fn raised(all_below: u64, unit: u32) -> u64
     ensures { (n : ℕ) → n < result → (n < all_below) ⊎ (unit ≡ n) }
 {
@@ -47,7 +48,7 @@ fn place_of(units: &[u32], unit: u32) -> Option<usize>
     units.iter().position(|taken| *taken == unit)
 }
 
-/// A unit that is known to be free, unless it is the one that is taken now.
+/// The unit that is known to be free, unless it is the one that is taken now.
 fn but(free: Option<u64>, unit: u32) -> Option<u64>
     ensures { IfSome result (λ n. (free ≡ Some n) × (unit ≢ n)) }
 {
@@ -80,7 +81,7 @@ impl UnitList {
         }
     }
 
-    /// The least unit that is not below the first one and not taken.
+    /// The least unit that is at least the first one and not taken.
     pub fn pick(&self, first: u32) -> u32
         requires first { first ≤ 65536 }
         requires few { PassesFew (λ n. is_in n self.now) }

@@ -6,7 +6,8 @@ use cf_types::Memory;
 use std::alloc::Global;
 use std::marker::Model;
 
-/// For each device the units that are taken. Contracts see a list of units for each device, whose order no clause tells.
+/// For each device the units that are taken. Contracts see a list of units for each device, whose order no clause
+/// fixes.
 #[derive(Drop)]
 pub struct Units {
     lists: Vec<UnitList>,
@@ -21,7 +22,7 @@ impl Model for Units {
 }
 
 impl Units {
-    /// So many devices, and no unit of any is taken.
+    /// This many devices, with no unit taken.
     pub fn make(alloc: Global, devices: u32) -> Result<Units, Memory>
         ensures { IfOk result (NoneTaken devices) }
     {
@@ -32,7 +33,7 @@ impl Units {
         Ok(Units { lists })
     }
 
-    /// The least unit of a device that is not below the first one and not taken, as a starred row gives it. It takes no
+    /// The least unit of a device that is at least the first one and not taken, as a starred row gives it. It takes no
     /// memory. See config(5).
     pub fn pick(&self, device: u32, first: u32) -> u32
         requires device { device < length self.now }

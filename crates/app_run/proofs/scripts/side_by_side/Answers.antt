@@ -1,8 +1,10 @@
 use Rattle.std.proofs.Common.{◌<◌, length, subst, sym, ◌∙◌}
 use Rattle.run_rules.specs.declared.world.Setup.{Setup}
-use Rattle.run_rules.specs.World.{opening}
+use Rattle.run_rules.specs.World.{opening, setup_of}
 use Rattle.run_rules.specs.Run.{Run}
+use Rattle.boot_laws.proofs.Thorough.{thorough}
 use Rattle.dev_board.proofs.Began.{opening_setup}
+use Rattle.dev_board.proofs.ScriptedLaws.{scripts_may}
 use Rattle.board_lock.proofs.Opened.{same_setup}
 use Rattle.app_run.proofs.scripts.side_by_side.Goals as goal
 
@@ -14,9 +16,13 @@ returns g c =
     let is = c.in_ok-board.ensures.setup in
     let left = c.in_ok-left.left.board in
     let begun = same_setup left (opening c.in_ok-board.board.world.setup) c.in_ok-left.ensures.opening in
+    let s : Setup = setup_of c.args.tables c.args.machine c.args.scripts in
+    let run : Run (opening s) left.events left.world = subst (λ (x : Setup). Run (opening x) left.events left.world) is c.in_ok-left.ensures.run in
+    let may = scripts_may c.args.tables c.args.machine c.args.scripts c.requires.formed c.requires.fits c.requires.few c.requires.scripts in
     record {
-      run = subst (λ (s : Setup). Run (opening s) left.events left.world) is c.in_ok-left.ensures.run;
+      run = run;
       made = begun ∙ (opening_setup c.in_ok-board.board.world.setup ∙ is);
       whole = c.in_ok-left.ensures.whole.whole;
       reliable = c.in_ok-left.ensures.whole.reliable;
+      thorough = thorough s left.events left.world may run;
     }

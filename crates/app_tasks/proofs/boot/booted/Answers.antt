@@ -13,4 +13,4 @@ pub booted_board-requires-clause-scripts : goal.booted_board-requires-clause-scr
 booted_board-requires-clause-scripts c = subst (λ (scripts : List (List Command)). All FormedScript scripts) (sym c.make.ensures) (All-nil FormedScript)
 
 pub returns : goal.returns
-returns c = boot_of c.args.tables c.args.machine c.make.result c.in_ok-board.board _ c.make.ensures c.in_ok-board.ensures
+returns c = boot_of c.args.tables c.args.machine c.make.result c.in_ok-board.board _ c.requires.formed c.requires.fits c.make.ensures c.in_ok-board.ensures

@@ -15,4 +15,4 @@ run_turns-requires-clause-callers c =
 pub returns-in-Ok : goal.returns-in-Ok
 returns-in-Ok c =
     play_of (setup_of c.args.tables c.args.machine c.args.scripts) c.in_ok-board.board c.run_turns.new.board c.in_ok-board.slots c.args.order.now
-    c.in_ok-board.ensures c.in-Ok.ensures.played c.stands.ensures.reliable
+    c.in_ok-board.ensures c.in-Ok.ensures.played c.stands.ensures.reliable c.stands.ensures.thorough

@@ -1,4 +1,5 @@
 use Rattle.run_rules.proofs.OwnNames.{names_own}
+use Rattle.boot_laws.proofs.Thorough.{thorough}
 use Rattle.history_laws.proofs.Always.{always_reliable}
 use Rattle.run_sound.proofs.FormedDevices.{formed_devices}
 use Rattle.run_world.specs.View.{world_of}
@@ -15,6 +16,12 @@ returns-clause-reliable c =
     let b = c.self.inside in
     let kept = c.self.invariant in
     rw (← c.self.view_is) (always_reliable b.site.setup b.core.events.items (world_of b.site.setup b.core) kept.may kept.run)
+
+pub returns-clause-thorough : goal.returns-clause-thorough
+returns-clause-thorough c =
+    let b = c.self.inside in
+    let kept = c.self.invariant in
+    rw (← c.self.view_is) (thorough b.site.setup b.core.events.items (world_of b.site.setup b.core) kept.may kept.run)
 
 pub returns-clause-spots : goal.returns-clause-spots
 returns-clause-spots c = rw (← c.self.view_is) c.self.invariant.kept.ranges.spots

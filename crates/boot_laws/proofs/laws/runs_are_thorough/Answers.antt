@@ -1,5 +1,5 @@
 use Rattle.boot_laws.proofs.Thorough.{thorough}
-use Rattle.boot_laws.proofs.laws.begun_thorough.Goals as goal
+use Rattle.boot_laws.proofs.laws.runs_are_thorough.Goals as goal
 
 pub returns : goal.returns
 returns c = thorough

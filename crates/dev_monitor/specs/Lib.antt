@@ -1,0 +1,5 @@
+pub mod Notes
+pub mod Subscribers
+pub mod Parents
+pub mod Queues
+pub mod Calls
