@@ -1,10 +1,10 @@
 -- What the addition of a group answers.
-use Rattle.std.proofs.Common.{◌≡◌, true, false, ℕ, List, ◌++◌, [], refl, sym, ap, ◌∙◌, subst}
+use Rattle.std.proofs.Common.{◌≡◌, true, false, ℕ, List, refl, sym, ap, subst}
 use Rattle.run_rules.specs.World.{has}
 use Rattle.live_rules.specs.declared.plan.LiveLine.{LiveLine}
 use Rattle.live_rules.specs.declared.plan.LiveReply.TheVariants as reply
 use Rattle.live_rules.specs.Laws.{IsSound, IsUndone}
-use Rattle.live_rules.specs.Live.{Answer, LiveWorld, Settled, add, scan, turned_on}
+use Rattle.live_rules.specs.Live.{Settled, add, scan, turned_on}
 use Rattle.live_rules.proofs.Appends.{append_nil}
 use Rattle.live_rules.proofs.Undoes.{add_undone}
 use Rattle.live_tables.specs.Answers.{Answers, Leaves}

@@ -1,6 +1,5 @@
 -- How many devices live.
-use Rattle.std.proofs.Common.{◌≡◌, ◌≢◌, ◌≤◌, ◌<◌, ℕ, List, [], ◌∷◌, length, refl, arith}
-use Rattle.std.specs.List.{AllByRecursion}
+use Rattle.std.proofs.Common.{◌≢◌, ◌≤◌, List, [], ◌∷◌, length}
 use Rattle.run_rules.specs.declared.world.Dev.{Dev}
 use Rattle.run_rules.specs.Sound.{EachLater, IsApart}
 use Rattle.run_rules.proofs.Devices.{all_imp}

@@ -1,14 +1,13 @@
 -- Which devices are doomed, up the chain of parents.
-use Rattle.std.proofs.Common.{◌≡◌, ◌<◌, ◌≤◌, ◌+◌, ℕ, zero, suc, Bool, true, false, not, ◌&&◌, ◌||◌, ◌==◌, cond, List, [], ◌∷◌, ◌++◌, length, map, drop, take, reverse, get_or, Option, Some, None, refl, sym, ap, ◌∙◌, subst, arith, eqb-true}
+use Rattle.std.proofs.Common.{◌≡◌, ◌<◌, ℕ, zero, suc, Bool, true, false, ◌&&◌, ◌||◌, ◌==◌, cond, List, [], ◌∷◌, length, map, drop, take, get_or, Option, Some, None, refl, sym, ap, ◌∙◌, arith, eqb-true}
 use Rattle.std.specs.Prelude.{filter, find}
-use Rattle.std.specs.List.{AllByRecursion}
 use Rattle.std.specs.Option.{option_map_or}
 use Rattle.run_rules.specs.declared.world.Dev.{Dev}
 use Rattle.run_rules.specs.World.{device_at, lineage, policy_of}
 use Rattle.run_rules.proofs.Devices.{found_in}
 use Rattle.run_rules.proofs.Free.{find_true}
 use Rattle.live_rules.specs.Laws.{IsSound}
-use Rattle.live_rules.specs.Live.{LiveWorld, Site, doomed, freed, hinders, is_doomed, is_in}
+use Rattle.live_rules.specs.Live.{LiveWorld, Site, doomed, hinders, is_doomed, is_in}
 use Rattle.live_rules.proofs.Doomed.{after_parents, doomed_step}
 use Rattle.live_tables.specs.Going.{dooms}
 use Rattle.live_tables.specs.Running.{Running}

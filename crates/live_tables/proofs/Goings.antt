@@ -1,5 +1,5 @@
 -- The doomed devices go, the last one first.
-use Rattle.std.proofs.Common.{◌≡◌, ◌≢◌, ◌<◌, ◌≤◌, ◌+◌, ℕ, zero, suc, Bool, true, false, not, ◌||◌, ◌==◌, cond, List, [], ◌∷◌, ◌++◌, length, map, drop, take, get_or, Option, Some, None, refl, sym, ap, ◌∙◌, subst, inl, inr, arith, eq-eqb, eqb-true}
+use Rattle.std.proofs.Common.{◌≡◌, ◌≢◌, ◌<◌, ◌≤◌, ℕ, zero, suc, Bool, true, false, not, ◌||◌, ◌==◌, cond, List, [], ◌∷◌, ◌++◌, length, drop, take, get_or, refl, sym, ap, ◌∙◌, subst, arith, eq-eqb, eqb-true}
 use Rattle.std.specs.Prelude.{filter}
 use Rattle.std.specs.List.{AllByRecursion, Contains}
 use Rattle.std.proofs.lemmas.Bool.{ne_eqb, not-true}
@@ -7,7 +7,7 @@ use Rattle.std.proofs.lemmas.List.{drop_all, take_all}
 use Rattle.std.proofs.lemmas.List.Elements.{filter-append}
 use Rattle.run_rules.specs.declared.world.Dev.{Dev}
 use Rattle.run_rules.specs.World.{children, is_live}
-use Rattle.run_rules.specs.Sound.{EachLater, IsApart, IsPlaced}
+use Rattle.run_rules.specs.Sound.{IsApart, IsPlaced}
 use Rattle.run_rules.proofs.Devices.{all_both}
 use Rattle.run_sound.proofs.Callers.{all_append, all_filter, clash}
 use Rattle.run_sound.proofs.Members.{any_passed, each_passed, later_at, later_passed}

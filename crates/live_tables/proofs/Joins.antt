@@ -1,11 +1,11 @@
 -- The groups of drivers, group by group.
-use Rattle.std.proofs.Common.{◌≡◌, ◌<◌, ◌≤◌, ◌+◌, ℕ, zero, suc, Bool, true, false, cond, List, [], ◌∷◌, ◌++◌, length, find, take, get_or, slice_get, Option, Some, None, refl, sym, ap, ◌∙◌, add-one, arith}
+use Rattle.std.proofs.Common.{◌≡◌, ◌<◌, ◌+◌, ℕ, zero, suc, Bool, true, false, cond, List, [], ◌∷◌, length, find, get_or, slice_get, Option, Some, None, refl, sym, ap, ◌∙◌, add-one, arith}
 use Rattle.std.specs.Option.{option_map_or, option_or}
 use Rattle.std.proofs.lemmas.List.Folds.{find-append}
 use Rattle.cf_types.specs.Numbers.{below}
 use Rattle.run_rules.specs.World.{has}
 use Rattle.live_rules.specs.declared.plan.Group.{Group}
-use Rattle.live_rules.specs.Live.{group_of, has_device}
+use Rattle.live_rules.specs.Live.{has_device}
 use Rattle.live_tables.specs.Joining.{first_number, joined_by}
 
 -- the group of a driver among the first so many

@@ -1,11 +1,11 @@
 -- What a device offers, place by place.
-use Rattle.std.proofs.Common.{◌≡◌, ◌≤◌, ◌<◌, ◌+◌, ℕ, zero, suc, Bool, true, false, ◌||◌, ◌==◌, cond, List, [], ◌∷◌, length, map, drop, get_or, Option, Some, None, option_map, Ok, Err, refl, sym, ap, ◌∙◌, subst, arith, add-one, eq-eqb}
-use Rattle.std.specs.Prelude.{fold, Result}
+use Rattle.std.proofs.Common.{◌≡◌, ◌≤◌, ◌<◌, ◌+◌, ℕ, zero, suc, Bool, true, false, ◌||◌, ◌==◌, cond, List, [], ◌∷◌, length, map, drop, get_or, Option, Some, None, option_map, Ok, Err, refl, sym, ap, ◌∙◌, subst, arith, eq-eqb}
+use Rattle.std.specs.Prelude.{fold}
 use Rattle.std.specs.List.{list_any}
 use Rattle.std.specs.Option.{option_map_or}
 use Rattle.std.proofs.Math.Seq.{drop-cons}
 use Rattle.std.proofs.lemmas.List.{drop_all, get_or-map, length-map}
-use Rattle.cf_types.specs.Offers.{interfaces, offers}
+use Rattle.cf_types.specs.Offers.{offers}
 use Rattle.cf_types.specs.declared.memory.Memory.{Memory}
 use Rattle.cf_types.specs.declared.tables.Place.{Place}
 use Rattle.cf_types.specs.declared.tables.Place.TheVariants.{Root, At}

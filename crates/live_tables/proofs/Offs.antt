@@ -1,5 +1,5 @@
 -- A group is off whose devices are gone.
-use Rattle.std.proofs.Common.{◌≡◌, ◌==◌, ℕ, true, false, not, List}
+use Rattle.std.proofs.Common.{◌≡◌, ◌==◌, ℕ, true, false, not}
 use Rattle.std.specs.Prelude.{filter}
 use Rattle.std.specs.List.{AllByRecursion}
 use Rattle.run_rules.specs.declared.world.Dev.{Dev}

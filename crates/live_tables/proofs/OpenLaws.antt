@@ -1,14 +1,13 @@
 -- The rows that may take a spot now, and the winner among them.
-use Rattle.std.proofs.Common.{◌≡◌, ◌≤◌, ◌<◌, ℕ, zero, suc, Bool, true, false, ◌&&◌, ◌||◌, ◌==◌, cond, nat_lt, List, [], ◌∷◌, ◌++◌, length, map, find, is_some, Option, Some, None, option_map, slice_get, slice_index_or, refl, sym, ap, ◌∙◌, inl, inr, arith}
+use Rattle.std.proofs.Common.{◌≡◌, ◌<◌, ℕ, zero, suc, Bool, true, false, ◌&&◌, ◌||◌, ◌==◌, cond, nat_lt, List, [], ◌∷◌, ◌++◌, length, map, find, is_some, Option, Some, None, option_map, slice_get, slice_index_or, refl, sym, ap, ◌∙◌, inl, inr, arith}
 use Rattle.std.specs.Option.{option_map_or}
-use Rattle.std.specs.List.{AllByRecursion}
 use Rattle.std.proofs.lemmas.Bool.{cases_lt}
 use Rattle.std.proofs.lemmas.Option.{slice_get-map, slice_get_past}
 use Rattle.cf_types.specs.Locators.{locators_at, submatch}
 use Rattle.cf_types.specs.Numbers.{below}
 use Rattle.cf_types.specs.declared.tables.Place.{Place}
 use Rattle.cf_types.specs.declared.tables.Row.{Row}
-use Rattle.match_search.specs.Best.{best_row, live_rows, may_take, worth}
+use Rattle.match_search.specs.Best.{best_row, live_rows, may_take}
 use Rattle.match_search.specs.Index as index
 use Rattle.match_search.proofs.BestLaws.{row_is}
 use Rattle.match_search.proofs.ListedLaws.{listed_is}
@@ -16,8 +15,8 @@ use Rattle.run_rules.specs.declared.world.Dev.{Dev}
 use Rattle.run_rules.specs.declared.world.ParentRef.{ParentRef}
 use Rattle.run_rules.specs.declared.world.Setup.{Setup}
 use Rattle.run_rules.specs.Search.{fits, found_at, is_candidate, is_live_row, match_value, parent_offers, parent_ref, value_of}
-use Rattle.run_rules.specs.World.{device_at, is_live, row_at}
-use Rattle.run_rules.proofs.Winner.{IsBest, IsBestOf, best_is}
+use Rattle.run_rules.specs.World.{device_at, is_live}
+use Rattle.run_rules.proofs.Winner.{IsBest, best_is}
 use Rattle.live_rules.specs.Live.{LiveWorld, Site, is_candidate_on, is_on, is_winner_on, winner_on}
 use Rattle.live_rules.proofs.Candidates.{has_best}
 use Rattle.live_rules.proofs.Lists.{one_longer}

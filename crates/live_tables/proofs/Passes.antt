@@ -1,6 +1,6 @@
 -- A pass over the devices in their order, those that come meanwhile too, is one over the serials.
 use Rattle.std.proofs.Common.{◌≡◌, ◌≢◌, ◌≤◌, ◌<◌, ◌+◌, ℕ, zero, suc, Bool, true, false, ◌||◌, ◌==◌, List, [], ◌∷◌, ◌++◌, length, get_or, Ok, Err, refl, sym, ap, ◌∙◌, subst, inl, inr, arith, length-append, eqb-true}
-use Rattle.std.specs.Prelude.{fold, Result}
+use Rattle.std.specs.Prelude.{fold}
 use Rattle.std.specs.List.{AllByRecursion, Contains}
 use Rattle.std.proofs.lemmas.Bool.{cases_lt, false_from_ne_true, ne_eqb}
 use Rattle.cf_types.specs.Numbers.{below}
@@ -8,17 +8,15 @@ use Rattle.cf_types.specs.declared.memory.Memory.{Memory}
 use Rattle.run_rules.specs.declared.world.Dev.{Dev}
 use Rattle.run_rules.specs.World.{is_live}
 use Rattle.run_rules.specs.Sound.{EachLater, IsApart, IsPlaced}
-use Rattle.run_rules.proofs.Below.{and_both}
-use Rattle.run_sound.proofs.Members.{later_at, live_contained, of_each}
+use Rattle.run_sound.proofs.Members.{later_at, live_contained}
 use Rattle.live_rules.specs.declared.plan.LiveLine.{LiveLine}
 use Rattle.live_rules.specs.Laws.{IsSound}
 use Rattle.live_rules.specs.Live.{LiveWorld, Site, is_known, pass, search_below}
-use Rattle.live_rules.proofs.Kept.{numbered}
 use Rattle.live_rules.proofs.Settles.{pass_over, unknown_same}
-use Rattle.live_rules.proofs.Steps.{fold-snoc, known_below}
+use Rattle.live_rules.proofs.Steps.{fold-snoc}
 use Rattle.live_tables.specs.Coming.{Begins, Brings, Searched}
 use Rattle.live_tables.specs.Running.{Running}
-use Rattle.live_tables.proofs.Comings.{begins_same, begins_trans, below_begins, brings_same, brings_trans, fold_begins}
+use Rattle.live_tables.proofs.Comings.{begins_same, begins_trans, below_begins, brings_trans}
 use Rattle.live_tables.proofs.Counts.{few_live}
 
 abbrev pub blank : Dev

@@ -1,11 +1,10 @@
 -- The spots below a parent at a place, one after the other.
 use Rattle.std.proofs.Common.{◌≡◌, ◌≤◌, ◌<◌, ◌+◌, ℕ, zero, suc, Bool, true, false, not, ◌&&◌, cond, nat_lt, List, [], ◌∷◌, ◌++◌, length, Option, Ok, Err, refl, sym, ap, ◌∙◌, subst, inl, inr, arith}
-use Rattle.std.specs.Prelude.{filter, fold, Result, OnErr, ⊤}
+use Rattle.std.specs.Prelude.{filter, fold}
 use Rattle.std.proofs.lemmas.Bool.{cases_lt}
 use Rattle.std.proofs.lemmas.Bool.Decides.{nat_tests}
 use Rattle.std.proofs.lemmas.List.Elements.{filter-append}
 use Rattle.cf_types.specs.Numbers.{below}
-use Rattle.cf_types.specs.declared.machine.Machine.{Machine}
 use Rattle.cf_types.specs.declared.memory.Memory.{Memory}
 use Rattle.cf_types.specs.declared.tables.Place.{Place}
 use Rattle.run_rules.specs.Search.{child_spots, is_child, spot_of}
@@ -14,8 +13,7 @@ use Rattle.scan_engine.specs.Spans.{AreSpansOf, Covers, span_at}
 use Rattle.scan_engine.specs.declared.spans.Span.{Span}
 use Rattle.live_rules.specs.declared.plan.LiveLine.{LiveLine}
 use Rattle.live_rules.specs.Laws.{IsSound}
-use Rattle.live_rules.specs.Live.{LiveWorld, Site, search_place, search_spot, spots_below}
-use Rattle.live_rules.proofs.Lists.{filter_all, filter_none}
+use Rattle.live_rules.specs.Live.{LiveWorld, Site, search_place, search_spot}
 use Rattle.live_tables.specs.Coming.{Begins, Brings, Searched}
 use Rattle.live_tables.specs.Running.{Running}
 use Rattle.live_tables.proofs.Comings.{begins_trans, brings_same, brings_trans, fold_begins, spot_begins}

@@ -1,5 +1,5 @@
 -- What the removal of a group answers.
-use Rattle.std.proofs.Common.{◌≡◌, ◌<◌, ◌==◌, ℕ, true, false, not, List, [], ◌++◌, length, map, Some, None, refl, sym, ap, ◌∙◌, subst}
+use Rattle.std.proofs.Common.{◌≡◌, ◌<◌, ◌==◌, ℕ, true, false, not, List, ◌++◌, length, map, Some, None, refl}
 use Rattle.std.specs.Prelude.{filter}
 use Rattle.std.specs.List.{AllByRecursion}
 use Rattle.run_rules.specs.declared.world.Dev.{Dev}
@@ -11,7 +11,7 @@ use Rattle.std.proofs.lemmas.Bool.{not-true}
 use Rattle.live_rules.specs.declared.plan.LiveLine.{LiveLine}
 use Rattle.live_rules.specs.declared.plan.LiveReply.TheVariants as reply
 use Rattle.live_rules.specs.Laws.{IsSound}
-use Rattle.live_rules.specs.Live.{Answer, LiveWorld, Site, doomed, freed, freed_line, hinders, is_doomed, is_in, remove, remove_unless, removed, spared}
+use Rattle.live_rules.specs.Live.{LiveWorld, Site, doomed, freed, freed_line, hinders, is_doomed, is_in, remove, remove_unless, removed, spared}
 use Rattle.live_rules.proofs.Appends.{append_nil}
 use Rattle.live_rules.proofs.Kept.{not_in}
 use Rattle.live_tables.specs.Answers.{Answers}

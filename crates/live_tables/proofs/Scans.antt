@@ -1,5 +1,5 @@
 -- What a pass answers.
-use Rattle.std.proofs.Common.{◌≡◌, ◌≢◌, ◌<◌, ◌+◌, ℕ, Bool, true, false, ◌==◌, cond, List, [], ◌∷◌, ◌++◌, length, map, drop, Option, Some, None, Ok, Err, refl, sym, ap, ◌∙◌, subst, arith}
+use Rattle.std.proofs.Common.{◌≡◌, ◌<◌, ℕ, Bool, ◌==◌, cond, List, [], ◌∷◌, ◌++◌, length, map, drop, Option, Some, None, Ok, Err, refl, sym, ap, ◌∙◌, subst, arith}
 use Rattle.std.specs.Prelude.{Result, OnOk, OnErr, ⊤}
 use Rattle.std.specs.List.{AllByRecursion}
 use Rattle.std.specs.Option.{option_map_or, option_or}
@@ -19,7 +19,7 @@ use Rattle.live_rules.proofs.Appends.{append-assoc, scan_appends}
 use Rattle.live_rules.proofs.Settles.{pass_settles}
 use Rattle.live_rules.proofs.Steps.{or_none}
 use Rattle.live_tables.specs.Answers.{Leaves}
-use Rattle.live_tables.specs.Coming.{Brings, Searched, lines_as_they_come}
+use Rattle.live_tables.specs.Coming.{Searched, lines_as_they_come}
 use Rattle.live_tables.specs.Running.{Running}
 
 -- ---- the lines of devices once all have come

@@ -1,4 +1,4 @@
-use Rattle.std.proofs.Common.{◌≡◌, ◌≤◌, ◌∙◌, ◌<◌, ℕ, None, Option, List, length, get_or, slice_index_or, ap, sym, arith}
+use Rattle.std.proofs.Common.{◌≡◌, ◌∙◌, ℕ, None, List, length, get_or, slice_index_or, ap, arith}
 use Rattle.live_rules.specs.declared.plan.Group.{Group}
 use Rattle.live_rules.specs.Live.{group_of}
 use Rattle.live_tables.specs.Joining.{joined_by}

@@ -1,5 +1,5 @@
 use Rattle.std.proofs.Common.{◌≡◌, ◌++◌, ap, arith, rules, length, decimal, length-append}
-use Rattle.std.proofs.lemmas.Fmt.{length-decimal-le, decimal_nonempty}
+use Rattle.std.proofs.lemmas.Fmt.{length-decimal-le}
 use Rattle.run_rules.proofs.FormedNames.{written_length}
 use Rattle.live_tables.proofs.names.joined.Goals as goal
 

@@ -1,4 +1,4 @@
-use Rattle.std.proofs.Common.{rules, tests, ◌≡◌, ◌∙◌, ◌+◌, ◌≤◌, List, ℕ, length, drop, sym, ap, subst, arith, refl, Err, Ok}
+use Rattle.std.proofs.Common.{rules, tests, ◌∙◌, List, ℕ, sym, ap, subst, arith, Err}
 use Rattle.std.proofs.lemmas.List.{length_push}
 use Rattle.std.proofs.lemmas.Iterator.Consumers.{YieldsList-turn}
 use Rattle.std.proofs.lemmas.Iterator.Splits.{YieldsList-from_slice_split}
@@ -8,7 +8,7 @@ use Rattle.machine_text.proofs.TextLemmas.{left_at, left_none, lines_few}
 use Rattle.script_text.specs.declared.stop.ScriptStop.{ScriptStop}
 use Rattle.script_text.specs.Left.{Gives}
 use Rattle.live_rules.specs.PlanText.{plan_of}
-use Rattle.live_tables.proofs.PlanLaws.{line_more, line_stops, lines_after, none_formed, stays_formed}
+use Rattle.live_tables.proofs.PlanLaws.{line_more, line_stops, lines_after, stays_formed}
 use Rattle.live_tables.proofs.read.read_plan.Goals as goal
 
 pub overflow_add-number : goal.overflow_add-number

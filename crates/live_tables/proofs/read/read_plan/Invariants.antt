@@ -1,4 +1,4 @@
-use Rattle.std.proofs.Common.{◌≡◌, ◌≤◌, ◌+◌, drop, length}
+use Rattle.std.proofs.Common.{◌≡◌, ◌+◌, drop, length}
 use Rattle.std.specs.List.{enumerate_from}
 use Rattle.config_rules.specs.Cut.{lines_of}
 use Rattle.live_rules.specs.PlanText.{FormedPlan, after_lines, plan_of}

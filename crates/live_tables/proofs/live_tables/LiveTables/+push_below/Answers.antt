@@ -1,7 +1,5 @@
-use Rattle.std.proofs.Common.{◌≡◌, ◌<◌, ◌∙◌, ap, ◌++◌, List, length, take, subst, sym}
-use Rattle.std.specs.List.{AllByRecursion}
+use Rattle.std.proofs.Common.{◌≡◌, ◌<◌, ◌∙◌, ap, ◌++◌, List, length, take}
 use Rattle.cf_types.specs.declared.tree.DevLine.{DevLine}
-use Rattle.run_rules.specs.declared.world.Dev.{Dev}
 use Rattle.run_rules.specs.World.{children}
 use Rattle.run_rules.proofs.Levels.{no_level, lines_on}
 use Rattle.live_rules.specs.Live.{tree_line}

@@ -1,4 +1,4 @@
-use Rattle.std.proofs.Common.{◌≡◌, ◌∙◌, true, false, ap, subst, sym}
+use Rattle.std.proofs.Common.{◌≡◌, ◌∙◌, false, ap, subst, sym}
 use Rattle.run_rules.specs.World.{has}
 use Rattle.live_rules.specs.Live.{scan, turned_on}
 use Rattle.live_tables.specs.Answers.{Leaves}

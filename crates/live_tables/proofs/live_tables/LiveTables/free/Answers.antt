@@ -1,6 +1,6 @@
 use Rattle.std.proofs.Common.{◌≡◌, ◌∙◌, [], ap, subst, sym}
 use Rattle.std.specs.List.{Contains}
-use Rattle.run_rules.specs.World.{children, device_at}
+use Rattle.run_rules.specs.World.{children}
 use Rattle.dev_tree.proofs.DriverLaws.{drivers_without}
 use Rattle.deed_effect.proofs.GoneLaws.{marks_gone, units_gone}
 use Rattle.live_rules.proofs.Doomed.{found_itself}

@@ -1,8 +1,6 @@
-use Rattle.std.proofs.Common.{◌≡◌, ◌∙◌, ◌<◌, ◌≤◌, ◌&&◌, ℕ, List, suc, ◌+◌, Bool, Some, None, false, true, drop, find, get_or, length, ap, arith, refl, subst, sym}
+use Rattle.std.proofs.Common.{◌≡◌, ◌∙◌, ◌≤◌, ℕ, List, suc, ◌+◌, Some, false, true, drop, find, get_or, length, ap, arith, sym}
 use Rattle.std.proofs.lemmas.List.{drop_all}
 use Rattle.run_rules.specs.declared.world.Dev.{Dev}
-use Rattle.run_rules.specs.World.{policy_of}
-use Rattle.live_rules.specs.Live.{is_doomed}
 use Rattle.live_tables.specs.Running.{Running}
 use Rattle.live_tables.proofs.Dooms.{find_hit, find_miss, hindering_is, hinders_is, is_hindering}
 use Rattle.live_tables.proofs.Passes.{blank}

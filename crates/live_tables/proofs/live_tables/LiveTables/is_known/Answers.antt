@@ -1,6 +1,5 @@
-use Rattle.std.proofs.Common.{◌≡◌, ◌∙◌, ◌==◌, ◌||◌, false, ap, sym, is_some}
+use Rattle.std.proofs.Common.{◌∙◌, ap, is_some}
 use Rattle.std.proofs.lemmas.Bool.{ne_eqb}
-use Rattle.run_rules.specs.World.{is_live}
 use Rattle.live_tables.proofs.OpenLaws.{known_is}
 use Rattle.live_tables.proofs.live_tables.LiveTables.is_known.Goals as goal
 

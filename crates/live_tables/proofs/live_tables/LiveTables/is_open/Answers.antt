@@ -1,4 +1,4 @@
-use Rattle.std.proofs.Common.{◌≡◌, ◌∙◌, ◌&&◌, true, false, Bool, ap, sym, slice_index_or}
+use Rattle.std.proofs.Common.{◌∙◌, ◌&&◌, Bool, ap, sym}
 use Rattle.live_rules.specs.Live.{is_on}
 use Rattle.live_tables.specs.Kept.{live_view}
 use Rattle.live_tables.specs.Running.{Running}

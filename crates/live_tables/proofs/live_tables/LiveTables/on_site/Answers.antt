@@ -1,9 +1,8 @@
-use Rattle.std.proofs.Common.{◌≡◌, ◌∙◌, [], ap, refl, arith, sym, subst, List, length}
+use Rattle.std.proofs.Common.{◌∙◌, refl, subst, List}
 use Rattle.deed_effect.proofs.MarkLaws.{first_marks}
 use Rattle.run_world.proofs.UnitLaws.{first_units}
 use Rattle.live_rules.specs.declared.plan.Group.{Group}
 use Rattle.live_rules.proofs.Kept.{opening_sound}
-use Rattle.live_tables.specs.Groups.{Switches}
 use Rattle.live_tables.specs.Running.{AreFirst}
 use Rattle.live_tables.proofs.live_tables.LiveTables.on_site.Goals as goal
 

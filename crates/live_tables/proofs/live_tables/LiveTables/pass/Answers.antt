@@ -1,10 +1,8 @@
-use Rattle.std.proofs.Common.{◌≡◌, ◌∙◌, ◌<◌, ◌≤◌, ◌-◌, ◌+◌, ℕ, length, ap, arith, subst, sym}
+use Rattle.std.proofs.Common.{◌≤◌, length, arith, subst}
 use Rattle.std.proofs.lemmas.Result.{err_from_is_err_and}
 use Rattle.live_rules.specs.Live.{Site}
-use Rattle.live_tables.specs.Running.{HasSerials}
-use Rattle.live_tables.proofs.Comings.{serials_stay}
 use Rattle.live_tables.proofs.Counts.{few_live}
-use Rattle.live_tables.proofs.Passes.{PassSoFar, all_searched, blank, device_searched, device_stopped, root_cut, root_searched}
+use Rattle.live_tables.proofs.Passes.{all_searched, blank, device_searched, device_stopped, root_cut}
 use Rattle.live_tables.proofs.live_tables.LiveTables.pass.Goals as goal
 
 pub returns-in_err-search_below : goal.returns-in_err-search_below

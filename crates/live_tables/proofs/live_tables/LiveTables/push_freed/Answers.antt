@@ -1,4 +1,4 @@
-use Rattle.std.proofs.Common.{◌≡◌, ◌∙◌, ◌<◌, ◌-◌, ℕ, suc, false, true, get_or, length, ap, arith, subst, sym}
+use Rattle.std.proofs.Common.{◌≡◌, ◌∙◌, ◌-◌, suc, false, length, ap, arith, subst, sym}
 use Rattle.run_rules.specs.declared.world.Dev.{Dev}
 use Rattle.live_rules.specs.Live.{is_doomed}
 use Rattle.live_tables.specs.Running.{Running}

@@ -1,4 +1,3 @@
-use Rattle.std.proofs.Common.{◌≡◌, ◌≤◌, ◌++◌, map, length, drop, reverse}
 use Rattle.live_tables.proofs.Frees.{FreedSoFar}
 use Rattle.live_tables.proofs.live_tables.LiveTables.push_freed.Given as goal
 

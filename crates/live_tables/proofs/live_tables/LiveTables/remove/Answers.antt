@@ -1,13 +1,13 @@
-use Rattle.std.proofs.Common.{◌≡◌, ◌∙◌, ◌==◌, ℕ, true, false, not, Some, None, ap, subst, sym}
+use Rattle.std.proofs.Common.{◌≡◌, ◌∙◌, ◌==◌, ℕ, false, not, ap, subst, sym}
 use Rattle.std.specs.Prelude.{filter}
 use Rattle.std.specs.List.{AllByRecursion}
 use Rattle.run_rules.specs.declared.world.Dev.{Dev}
 use Rattle.run_rules.specs.World.{has}
 use Rattle.live_rules.specs.declared.plan.LiveReply.TheVariants as reply
-use Rattle.live_rules.specs.Live.{hinders, is_in, remove, spared}
+use Rattle.live_rules.specs.Live.{is_in, remove}
 use Rattle.live_rules.proofs.Removes.{remove_frees}
 use Rattle.live_tables.specs.Answers.{Answers}
-use Rattle.live_tables.specs.Going.{with_groups, with_live}
+use Rattle.live_tables.specs.Going.{with_groups}
 use Rattle.live_tables.specs.Running.{Running}
 use Rattle.live_tables.proofs.Removals.{hindering_row, is_busy, is_off_already, is_removed, none_in}
 use Rattle.live_tables.proofs.live_tables.LiveTables.remove.Goals as goal

@@ -1,4 +1,4 @@
-use Rattle.std.proofs.Common.{◌≡◌, ◌∙◌, ℕ, None, sym, subst, ap}
+use Rattle.std.proofs.Common.{◌≡◌, ◌∙◌, None, sym, subst, ap}
 use Rattle.std.proofs.lemmas.Bool.{ne_eqb}
 use Rattle.run_rules.specs.Search.{driver_at}
 use Rattle.live_rules.specs.Live.{LiveWorld, search_below}

@@ -1,16 +1,11 @@
-use Rattle.std.proofs.Common.{◌≡◌, ◌∙◌, ◌<◌, ◌≤◌, ◌+◌, ℕ, Bool, Option, true, false, length, min, ap, sym, subst, arith}
+use Rattle.std.proofs.Common.{◌≡◌, ◌∙◌, ◌<◌, ℕ, Option, true, length, ap, sym, arith}
 use Rattle.std.proofs.lemmas.Result.{err_from_is_err_and}
-use Rattle.cf_types.specs.declared.tables.Place.{Place}
 use Rattle.run_rules.specs.Search.{is_child, spot_of}
-use Rattle.scan_engine.proofs.SpanLaws.{spans_hold}
-use Rattle.scan_engine.specs.Spans.{Covers, HoldsChildren, span_at}
-use Rattle.scan_engine.specs.declared.spans.Span.{Span}
 use Rattle.live_rules.specs.Live.{Site}
-use Rattle.live_tables.specs.Coming.{IsParent, Searched}
 use Rattle.live_tables.specs.Kept.{live_view}
 use Rattle.live_tables.specs.Running.{Running}
 use Rattle.live_tables.proofs.Comings.{parent_stays, spot_stays}
-use Rattle.live_tables.proofs.Places.{PlaceSoFar, holds_here, place_begun, place_cut, place_more, place_passed, place_whole}
+use Rattle.live_tables.proofs.Places.{holds_here, place_begun, place_cut, place_more, place_passed, place_whole}
 use Rattle.live_tables.proofs.live_tables.LiveTables.search_place.Goals as goal
 use Rattle.live_tables.proofs.live_tables.LiveTables.search_place.Goals.{then-is_child+in_ok-search_spot, else-is_child}
 

@@ -1,4 +1,3 @@
-use Rattle.live_tables.specs.Coming.{Brings}
 use Rattle.live_tables.proofs.Places.{PlaceSoFar}
 use Rattle.live_tables.proofs.live_tables.LiveTables.search_place.Given as goal
 

@@ -1,4 +1,4 @@
-use Rattle.std.proofs.Common.{◌≡◌, ◌∙◌, Some, None, true, false, sym}
+use Rattle.std.proofs.Common.{◌∙◌, sym}
 use Rattle.run_rules.specs.Search.{spot_of}
 use Rattle.run_sound.proofs.Callers.{clash}
 use Rattle.live_tables.proofs.Comings.{child_hangs, may_come, spot_came, spot_same}

@@ -1,10 +1,7 @@
-use Rattle.std.proofs.Common.{◌≡◌, ◌≤◌, List, [], length, ap, arith, subst, sym, ◌∙◌}
+use Rattle.std.proofs.Common.{◌≡◌, [], ap, arith, subst, ◌∙◌}
 use Rattle.std.specs.Prelude.{IfOk}
-use Rattle.cf_types.specs.declared.machine.Command.{Command}
 use Rattle.run_rules.specs.declared.world.Setup.{Setup}
 use Rattle.run_rules.specs.World.{setup_of}
-use Rattle.run_sound.specs.Kept.{MayRun}
-use Rattle.run_world.specs.Input.{Bounded}
 use Rattle.run_world.proofs.InputLaws.{bounded}
 use Rattle.live_tables.proofs.live_tables.LiveTables.start.Goals as goal
 

@@ -1,4 +1,4 @@
-use Rattle.std.proofs.Common.{◌≡◌, ◌∙◌, ◌+◌, ◌<◌, ◌≤◌, length, ap, arith, sym}
+use Rattle.std.proofs.Common.{◌≡◌, ◌∙◌, length, ap, arith}
 use Rattle.live_rules.specs.Live.{tree_lines}
 use Rattle.live_tables.specs.Kept.{live_view}
 use Rattle.live_tables.specs.Running.{Running}

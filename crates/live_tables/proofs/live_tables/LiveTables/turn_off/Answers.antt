@@ -1,8 +1,6 @@
-use Rattle.std.proofs.Common.{◌≡◌, ◌∙◌, ◌<◌, ◌==◌, ℕ, false, true, not, List, length, ap, arith, refl, subst, sym}
-use Rattle.std.specs.Prelude.{filter}
+use Rattle.std.proofs.Common.{◌≡◌, false, arith, subst, sym}
 use Rattle.std.specs.List.{AllByRecursion}
-use Rattle.run_rules.specs.declared.world.Dev.{Dev}
-use Rattle.live_rules.specs.Live.{is_in, is_on}
+use Rattle.live_rules.specs.Live.{is_in}
 use Rattle.live_tables.specs.Kept.{live_view}
 use Rattle.live_tables.specs.Running.{Running}
 use Rattle.live_tables.proofs.Offs.{off_sound}

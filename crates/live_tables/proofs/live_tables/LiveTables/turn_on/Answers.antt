@@ -1,9 +1,6 @@
-use Rattle.std.proofs.Common.{◌≡◌, ◌∙◌, ◌<◌, ◌∷◌, ℕ, false, List, length, ap, arith, refl, subst, sym}
-use Rattle.run_rules.specs.World.{has}
-use Rattle.live_rules.specs.declared.plan.Group.{Group}
+use Rattle.std.proofs.Common.{arith, refl}
 use Rattle.live_rules.specs.Live.{turned_on}
 use Rattle.live_rules.proofs.Kept.{turned_sound}
-use Rattle.live_tables.specs.Groups.{Switches}
 use Rattle.live_tables.specs.Kept.{live_view}
 use Rattle.live_tables.specs.Running.{Running}
 use Rattle.live_tables.proofs.live_tables.LiveTables.turn_on.Goals as goal

@@ -1,11 +1,5 @@
-use Rattle.std.proofs.Common.{◌≡◌, ◌∙◌, ℕ, Option, Some, None, ap, find, sym, true}
-use Rattle.cf_types.specs.declared.tables.Place.{Place}
-use Rattle.match_search.specs.Index.{IsIndexOf, hangs_at}
-use Rattle.match_search.proofs.ListedLaws.{listed_is}
-use Rattle.run_rules.specs.Search.{parent_offers, parent_ref}
-use Rattle.live_rules.specs.Live.{winner_on}
+use Rattle.std.proofs.Common.{◌∙◌, Some, ap, sym}
 use Rattle.live_tables.specs.Kept.{live_view}
-use Rattle.live_tables.specs.Open.{open_rows}
 use Rattle.live_tables.proofs.OpenLaws.{first_wins}
 use Rattle.live_tables.proofs.live_tables.LiveTables.winner.Goals as goal
 

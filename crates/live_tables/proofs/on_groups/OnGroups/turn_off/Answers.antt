@@ -1,7 +1,5 @@
-use Rattle.std.proofs.Common.{◌≡◌, ◌≢◌, ◌∙◌, ◌==◌, refl, ℕ, ◌<◌, ◌≤◌, List, ap, subst, sym, arith, length, set, false, not}
-use Rattle.std.specs.Prelude.{filter}
+use Rattle.std.proofs.Common.{◌≡◌, ◌≢◌, ◌∙◌, ◌==◌, refl, ℕ, ◌<◌, List, ap, subst, sym, arith, length, set, false, not}
 use Rattle.std.proofs.lemmas.List.{length-set}
-use Rattle.std.specs.List.{AllByRecursion}
 use Rattle.run_rules.specs.Sound.{EachLater}
 use Rattle.run_rules.specs.World.{has}
 use Rattle.run_sound.proofs.Callers.{all_filter}

@@ -1,6 +1,5 @@
-use Rattle.std.proofs.Common.{◌≡◌, ◌≢◌, ◌∙◌, refl, ℕ, ◌<◌, ◌≤◌, ◌++◌, ◌∷◌, [], List, ap, subst, sym, arith, length, set, false, true, reverse}
+use Rattle.std.proofs.Common.{◌≡◌, ◌≢◌, ◌∙◌, refl, ℕ, ◌<◌, ◌∷◌, [], List, ap, subst, sym, arith, length, set, false, true}
 use Rattle.std.proofs.lemmas.List.{length-set, reverse-append}
-use Rattle.std.specs.List.{AllByRecursion}
 use Rattle.run_rules.specs.World.{has}
 use Rattle.run_rules.proofs.Devices.{all_snoc}
 use Rattle.run_rules.specs.Sound.{EachLater}
