@@ -24,7 +24,7 @@ fn is_play(case: &Case) -> bool {
 pub fn text_before_notes(alloc: Global, text: &[u8]) -> Result<Vec<u8>, Stop> {
     let mut told = Vec::new(alloc);
     for line in text.split(|byte| *byte == b'\n') {
-        if line == b"notes" {
+        if line == b"notes".as_slice() {
             return Ok(told);
         }
         told.extend_from_slice(line)?;
