@@ -1,12 +1,14 @@
--- What the commands of a plan print, from the first to the last.
-use Rattle.std.proofs.Common.{◌≡◌, ◌<◌, ◌≤◌, ◌+◌, ℕ, Bool, true, false, cond, Option, Some, None, List, [], ◌∷◌, ◌++◌, append-nil, append_assoc, length, drop, get_or, flat_map, map, codes, refl, sym, ap, ◌∙◌, subst, arith}
+-- The lines of the commands of a plan, from the first to the last.
+use Rattle.std.proofs.Common.{◌≡◌, ◌<◌, ◌≤◌, ◌+◌, ℕ, Bool, true, false, cond, Option, Some, None, List, [], ◌∷◌, ◌++◌, append-nil, append_assoc, length, drop, take, get_or, flat_map, map, codes, refl, sym, ap, ◌∙◌, subst, arith}
+use Rattle.std.specs.Prelude.{Ok, Err, OnOk, Result}
 use Rattle.std.specs.List.{zip}
-use Rattle.std.proofs.lemmas.Grind.{flat_map-append}
 use Rattle.std.proofs.lemmas.List.{drop_all, drop_more, length-append}
-use Rattle.cf_types.specs.Lines.{ended, text_of}
+use Rattle.cf_types.specs.declared.memory.Memory.{Memory}
+use Rattle.cf_types.specs.declared.tree.DevLine.{DevLine}
 use Rattle.run_rules.specs.declared.world.Dev.{Dev}
 use Rattle.run_rules.specs.Tree.{dev_text}
 use Rattle.run_rules.specs.World.{has}
+use Rattle.live_rules.specs.declared.plan.Group.{Group}
 use Rattle.live_rules.specs.declared.plan.PlanCommand.{PlanCommand}
 use Rattle.live_rules.specs.declared.plan.PlanCommand.TheVariants.{Add, Remove, Scan}
 use Rattle.live_rules.specs.declared.plan.LiveLine.{LiveLine}
@@ -20,36 +22,35 @@ use Rattle.live_rules.proofs.Kept.{turned_sound}
 use Rattle.live_tables.proofs.Counts.{few_live}
 use Rattle.live_tables.specs.Answers.{Answers, Leaves}
 use Rattle.live_tables.specs.Running.{Running}
-use Rattle.live_run.specs.Told.{Tells, answer_text, commands_text}
+use Rattle.live_run.specs.Told.{Tells, command_texts, commands_texts}
 
--- ---- texts
+-- ---- lines
 
-text_more : (first more : List (List ℕ)) → text_of (first ++ more) ≡ text_of first ++ text_of more
-text_more first more = flat_map-append ended first more
-
--- the text of a command and of those behind it
+-- the lines of a command and of those behind it
 pub command_more : (t : Site) (w : LiveWorld) (c : PlanCommand) (cs : List PlanCommand)
-    → commands_text t w (c ∷ cs) ≡ answer_text t w c ++ commands_text t (answer t w c).world cs
-unfolding answers answer_text commands_text
-command_more t w c cs =
-    text_more (answer_texts t.groups (c, ((answer t w c).reply, (answer t w c).lines))) (flat_map (answer_texts t.groups) (zip cs (answers t (answer t w c).world cs)))
+    → commands_texts t w (c ∷ cs) ≡ command_texts t w c ++ commands_texts t (answer t w c).world cs
+unfolding answers command_texts commands_texts
+command_more t w c cs = refl
 
-pub none_told : (t : Site) (w : LiveWorld) → commands_text t w [] ≡ []
-unfolding answers commands_text
+pub none_told : (t : Site) (w : LiveWorld) → commands_texts t w [] ≡ []
+unfolding answers commands_texts
 none_told t w = refl
-
--- the whole text
-pub whole_text : (t : Site) (cs : List PlanCommand) (text : List ℕ)
-    → text ≡ (codes "live 1\n" ++ commands_text t opening cs) ++ text_of (codes "tree" ∷ map dev_text (tree_lines t (after t opening cs))) → text ≡ text_of (live_texts t cs)
-unfolding commands_text live_texts
-whole_text t cs text is =
-    is ∙ ap (λ (text : List ℕ). codes "live 1\n" ++ text)
-    (sym (text_more (flat_map (answer_texts t.groups) (zip cs (answers t opening cs))) (codes "tree" ∷ map dev_text (tree_lines t (after t opening cs)))))
 
 -- what a scan answers
 pub scan_answers : (r v : Running) (old new : List LiveLine) → Leaves r v old new (scan r.site r.world) → Answers r v old new (answer r.site r.world Scan) reply.Ok
 unfolding answer scan
 scan_answers r v old new leaves = record { reply = refl; leaves = leaves }
+
+-- the head, the commands and the tree
+pub whole_by : (t : Site) (cs : List PlanCommand) (w v : LiveWorld) (first mid lines : List (List ℕ)) (devices : List DevLine) → first ≡ codes "live 1" ∷ [] → w ≡ opening
+    → mid ≡ first ++ commands_texts t w cs → v ≡ after t w cs → devices ≡ tree_lines t v → lines ≡ mid ++ codes "tree" ∷ map dev_text devices → lines ≡ live_texts t cs
+unfolding commands_texts live_texts
+whole_by t cs w v first mid lines devices head begins told ends tree is =
+    let last : v ≡ after t opening cs = ends ∙ ap (λ (w : LiveWorld). after t w cs) begins in
+    is
+    ∙ ap (λ (out : List (List ℕ)). out ++ codes "tree" ∷ map dev_text devices)
+    (told ∙ ap (λ (out : List (List ℕ)). out ++ commands_texts t w cs) head ∙ ap (λ (w : LiveWorld). codes "live 1" ∷ commands_texts t w cs) begins)
+    ∙ ap (λ (devices : List DevLine). codes "live 1" ∷ (commands_texts t opening cs ++ codes "tree" ∷ map dev_text devices)) (tree ∙ ap (tree_lines t) last)
 
 -- ---- serials
 
@@ -103,42 +104,57 @@ answer_next t w Scan n h k le = scan_next t w n h k le
 -- ---- commands
 
 answer_is : (t : Site) (w : LiveWorld) (c : PlanCommand) (told : LiveReply) (lines : List LiveLine) → told ≡ (answer t w c).reply → lines ≡ [] ++ (answer t w c).lines
-    → text_of (answer_texts t.groups (c, (told, lines))) ≡ answer_text t w c
-unfolding answer_text
+    → answer_texts t.groups (c, (told, lines)) ≡ command_texts t w c
+unfolding command_texts
 answer_is t w c told lines reply more = rw (reply, more) refl
 
 -- a command that was told
-pub tells : (r v : Running) (c : PlanCommand) (lines : List LiveLine) (told : LiveReply) (old new : List ℕ) → IsSound r.site r.world → IsSound v.site v.world → length r.site.setup.machine.spots ≤ 1024
-    → Answers r v [] lines (answer r.site r.world c) told → new ≡ old ++ text_of (answer_texts r.site.groups (c, (told, lines))) → Tells r v c old new
+pub tells : (r v : Running) (c : PlanCommand) (lines : List LiveLine) (told : LiveReply) (old new : List (List ℕ)) → IsSound r.site r.world → IsSound v.site v.world → length r.site.setup.machine.spots ≤ 1024
+    → Answers r v [] lines (answer r.site r.world c) told → new ≡ old ++ answer_texts r.site.groups (c, (told, lines)) → Tells r v c old new
 tells r v c lines told old new h k few a is = record {
   running = a.leaves.running;
-  text = is ∙ ap (λ (text : List ℕ). old ++ text) (answer_is r.site r.world c told lines a.reply a.leaves.lines);
+  lines = is ∙ ap (λ (text : List (List ℕ)). old ++ text) (answer_is r.site r.world c told lines a.reply a.leaves.lines);
   serials = rw a.leaves.running (answer_next r.site r.world c 1024 h (subst (λ (x : Running). IsSound x.site x.world) a.leaves.running k) few);
 }
 
--- the commands from a place on
-drop_at : (cs : List PlanCommand) (i : ℕ) (c : PlanCommand) → i < length cs → c ≡ get_or cs i c → drop i cs ≡ c ∷ drop (i + 1) cs
-drop_at cs i c h at = drop_more cs i c h ∙ ap (λ (d : PlanCommand). d ∷ drop (i + 1) cs) (sym at)
+world_after : (t : Site) (r v : Running) (c : PlanCommand) (out grown : List (List ℕ)) → r.site ≡ t → Tells r v c out grown → v.world ≡ (answer t r.world c).world
+world_after t r v c out grown same told = ap (λ (x : Running). x.world) told.running ∙ ap (λ (site : Site). (answer site r.world c).world) same
 
 -- one more of them
-pub one_more : (t : Site) (w : LiveWorld) (cs : List PlanCommand) (i : ℕ) (c : PlanCommand) (out grown all : List ℕ) → i < length cs → c ≡ get_or cs i c
-    → grown ≡ out ++ answer_text t w c → out ++ commands_text t w (drop i cs) ≡ all → grown ++ commands_text t (answer t w c).world (drop (i + 1) cs) ≡ all
-one_more t w cs i c out grown all h at grew so_far =
-    ap (λ (text : List ℕ). text ++ commands_text t (answer t w c).world (drop (i + 1) cs)) grew
-    ∙ append_assoc out (answer_text t w c) (commands_text t (answer t w c).world (drop (i + 1) cs))
-    ∙ ap (λ (text : List ℕ). out ++ text) (sym (command_more t w c (drop (i + 1) cs)))
-    ∙ ap (λ (cs : List PlanCommand). out ++ commands_text t w cs) (sym (drop_at cs i c h at))
+pub one_more : (t : Site) (r v : Running) (cs : List PlanCommand) (i : ℕ) (d : PlanCommand) (out grown all : List (List ℕ)) → r.site ≡ t → i < length cs → Tells r v (get_or cs i d) out grown
+    → out ++ commands_texts t r.world (drop i cs) ≡ all → grown ++ commands_texts t v.world (drop (i + 1) cs) ≡ all
+one_more t r v cs i d out grown all same h told so_far =
+    let c = get_or cs i d in
+    let rest = commands_texts t (answer t r.world c).world (drop (i + 1) cs) in
+    ap (λ (w : LiveWorld). grown ++ commands_texts t w (drop (i + 1) cs)) (world_after t r v c out grown same told)
+    ∙ ap (λ (text : List (List ℕ)). text ++ rest) (told.lines ∙ ap (λ (site : Site). out ++ command_texts site r.world c) same)
+    ∙ append_assoc out (command_texts t r.world c) rest
+    ∙ ap (λ (text : List (List ℕ)). out ++ text) (sym (command_more t r.world c (drop (i + 1) cs)))
+    ∙ ap (λ (cs : List PlanCommand). out ++ commands_texts t r.world cs) (sym (drop_more cs i d h))
     ∙ so_far
 
-pub after_more : (t : Site) (w v : LiveWorld) (cs : List PlanCommand) (i : ℕ) (c : PlanCommand) → i < length cs → c ≡ get_or cs i c → after t w (drop i cs) ≡ v
-    → after t (answer t w c).world (drop (i + 1) cs) ≡ v
+pub after_more : (t : Site) (r v : Running) (cs : List PlanCommand) (i : ℕ) (d : PlanCommand) (out grown : List (List ℕ)) (last : LiveWorld) → r.site ≡ t → i < length cs → Tells r v (get_or cs i d) out grown
+    → after t r.world (drop i cs) ≡ last → after t v.world (drop (i + 1) cs) ≡ last
 unfolding after
-after_more t w v cs i c h at so_far = sym (ap (after t w) (drop_at cs i c h at)) ∙ so_far
+after_more t r v cs i d out grown last same h told so_far =
+    ap (λ (w : LiveWorld). after t w (drop (i + 1) cs)) (world_after t r v (get_or cs i d) out grown same told)
+    ∙ sym (ap (after t r.world) (drop_more cs i d h)) ∙ so_far
 
-pub all_told : (t : Site) (w : LiveWorld) (cs : List PlanCommand) (i : ℕ) (out all : List ℕ) → length cs ≤ i → out ++ commands_text t w (drop i cs) ≡ all → out ≡ all
+pub all_told : (t : Site) (w : LiveWorld) (cs : List PlanCommand) (i : ℕ) (out all : List (List ℕ)) → length cs ≤ i → out ++ commands_texts t w (drop i cs) ≡ all → out ≡ all
 all_told t w cs i out all h so_far =
-    sym (append-nil out) ∙ ap (λ (text : List ℕ). out ++ text) (sym (none_told t w)) ∙ ap (λ (cs : List PlanCommand). out ++ commands_text t w cs) (sym (drop_all i cs h)) ∙ so_far
+    sym (append-nil out) ∙ ap (λ (text : List (List ℕ)). out ++ text) (sym (none_told t w)) ∙ ap (λ (cs : List PlanCommand). out ++ commands_texts t w cs) (sym (drop_all i cs h)) ∙ so_far
 
 pub all_done : (t : Site) (w v : LiveWorld) (cs : List PlanCommand) (i : ℕ) → length cs ≤ i → after t w (drop i cs) ≡ v → w ≡ v
 unfolding after
 all_done t w v cs i h so_far = sym (ap (after t w) (drop_all i cs h)) ∙ so_far
+
+-- the same where the lines were made of what was read of them
+pub tells_if : {A : Type 0} (result : Result A Memory) (r v : Running) (c : PlanCommand) (lines given : List LiveLine) (told : LiveReply) (groups : List Group) (old new : List (List ℕ))
+    → IsSound r.site r.world → IsSound v.site v.world → length r.site.setup.machine.spots ≤ 1024 → Answers r v [] lines (answer r.site r.world c) told → groups ≡ v.site.groups → given ≡ lines
+    → OnOk result (new ≡ old ++ answer_texts groups (c, (told, given))) → OnOk result (Tells r v c old new)
+tells_if (Err stop) r v c lines given told groups old new h k few a same same' is = tt
+tells_if (Ok done) r v c lines given told groups old new h k few a same same' is =
+    let site : v.site ≡ r.site = ap (λ (x : Running). x.site) a.leaves.running in
+    tells r v c lines told old new h k few a
+    (subst (λ (gs : List Group). new ≡ old ++ answer_texts gs (c, (told, lines))) (same ∙ ap (λ (t : Site). t.groups) site)
+    (subst (λ (ls : List LiveLine). new ≡ old ++ answer_texts groups (c, (told, ls))) same' is))

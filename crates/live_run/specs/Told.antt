@@ -1,7 +1,6 @@
--- What the commands of a plan print, one after the other.
+-- The lines of the commands of a plan, one after the other.
 use Rattle.std.specs.Prelude.{◌≡◌, ℕ, ◌+◌, ◌≤◌, List, [], ◌++◌, flat_map}
 use Rattle.std.specs.List.{zip}
-use Rattle.cf_types.specs.Lines.{text_of}
 use Rattle.cf_types.specs.declared.machine.Machine.{Machine}
 use Rattle.cf_types.specs.declared.tables.Tables.{Tables}
 use Rattle.run_rules.specs.World.{setup_of}
@@ -15,16 +14,16 @@ use Rattle.live_tables.specs.Running.{Running}
 abbrev pub site_of : Tables → Machine → Plan → Site
 site_of tables machine plan = record { setup = setup_of tables machine []; groups = plan.groups }
 
--- what a command prints
-unfoldable pub answer_text : Site → LiveWorld → PlanCommand → List ℕ
-answer_text t w c = text_of (answer_texts t.groups (c, ((answer t w c).reply, (answer t w c).lines)))
+-- the lines of a command
+unfoldable pub command_texts : Site → LiveWorld → PlanCommand → List (List ℕ)
+command_texts t w c = answer_texts t.groups (c, ((answer t w c).reply, (answer t w c).lines))
 
--- what these commands print
-unfoldable pub commands_text : Site → LiveWorld → List PlanCommand → List ℕ
-commands_text t w cs = text_of (flat_map (answer_texts t.groups) (zip cs (answers t w cs)))
+-- the lines of these commands
+unfoldable pub commands_texts : Site → LiveWorld → List PlanCommand → List (List ℕ)
+commands_texts t w cs = flat_map (answer_texts t.groups) (zip cs (answers t w cs))
 
--- a command was given to live tables, and its text appended; it takes at most a serial for each spot
-pub record Tells (r v : Running) (c : PlanCommand) (old new : List ℕ) : Type 0 where
+-- a command was given to live tables, and its lines appended; it takes at most a serial for each spot
+pub record Tells (r v : Running) (c : PlanCommand) (old new : List (List ℕ)) : Type 0 where
   pub running : v ≡ record r { world = (answer r.site r.world c).world }
-  pub text : new ≡ old ++ answer_text r.site r.world c
+  pub lines : new ≡ old ++ command_texts r.site r.world c
   pub serials : v.world.next ≤ r.world.next + 1024

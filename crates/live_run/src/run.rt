@@ -1,15 +1,14 @@
 //! Gives the commands of a plan to live tables, one after the other.
 ghost use Rattle.std.specs.Prelude.{◌≡◌, ◌<◌, ◌≤◌, ◌+◌, ◌++◌, ◌^◌, All, IfOk, OnOk, length};
-ghost use Rattle.cf_types.specs.Lines.{text_of};
 ghost use Rattle.config_rules.specs.Formed.{FittingMachine, FormedTables};
 ghost use Rattle.live_rules.specs.Live as rule;
 ghost use Rattle.live_rules.specs.LiveText.{live_texts};
 ghost use Rattle.live_rules.specs.PlanText.{FormedPlan, IsOnGroup};
 ghost use Rattle.live_tables.specs.Answers.{Answers};
-ghost use Rattle.live_run.specs.Told.{Tells, answer_text, commands_text, site_of};
+ghost use Rattle.live_run.specs.Told.{Tells, commands_texts, site_of};
 
-use crate::told::{put_answer, put_tree};
-use cf_types::{List, Machine, Memory, Tables, put_bytes};
+use crate::told::{push_answer, push_tree, push_word};
+use cf_types::{List, Machine, Memory, Tables, Text};
 use live_tables::{LiveLine, LiveReply, LiveTables, Plan, PlanCommand};
 use std::alloc::Global;
 use std::mem::drop;
@@ -18,7 +17,7 @@ use std::mem::drop;
 #[derive(Drop)]
 pub struct LiveRun {
     pub tables: Tables,
-    pub text: Vec<u8>,
+    pub lines: List<Text>,
 }
 
 /// Gives a command to live tables.
@@ -47,17 +46,17 @@ fn tell_command(
     alloc: Global,
     live: &mut LiveTables,
     command: PlanCommand,
-    out: &mut Vec<u8>,
+    out: &mut List<Text>,
 ) -> Result<(), Memory>
     requires serials { live.old.world.next < 2 ^ 63 }
     requires group { IsOnGroup live.old.site.groups command }
-    ensures { OnOk result (Tells live.old live.new command out.old.items out.new.items) }
+    ensures { OnOk result (Tells live.old live.new command out.old out.new) }
 {
     live.stands();
     let mut lines = List::make(alloc);
     let reply = run_command(live, command, &mut lines)?;
     live.stands();
-    put_answer(out, live.groups(), command, &reply, lines.items())
+    push_answer(alloc, out, live.groups(), command, &reply, lines.items())
 }
 
 /// Gives commands to live tables, and appends what they are told.
@@ -65,12 +64,12 @@ fn tell_commands(
     alloc: Global,
     live: &mut LiveTables,
     commands: &[PlanCommand],
-    out: &mut Vec<u8>,
+    out: &mut List<Text>,
 ) -> Result<(), Memory>
     requires first { live.old.world.next ≤ 1 }
     requires few { length commands.now ≤ 500 }
     requires groups { All (IsOnGroup live.old.site.groups) commands.now }
-    ensures text { OnOk result (out.new.items ≡ out.old.items ++ commands_text live.old.site live.old.world commands.now) }
+    ensures text { OnOk result (out.new ≡ out.old ++ commands_texts live.old.site live.old.world commands.now) }
     ensures site { OnOk result (live.new.site ≡ live.old.site) }
     ensures world { OnOk result (live.new.world ≡ rule.after live.old.site live.old.world commands.now) }
 {
@@ -80,28 +79,28 @@ fn tell_commands(
     Ok(())
 }
 
-/// What a plan prints behind the listing.
-fn text_by(
+/// The lines that a plan prints behind the listing.
+fn lines_by(
     alloc: Global,
     live: &mut LiveTables,
     commands: &[PlanCommand],
-) -> Result<Vec<u8>, Memory>
+) -> Result<List<Text>, Memory>
     requires first { live.old.world ≡ rule.opening }
     requires few { length commands.now ≤ 500 }
     requires groups { All (IsOnGroup live.old.site.groups) commands.now }
-    ensures text { IfOk result (λ text. text.items ≡ text_of (live_texts live.old.site commands.now)) }
+    ensures lines { IfOk result (λ lines. lines ≡ live_texts live.old.site commands.now) }
     ensures site { OnOk result (live.new.site ≡ live.old.site) }
 {
-    let mut out = Vec::new(alloc);
-    put_bytes(&mut out, b"live 1\n")?;
+    let mut out = List::make(alloc);
+    push_word(alloc, &mut out, b"live 1")?;
     tell_commands(alloc, live, commands, &mut out)?;
     let devices = live.tree_lines()?;
-    put_tree(&mut out, devices.items())?;
+    push_tree(alloc, &mut out, devices.items())?;
     Ok(out)
 }
 
-/// Follows a plan on a machine that fits formed tables: what it prints behind the listing, the head first, then each
-/// command with its reply and its lines, then the device tree that is left.
+/// Follows a plan on a machine that fits formed tables: the lines that it prints behind the listing, the head first, then
+/// each command with its reply and its lines, then the device tree that is left.
 pub fn live_run(
     alloc: Global,
     tables: Tables,
@@ -112,14 +111,14 @@ pub fn live_run(
     requires fits { FittingMachine tables machine }
     requires plan { FormedPlan plan }
     ensures tables { IfOk result (λ run. run.tables ≡ tables) }
-    ensures text { IfOk result (λ run. run.text.items ≡ text_of (live_texts (site_of tables machine plan) plan.commands)) }
+    ensures lines { IfOk result (λ run. run.lines ≡ live_texts (site_of tables machine plan) plan.commands) }
 {
     let Plan { groups, commands } = plan;
     let mut live = LiveTables::start(alloc, tables, machine, groups)?;
-    match text_by(alloc, &mut live, commands.items()) {
-        Ok(text) => Ok(LiveRun {
+    match lines_by(alloc, &mut live, commands.items()) {
+        Ok(lines) => Ok(LiveRun {
             tables: live.into_tables(),
-            text,
+            lines,
         }),
         Err(stop) => {
             drop(live);

@@ -1,13 +1,13 @@
 //! The lines of commands and of devices that came or went. They are this project's own.
-ghost use Rattle.std.specs.Prelude.{◌≡◌, ◌++◌, OnOk, ◌∷◌, codes, map};
-ghost use Rattle.cf_types.specs.Lines.{ended, text_of};
+ghost use Rattle.std.specs.Prelude.{◌≡◌, ◌++◌, OnOk, ◌∷◌, [], codes, map};
 ghost use Rattle.run_rules.specs.Tree.{dev_text};
 ghost use Rattle.live_rules.specs.LiveText.{answer_texts, command_text, group_name, line_text, reply_text, told_text};
 ghost use Rattle.live_rules.specs.declared.plan.PlanCommand.TheVariants as commands;
 ghost use Rattle.live_rules.specs.PlanText.{IsOnGroup};
 
-use cf_types::{DevLine, Memory, put_bytes, put_decimal};
+use cf_types::{DevLine, List, Memory, Text, put_bytes, put_decimal};
 use live_tables::{Group, LiveLine, LiveReply, PlanCommand};
+use std::alloc::Global;
 use tree_text::put_dev;
 
 /// Appends a verb and the name of a group.
@@ -83,55 +83,82 @@ fn put_line(out: &mut Vec<u8>, line: &LiveLine) -> Result<(), Memory>
     }
 }
 
-/// Appends the line of a device that came or went, with its newline.
-fn put_ended(out: &mut Vec<u8>, line: &LiveLine) -> Result<(), Memory>
-    ensures { OnOk result (out.new.items ≡ out.old.items ++ ended (line_text line.now)) }
+/// Appends a line to lines.
+fn push_line(lines: &mut List<Text>, line: Vec<u8>) -> Result<(), Memory>
+    ensures { OnOk result (lines.new ≡ lines.old ++ line.items ∷ []) }
 {
-    put_line(out, line)?;
-    put_bytes(out, b"\n")
+    lines.push(List::from_vec(line))?;
+    Ok(())
 }
 
-/// Appends the lines of devices that came or went.
-fn put_lines(out: &mut Vec<u8>, lines: &[LiveLine]) -> Result<(), Memory>
-    ensures { OnOk result (out.new.items ≡ out.old.items ++ text_of (map line_text lines.now)) }
+/// Appends the line of a device that came or went to lines.
+fn push_live(alloc: Global, lines: &mut List<Text>, line: &LiveLine) -> Result<(), Memory>
+    ensures { OnOk result (lines.new ≡ lines.old ++ line_text line.now ∷ []) }
 {
-    for line in lines {
-        put_ended(out, line)?;
+    let mut text = Vec::new(alloc);
+    put_line(&mut text, line)?;
+    push_line(lines, text)
+}
+
+/// Appends a command with its reply to lines.
+fn push_told(
+    alloc: Global,
+    lines: &mut List<Text>,
+    groups: &[Group],
+    command: PlanCommand,
+    reply: &LiveReply,
+) -> Result<(), Memory>
+    requires { IsOnGroup groups.now command }
+    ensures { OnOk result (lines.new ≡ lines.old ++ told_text groups.now command reply.now ∷ []) }
+{
+    let mut text = Vec::new(alloc);
+    put_told(&mut text, groups, command, reply)?;
+    push_line(lines, text)
+}
+
+/// Appends a command with its reply, and then its lines.
+pub fn push_answer(
+    alloc: Global,
+    lines: &mut List<Text>,
+    groups: &[Group],
+    command: PlanCommand,
+    reply: &LiveReply,
+    told: &[LiveLine],
+) -> Result<(), Memory>
+    requires { IsOnGroup groups.now command }
+    ensures { OnOk result (lines.new ≡ lines.old ++ answer_texts groups.now (command, (reply.now, told.now))) }
+{
+    push_told(alloc, lines, groups, command, reply)?;
+    for line in told {
+        push_live(alloc, lines, line)?;
     }
     Ok(())
 }
 
-/// Appends a command with its reply, and its lines.
-pub fn put_answer(
-    out: &mut Vec<u8>,
-    groups: &[Group],
-    command: PlanCommand,
-    reply: &LiveReply,
-    lines: &[LiveLine],
-) -> Result<(), Memory>
-    requires { IsOnGroup groups.now command }
-    ensures { OnOk result (out.new.items ≡ out.old.items ++ text_of (answer_texts groups.now (command, (reply.now, lines.now)))) }
+/// Appends a word to lines.
+pub fn push_word(alloc: Global, lines: &mut List<Text>, word: &[u8]) -> Result<(), Memory>
+    ensures { OnOk result (lines.new ≡ lines.old ++ word.now ∷ []) }
 {
-    put_told(out, groups, command, reply)?;
-    put_bytes(out, b"\n")?;
-    put_lines(out, lines)
+    let text = Vec::from_slice(alloc, word)?;
+    push_line(lines, text)
 }
 
-/// Appends the line of a device of the tree, with its newline.
-fn put_device(out: &mut Vec<u8>, device: &DevLine) -> Result<(), Memory>
-    ensures { OnOk result (out.new.items ≡ out.old.items ++ ended (dev_text device.now)) }
+/// Appends the line of a device of the tree to lines.
+fn push_device(alloc: Global, lines: &mut List<Text>, device: &DevLine) -> Result<(), Memory>
+    ensures { OnOk result (lines.new ≡ lines.old ++ dev_text device.now ∷ []) }
 {
-    put_dev(device, out)?;
-    put_bytes(out, b"\n")
+    let mut text = Vec::new(alloc);
+    put_dev(device, &mut text)?;
+    push_line(lines, text)
 }
 
-/// Appends the line `tree` and the lines of its devices.
-pub fn put_tree(out: &mut Vec<u8>, devices: &[DevLine]) -> Result<(), Memory>
-    ensures { OnOk result (out.new.items ≡ out.old.items ++ text_of (codes "tree" ∷ map dev_text devices.now)) }
+/// Appends the line `tree`, and then those of the devices.
+pub fn push_tree(alloc: Global, lines: &mut List<Text>, devices: &[DevLine]) -> Result<(), Memory>
+    ensures { OnOk result (lines.new ≡ lines.old ++ codes "tree" ∷ map dev_text devices.now) }
 {
-    put_bytes(out, b"tree\n")?;
+    push_word(alloc, lines, b"tree")?;
     for device in devices {
-        put_device(out, device)?;
+        push_device(alloc, lines, device)?;
     }
     Ok(())
 }
