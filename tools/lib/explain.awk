@@ -83,7 +83,7 @@ function explain_code(kind, code,   n, list, count, told) {
 
 # The kinds of files that have codes: those of this page first, then what else has a section.
 function kinds_of_codes(   kind, list) {
-    list = "config machine script order"
+    list = "config machine script order watch"
     for (kind in section) if (!index(" " list " ", " " kind " ")) list = list " " kind
     return list
 }
@@ -173,6 +173,7 @@ function tell_status(number) {
 
 function explain_fault(kind, file, number, code,   first, is_found) {
     first = line_of(file, number)
+    if (kind == "script" && (is_watch(file, first) || !((kind, code) in in_words) && (("watch", code) in in_words))) kind = "watch"
     if (kind == "script" && is_order(file, first)) kind = "order"
     is_found = find_fault(kind, file, number, first, code)
     if (is_all && !is_told(kind, file, number, code, is_found)) return
@@ -182,6 +183,10 @@ function explain_fault(kind, file, number, code,   first, is_found) {
     if (kind == "script" && ((("order", code) in in_words)) && !given_word[1] && first == "") {
         print "  or, if " file " is the order file:"
         tell_code("order", code)
+    }
+    if (kind == "script" && ((("watch", code) in in_words)) && !given_word[1] && first == "") {
+        print "  or, if " file " is the watch file:"
+        tell_code("watch", code)
     }
 }
 
@@ -221,9 +226,14 @@ function mark_token(t) { mark(tok_line[t], tok_at[t], length(tok[t])) }
 function configuration(file) { return given_word[2] != "" ? given_word[2] : file }
 
 # Is the file the order file, by the words of the program and none of its scripts, or else by what stands in the line?
-function is_order(file, line,   n) {
-    if (!given_word[1]) return line ~ /^[ \t]*[-0-9]/
-    if (given_word[1] != "play" || given_word[4] != file) return 0
+function is_order(file, line) { return given_word[1] ? is_fourth("play", file) : line ~ /^[ \t]*[-0-9]/ }
+
+# Is it the watch file?
+function is_watch(file, line) { return given_word[1] ? is_fourth("watch", file) : line ~ /^[ \t]*(boot|turn|sub|read)([ \t#]|$)/ }
+
+# Is the file that of this command, and none of its scripts?
+function is_fourth(command, file,   n) {
+    if (given_word[1] != command || given_word[4] != file) return 0
     for (n = 5; n in given_word; n++) if (given_word[n] == file) return 0
     return 1
 }
