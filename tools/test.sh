@@ -133,7 +133,7 @@ try_examples() {
     tool=examples/outputs
     before=$wrong
     count=0
-    for output in "$top"/examples/outputs/*.boot "$top"/examples/outputs/*.play; do
+    for output in "$top"/examples/outputs/*.boot "$top"/examples/outputs/*.play "$top"/examples/outputs/*.tables; do
         name=$(basename "$output")
         count=$((count + 1))
         $shell "$tools/summary" "$output" >"$work/said" 2>&1 && status=0 || status=$?
