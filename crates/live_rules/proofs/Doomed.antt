@@ -30,7 +30,7 @@ found_itself s live next d h here = of_each (λ (e : Dev). device_at live e.seri
 pub after_parents : (s : Setup) (live : List Dev) (next : ℕ) → HasSoundDevices s live next → AllByRecursion (λ (d : Dev). d.parent < d.serial) live
 after_parents s live next h = all_imp (IsPlaced live next) (λ (d : Dev). d.parent < d.serial) (λ d p. p.after_parent) live h.placed
 
-parent_less : (live : List Dev) (s : ℕ) → AllByRecursion (λ (d : Dev). d.parent < d.serial) live → 0 < s → parent_of live s < s
+pub parent_less : (live : List Dev) (s : ℕ) → AllByRecursion (λ (d : Dev). d.parent < d.serial) live → 0 < s → parent_of live s < s
 parent_less live s h low = cases (device_at live s) refl
   where
     cases : (o : Option Dev) → device_at live s ≡ o → option_map_or (λ (d : Dev). d.parent) o 0 < s
@@ -71,7 +71,7 @@ pub doomed_root : (t : Site) (live : List Dev) (g : ℕ) → is_doomed t live g 
 unfolding is_doomed lineage
 doomed_root t live g = refl
 
-doomed_step : (t : Site) (live : List Dev) (g s : ℕ) → AllByRecursion (λ (d : Dev). d.parent < d.serial) live → 0 < s
+pub doomed_step : (t : Site) (live : List Dev) (g s : ℕ) → AllByRecursion (λ (d : Dev). d.parent < d.serial) live → 0 < s
     → is_doomed t live g s ≡ (is_member t live g s || is_doomed t live g (parent_of live s))
 unfolding is_doomed
 doomed_step t live g zero h low = absurd (omega arith)

@@ -4,7 +4,6 @@ use Rattle.std.specs.Prelude.{filter}
 use Rattle.std.specs.List.{AllByRecursion, Contains}
 use Rattle.std.proofs.lemmas.Bool.{cases_lt, cond_both, ne_eqb, not-true}
 use Rattle.std.proofs.lemmas.List.{reverse-append}
-use Rattle.run_rules.specs.declared.world.Dev.{Dev}
 use Rattle.run_rules.specs.Sound.{EachLater}
 use Rattle.run_rules.proofs.Devices.{all_front, all_imp, all_snoc, later_snoc}
 use Rattle.run_sound.proofs.Callers.{clash}
@@ -66,41 +65,41 @@ later_reversed R [] h = tt
 later_reversed {A} R (x ∷ xs) h =
     rw (reverse-append (x ∷ []) xs) (later_snoc (λ (y z : A). R z y) (reverse xs) x (later_reversed R xs h.1) (all_reversed (R x) xs h.0))
 
--- ---- distinct spots
+-- ---- distinct numbers
 
 pub one_longer : {A : Type 0} (xs : List A) (y : A) → length (xs ++ y ∷ []) ≡ length xs + 1
 one_longer [] y = refl
 one_longer (x ∷ xs) y = omega (arith, one_longer xs y)
 
-drop_one : (n : ℕ) (live : List Dev) → EachLater (λ (d e : Dev). d.spot ≢ e.spot) live → length live ≤ 1 + length (filter (λ (d : Dev). not (d.spot == n)) live)
-drop_one n [] h = omega arith
-drop_one n (d ∷ ds) h = cases (drop_one n ds h.1) (d.spot == n) refl
+drop_one : {A : Type 0} (key : A → ℕ) (n : ℕ) (xs : List A) → EachLater (λ d e. key d ≢ key e) xs → length xs ≤ 1 + length (filter (λ d. not (key d == n)) xs)
+drop_one key n [] h = omega arith
+drop_one {A} key n (d ∷ ds) h = cases (drop_one key n ds h.1) (key d == n) refl
   where
-    test : Dev → Bool
-    test e = not (e.spot == n)
+    test : A → Bool
+    test e = not (key e == n)
 
-    cases : length ds ≤ 1 + length (filter test ds) → (b : Bool) → (d.spot == n) ≡ b → suc (length ds) ≤ 1 + length (cond (not b) (d ∷ filter test ds) (filter test ds))
+    cases : length ds ≤ 1 + length (filter test ds) → (b : Bool) → (key d == n) ≡ b → suc (length ds) ≤ 1 + length (cond (not b) (d ∷ filter test ds) (filter test ds))
     cases more false e = omega (arith, more)
     cases more true e =
-        let same : d.spot ≡ n = eqb-true d.spot n e in
+        let same : key d ≡ n = eqb-true (key d) n e in
         let all : filter test ds ≡ ds =
-        filter_all test ds (all_imp (λ (e : Dev). d.spot ≢ e.spot) (λ (e : Dev). test e ≡ true) (λ e other. ap not (ne_eqb e.spot n (λ k. other (same ∙ sym k)))) ds h.0) in
+        filter_all test ds (all_imp (λ (e : A). key d ≢ key e) (λ (e : A). test e ≡ true) (λ e other. ap not (ne_eqb (key e) n (λ k. other (same ∙ sym k)))) ds h.0) in
         rw all (omega arith)
 
--- so many numbers, so many spots
-pub few_spots : (n : ℕ) (live : List Dev) → EachLater (λ (d e : Dev). d.spot ≢ e.spot) live → AllByRecursion (λ (d : Dev). d.spot < n) live → length live ≤ n
-few_spots zero [] apart h = omega arith
-few_spots zero (d ∷ ds) apart h = let low : d.spot < 0 = h.0 in absurd (omega (arith, low))
-few_spots (suc n) live apart h =
+-- so many numbers, so many of which no two have one in common
+pub few_keys : {A : Type 0} (key : A → ℕ) (n : ℕ) (xs : List A) → EachLater (λ d e. key d ≢ key e) xs → AllByRecursion (λ d. key d < n) xs → length xs ≤ n
+few_keys key zero [] apart h = omega arith
+few_keys key zero (d ∷ ds) apart h = let low : key d < 0 = h.0 in absurd (omega (arith, low))
+few_keys {A} key (suc n) xs apart h =
     omega (
       arith,
-      drop_one n live apart,
-      few_spots n (filter test live) (later_passed (λ (d e : Dev). d.spot ≢ e.spot) test live apart)
-          (each_passed (λ (d : Dev). d.spot < n) test live (all_imp (λ (d : Dev). d.spot < suc n) (λ (d : Dev). test d ≡ true → d.spot < n) (λ d lt k. less d.spot lt k) live h)),
+      drop_one key n xs apart,
+      few_keys key n (filter test xs) (later_passed (λ d e. key d ≢ key e) test xs apart)
+          (each_passed (λ (d : A). key d < n) test xs (all_imp (λ (d : A). key d < suc n) (λ (d : A). test d ≡ true → key d < n) (λ d lt k. less (key d) lt k) xs h)),
     )
   where
-    test : Dev → Bool
-    test e = not (e.spot == n)
+    test : A → Bool
+    test e = not (key e == n)
 
     less : (x : ℕ) → x < suc n → not (x == n) ≡ true → x < n
     less x lt k = elim (cases_lt x n) [

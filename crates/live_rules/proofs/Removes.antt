@@ -106,7 +106,7 @@ unless_frees : (t : Site) (w : LiveWorld) (g : ℕ) (o : Option Dev) → IsSound
 unless_frees t w g None h k = frees t w g h
 unless_frees t w g (Some d) h k = absurd (busy t w g d k)
 
-remove_frees : (t : Site) (w : LiveWorld) (g : ℕ) → IsSound t w → (remove t w g).reply ≡ reply.Ok → Frees t w g (remove t w g)
+pub remove_frees : (t : Site) (w : LiveWorld) (g : ℕ) → IsSound t w → (remove t w g).reply ≡ reply.Ok → Frees t w g (remove t w g)
 unfolding remove
 remove_frees t w g h = cases (has w.on g)
   where

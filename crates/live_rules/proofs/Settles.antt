@@ -20,7 +20,7 @@ use Rattle.live_rules.specs.Live.{Answer, IsBare, LiveWorld, Settled, Site, add,
 use Rattle.live_rules.specs.Laws.{AddsSettle, IsSound, ScansSettle}
 use Rattle.live_rules.proofs.Candidates.{fewer_candidates, no_candidate}
 use Rattle.live_rules.proofs.Kept.{bare_spot, numbered, sound_comes, sound_kept, stays_sound, turned_sound}
-use Rattle.live_rules.proofs.Lists.{few_spots, one_longer}
+use Rattle.live_rules.proofs.Lists.{few_keys, one_longer}
 use Rattle.live_rules.proofs.Steps.{Comes, IsAt, IsKept, below_keeps, device_more, fold-snoc, fold_does, fold_keeps, known_below, pass_keeps, place_keeps, places, spot_keeps, spots}
 
 -- ---- one spot
@@ -149,7 +149,7 @@ below_does t w p h known place x = rw known done
 abbrev AreDone : Site → ℕ → LiveWorld → Type 0
 AreDone t n v = IsSound t v × ((q : ℕ) → q < n → (place : Place) (y : ℕ) → IsDone t v q place y)
 
-unknown_same : (t : Site) (v : LiveWorld) (n : ℕ) → is_known v n ≡ false → search_below t v n ≡ v
+pub unknown_same : (t : Site) (v : LiveWorld) (n : ℕ) → is_known v n ≡ false → search_below t v n ≡ v
 unfolding search_below
 unknown_same t v n e = rw e refl
 
@@ -195,7 +195,7 @@ last_serial : (t : Site) (w : LiveWorld) → IsSound t w → (pass t w).next ≤
 last_serial t w h =
     let v : LiveWorld = pass t w in
     let counted : IsCounted t w v = pass_keeps t (IsCounted t w) (counted_kept t w) w (h, refl) in
-    omega (arith, counted.1, few_spots (length t.setup.machine.spots) v.live (apart_spots t v.live counted.0.devices.apart) counted.0.spots)
+    omega (arith, counted.1, few_keys (λ (d : Dev). d.spot) (length t.setup.machine.spots) v.live (apart_spots t v.live counted.0.devices.apart) counted.0.spots)
 
 -- ---- a pass that has come to the last serial is over
 
@@ -227,11 +227,11 @@ pass_settles t w h p place x r bare =
 
 -- ---- commands
 
-scan_settles : (t : Site) (w : LiveWorld) → IsSound t w → Settled t (scan t w).world
+pub scan_settles : (t : Site) (w : LiveWorld) → IsSound t w → Settled t (scan t w).world
 unfolding scan
 scan_settles t w h = pass_settles t w h
 
-add_settles : (t : Site) (w : LiveWorld) (g : ℕ) → IsSound t w → (add t w g).reply ≡ reply.Ok → Settled t (add t w g).world
+pub add_settles : (t : Site) (w : LiveWorld) (g : ℕ) → IsSound t w → (add t w g).reply ≡ reply.Ok → Settled t (add t w g).world
 unfolding add
 add_settles t w g h = cases (has w.on g)
   where

@@ -1,0 +1,16 @@
+pub mod GroupLaws
+pub mod OpenLaws
+pub mod Counts
+pub mod Joins
+pub mod Offs
+pub mod Comings
+pub mod Places
+pub mod Offers
+pub mod Passes
+pub mod Scans
+pub mod Adds
+pub mod Dooms
+pub mod Frees
+pub mod Goings
+pub mod Removals
+pub mod PlanLaws

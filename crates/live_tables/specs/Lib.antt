@@ -1,0 +1,13 @@
+pub mod Groups
+pub mod OnGroups
+pub mod Joining
+pub mod Running
+pub mod Kept
+pub mod Open
+pub mod Coming
+pub mod Going
+pub mod Answers
+pub mod Reading
+pub use Rattle.live_rules.specs.Live
+pub use Rattle.live_rules.specs.Laws
+pub use Rattle.live_rules.specs.PlanText
