@@ -74,6 +74,13 @@ try_order() {
     expect 0 '' play conf mach o s s
 }
 
+try_watch() {
+    write w "$2"
+    expect 4 "$1" watch conf mach w s s
+    write w "$3"
+    expect 0 '' watch conf mach w s s
+}
+
 try_plan() {
     write p "$2"
     expect 4 "$1" tables conf mach p
@@ -136,6 +143,16 @@ scripts_by_number() {
     head -c 1048577 /dev/zero | tr '\0' '\n' >"$folder/s"
     expect 7 's: too long' play conf mach o s
     expect 7 's: too long' play conf mach s o
+}
+
+watches_by_number() {
+    expect 6 'nofile: absent' watch conf mach nofile o
+    { echo '# a comment'; count 10001 'turn 1'; } >"$folder/w"
+    expect 4 'script w:10002: code 4' watch conf mach w o
+    printf 'boot \001\n' >"$folder/w"
+    expect 4 'script w:1: code 2' watch conf mach w o
+    head -c 1048577 /dev/zero | tr '\0' '\n' >"$folder/w"
+    expect 7 'w: too long' watch conf mach w o
 }
 
 plans_by_number() {
@@ -214,11 +231,14 @@ while IFS=$tab read -r said wrongly rightly; do try_script "$said" "$wrongly" "$
 echo list >"$folder/s"
 rows 'script o:' >"$folder/rows"
 while IFS=$tab read -r said wrongly rightly; do try_order "$said" "$wrongly" "$rightly"; done <"$folder/rows"
+rows 'script w:' >"$folder/rows"
+while IFS=$tab read -r said wrongly rightly; do try_watch "$said" "$wrongly" "$rightly"; done <"$folder/rows"
 rows 'script p:' >"$folder/rows"
 while IFS=$tab read -r said wrongly rightly; do try_plan "$said" "$wrongly" "$rightly"; done <"$folder/rows"
 plans_by_number
 echo '# no turns, and no commands' >"$folder/o"
 scripts_by_number
+watches_by_number
 histories
 echo "$tried calls tried, $wrong of them wrong"
 [ "$wrong" = 0 ]

@@ -33,6 +33,7 @@ same board.listing arm devconf ioconf BOARD
 same server.boot amd64 devconf boot GENERIC ../machines/server
 same detach.play pc devconf play GENERIC ../machines/pc ../detach.order ../hold.script ../detach.script
 same plug.play pc devconf play GENERIC ../machines/pc ../plug.order ../plug.script
+same late.watched pc devconf watch GENERIC ../machines/pc ../late.watch ../plug.script
 same power.play pc devconf play GENERIC ../machines/pc ../power.order ../power.script
 same check.play pc devconf play GENERIC ../machines/pc ../check.order ../mount.script ../check.script
 same detach.tree pc devconf replay GENERIC ../machines/pc ../outputs/detach.play ../hold.script ../detach.script

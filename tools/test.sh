@@ -170,7 +170,8 @@ try_words() {
     END {
         for (k = 1; k <= kind_count; k++)
             for (n = kinds[k] ~ /order/ ? 2 : 1; n <= last[kinds[k]]; n++)
-                if (!((kinds[k], n) in words) && !(kinds[k] ~ /plan/ && n == 3)) print kinds[k] ": no words for code " n
+                if (!((kinds[k], n) in words) && !(kinds[k] ~ /plan/ && n == 3) && !(kinds[k] ~ /watch/ && n >= 5 && n <= 8))
+                    print kinds[k] ": no words for code " n
         print "codes " count
     }' "$top/docs/FAULTS.md")
     case $said in "codes "*) ;; *) differ words "$said" '' ;; esac
@@ -326,7 +327,7 @@ try_completion() {
         next "$known" '' '' devconf fly ''
         next "$known" '' '-a -c -m -n -s -t FILE' devconf-summary ''
         next "$known" '' FILE devconf-summary -m ''
-        next "$known" '' 'config history machine order plan script status' devconf-explain ''
+        next "$known" '' 'config history machine order plan script status watch' devconf-explain ''
         next "$known" '' FILE devconf-check a ''
         next "$known" '' '' devconf-check a b ''
     done

@@ -83,7 +83,7 @@ function explain_code(kind, code,   n, list, count, told) {
 
 # The kinds of files that have codes: those of this page first, then what else has a section.
 function kinds_of_codes(   kind, list) {
-    list = "config machine script order plan"
+    list = "config machine script order watch plan"
     for (kind in section) if (!index(" " list " ", " " kind " ")) list = list " " kind
     return list
 }
@@ -181,7 +181,8 @@ function explain_fault(kind, file, number, code,   first, is_found) {
     tell_code(kind, code)
     if (kind == "script" && !given_word[1] && first == "") {
         tell_other(file, "order", "the order file", code)
-        tell_other(file, "plan", "a plan", code)
+        tell_other(file, "watch", "the watch file", code)
+        tell_other(file, "plan", "the plan", code)
     }
 }
 
@@ -227,9 +228,10 @@ function mark_token(t) { mark(tok_line[t], tok_at[t], length(tok[t])) }
 # The configuration that was compiled: the second word of the program, else the file in which the fault stands.
 function configuration(file) { return given_word[2] != "" ? given_word[2] : file }
 
-# A fault line calls scripts, order files and plans scripts: which one is the file?
+# A fault line calls scripts, order files, watch files and plans scripts: which one is the file?
 function kind_of_script(file, line, code) {
     if (is_plan(file, line, code)) return "plan"
+    if (is_watch(file, line) || !(("script", code) in in_words) && (("watch", code) in in_words)) return "watch"
     return is_order(file, line) ? "order" : "script"
 }
 
@@ -243,9 +245,14 @@ function is_plan(file, line, code,   word) {
 }
 
 # Is the file the order file, by the words of the program and none of its scripts, or else by what stands in the line?
-function is_order(file, line,   n) {
-    if (!given_word[1]) return line ~ /^[ \t]*[-0-9]/
-    if (given_word[1] != "play" || given_word[4] != file) return 0
+function is_order(file, line) { return given_word[1] ? is_fourth("play", file) : line ~ /^[ \t]*[-0-9]/ }
+
+# Is it the watch file?
+function is_watch(file, line) { return given_word[1] ? is_fourth("watch", file) : line ~ /^[ \t]*(boot|turn|sub|read)([ \t#]|$)/ }
+
+# Is the file that of this command, and none of its scripts?
+function is_fourth(command, file,   n) {
+    if (given_word[1] != command || given_word[4] != file) return 0
     for (n = 5; n in given_word; n++) if (given_word[n] == file) return 0
     return 1
 }

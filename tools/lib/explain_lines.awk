@@ -1,5 +1,5 @@
-# Finds the word of a machine file, a script, an order file or a plan that a fault is about, marks it, and says what is known of it:
-# `find_in_line(KIND, FILE, LINE, TEXT, CODE)` answers whether the line as it stands has this fault. For a machine file or a plan the configuration is read, too, where the words of the
+# Finds the word of a machine file, a script, an order file, a watch file or a plan that a fault is about, marks it, and says what is known
+# of it: `find_in_line(KIND, FILE, LINE, TEXT, CODE)` answers whether the line as it stands has this fault. For a machine file or a plan the configuration is read, too, where the words of the
 # program name it.
 
 function find_in_line(kind, file, number, text, code,   n) {
@@ -14,6 +14,7 @@ function find_in_line(kind, file, number, text, code,   n) {
         find_in_machine(code)
     } else if (kind == "script") find_in_script(code)
     else if (kind == "order") find_in_order(code)
+    else if (kind == "watch") find_in_watch(file, number, code)
     else if (kind == "plan") find_in_plan(file, number, code)
     else if (code <= 2) misfits(kind)
     return 1
@@ -245,6 +246,46 @@ function find_in_order(code,   n, callers) {
         if (code == 2 && index(piece[n], ",")) say("the numbers are separated by blanks, not by commas")
         return
     }
+}
+
+# ---- watch files
+
+function find_in_watch(file, number, code,   subscribed) {
+    if (code <= 2) {
+        misfits("watch")
+        if (code == 1 && tolower(piece[1]) != piece[1]) say("the words are written in small letters")
+    } else if (code == 3) find_watch_number()
+    else if (code == 9 || code == 10) {
+        mark_piece(2)
+        subscribed = subscription_of(value_of(piece[2]), file, number, code == 10)
+        if (subscribed) say("subscriber " value_of(piece[2]) " subscribes at line " subscribed)
+        else if (code == 10) say("no line subscribes subscriber " value_of(piece[2]))
+    }
+}
+
+function find_watch_number(   callers) {
+    for (callers = 0; (5 + callers) in given_word; ) callers++
+    if (piece[1] == "turn") {
+        mark_piece(2)
+        if (callers) say("there " (callers == 1 ? "is 1 script" : "are " callers " scripts") ", so a turn is of a caller from 0, the boot, to " callers)
+    } else if (value_of(piece[2]) < 1 || value_of(piece[2]) > 16) mark_piece(2)
+    else mark_piece(3)
+}
+
+# The first line that subscribes this one, before the line with this number or anywhere in the file; 0 where there is none.
+function subscription_of(who, file, number, is_anywhere,   line, n, found) {
+    while (!found && (is_anywhere || n + 1 < number) && (getline line < file) > 0) {
+        n++
+        if (subscribes(line, who)) found = n
+    }
+    close(file)
+    return found
+}
+
+function subscribes(line, who,   word) {
+    sub(/#.*/, "", line)
+    if (split(line, word, " ") != 3 || word[1] != "sub" || !is_number(word[2]) || !is_number(word[3])) return 0
+    return value_of(word[2]) == who && value_of(word[3]) >= 1 && value_of(word[3]) <= 64
 }
 
 # ---- plans

@@ -138,7 +138,7 @@ function fits_class(class, text) {
     if (class == "DEVICE") return is_name(text) && text !~ /[0-9]$/ && length(text) <= 63
     if (class == "UNIT") return is_unit(text) && text !~ /\?$/
     if (class == "PARENT" && fitting_kind == "config") return text == "root" || is_unit(text) && text !~ /\*$/
-    if (class == "NUMBER" || class == "V" || class == "COUNT" || class == "CALLER") return is_number(text)
+    if (class == "NUMBER" || class == "V" || class == "COUNT" || class ~ /^(CALLER|SUBSCRIBER|NOTES)$/) return is_number(text)
     if (class == "VALUE") return is_number(text) || text == "?"
     if (class == "CHUNK") return is_chunk(text)
     if (class == "TEXT") return is_chunk(text) || text ~ /^"/
@@ -164,6 +164,8 @@ function class_in_words(class) {
     if (class == "VALUE") return "a number or `?`"
     if (class ~ /^(NUMBER|V|COUNT)$/) return "a number"
     if (class == "CALLER") return "the number of a caller"
+    if (class == "SUBSCRIBER") return "the number of a subscriber"
+    if (class == "NOTES") return "a number of notes"
     if (class == "PATH") return "a path"
     if (class == "TEXT") return "a word or a string"
     if (class == "LOC=VALUE") return "a locator with its value (as port=0x3f8)"

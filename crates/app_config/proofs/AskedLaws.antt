@@ -17,7 +17,7 @@ use Rattle.app_input.specs.declared.inputs.Inputs.{Inputs}
 use Rattle.app_input.specs.declared.inputs.Inputs.TheVariants as input
 use Rattle.app_words.specs.declared.status.Status.{Status}
 use Rattle.app_words.specs.declared.words.Task.{Task}
-use Rattle.app_words.specs.declared.words.Task.TheVariants.{Play, Replay, Upgrade}
+use Rattle.app_words.specs.declared.words.Task.TheVariants.{Play, Replay, Upgrade, Watch}
 use Rattle.app_words.specs.declared.status.Status.TheVariants.{Ok, ConfigRefused, Usage, MachineRefused, ScriptRefused, HistoryRefused, Absent, TooLong, ReadFault, WriteFault, Memory}
 use Rattle.app_input.proofs.AskedLaws.{all_asked, inputs_all, inputs_memory, memory_asked, stopped_asked}
 use Rattle.app_config.specs.FilesAsked.{AsksFiles, AsksSources, AsksThen}
@@ -92,6 +92,8 @@ found_asked form told reads (input.Replay tables machine scripts history) status
     run_asked form told Replay file name course names status old mid new is asked later
 found_asked form told reads (input.Upgrade tables machine scripts history) status old mid new same (file, name, course, names, is, meant, described, given) asked later =
     run_asked form told Upgrade file name course names status old mid new is asked later
+found_asked form told reads (input.Watch tables machine scripts watch) status old mid new same (file, name, course, names, is, meant, described, given) asked later =
+    run_asked form told Watch file name course names status old mid new is asked later
 found_asked form told reads (input.Run tables machine scripts) status old mid new same (file, name, names, is, meant, described, given) asked later =
     subst (λ (f : Option Form). AsksFiles f told status old new) (sym is)
     (quiet_then (Some (side_by_side file name names)) told status old mid new (subst (λ (f : Option Form). AsksInputs f told Ok old mid) is asked) later)

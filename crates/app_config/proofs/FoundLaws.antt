@@ -26,11 +26,15 @@ use Rattle.app_input.specs.declared.inputs.Inputs.TheVariants as input
 use Rattle.app_words.specs.declared.status.Status.{Status}
 use Rattle.app_words.specs.declared.status.Status.TheVariants.{Ok, ConfigRefused, Usage, MachineRefused, ScriptRefused, HistoryRefused, Absent, TooLong, ReadFault, WriteFault, Memory}
 use Rattle.app_output.proofs.RunLaws.{tree_is}
+use Rattle.app_output.specs.NoteText.{watch_text}
 use Rattle.app_output.specs.RunText.{run_text, tree_of}
 use Rattle.app_config.specs.Asked.{IsAskedText}
 use Rattle.app_tasks.specs.Ran.{IsBootOf, IsPlayOf, IsPlayed}
 use Rattle.app_tasks.specs.Retold.{Retells, Untaken}
 use Rattle.app_tasks.specs.Summary.{IsSummary}
+use Rattle.app_tasks.specs.Watched.{IsWatchOf, IsWatched}
+use Rattle.dev_monitor.specs.declared.reading.Reading.{Reading}
+use Rattle.script_text.specs.declared.watch_line.WatchLine.{WatchLine}
 use Rattle.app_config.specs.Found.{FindsFor, Finds, Unfound, Unselected}
 use Rattle.app_config.specs.declared.found.Found.{Found}
 use Rattle.config_rules.specs.Listing.{listing}
@@ -79,6 +83,25 @@ play_ran told asked tables machine scripts order turns b is same plays =
       plays.reliable,
       plays.thorough,
       ap (λ (s : Setup). run_text s.tables b.events b.world) plays.made,
+    )
+
+pub watch_graph : (asked : Inputs) (tables : Tables) (machine : Machine) (scripts : List (List Command)) (watch lines : List WatchLine) (told : List Reading) (b : Shown)
+    → FormedInputs asked → asked ≡ input.Watch tables machine scripts watch → IsWatchOf (setup_of tables machine scripts) lines told b → FitGraph b.world.setup.tables
+watch_graph asked tables machine scripts watch lines told b formed is watches = run_graph tables machine scripts b.world.setup (subst FormedInputs is formed).0 watches.made
+
+pub watch_ran : (told : Option Files) (asked : Inputs) (tables : Tables) (machine : Machine) (scripts : List (List Command)) (watch lines : List WatchLine) (said : List Reading) (b : Shown)
+    → asked ≡ input.Watch tables machine scripts watch → lines ≡ watch → IsWatchOf (setup_of tables machine scripts) lines said b
+    → IsAskedText told asked (watch_text b.world.setup.tables b.events b.world said)
+unfolding IsAskedText
+watch_ran told asked tables machine scripts watch lines said b is same watches =
+    subst (λ (i : Inputs). IsAskedText told i (watch_text b.world.setup.tables b.events b.world said)) (sym is) (
+      b.events,
+      b.world,
+      said,
+      subst (λ (ls : List WatchLine). IsWatched (setup_of tables machine scripts) ls b.events b.world said) same watches.watched,
+      watches.reliable,
+      watches.thorough,
+      ap (λ (s : Setup). watch_text s.tables b.events b.world said) watches.made,
     )
 
 pub load_ran : (told : Option Files) (asked : Inputs) (n : ℕ) (tables : Tables) (machine : Machine) (line : List ℕ) → asked ≡ input.Load n tables machine

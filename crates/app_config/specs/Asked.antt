@@ -9,6 +9,7 @@ use Rattle.config_rules.specs.Listing.{listing}
 use Rattle.config_rules.specs.Reading.{Files}
 use Rattle.file_rules.specs.Sources.{Selects}
 use Rattle.boot_laws.specs.Thorough.{IsThorough}
+use Rattle.dev_monitor.specs.declared.reading.Reading.{Reading}
 use Rattle.history_laws.specs.Reliable.{IsReliable}
 use Rattle.replay_laws.specs.Taken.{Takes}
 use Rattle.run_rules.specs.declared.event.Event.{Event}
@@ -17,13 +18,16 @@ use Rattle.run_rules.specs.Lines.{lines}
 use Rattle.run_rules.specs.Run as run
 use Rattle.run_rules.specs.Tree.{tree_text}
 use Rattle.run_rules.specs.World.{World, opening, setup_of}
+use Rattle.script_text.specs.declared.watch_line.WatchLine.{WatchLine}
 use Rattle.app_input.specs.Inputs.{FormedInputs, Reads}
 use Rattle.app_words.specs.Words.{Form}
 use Rattle.app_input.specs.declared.inputs.Inputs.{Inputs}
 use Rattle.app_input.specs.declared.inputs.Inputs.TheVariants as input
+use Rattle.app_output.specs.NoteText.{watch_text}
 use Rattle.app_output.specs.RunText.{run_text}
 use Rattle.app_tasks.specs.Ran.{IsPlayed}
 use Rattle.app_tasks.specs.Summary.{IsSummary}
+use Rattle.app_tasks.specs.Watched.{IsWatched}
 
 -- the paths of the sources that a configuration selects, one a line
 abbrev pub IsSelection : Files → List ℕ → List ℕ → Type 0
@@ -39,6 +43,12 @@ IsBootText tables machine text =
 abbrev pub IsPlayedText : Tables → Machine → List (List Command) → List ℕ → List ℕ → Type 0
 IsPlayedText tables machine scripts order text =
     (h : List Event) × (w : World) × IsPlayed (setup_of tables machine scripts) order h w × IsReliable h w × IsThorough h w × (text ≡ run_text tables h w)
+
+-- the text of what the lines of a watch file do from the opening world on, and of what is read; the same holds of its history
+abbrev pub IsWatchedText : Tables → Machine → List (List Command) → List WatchLine → List ℕ → Type 0
+IsWatchedText tables machine scripts watch text =
+    (h : List Event) × (w : World) × (told : List Reading)
+    × IsWatched (setup_of tables machine scripts) watch h w told × IsReliable h w × IsThorough h w × (text ≡ watch_text tables h w told)
 
 -- the text of what a history is taken as, by its events and the world that they lead to; the same holds of these events
 abbrev pub IsTakenText : (List Event → World → List ℕ) → Setup → List ℕ → List ℕ → Type 0
@@ -62,6 +72,7 @@ IsAskedText told (input.Load n tables machine) text = IsSummary n tables machine
 IsAskedText told (input.Play tables machine scripts order) text = IsPlayedText tables machine scripts order text
 IsAskedText told (input.Replay tables machine scripts history) text = IsTakenText replay_text (setup_of tables machine scripts) history text
 IsAskedText told (input.Upgrade tables machine scripts history) text = IsTakenText upgrade_text (setup_of tables machine scripts) history text
+IsAskedText told (input.Watch tables machine scripts watch) text = IsWatchedText tables machine scripts watch text
 IsAskedText told (input.Run tables machine scripts) text = ⊥
 
 -- the words and the files give inputs, which are formed and ask for the text

@@ -9,9 +9,9 @@ ghost use Rattle.app_config.specs.Found.{FindsFor, HasGraph, found_text};
 
 use app_input::{Inputs, status_of_stop};
 use app_output::{
-    OutputStop, put_history, put_listing_with, put_paths, put_piece, put_run, put_tree,
+    OutputStop, put_history, put_listing_with, put_paths, put_piece, put_run, put_tree, put_watch,
 };
-use app_tasks::{booted, loaded, played, retold};
+use app_tasks::{WatchedRun, booted, loaded, played, retold, watched};
 use app_words::Status;
 use cf_compile::Compiled;
 use cf_io::{Files, Sink};
@@ -31,6 +31,8 @@ pub enum Found {
     Selected(List<Text>),
     /// The board of a run that has ended.
     Ran(Board),
+    /// A run that was watched.
+    Watched(WatchedRun),
     /// A line with its newline.
     Line(Vec<u8>),
     /// The device tree that a history leads to.
@@ -48,7 +50,7 @@ fn tree_alone(told: Replayed) -> List<DevLine>
     tree
 }
 
-/// Compiles, selects, boots, plays and replays as the inputs ask for. Files are read for the sources alone.
+/// Compiles, selects, boots, plays, watches and replays as the inputs ask for. Files are read for the sources alone.
 pub fn found_by<F: Files>(alloc: Global, files: &mut F, inputs: Inputs) -> Result<Found, Status>
     requires formed { FormedInputs inputs }
     requires kind { IsInputsOf Program.Devconf inputs }
@@ -106,6 +108,15 @@ pub fn found_by<F: Files>(alloc: Global, files: &mut F, inputs: Inputs) -> Resul
             let told = retold(alloc, tables, machine, scripts, history)?;
             Ok(Found::Retold(told))
         }
+        Inputs::Watch {
+            tables,
+            machine,
+            scripts,
+            watch,
+        } => {
+            let run = watched(alloc, tables, machine, scripts, watch.items())?;
+            Ok(Found::Watched(run))
+        }
         Inputs::Run { .. } => unreachable!(),
     }
 }
@@ -120,6 +131,7 @@ pub fn put_found<S: Sink>(alloc: Global, found: &Found, out: &mut S) -> Result<(
         Found::Listed(found) => put_listing_with(alloc, found.tables(), found.graph(), out),
         Found::Selected(paths) => put_paths(alloc, paths.items(), out),
         Found::Ran(board) => put_run(alloc, board, out),
+        Found::Watched(run) => put_watch(alloc, &run.board, run.readings.items(), out),
         Found::Line(line) => put_piece(line, out),
         Found::Tree(devices) => put_tree(alloc, devices.items(), out),
         Found::Retold(told) => put_history(alloc, told.events.items(), told.tree.items(), out),

@@ -15,7 +15,7 @@ use Rattle.config_rules.specs.MachineText.{machine_of}
 use Rattle.config_rules.specs.Meaning.{Means}
 use Rattle.config_rules.specs.Reading.{Files}
 use Rattle.app_input.specs.declared.inputs.Inputs.{Inputs}
-use Rattle.app_input.specs.declared.inputs.Inputs.TheVariants.{Ioconf, Boot, Load, Play, Replay, Upgrade, Run}
+use Rattle.app_input.specs.declared.inputs.Inputs.TheVariants.{Ioconf, Boot, Load, Play, Replay, Upgrade, Watch, Run}
 use Rattle.app_input.specs.declared.inputs.Inputs.TheVariants as inputs
 use Rattle.app_words.specs.declared.status.Status.{Status}
 use Rattle.app_words.specs.declared.status.Status.TheVariants.{Ok, ConfigRefused, Usage, MachineRefused, ScriptRefused, HistoryRefused, Absent, TooLong, ReadFault, WriteFault, Memory}
@@ -155,6 +155,7 @@ due form files before after (std.Ok (Load n tables machine)) (is, (meant, (text,
 due form files before after (std.Ok (Play tables machine scripts order)) run counts quiet = inr (due_run form files tables machine scripts (courses.Play order) run)
 due form files before after (std.Ok (Replay tables machine scripts history)) run counts quiet = inr (due_run form files tables machine scripts (courses.Replay history) run)
 due form files before after (std.Ok (Upgrade tables machine scripts history)) run counts quiet = inr (due_run form files tables machine scripts (courses.Upgrade history) run)
+due form files before after (std.Ok (Watch tables machine scripts lines)) run counts quiet = inr (due_run form files tables machine scripts (courses.Watch lines) run)
 due form files before after (std.Ok (Run tables machine scripts)) (file, name, names, is, meant, (text, there, short, described), gives) counts quiet =
     inr (due_side_by_side form files file name names tables machine text (std.Ok scripts) is meant there short described gives)
 due form files before after (std.Err (ScriptRefused which line code)) refused counts quiet = inr (due_refused form files (ScriptRefused which line code) refused)

@@ -11,7 +11,7 @@ use Rattle.app_words.specs.declared.program.Program.{Program}
 use Rattle.app_words.specs.declared.program.Program.TheVariants.{Devconf, Drvrun}
 use Rattle.app_words.specs.declared.status.Status.{Status}
 use Rattle.app_words.specs.declared.words.Task.{Task}
-use Rattle.app_words.specs.declared.words.Task.TheVariants.{Play, Replay, Upgrade}
+use Rattle.app_words.specs.declared.words.Task.TheVariants.{Play, Replay, Upgrade, Watch}
 use Rattle.app_input.specs.Inputs.{IsInputsOf, Reads}
 use Rattle.app_words.specs.Words.{Form, boot, boot_form, count_of, file_in, form_named, form_of, ioconf, is_operand, is_script_count, load, load_form, scripted, scripted_form, side_by_side, side_by_side_form, sources}
 
@@ -64,7 +64,8 @@ named word operands =
     (either Devconf _ _ (bytes_eq word (codes "load")) (load_of operands)
     (either Devconf _ _ (bytes_eq word (codes "play")) (scripted_of Play operands)
     (either Devconf _ _ (bytes_eq word (codes "replay")) (scripted_of Replay operands)
-    (either Devconf _ _ (bytes_eq word (codes "upgrade")) (scripted_of Upgrade operands) tt))))))
+    (either Devconf _ _ (bytes_eq word (codes "upgrade")) (scripted_of Upgrade operands)
+    (either Devconf _ _ (bytes_eq word (codes "watch")) (scripted_of Watch operands) tt)))))))
 
 run_of : (words : List (List ℕ)) → IsFormOf Drvrun (side_by_side_form words)
 run_of [] = tt
@@ -86,6 +87,7 @@ inputs_by Devconf form told (input.Load n tables machine) fits reads = tt
 inputs_by Devconf form told (input.Play tables machine scripts order) fits reads = tt
 inputs_by Devconf form told (input.Replay tables machine scripts history) fits reads = tt
 inputs_by Devconf form told (input.Upgrade tables machine scripts history) fits reads = tt
+inputs_by Devconf form told (input.Watch tables machine scripts lines) fits reads = tt
 inputs_by Drvrun form told (input.Run tables machine scripts) fits reads = tt
 inputs_by Drvrun form told (input.Ioconf tables) fits (file, is, meant) = subst (IsFormOf Drvrun) is fits
 inputs_by Drvrun form told (input.Files name) fits is = subst (IsFormOf Drvrun) is fits
@@ -94,6 +96,7 @@ inputs_by Drvrun form told (input.Load n tables machine) fits (is, made) = subst
 inputs_by Drvrun form told (input.Play tables machine scripts order) fits (file, name, course, names, is, meant, described, gives) = subst (IsFormOf Drvrun) is fits
 inputs_by Drvrun form told (input.Replay tables machine scripts history) fits (file, name, course, names, is, meant, described, gives) = subst (IsFormOf Drvrun) is fits
 inputs_by Drvrun form told (input.Upgrade tables machine scripts history) fits (file, name, course, names, is, meant, described, gives) = subst (IsFormOf Drvrun) is fits
+inputs_by Drvrun form told (input.Watch tables machine scripts lines) fits (file, name, course, names, is, meant, described, gives) = subst (IsFormOf Drvrun) is fits
 
 -- what reading the words of this program gave
 pub kind_read : (program : Program) (words : List (List ℕ)) (told : Option Files) (result : std.Result Inputs Status) → Reads (form_of program words) told result

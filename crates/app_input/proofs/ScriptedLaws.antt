@@ -16,7 +16,8 @@ use Rattle.config_rules.specs.ScriptText.{order_of}
 use Rattle.app_words.specs.declared.status.Status.{Status}
 use Rattle.app_words.specs.declared.status.Status.TheVariants.{Ok, ConfigRefused, Usage, MachineRefused, ScriptRefused, HistoryRefused, Absent, TooLong, ReadFault, WriteFault, Memory}
 use Rattle.app_words.specs.declared.words.Task.{Task}
-use Rattle.app_words.specs.declared.words.Task.TheVariants.{Play, Replay, Upgrade}
+use Rattle.app_words.specs.declared.words.Task.TheVariants.{Play, Replay, Upgrade, Watch}
+use Rattle.script_text.specs.WatchText.{watch_of}
 use Rattle.app_input.specs.declared.scripts.Course.{Course}
 use Rattle.app_input.specs.declared.scripts.Course.TheVariants as courses
 use Rattle.app_input.specs.declared.scripts.Scripted.{Scripted}
@@ -119,15 +120,16 @@ all_scripts f told names i n scripts h so_far =
 
 -- ---- the file with their course
 
--- a course is refused only where it is an order file
+-- a course is refused only for a bad line
+refused_line : {A : Type 0} (make : A → Course) (said : Result A (ℕ × ℕ)) (name : List ℕ) (status : Status) → (unless_bad_line 0 said >>= λ x. std.Ok (make x)) ≡ std.Err status → IsOfFile 0 name status
+refused_line make (std.Ok x) name status e = absurd cc
+refused_line make (std.Err fault) name status e = let same : ScriptRefused 0 fault.0 fault.1 ≡ status = cc in subst (IsOfFile 0 name) same refl
+
 course_refused : (task : Task) (callers : ℕ) (text name : List ℕ) (status : Status) → course_in task callers text ≡ std.Err status → IsOfFile 0 name status
-course_refused Play callers text name status is = by_order (order_of callers text) is
-  where
-    by_order : (order : Result (List ℕ) (ℕ × ℕ)) → (unless_bad_line 0 order >>= λ turns. std.Ok (courses.Play turns)) ≡ std.Err status → IsOfFile 0 name status
-    by_order (std.Ok turns) e = absurd cc
-    by_order (std.Err fault) e = let same : ScriptRefused 0 fault.0 fault.1 ≡ status = cc in subst (IsOfFile 0 name) same refl
+course_refused Play callers text name status is = refused_line courses.Play (order_of callers text) name status is
 course_refused Replay callers text name status is = absurd cc
 course_refused Upgrade callers text name status is = absurd cc
+course_refused Watch callers text name status is = refused_line courses.Watch (watch_of callers text) name status is
 
 -- a file that was read has the course that its text has
 pub course_read : (told : Option Files) (task : Task) (callers : ℕ) (name text given : List ℕ) (answer : Result Course Status) → ReadsFile told name (std.Ok text) → given ≡ text
@@ -138,16 +140,17 @@ course_read (Some files) task callers name text given answer read same (inr is) 
     inr (inr (whole_file (course_in task callers) name text (files name) read.1 read.0 ∙ ap (course_in task callers) (sym same) ∙ is))
 
 -- and a course is that of the task
+course_said : {A : Type 0} (make : A → Course) (task : Task) (said : Result A (ℕ × ℕ)) (course : Course) → ((x : A) → task_of (make x) ≡ task) → (unless_bad_line 0 said >>= λ x. std.Ok (make x)) ≡ std.Ok course → task_of course ≡ task
+course_said make task (std.Ok x) course of e = let same : make x ≡ course = cc in ap task_of (sym same) ∙ of x
+course_said make task (std.Err fault) course of e = absurd cc
+
 pub course_task : (task : Task) (callers : ℕ) (text : List ℕ) (answer : Result Course Status) → IsCourseOf task callers text answer → IfOk answer (λ course. task_of course ≡ task)
 course_task task callers text (std.Err status) is = tt
 course_task task callers text (std.Ok course) (inl want) = absurd cc
-course_task Play callers text (std.Ok course) (inr is) = by_order (order_of callers text) is
-  where
-    by_order : (order : Result (List ℕ) (ℕ × ℕ)) → (unless_bad_line 0 order >>= λ turns. std.Ok (courses.Play turns)) ≡ std.Ok course → task_of course ≡ Play
-    by_order (std.Ok turns) e = let same : courses.Play turns ≡ course = cc in ap task_of (sym same)
-    by_order (std.Err fault) e = absurd cc
+course_task Play callers text (std.Ok course) (inr is) = course_said courses.Play Play (order_of callers text) course (λ x. refl) is
 course_task Replay callers text (std.Ok course) (inr is) = let same : courses.Replay text ≡ course = cc in ap task_of (sym same)
 course_task Upgrade callers text (std.Ok course) (inr is) = let same : courses.Upgrade text ≡ course = cc in ap task_of (sym same)
+course_task Watch callers text (std.Ok course) (inr is) = course_said courses.Watch Watch (watch_of callers text) course (λ x. refl) is
 
 -- a refusal is that of this file
 pub course_of_file : (task : Task) (callers : ℕ) (text name : List ℕ) (answer : Result Course Status) → IsCourseOf task callers text answer → IfErr answer (IsOfFile 0 name)
@@ -211,6 +214,7 @@ reads_run : (form : Option Form) (told : Option Files) (tables : Tables) (machin
 reads_run form told tables machine scripts (courses.Play turns) run = run
 reads_run form told tables machine scripts (courses.Replay history) run = run
 reads_run form told tables machine scripts (courses.Upgrade history) run = run
+reads_run form told tables machine scripts (courses.Watch lines) run = run
 
 pub run_read : (form : Option Form) (told : Option Files) (task : Task) (file name course : List ℕ) (names : List (List ℕ)) (tables : Tables) (machine : Machine) (run : Scripted) (inputs : Inputs)
     → form ≡ Some (scripted task file name course names) → IsMeant told file tables → IsDescribed told name tables (std.Ok machine)
@@ -232,6 +236,7 @@ formed_at : (tables : Tables) (machine : Machine) (scripts : List (List Command)
 formed_at tables machine scripts (courses.Play turns) formed = formed
 formed_at tables machine scripts (courses.Replay history) formed = formed
 formed_at tables machine scripts (courses.Upgrade history) formed = formed
+formed_at tables machine scripts (courses.Watch lines) formed = formed
 
 -- such inputs are formed
 pub formed_run : (tables : Tables) (machine : Machine) (run : Scripted) (inputs : Inputs) → FormedTables tables → FittingMachine tables machine → FormedRun run → inputs ≡ inputs_by tables machine run

@@ -16,7 +16,7 @@ use Rattle.config_rules.specs.Meaning.{Means}
 use Rattle.config_rules.specs.Reading.{Files}
 use Rattle.load_maker.specs.Generated.{conf_text, machine_text}
 use Rattle.app_input.specs.declared.inputs.Inputs.{Inputs}
-use Rattle.app_input.specs.declared.inputs.Inputs.TheVariants.{Ioconf, Boot, Load, Play, Replay, Upgrade, Run}
+use Rattle.app_input.specs.declared.inputs.Inputs.TheVariants.{Ioconf, Boot, Load, Play, Replay, Upgrade, Watch, Run}
 use Rattle.app_input.specs.declared.inputs.Inputs.TheVariants as inputs
 use Rattle.app_words.specs.declared.program.Program.{Program}
 use Rattle.app_words.specs.declared.program.Program.TheVariants.{Devconf, Drvrun}
@@ -178,6 +178,7 @@ Reads form told (std.Ok (Load n tables machine)) = (form ≡ Some (load n)) × M
 Reads form told (std.Ok (Play tables machine scripts order)) = IsRun form told tables machine scripts (courses.Play order)
 Reads form told (std.Ok (Replay tables machine scripts history)) = IsRun form told tables machine scripts (courses.Replay history)
 Reads form told (std.Ok (Upgrade tables machine scripts history)) = IsRun form told tables machine scripts (courses.Upgrade history)
+Reads form told (std.Ok (Watch tables machine scripts lines)) = IsRun form told tables machine scripts (courses.Watch lines)
 Reads form told (std.Ok (Run tables machine scripts)) = RunsSideBySide form told tables machine (AreScripts told (std.Ok scripts))
 Reads form told (std.Err (ConfigRefused file line code)) =
     (f : Form) × (form ≡ Some f) × (is_compiled f ≡ true) × IsFirstFault (told_of f told) (config_of f) (record { file = file; line = line; code = code })
@@ -207,6 +208,7 @@ FormedInputs (Load n tables machine) = FormedTables tables × FittingMachine tab
 FormedInputs (Play tables machine scripts order) = AreFormed tables machine scripts (courses.Play order)
 FormedInputs (Replay tables machine scripts history) = AreFormed tables machine scripts (courses.Replay history)
 FormedInputs (Upgrade tables machine scripts history) = AreFormed tables machine scripts (courses.Upgrade history)
+FormedInputs (Watch tables machine scripts lines) = AreFormed tables machine scripts (courses.Watch lines)
 FormedInputs (Run tables machine scripts) = FormedTables tables × FittingMachine tables machine × FormedScripts scripts
 
 -- the words of the program may ask for such inputs: scripts side by side are what `drvrun` runs, and all that it does
@@ -230,6 +232,7 @@ abbrev pub inputs_at : Tables → Machine → List (List Command) → Course →
 inputs_at tables machine scripts (courses.Play order) = Play tables machine scripts order
 inputs_at tables machine scripts (courses.Replay history) = Replay tables machine scripts history
 inputs_at tables machine scripts (courses.Upgrade history) = Upgrade tables machine scripts history
+inputs_at tables machine scripts (courses.Watch lines) = Watch tables machine scripts lines
 
 abbrev pub inputs_by : Tables → Machine → Scripted → Inputs
 inputs_by tables machine p = inputs_at tables machine p.scripts p.course

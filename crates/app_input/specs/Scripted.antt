@@ -8,13 +8,14 @@ use Rattle.cf_io.specs.declared.files.TheConstants.{MAX_FILE}
 use Rattle.config_rules.specs.Cut.{◌>>=◌}
 use Rattle.config_rules.specs.Reading.{Files}
 use Rattle.config_rules.specs.ScriptText.{FormedScript, commands_of, order_of}
+use Rattle.script_text.specs.WatchText.{FormedWatchLine, watch_of}
 use Rattle.app_input.specs.declared.scripts.Course.{Course}
 use Rattle.app_input.specs.declared.scripts.Course.TheVariants as courses
 use Rattle.app_input.specs.declared.scripts.Scripted.{Scripted}
 use Rattle.app_words.specs.declared.status.Status.{Status}
 use Rattle.app_words.specs.declared.status.Status.TheVariants.{ScriptRefused, Absent, TooLong, ReadFault, Memory}
 use Rattle.app_words.specs.declared.words.Task.{Task}
-use Rattle.app_words.specs.declared.words.Task.TheVariants.{Play, Replay, Upgrade}
+use Rattle.app_words.specs.declared.words.Task.TheVariants.{Play, Replay, Upgrade, Watch}
 
 -- what a file gives by its text; one that is not there, or has more bytes than a file may have, is refused
 abbrev pub file_gives : {A : Type 0} → (List ℕ → Result A Status) → List ℕ → Option (List ℕ) → Result A Status
@@ -30,18 +31,20 @@ unless_bad_line which (std.Err fault) = std.Err (ScriptRefused which fault.0 fau
 abbrev pub script_of : Files → ℕ → List ℕ → Result (List Command) Status
 script_of files which name = file_gives (λ text. unless_bad_line which (commands_of text)) name (files name)
 
--- the course that a text has for so many callers: their turns, where it is an order file, which has the number 0; a history
--- is taken as it is
+-- the course that a text has for so many callers: their turns, where it is an order file, or the lines of a watch file, each of
+-- which has the number 0; a history is taken as it is
 abbrev pub course_in : Task → ℕ → List ℕ → Result Course Status
 course_in Play callers text = unless_bad_line 0 (order_of callers text) >>= λ turns. std.Ok (courses.Play turns)
 course_in Replay callers text = std.Ok (courses.Replay text)
 course_in Upgrade callers text = std.Ok (courses.Upgrade text)
+course_in Watch callers text = unless_bad_line 0 (watch_of callers text) >>= λ lines. std.Ok (courses.Watch lines)
 
 -- the task of a course
 abbrev pub task_of : Course → Task
 task_of (courses.Play turns) = Play
 task_of (courses.Replay history) = Replay
 task_of (courses.Upgrade history) = Upgrade
+task_of (courses.Watch lines) = Watch
 
 -- the course that the file of this name has
 abbrev pub course_of : Task → Files → ℕ → List ℕ → Result Course Status
@@ -102,11 +105,13 @@ IsOfScript names status = (place : ℕ) × (name : List ℕ) × (slice_get names
 abbrev pub IsOfScripted : List (List ℕ) → List ℕ → Status → Type 0
 IsOfScripted names name status = IsOfScript names status ⊎ IsOfFile 0 name status
 
--- each turn is that of one of so many callers; a history has no more bytes than a file may have
+-- each turn is that of one of so many callers; a history has no more bytes than a file may have; the numbers in a watch file are in
+-- their ranges
 abbrev pub FormedCourse : ℕ → Course → Type 0
 FormedCourse callers (courses.Play turns) = All (λ turn. (1 ≤ turn) × (turn ≤ callers)) turns
 FormedCourse callers (courses.Replay history) = length history ≤ MAX_FILE
 FormedCourse callers (courses.Upgrade history) = length history ≤ MAX_FILE
+FormedCourse callers (courses.Watch lines) = All (FormedWatchLine callers) lines
 
 -- from 1 to 16 scripts, each formed
 pub record FormedScripts (scripts : List (List Command)) : Type 0 where

@@ -15,6 +15,7 @@ use app_words::{Program, Status, Task, WordStop, Words, read_words};
 use cf_compile::{Compiled, compile};
 use cf_io::Files;
 use cf_types::{List, Machine, Script, Tables, Text};
+use script_text::WatchLine;
 use std::alloc::Global;
 
 /// What the words and the files that they name give.
@@ -60,6 +61,13 @@ pub enum Inputs {
         machine: Machine,
         scripts: List<Script>,
         history: Text,
+    },
+    /// The same with the lines of a watch file, which have turns, subscriptions and reads.
+    Watch {
+        tables: Tables,
+        machine: Machine,
+        scripts: List<Script>,
+        watch: List<WatchLine>,
     },
     /// The tables of a configuration, a machine that is to boot by them, and 1 to 16 scripts that run side by side behind
     /// that. See drvctl(8).
@@ -178,11 +186,17 @@ fn inputs_by(tables: Tables, machine: Machine, run: Scripted) -> Inputs
             scripts,
             history,
         },
+        Course::Watch(watch) => Inputs::Watch {
+            tables,
+            machine,
+            scripts,
+            watch,
+        },
     }
 }
 
-/// Reads the inputs of `play FILE MACHINE ORDER SCRIPT..`, or of `replay` or `upgrade` with a history: the configuration,
-/// the machine, the scripts, the order file or history.
+/// Reads the inputs of `play FILE MACHINE ORDER SCRIPT..`, of `replay` or `upgrade` with a history, or of `watch` with a watch file: the
+/// configuration, the machine, the scripts, the order file, history or watch file.
 fn read_scripted<F: Files>(
     alloc: Global,
     files: &mut F,

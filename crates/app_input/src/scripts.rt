@@ -2,6 +2,7 @@
 ghost use Rattle.std.specs.Prelude.{◌≡◌, ◌≤◌, [], ◌∷◌, All, IfErr, IfOk, IfSome, length, map, string_bytes};
 ghost use Rattle.cf_io.specs.declared.files.TheConstants.{MAX_FILE};
 ghost use Rattle.config_rules.specs.ScriptText.{FormedScript, commands_of, order_of};
+ghost use Rattle.script_text.specs.WatchText.{FormedWatchLine, watch_of};
 ghost use Rattle.app_input.specs.Asked.{IsAskedFor, script_files, scripted_files, up_to_refused};
 ghost use Rattle.app_input.specs.Scripted.{FormedCourse, FormedRun, IsCalledFor, IsCourseOf, IsOfFile, IsOfScript, IsOfScripted, Says, course_of, script_of, scripted_of, scripts_of, task_of};
 ghost use Rattle.app_words.specs.Status.{Counts, status_of};
@@ -10,7 +11,7 @@ use crate::file::load_file;
 use app_words::{Status, Task};
 use cf_io::Files;
 use cf_types::{List, Script, Text};
-use script_text::{ScriptStop, read_order, read_script};
+use script_text::{ScriptStop, WatchLine, read_order, read_script, read_watch};
 use std::alloc::Global;
 
 /// The course of the scripts of a run, and what is done by it.
@@ -22,6 +23,8 @@ pub enum Course {
     Replay(Text),
     /// This history of them is checked and written in format 2.
     Upgrade(Text),
+    /// They take turns while others read which devices came and went, by these lines.
+    Watch(List<WatchLine>),
 }
 
 /// The scripts of a run, and their course.
@@ -63,6 +66,23 @@ fn judge_order(alloc: Global, text: &[u8], callers: u8) -> Result<List<u8>, Stat
     }
 }
 
+/// The lines of a watch file that a text says.
+fn judge_watch(alloc: Global, text: &[u8], callers: u8) -> Result<List<WatchLine>, Status>
+    requires { length text.now ≤ MAX_FILE }
+    ensures says { Says 0 (watch_of callers text.now) result }
+    ensures formed { IfOk result (All (FormedWatchLine callers)) }
+{
+    match read_watch(alloc, text, callers) {
+        Ok(lines) => Ok(lines),
+        Err(ScriptStop::Fault { line, code }) => Err(Status::ScriptRefused {
+            which: 0,
+            line,
+            code,
+        }),
+        Err(ScriptStop::Memory) => Err(Status::Memory),
+    }
+}
+
 /// The course that a text has for so many callers. A history is judged when it is replayed.
 fn judge_course(alloc: Global, task: Task, text: Text, callers: u8) -> Result<Course, Status>
     requires short { length text ≤ MAX_FILE }
@@ -78,6 +98,10 @@ fn judge_course(alloc: Global, task: Task, text: Text, callers: u8) -> Result<Co
         },
         Task::Replay => Ok(Course::Replay(text)),
         Task::Upgrade => Ok(Course::Upgrade(text)),
+        Task::Watch => match judge_watch(alloc, text.items(), callers) {
+            Ok(lines) => Ok(Course::Watch(lines)),
+            Err(status) => Err(status),
+        },
     }
 }
 

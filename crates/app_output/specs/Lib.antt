@@ -1,5 +1,6 @@
 pub mod Ended
 pub mod NextLine
+pub mod NoteText
 pub mod Output
 pub mod RunText
 pub mod Status

@@ -7,7 +7,7 @@ use Rattle.app_words.specs.declared.status.Status.TheVariants.{Ok, ConfigRefused
 
 -- the forms that the words of a program may have
 abbrev pub usage_text : Program → List ℕ
-usage_text Devconf = codes "usage: devconf ioconf FILE | boot FILE MACHINE | play FILE MACHINE ORDER SCRIPT.. | replay FILE MACHINE HISTORY SCRIPT.. | upgrade FILE MACHINE HISTORY SCRIPT.. | files FILE | load N"
+usage_text Devconf = codes "usage: devconf ioconf FILE | boot FILE MACHINE | play FILE MACHINE ORDER SCRIPT.. | replay FILE MACHINE HISTORY SCRIPT.. | upgrade FILE MACHINE HISTORY SCRIPT.. | files FILE | watch FILE MACHINE WATCH SCRIPT.. | load N"
 usage_text Drvrun = codes "usage: drvrun FILE MACHINE SCRIPT.."
 
 -- a file of a kind, at a line
@@ -23,7 +23,7 @@ abbrev pub machine_word : Program → List (List ℕ) → List ℕ
 machine_word Devconf words = slice_index_or words 2 []
 machine_word Drvrun words = slice_index_or words 1 []
 
--- the fourth word of `devconf` names the order file or the history, and those behind it the scripts, numbered from 1; those
+-- the fourth word of `devconf` names the order file, the history or the watch file, and those behind it the scripts, numbered from 1; those
 -- of `drvrun` stand behind its second word
 abbrev pub script_word : Program → List (List ℕ) → ℕ → List ℕ
 script_word Devconf words which = slice_index_or words (3 + which) []

@@ -1,10 +1,11 @@
-//! Puts what a run found to a sink, line by line: the listing of its tables, its history and its device tree, a history that
-//! was read, the sources that are selected, and the line of its status.
+//! Puts what a run found to a sink, line by line: the listing of its tables, its history and its device tree, what was read of it, a
+//! history that was read, the sources that are selected, and the line of its status.
 #![tactic(auto)]
 
 mod history;
 mod lines;
 mod listing;
+mod notes;
 mod paths;
 mod piece;
 mod run;
@@ -14,6 +15,7 @@ mod tree;
 
 pub use history::put_history;
 pub use listing::{put_listing, put_listing_with};
+pub use notes::put_watch;
 pub use paths::put_paths;
 pub use piece::{flush, put_piece};
 pub use run::put_run;

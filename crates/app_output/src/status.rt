@@ -10,7 +10,7 @@ use cf_types::{Memory, put_decimal};
 use std::alloc::Global;
 
 const DEVCONF_USAGE: &[u8] =
-    b"usage: devconf ioconf FILE | boot FILE MACHINE | play FILE MACHINE ORDER SCRIPT.. | replay FILE MACHINE HISTORY SCRIPT.. | upgrade FILE MACHINE HISTORY SCRIPT.. | files FILE | load N\n";
+    b"usage: devconf ioconf FILE | boot FILE MACHINE | play FILE MACHINE ORDER SCRIPT.. | replay FILE MACHINE HISTORY SCRIPT.. | upgrade FILE MACHINE HISTORY SCRIPT.. | files FILE | watch FILE MACHINE WATCH SCRIPT.. | load N\n";
 
 const DRVRUN_USAGE: &[u8] = b"usage: drvrun FILE MACHINE SCRIPT..\n";
 
@@ -83,7 +83,7 @@ fn machine_word(program: Program, words: &[String]) -> &[u8]
     }
 }
 
-/// The word that names the script with this number, or by 0 the order file or the history.
+/// The word that names the script with this number, or by 0 the order file, the history or the watch file.
 fn script_word(program: Program, words: &[String], which: u8) -> &[u8]
     ensures { result.now ≡ script_word program (map string_bytes words.now) which }
 {

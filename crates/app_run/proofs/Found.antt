@@ -43,6 +43,7 @@ asked_by form told (input.Load n tables machine) b read formed ran = absurd ran
 asked_by form told (input.Play tables machine scripts order) b read formed ran = absurd ran
 asked_by form told (input.Replay tables machine scripts history) b read formed ran = absurd ran
 asked_by form told (input.Upgrade tables machine scripts history) b read formed ran = absurd ran
+asked_by form told (input.Watch tables machine scripts watch) b read formed ran = absurd ran
 
 -- its tables have a graph
 ran_graph : (inputs : Inputs) (b : Shown) → FormedInputs inputs → HasRun inputs b → FitGraph b.world.setup.tables
@@ -54,6 +55,7 @@ ran_graph (input.Load n tables machine) b formed ran = absurd ran
 ran_graph (input.Play tables machine scripts order) b formed ran = absurd ran
 ran_graph (input.Replay tables machine scripts history) b formed ran = absurd ran
 ran_graph (input.Upgrade tables machine scripts history) b formed ran = absurd ran
+ran_graph (input.Watch tables machine scripts watch) b formed ran = absurd ran
 
 -- what was found for the words and the files
 pub found_by : (form : Option Form) (told : Option Files) (inputs : Inputs) (result : Result Shown Status) → Reads form told (std.Ok inputs) → FormedInputs inputs → RanFor inputs result

@@ -3,3 +3,4 @@ pub mod BadLines
 pub mod Counts
 pub mod RanLaws
 pub mod ReplayLaws
+pub mod WatchedLaws

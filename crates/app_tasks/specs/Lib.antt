@@ -1,3 +1,5 @@
 pub mod Ran
 pub mod Retold
 pub mod Summary
+pub mod Watched
+pub mod Watching

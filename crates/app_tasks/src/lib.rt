@@ -1,4 +1,4 @@
-//! What is done with a machine that was read: it is booted, played, summed up, or a history of it is read again. Nothing here
+//! What is done with a machine that was read: it is booted, played, watched, summed up, or a history of it is read again. Nothing here
 //! sees words, files or the output.
 #![tactic(auto)]
 
@@ -7,8 +7,10 @@ mod load;
 mod play;
 mod replay;
 mod summary;
+mod watch;
 
 pub use boot::booted;
 pub use load::loaded;
 pub use play::played;
 pub use replay::retold;
+pub use watch::{WatchedRun, watched};

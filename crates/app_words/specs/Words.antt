@@ -8,7 +8,7 @@ use Rattle.config_rules.specs.Form.{given}
 use Rattle.app_words.specs.declared.program.Program.{Program}
 use Rattle.app_words.specs.declared.program.Program.TheVariants.{Devconf, Drvrun}
 use Rattle.app_words.specs.declared.words.Task.{Task}
-use Rattle.app_words.specs.declared.words.Task.TheVariants.{Play, Replay, Upgrade}
+use Rattle.app_words.specs.declared.words.Task.TheVariants.{Play, Replay, Upgrade, Watch}
 use Rattle.app_words.specs.declared.words.Words.{Words}
 use Rattle.app_words.specs.declared.words.Words.TheVariants as words
 use Rattle.app_words.specs.declared.words.WordStop.{WordStop}
@@ -84,7 +84,8 @@ form_named word operands =
     else (if bytes_eq word (codes "load") then load_form operands
     else (if bytes_eq word (codes "play") then scripted_form Play operands
     else (if bytes_eq word (codes "replay") then scripted_form Replay operands
-    else (if bytes_eq word (codes "upgrade") then scripted_form Upgrade operands else None))))))
+    else (if bytes_eq word (codes "upgrade") then scripted_form Upgrade operands
+    else (if bytes_eq word (codes "watch") then scripted_form Watch operands else None)))))))
 
 -- the form of the words of `devconf`: each word behind the first is an operand
 abbrev pub devconf_form : List (List ℕ) → Option Form

@@ -111,7 +111,7 @@ pub fn boot_words<'a>(alloc: Global, operands: &'a [String]) -> Result<Words<'a>
     Ok(Words::Boot { file, machine })
 }
 
-/// Reads the operands `FILE MACHINE COURSE SCRIPT..`, where COURSE is an order file or a history.
+/// Reads the operands `FILE MACHINE COURSE SCRIPT..`, where COURSE is an order file, a history or a watch file.
 pub fn scripted_words<'a>(
     alloc: Global,
     task: Task,

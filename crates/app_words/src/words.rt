@@ -16,6 +16,8 @@ pub enum Task {
     Replay,
     /// A history of them is checked and written in format 2.
     Upgrade,
+    /// They take turns while others read which devices came and went, in the order of a watch file.
+    Watch,
 }
 
 /// What words ask for.
@@ -38,8 +40,8 @@ pub enum Words<'a> {
     Load {
         count: u32,
     },
-    /// `play FILE MACHINE ORDER SCRIPT..`, or `replay` or `upgrade` with a history in place of the order file, with 1 to
-    /// 16 scripts.
+    /// `play FILE MACHINE ORDER SCRIPT..`, or `replay` or `upgrade` with a history in place of the order file, or `watch` with a
+    /// watch file, with 1 to 16 scripts.
     Scripted {
         task: Task,
         file: &'a str,
@@ -143,6 +145,9 @@ fn devconf_words<'a>(alloc: Global, words: &'a [String]) -> Result<Words<'a>, Wo
     }
     if word.as_bytes() == b"upgrade".as_slice() {
         return scripted_words(alloc, Task::Upgrade, operands);
+    }
+    if word.as_bytes() == b"watch".as_slice() {
+        return scripted_words(alloc, Task::Watch, operands);
     }
     Err(WordStop::Usage)
 }

@@ -7,7 +7,9 @@ mod news;
 mod note;
 mod parents;
 mod queue;
+mod reading;
 
 pub use laws::{each_detach_told, reads_in_order};
 pub use monitor::Monitor;
 pub use note::Note;
+pub use reading::Reading;

@@ -1,6 +1,6 @@
 use Rattle.std.proofs.Common.{refl, Err}
 use Rattle.app_input.specs.declared.inputs.Inputs.TheVariants as input
-use Rattle.app_config.proofs.FoundLaws.{boot_graph, boot_ran, history_retold, listed, load_ran, not_selected, not_selected_counted, play_graph, play_ran, selected, tree_retold}
+use Rattle.app_config.proofs.FoundLaws.{boot_graph, boot_ran, history_retold, listed, load_ran, not_selected, not_selected_counted, play_graph, play_ran, selected, tree_retold, watch_graph, watch_ran}
 use Rattle.app_words.specs.Status.{status_of}
 use Rattle.app_words.specs.declared.status.Status.TheVariants as status
 use Rattle.app_config.proofs.AskedLaws.{selected_then, then_by, unselected_then}
@@ -88,3 +88,21 @@ returns-in_err-line-in-Load-clause-asked g c =
 pub returns-in_err-board-in-Play-clause-asked : goal.returns-in_err-board-in-Play-clause-asked
 returns-in_err-board-in-Play-clause-asked g c =
     then_by (g.F.Files.told c.args.files.now) c.args.inputs (input.Play c.in-Play.tables c.in-Play.machine c.in-Play.scripts c.in-Play.order) (status_of c.from_residual-in_err-board-in-Play.result) (g.F.Files.asked c.args.files.now) c.in-Play.is refl
+
+pub returns-in_ok-run-in-Watch-clause-found : goal.returns-in_ok-run-in-Watch-clause-found
+returns-in_ok-run-in-Watch-clause-found g c =
+    watch_ran _ c.args.inputs c.in-Watch.tables c.in-Watch.machine c.in-Watch.scripts c.in-Watch.watch c.items-in-Watch.result.now c.in_ok-run-in-Watch.run'.readings c.in_ok-run-in-Watch.run'.board
+    c.in-Watch.is c.items-in-Watch.ensures c.in_ok-run-in-Watch.ensures
+
+pub returns-in_ok-run-in-Watch-clause-graphed : goal.returns-in_ok-run-in-Watch-clause-graphed
+returns-in_ok-run-in-Watch-clause-graphed g c =
+    watch_graph c.args.inputs c.in-Watch.tables c.in-Watch.machine c.in-Watch.scripts c.in-Watch.watch c.items-in-Watch.result.now c.in_ok-run-in-Watch.run'.readings c.in_ok-run-in-Watch.run'.board
+    c.requires.formed c.in-Watch.is c.in_ok-run-in-Watch.ensures
+
+pub returns-in_ok-run-in-Watch-clause-asked : goal.returns-in_ok-run-in-Watch-clause-asked
+returns-in_ok-run-in-Watch-clause-asked g c =
+    then_by (g.F.Files.told c.args.files.now) c.args.inputs (input.Watch c.in-Watch.tables c.in-Watch.machine c.in-Watch.scripts c.in-Watch.watch) status.Ok (g.F.Files.asked c.args.files.now) c.in-Watch.is refl
+
+pub returns-in_err-run-in-Watch-clause-asked : goal.returns-in_err-run-in-Watch-clause-asked
+returns-in_err-run-in-Watch-clause-asked g c =
+    then_by (g.F.Files.told c.args.files.now) c.args.inputs (input.Watch c.in-Watch.tables c.in-Watch.machine c.in-Watch.scripts c.in-Watch.watch) (status_of c.from_residual-in_err-run-in-Watch.result) (g.F.Files.asked c.args.files.now) c.in-Watch.is refl
