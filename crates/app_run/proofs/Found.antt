@@ -4,8 +4,9 @@ use Rattle.std.specs.Prelude.{◌⊎◌, IfOk, IfSome, Result}
 use Rattle.std.specs.Prelude as std
 use Rattle.attr_graph.specs.Graphs.{FitGraph}
 use Rattle.cf_io.specs.Faults.{Rose}
+use Rattle.cf_types.specs.declared.machine.Ticket.{Ticket}
 use Rattle.config_rules.specs.Reading.{Files}
-use Rattle.dev_board.specs.Shown.{Shown}
+use Rattle.board_lock.specs.Boards.{FinishedShown}
 use Rattle.run_rules.specs.declared.world.Setup.{Setup}
 use Rattle.app_input.specs.Inputs.{FormedInputs, IsDue, Reads}
 use Rattle.app_words.specs.Status.{Counts, status_of}
@@ -16,7 +17,7 @@ use Rattle.app_input.specs.declared.inputs.Inputs.TheVariants as input
 use Rattle.app_words.specs.declared.status.Status.{Status}
 use Rattle.app_words.specs.declared.status.Status.TheVariants.{Memory}
 use Rattle.app_output.specs.RunText.{run_text}
-use Rattle.app_run.specs.Asked.{Asks, FindsRun, HasRun, IsDueOr, RanFor}
+use Rattle.app_run.specs.Asked.{Asks, FindsRun, HasRun, IsDueOr, RanFor, left_text}
 
 -- the answer that these inputs are, and the one that a refusal is
 abbrev pub answer : Inputs → Result Inputs Status
@@ -25,65 +26,67 @@ answer inputs = std.Ok inputs
 abbrev pub refusal : Status → Result Inputs Status
 refusal status = std.Err status
 
--- the board on which the scripts of these inputs ran has the text that is asked for
-asked_by : (form : Option Form) (told : Option Files) (inputs : Inputs) (b : Shown) → Reads form told (std.Ok inputs) → FormedInputs inputs → HasRun inputs b
-    → Asks form told (run_text b.world.setup.tables b.events b.world)
-asked_by form told (Run tables machine scripts) b read formed ran = record {
+-- what is left of a run of the scripts of these inputs has the text that is asked for
+asked_by : (P : Ticket → Type 0) (form : Option Form) (told : Option Files) (inputs : Inputs) (left : FinishedShown) → Reads form told (std.Ok inputs) → FormedInputs inputs → HasRun P inputs left
+    → Asks P form told (left_text left)
+asked_by P form told (Run tables machine scripts) left read formed ran = record {
   tables = tables;
   machine = machine;
   scripts = scripts;
   read = read;
   formed = formed;
-  ran = (b.events, b.world, ran, ap (λ (s : Setup). run_text s.tables b.events b.world) ran.made);
+  ran = (left.board.events, left.board.world, ran, ap (λ (s : Setup). run_text s.tables left.board.events left.board.world) ran.made);
 }
-asked_by form told (input.Ioconf tables) b read formed ran = absurd ran
-asked_by form told (input.Files name) b read formed ran = absurd ran
-asked_by form told (input.Boot tables machine) b read formed ran = absurd ran
-asked_by form told (input.Load n tables machine) b read formed ran = absurd ran
-asked_by form told (input.Play tables machine scripts order) b read formed ran = absurd ran
-asked_by form told (input.Replay tables machine scripts history) b read formed ran = absurd ran
-asked_by form told (input.Upgrade tables machine scripts history) b read formed ran = absurd ran
-asked_by form told (input.Watch tables machine scripts watch) b read formed ran = absurd ran
+asked_by P form told (input.Ioconf tables) left read formed ran = absurd ran
+asked_by P form told (input.Files name) left read formed ran = absurd ran
+asked_by P form told (input.Boot tables machine) left read formed ran = absurd ran
+asked_by P form told (input.Load n tables machine) left read formed ran = absurd ran
+asked_by P form told (input.Play tables machine scripts order) left read formed ran = absurd ran
+asked_by P form told (input.Replay tables machine scripts history) left read formed ran = absurd ran
+asked_by P form told (input.Upgrade tables machine scripts history) left read formed ran = absurd ran
+asked_by P form told (input.Watch tables machine scripts watch) left read formed ran = absurd ran
 
 -- its tables have a graph
-ran_graph : (inputs : Inputs) (b : Shown) → FormedInputs inputs → HasRun inputs b → FitGraph b.world.setup.tables
-ran_graph (Run tables machine scripts) b formed ran = subst (λ (s : Setup). FitGraph s.tables) (sym ran.made) formed.0.graph
-ran_graph (input.Ioconf tables) b formed ran = absurd ran
-ran_graph (input.Files name) b formed ran = absurd ran
-ran_graph (input.Boot tables machine) b formed ran = absurd ran
-ran_graph (input.Load n tables machine) b formed ran = absurd ran
-ran_graph (input.Play tables machine scripts order) b formed ran = absurd ran
-ran_graph (input.Replay tables machine scripts history) b formed ran = absurd ran
-ran_graph (input.Upgrade tables machine scripts history) b formed ran = absurd ran
-ran_graph (input.Watch tables machine scripts watch) b formed ran = absurd ran
+ran_graph : (P : Ticket → Type 0) (inputs : Inputs) (left : FinishedShown) → FormedInputs inputs → HasRun P inputs left → FitGraph left.board.world.setup.tables
+ran_graph P (Run tables machine scripts) left formed ran = subst (λ (s : Setup). FitGraph s.tables) (sym ran.made) formed.0.graph
+ran_graph P (input.Ioconf tables) left formed ran = absurd ran
+ran_graph P (input.Files name) left formed ran = absurd ran
+ran_graph P (input.Boot tables machine) left formed ran = absurd ran
+ran_graph P (input.Load n tables machine) left formed ran = absurd ran
+ran_graph P (input.Play tables machine scripts order) left formed ran = absurd ran
+ran_graph P (input.Replay tables machine scripts history) left formed ran = absurd ran
+ran_graph P (input.Upgrade tables machine scripts history) left formed ran = absurd ran
+ran_graph P (input.Watch tables machine scripts watch) left formed ran = absurd ran
 
 -- what was found for the words and the files
-pub found_by : (form : Option Form) (told : Option Files) (inputs : Inputs) (result : Result Shown Status) → Reads form told (std.Ok inputs) → FormedInputs inputs → RanFor inputs result
-    → FindsRun form told result
-found_by form told inputs (std.Ok b) read formed ran = asked_by form told inputs b read formed ran
-found_by form told inputs (std.Err status) read formed want = subst (λ (s : Status). Reads form told (std.Err s)) (sym want) tt
+pub found_by : (P : Ticket → Type 0) (form : Option Form) (told : Option Files) (inputs : Inputs) (result : Result FinishedShown Status) → Reads form told (std.Ok inputs) → FormedInputs inputs
+    → RanFor P inputs result → FindsRun P form told result
+found_by P form told inputs (std.Ok left) read formed ran = asked_by P form told inputs left read formed ran
+found_by P form told inputs (std.Err status) read formed want = subst (λ (s : Status). Reads form told (std.Err s)) (sym want) tt
 
-pub graph_by : (inputs : Inputs) (result : Result Shown Status) → FormedInputs inputs → RanFor inputs result → IfOk result (λ b. FitGraph b.world.setup.tables)
-graph_by inputs (std.Ok b) formed ran = ran_graph inputs b formed ran
-graph_by inputs (std.Err status) formed want = tt
+pub graph_by : (P : Ticket → Type 0) (inputs : Inputs) (result : Result FinishedShown Status) → FormedInputs inputs → RanFor P inputs result
+    → IfOk result (λ left. FitGraph left.board.world.setup.tables)
+graph_by P inputs (std.Ok left) formed ran = ran_graph P inputs left formed ran
+graph_by P inputs (std.Err status) formed want = tt
 
 -- no file is read behind the inputs
-pub counted_by : (before after : ℕ) (inputs : Inputs) (result : Result Shown Status) → Counts before after (answer inputs) → RanFor inputs result → Counts before after result
-counted_by before after inputs (std.Ok b) counts ran = counts
-counted_by before after inputs (std.Err status) counts want = subst (λ (s : Status). Counts {A = Shown} before after (std.Err s)) (sym want) counts
+pub counted_by : (P : Ticket → Type 0) (before after : ℕ) (inputs : Inputs) (result : Result FinishedShown Status) → Counts before after (answer inputs) → RanFor P inputs result
+    → Counts before after result
+counted_by P before after inputs (std.Ok left) counts ran = counts
+counted_by P before after inputs (std.Err status) counts want = subst (λ (s : Status). Counts {A = FinishedShown} before after (std.Err s)) (sym want) counts
 
 -- the status that is due where inputs were read: all was written, or memory ran out
-due_found : (form : Option Form) (files : Files) (inputs : Inputs) (result : Result Shown Status) → RanFor inputs result
+due_found : (P : Ticket → Type 0) (form : Option Form) (files : Files) (inputs : Inputs) (result : Result FinishedShown Status) → RanFor P inputs result
     → (answer inputs ≡ std.Err Memory) ⊎ IsDue form files (answer inputs) → IsDueOr form files (status_of result)
-due_found form files inputs (std.Ok b) ran (inl e) = absurd (cc)
-due_found form files inputs (std.Ok b) ran (inr due) = inr (answer inputs, due, refl)
-due_found form files inputs (std.Err status) want due = inl want
+due_found P form files inputs (std.Ok left) ran (inl e) = absurd (cc)
+due_found P form files inputs (std.Ok left) ran (inr due) = inr (answer inputs, due, refl)
+due_found P form files inputs (std.Err status) want due = inl want
 
-pub due_by : (told : Option Files) (form : Option Form) (before after : ℕ) (inputs : Inputs) (result : Result Shown Status) → RanFor inputs result
+pub due_by : (P : Ticket → Type 0) (told : Option Files) (form : Option Form) (before after : ℕ) (inputs : Inputs) (result : Result FinishedShown Status) → RanFor P inputs result
     → IfSome told (λ files. ¬ Rose before after → (answer inputs ≡ std.Err Memory) ⊎ IsDue form files (answer inputs))
     → IfSome told (λ files. ¬ Rose before after → IsDueOr form files (status_of result))
-due_by None form before after inputs result ran due = due
-due_by (Some files) form before after inputs result ran due = λ quiet. due_found form files inputs result ran (due quiet)
+due_by P None form before after inputs result ran due = due
+due_by P (Some files) form before after inputs result ran due = λ quiet. due_found P form files inputs result ran (due quiet)
 
 -- where they were refused
 pub due_refused : (told : Option Files) (form : Option Form) (before after : ℕ) (status : Status)

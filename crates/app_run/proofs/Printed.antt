@@ -2,6 +2,7 @@
 use Rattle.std.proofs.Common.{◌≡◌, ◌∙◌, ◌++◌, ℕ, List, refl, sym, subst}
 use Rattle.cf_types.specs.declared.machine.Command.{Command}
 use Rattle.cf_types.specs.declared.machine.Machine.{Machine}
+use Rattle.cf_types.specs.declared.machine.Ticket.{Ticket}
 use Rattle.cf_types.specs.declared.tables.Tables.{Tables}
 use Rattle.config_rules.specs.Listing.{listing}
 use Rattle.run_rules.specs.declared.event.Event.{Event}
@@ -23,8 +24,8 @@ text_parts tables h w = refl
 may_play : (tables : Tables) (machine : Machine) (scripts : List (List Command)) → FormedInputs (Run tables machine scripts) → MayPlay (setup_of tables machine scripts)
 may_play tables machine scripts (formed, fits, all) = record { may = may_replay tables machine scripts formed fits all.few all.each; scripts = all.each }
 
-pub printed_taken : TakesPrinted
-printed_taken files name tables machine scripts text meant one formed (h, w, ran, is) =
+pub printed_taken : (P : Ticket → Type 0) → TakesPrinted P
+printed_taken P files name tables machine scripts text meant one formed (h, w, ran, is) =
     let s = setup_of tables machine scripts in (
       h,
       w,

@@ -2,6 +2,7 @@
 use Rattle.std.specs.Prelude.{◌≡◌, ℕ, List}
 use Rattle.cf_types.specs.declared.machine.Command.{Command}
 use Rattle.cf_types.specs.declared.machine.Machine.{Machine}
+use Rattle.cf_types.specs.declared.machine.Ticket.{Ticket}
 use Rattle.cf_types.specs.declared.tables.Tables.{Tables}
 use Rattle.config_rules.specs.Meaning.{Means}
 use Rattle.config_rules.specs.Reading.{Files}
@@ -16,8 +17,8 @@ use Rattle.app_run.specs.Asked.{IsRunText}
 
 -- the text of a run of scripts side by side, by an accepted configuration whose name has no newline, is taken as the history of
 -- this run, so that it leads to the tree that the text ends with
-abbrev pub TakesPrinted : Type 0
-TakesPrinted =
+abbrev pub TakesPrinted : (Ticket → Type 0) → Type 0
+TakesPrinted carried =
     (files : Files) (name : List ℕ) (tables : Tables) (machine : Machine) (scripts : List (List Command)) (text : List ℕ) → Means files name tables → IsOneLine name
-    → FormedInputs (Run tables machine scripts) → IsRunText tables machine scripts text
+    → FormedInputs (Run tables machine scripts) → IsRunText carried tables machine scripts text
     → (h : List Event) × (w : World) × (text ≡ run_text tables h w) × Takes (setup_of tables machine scripts) text h w

@@ -1,5 +1,6 @@
 -- What is left of a machine on which scripts ran side by side.
 use Rattle.std.specs.Prelude.{◌≡◌, List}
+use Rattle.cf_types.specs.declared.machine.Ticket.{Ticket}
 use Rattle.boot_laws.specs.Thorough.{IsThorough}
 use Rattle.history_laws.specs.Reliable.{IsReliable}
 use Rattle.run_rules.specs.declared.event.Event.{Event}
@@ -7,11 +8,14 @@ use Rattle.run_rules.specs.declared.world.Setup.{Setup}
 use Rattle.run_rules.specs.Run.{Run}
 use Rattle.run_rules.specs.World.{World, opening}
 use Rattle.script_laws.specs.Whole.{AllRanWhole}
+use Rattle.board_lock.specs.Carried.{CarriedRun}
 
--- the history is one run of this setup, which leaves this world; it begins with the boot, every script has ended in it, and each
--- command of a script was answered once, in the order of its script; the history is reliable and thorough
-pub record RanSideBySide (setup : Setup) (h : List Event) (w : World) : Type 0 where
+-- the history is one run of this setup, which leaves this world; each transfer that ended in it was carried out; it begins with the boot,
+-- every script has ended in it, and each command of a script was answered once, in the order of its script; the history is reliable and
+-- thorough
+pub record RanSideBySide (carried : Ticket → Type 0) (setup : Setup) (h : List Event) (w : World) : Type 0 where
   pub run : Run (opening setup) h w
+  pub transfers : CarriedRun carried (opening setup) h w
   pub made : w.setup ≡ setup
   pub whole : AllRanWhole h w
   pub reliable : IsReliable h w

@@ -5,15 +5,16 @@ ghost use Rattle.config_rules.specs.ScriptText.{FormedScript};
 ghost use Rattle.run_rules.specs.World.{setup_of};
 ghost use Rattle.app_run.specs.Ran.{RanSideBySide};
 
+use board_lock::Finished;
 use cf_types::{List, Machine, Memory, Script, Tables};
-use dev_board::{Board, booted_board};
+use dev_board::booted_board;
 use drv_workers::{Medium, run_scripts};
 use std::alloc::Global;
 use std::sync::Wait;
 use std::thread::Threads;
 
-/// Boots a machine, runs each script in a thread of its own, with transfers through the medium, and gives the board once all of
-/// them have ended. Where scripts wait for one another for good, so does the call. See drvctl(8).
+/// Boots a machine, runs each script in a thread of its own, with transfers through the medium, and gives what is left once all of
+/// them have ended: the board that was behind the lock. Where scripts wait for one another for good, so does the call. See drvctl(8).
 pub fn side_by_side<M: Medium + Sync, R: Threads + Wait + Sync>(
     rt: &R,
     alloc: Global,
@@ -21,16 +22,16 @@ pub fn side_by_side<M: Medium + Sync, R: Threads + Wait + Sync>(
     machine: Machine,
     scripts: List<Script>,
     medium: &M,
-) -> Result<Board, Memory>
+) -> Result<Finished, Memory>
     requires formed { FormedTables tables }
     requires fits { FittingMachine tables machine }
     requires some { 0 < length scripts }
     requires few { length scripts ≤ 16 }
     requires scripts { All FormedScript scripts }
-    ensures { IfOk result (λ b. RanSideBySide (setup_of tables machine scripts) b.events b.world) }
+    ensures { IfOk result (λ left. RanSideBySide M.carried (setup_of tables machine scripts) left.board.events left.board.world) }
 {
     let (board, slots) = booted_board(alloc, tables, machine, scripts)?;
     drop(slots);
     let left = run_scripts(rt, alloc, board, medium)?;
-    Ok(left.board)
+    Ok(left)
 }

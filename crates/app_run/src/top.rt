@@ -9,32 +9,31 @@ ghost use Rattle.app_words.specs.Status.{Counts, status_of};
 ghost use Rattle.app_words.specs.Words.{drvrun_form};
 ghost use Rattle.app_output.specs.Ended.{Faults};
 ghost use Rattle.app_output.specs.Output.{Writes};
-ghost use Rattle.app_output.specs.RunText.{run_text};
 ghost use Rattle.app_output.specs.Status.{err_text};
-ghost use Rattle.app_run.specs.Asked.{Explains, FindsRun, IsDueOr, RanFor};
+ghost use Rattle.app_run.specs.Asked.{Explains, FindsRun, IsDueOr, RanFor, left_text};
 
 use crate::scripts::side_by_side;
 use app_input::{Inputs, read_inputs};
 use app_output::{OutputStop, flush, put_run, report, status_after};
 use app_words::{Program, Status};
+use board_lock::Finished;
 use cf_io::{Files, Sink};
-use dev_board::Board;
 use drv_workers::Medium;
 use std::alloc::Global;
 use std::mem::forget;
 use std::sync::Wait;
 use std::thread::Threads;
 
-/// The board of these inputs, once all of their scripts have ended.
-fn board_of<R: Threads + Wait + Sync, M: Medium + Sync>(
+/// What is left of a run of the scripts of these inputs, once all of them have ended.
+fn left_of<R: Threads + Wait + Sync, M: Medium + Sync>(
     rt: &R,
     alloc: Global,
     inputs: Inputs,
     medium: &M,
-) -> Result<Board, Status>
+) -> Result<Finished, Status>
     requires formed { FormedInputs inputs }
     requires kind { IsInputsOf Program.Drvrun inputs }
-    ensures { RanFor inputs result }
+    ensures { RanFor M.carried inputs result }
 {
     match inputs {
         Inputs::Run {
@@ -42,8 +41,8 @@ fn board_of<R: Threads + Wait + Sync, M: Medium + Sync>(
             machine,
             scripts,
         } => {
-            let board = side_by_side(rt, alloc, tables, machine, scripts, medium)?;
-            Ok(board)
+            let left = side_by_side(rt, alloc, tables, machine, scripts, medium)?;
+            Ok(left)
         }
         _ => unreachable!(),
     }
@@ -56,27 +55,27 @@ fn find<R: Threads + Wait + Sync, F: Files, M: Medium + Sync>(
     words: &[String],
     files: &mut F,
     medium: &M,
-) -> Result<Board, Status>
+) -> Result<Finished, Status>
     ensures told { F.told files.new ≡ F.told files.old }
-    ensures found { FindsRun (drvrun_form (map string_bytes words.now)) (F.told files.old) result }
+    ensures found { FindsRun M.carried (drvrun_form (map string_bytes words.now)) (F.told files.old) result }
     ensures counted { Counts (F.faults files.old) (F.faults files.new) result }
     ensures due { IfSome (F.told files.old) (λ named. ¬ Rose (F.faults files.old) (F.faults files.new)
         → IsDueOr (drvrun_form (map string_bytes words.now)) named (status_of result)) }
     ensures asked { AsksInputs (drvrun_form (map string_bytes words.now)) (F.told files.old) (status_of result) (F.asked files.old) (F.asked files.new) }
-    ensures graphed { IfOk result (λ board. FitGraph board.world.setup.tables) }
+    ensures graphed { IfOk result (λ left. FitGraph left.board.world.setup.tables) }
 {
     match read_inputs(alloc, Program::Drvrun, words, files) {
-        Ok(inputs) => board_of(rt, alloc, inputs, medium),
+        Ok(inputs) => left_of(rt, alloc, inputs, medium),
         Err(status) => Err(status),
     }
 }
 
 /// Writes the listing, the history and the tree to the stream.
-fn write_run<S: Sink>(alloc: Global, board: &Board, out: &mut S) -> Result<(), OutputStop>
-    requires { FitGraph board.now.world.setup.tables }
-    ensures { Writes (run_text board.now.world.setup.tables board.now.events board.now.world) (S.told out.old) (S.told out.new) result }
+fn write_run<S: Sink>(alloc: Global, left: &Finished, out: &mut S) -> Result<(), OutputStop>
+    requires { FitGraph left.now.board.world.setup.tables }
+    ensures { Writes (left_text left.now) (S.told out.old) (S.told out.new) result }
 {
-    put_run(alloc, board, out)?;
+    put_run(alloc, left.board(), out)?;
     flush(out)
 }
 
@@ -89,7 +88,7 @@ fn run<R: Threads + Wait + Sync, F: Files, S: Sink, M: Medium + Sync>(
     out: &mut S,
     medium: &M,
 ) -> Status
-    ensures explained { Explains (drvrun_form (map string_bytes words.now)) (F.told files.old) (S.told out.old) (S.told out.new) result }
+    ensures explained { Explains M.carried (drvrun_form (map string_bytes words.now)) (F.told files.old) (S.told out.old) (S.told out.new) result }
     ensures faults { Faults (F.faults files.old) (F.faults files.new) (S.told out.old).faults (S.told out.new).faults result }
     ensures due { IfSome (F.told files.old) (λ named. ¬ Rose (F.faults files.old) (F.faults files.new) → ¬ Rose (S.told out.old).faults (S.told out.new).faults
         → IsDueOr (drvrun_form (map string_bytes words.now)) named result) }
@@ -97,9 +96,9 @@ fn run<R: Threads + Wait + Sync, F: Files, S: Sink, M: Medium + Sync>(
     ensures files { F.told files.new ≡ F.told files.old }
 {
     match find(rt, alloc, words, files, medium) {
-        Ok(board) => {
-            let written = write_run(alloc, &board, out);
-            forget(board);
+        Ok(left) => {
+            let written = write_run(alloc, &left, out);
+            forget(left);
             status_after(written)
         }
         Err(status) => status,
@@ -119,7 +118,7 @@ pub fn drvrun_top<R: Threads + Wait + Sync, F: Files, S: Sink, E: Sink, M: Mediu
     err: &mut E,
     medium: &M,
 ) -> Status
-    ensures explained { Explains (drvrun_form (map string_bytes words.now)) (F.told files.old) (S.told out.old) (S.told out.new) result }
+    ensures explained { Explains M.carried (drvrun_form (map string_bytes words.now)) (F.told files.old) (S.told out.old) (S.told out.new) result }
     ensures faults { Faults (F.faults files.old) (F.faults files.new) (S.told out.old).faults (S.told out.new).faults result }
 
     // With files that are told and no fault, the status is the one that is due, or memory ran out.

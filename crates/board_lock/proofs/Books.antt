@@ -4,7 +4,9 @@ use Rattle.std.proofs.lemmas.Bool.{eqb-true}
 use Rattle.std.specs.Prelude.{◌==◌, not, Bool, false, length, slice_get, Option, Some, None}
 use Rattle.run_rules.specs.declared.event.Event.{Event}
 use Rattle.run_rules.specs.World.{World, opening}
+use Rattle.run_rules.specs.declared.deed.Choice.TheVariants.{Does}
 use Rattle.run_rules.specs.declared.deed.Deed.{Deed}
+use Rattle.run_rules.specs.Next.{next}
 use Rattle.run_rules.specs.Run.{event_of}
 use Rattle.run_rules.specs.Counts.{ends_of, dids_of, is_of_script, closes_script}
 use Rattle.run_rules.proofs.CountsOn.{count_on}
@@ -37,6 +39,9 @@ one e h = cases (e.caller == 0) refl
     cases false p = refl
 
 pub record Booked (k : ℕ) (old new : Shown) (told : Witness) (e : Event) : Type 0 where
+  pub deed : Deed
+  pub chosen : next old.world k ≡ Does deed
+  pub is : e ≡ event_of old.world k deed
   pub caller : e.caller ≡ k
   pub event : told.event ≡ Some e
   pub began : began new ≡ began old
@@ -51,6 +56,9 @@ booked k old new p told e a at =
     let there : slice_get new.events p ≡ Some d = subst (λ (t : List Event × ℕ). slice_get t.0 t.1 ≡ Some d) (λ i. (sym events i, sym a.last i)) (last_of old.events d) in
     let same : e ≡ d = ap (unwrapped e) (sym at ∙ there) in
     record {
+      deed = a.deed;
+      chosen = a.chosen;
+      is = same;
       caller = ap (λ (x : Event). x.caller) same ∙ caller_of old.world k a.deed;
       event = ap (λ x. x.event) a.told ∙ ap (λ (x : Event). Some x) (sym same);
       began = ap opening (ap (λ s. s.world.setup) a.board ∙ after_setup old.world k a.deed);

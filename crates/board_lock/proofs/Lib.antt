@@ -1,4 +1,3 @@
-pub mod Held
 pub mod Fits
 pub mod Books
 pub mod Seated
@@ -6,3 +5,5 @@ pub mod Opened
 pub mod Published
 pub mod Spared
 pub mod Turns
+pub mod Carried
+pub mod Posted

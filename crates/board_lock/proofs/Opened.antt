@@ -2,6 +2,7 @@
 use Rattle.std.proofs.Common.{◌≡◌, ◌+◌, ℕ, length, sym, ap, ◌∙◌, arith}
 use Rattle.atomic_table.specs.Seated.{TableId}
 use Rattle.lease_table.specs.Shown.{KeeperShown, first_seats, states_in}
+use Rattle.cf_types.specs.declared.machine.Ticket.{Ticket}
 use Rattle.run_rules.specs.declared.world.Setup.{Setup}
 use Rattle.run_rules.specs.Counts.{dids_of, ends_of}
 use Rattle.run_rules.specs.World.{World}
@@ -12,11 +13,13 @@ use Rattle.deed_effect.specs.Agreement.{slots_of}
 use Rattle.dev_board.specs.Booting.{IsBooted}
 use Rattle.dev_board.specs.Shown.{Shown, began}
 use Rattle.board_lock.specs.Boards.{scripts_of, spots_of}
+use Rattle.board_lock.specs.Carried.{CarriedRun}
 use Rattle.board_lock.specs.Kept.{LockedKept}
 use Rattle.board_lock.specs.Names.{AreNames}
 use Rattle.board_lock.specs.Seats.{Parts, PartsFit}
 use Rattle.board_lock.specs.Tallies.{Totals, none_yet}
 use Rattle.dev_board.proofs.Began.{opening_setup}
+use Rattle.board_lock.proofs.Carried.{carried_same}
 
 -- the setup of a board is that of the world that it began with
 pub same_setup : (b : Shown) (w : World) → began b ≡ w → b.world.setup ≡ w.setup
@@ -50,12 +53,16 @@ seats_dealt w c d s z b p names fits =
     fits.callers ∙ ap (λ (t : TableId × (ℕ × ℕ)). first_seats t.0 t.1.0 t.1.1) (λ i. (names.table i, (same_spots b w names.opening i, same_scripts b w names.opening i)))
 
 -- a step at which the board stays as it is keeps what lies behind the lock
-pub kept_same : (w : World) (z : TableId) (b v : Shown) (t : Totals) (k l : KeeperShown) → LockedKept w z b t k → v ≡ b → states_in l.view ≡ slots_of v.world → LockedKept w z v t l
-kept_same w z b v t k l kept same states = record {
-  opening = ap began same ∙ kept.opening;
-  closings = kept.closings ∙ ap (λ (s : Shown). ends_of s.events) (sym same);
-  dids = kept.dids ∙ ap (λ (s : Shown). dids_of s.events) (sym same);
-  rights = ap (λ (s : Shown). s.stops + t.rights) same ∙ kept.rights;
-  words = kept.words;
-  states = states;
-}
+pub kept_same : (P : Ticket → Type 0) (w : World) (z : TableId) (b v : Shown) (t : Totals) (k l : KeeperShown) → LockedKept w z b t k × CarriedRun P w b.events b.world → v ≡ b
+    → states_in l.view ≡ slots_of v.world → LockedKept w z v t l × CarriedRun P w v.events v.world
+kept_same P w z b v t k l (kept, carried) same states = (
+  record {
+    opening = ap began same ∙ kept.opening;
+    closings = kept.closings ∙ ap (λ (s : Shown). ends_of s.events) (sym same);
+    dids = kept.dids ∙ ap (λ (s : Shown). dids_of s.events) (sym same);
+    rights = ap (λ (s : Shown). s.stops + t.rights) same ∙ kept.rights;
+    words = kept.words;
+    states = states;
+  },
+  carried_same P w b v carried same,
+)

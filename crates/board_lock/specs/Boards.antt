@@ -7,6 +7,7 @@ use Rattle.ref_ledger.specs.declared.state.SlotState.TheVariants as state
 use Rattle.run_rules.specs.declared.event.Event.{Event}
 use Rattle.run_rules.specs.Counts.{closes_script, is_of_script}
 use Rattle.run_rules.specs.World.{World, opening, setup_of}
+use Rattle.dev_board.specs.Shown.{Shown}
 use Rattle.dev_board.specs.declared.answer.LeaseStep.{LeaseStep}
 use Rattle.dev_board.specs.declared.answer.LeaseStep.TheVariants.{Keep, Take, Give}
 
@@ -26,6 +27,11 @@ spots_of w = length w.setup.machine.spots
 
 abbrev pub scripts_of : World → ℕ
 scripts_of w = length w.setup.scripts
+
+-- what contracts see of a run that is over: the board, and how many scripts have ended
+pub record FinishedShown : Type 0 where
+  pub board : Shown
+  pub ended : ℕ
 
 -- 1 for the end of a script, else 0
 abbrev pub one_end : Event → ℕ

@@ -5,3 +5,4 @@ pub mod Holding
 pub mod Seats
 pub mod Kept
 pub mod Turning
+pub mod Carried

@@ -1,5 +1,5 @@
 -- What contracts see of a seat, and of the parts of a run.
-use Rattle.std.specs.Prelude.{◌≡◌, ℕ, zero, suc, List, [], ◌∷◌, ◌++◌, ◌+◌}
+use Rattle.std.specs.Prelude.{◌≡◌, ℕ, zero, suc, List, [], ◌∷◌, ◌++◌, ◌+◌, Option, None}
 use Rattle.atomic_table.specs.Seated.{TableId}
 use Rattle.ref_ledger.specs.declared.state.SlotState.{SlotState}
 use Rattle.ref_ledger.specs.declared.state.SlotState.TheVariants as state
@@ -15,12 +15,14 @@ use Rattle.board_lock.specs.Boards.{spots_of, scripts_of}
 use Rattle.board_lock.specs.declared.seat.DoneEnd.{DoneEnd}
 use Rattle.board_lock.specs.declared.seat.DoneEnd.TheVariants as end
 
--- the caller, how often it ended, how many events it did, how often it stopped the board, and what it knows of the slots
+-- the caller, how often it ended, how many events it did, how often it stopped the board, the slot that its last look showed live if
+-- no event of it came after that look, and what it knows of the slots
 pub record SeatShown : Type 0 where
   pub caller : ℕ
   pub closings : ℕ
   pub dids : ℕ
   pub stops : ℕ
+  pub looked : Option ℕ
   pub leases : View
 
 pub record DoneShown : Type 0 where
@@ -57,7 +59,7 @@ pub record Parts : Type 0 where
 
 -- the seat of a caller at the beginning, with so many slots
 abbrev pub fresh_seat : ℕ → ℕ → SeatShown
-fresh_seat n k = record { caller = k; closings = 0; dids = 0; stops = 0; leases = caller_view n k }
+fresh_seat n k = record { caller = k; closings = 0; dids = 0; stops = 0; looked = None; leases = caller_view n k }
 
 -- the seats of the first callers
 abbrev pub seats_below : ℕ → ℕ → List SeatShown

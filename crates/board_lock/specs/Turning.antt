@@ -1,25 +1,38 @@
 -- What a call of the lock does to a seat, by its answer.
-use Rattle.std.specs.Prelude.{◌≡◌, ⊤, ℕ, ◌+◌, List, [], ◌∷◌, Option, Some, None}
+use Rattle.std.specs.Prelude.{◌≡◌, ◌≢◌, ⊤, ℕ, ◌+◌, List, [], ◌∷◌, Option, Some, None, option_map}
+use Rattle.cf_types.specs.declared.machine.Ticket.{Ticket}
 use Rattle.run_rules.specs.World.{World}
+use Rattle.run_rules.specs.Next.{next}
+use Rattle.run_rules.specs.Run.{event_of}
 use Rattle.run_rules.specs.declared.event.Event.{Event}
+use Rattle.run_rules.specs.declared.deed.Deed.TheVariants.{Done}
+use Rattle.run_rules.specs.declared.deed.Choice.TheVariants.{Does}
+use Rattle.lease_table.specs.declared.table.Word.{Word}
 use Rattle.lease_table.specs.declared.view.View.{View}
 use Rattle.dev_board.specs.Witness.{Witness}
 use Rattle.dev_board.specs.declared.answer.Answer.TheVariants as answer
+use Rattle.dev_board.specs.declared.answer.LeaseStep.TheVariants.{Keep}
 use Rattle.board_lock.specs.declared.turn.Turn.{Turn}
 use Rattle.board_lock.specs.declared.turn.Turn.TheVariants as turn
 use Rattle.board_lock.specs.Boards.{one_end}
 use Rattle.board_lock.specs.Holding.{Settles}
 use Rattle.board_lock.specs.Seats.{SeatShown, Shows}
 
--- the seat after an event of its caller, after its stop, and with other leases
+-- the seat after an event of its caller, after the end of its transfer, after its stop, after a look at a slot, and with other leases
 abbrev pub counted : SeatShown → Event → SeatShown
-counted s e = record { caller = s.caller; closings = s.closings + one_end e; dids = s.dids + 1; stops = s.stops; leases = s.leases }
+counted s e = record { caller = s.caller; closings = s.closings + one_end e; dids = s.dids + 1; stops = s.stops; looked = None; leases = s.leases }
+
+abbrev pub posted : SeatShown → SeatShown
+posted s = record { caller = s.caller; closings = s.closings; dids = s.dids + 1; stops = s.stops; looked = None; leases = s.leases }
 
 abbrev pub halted : SeatShown → SeatShown
-halted s = record { caller = s.caller; closings = s.closings; dids = s.dids; stops = 1; leases = s.leases }
+halted s = record { caller = s.caller; closings = s.closings; dids = s.dids; stops = 1; looked = s.looked; leases = s.leases }
+
+abbrev pub looking : SeatShown → ℕ → Option Word → View → SeatShown
+looking s x word v = record { caller = s.caller; closings = s.closings; dids = s.dids; stops = s.stops; looked = option_map (λ _. x) word; leases = v }
 
 abbrev pub settled : SeatShown → View → SeatShown
-settled s v = record { caller = s.caller; closings = s.closings; dids = s.dids; stops = s.stops; leases = v }
+settled s v = record { caller = s.caller; closings = s.closings; dids = s.dids; stops = s.stops; looked = s.looked; leases = v }
 
 -- this event, of the caller, was appended at the place, which the witness shows
 pub record Counts (w : World) (k p : ℕ) (told : Witness) (e : Event) : Type 0 where
@@ -39,14 +52,21 @@ TurnIs w s (turn.Stale kept told) t = ⊥
 TurnIs w s (turn.Stopped j told) t = Shows w s.caller told × (told.answer ≡ answer.Stopped j) × (t ≡ s)
 TurnIs w s turn.Memory t = t ≡ s
 
--- a post: at an event the seat counts it; its leases are as before at every answer
-abbrev pub PostIs : World → SeatShown → Turn → SeatShown → Type 0
-PostIs w s (turn.Did p told) t = (e : Event) × Counts w s.caller p told e × (t ≡ counted s e)
-PostIs w s (turn.Transfer ticket told) t = ⊥
-PostIs w s turn.Closed t = ⊥
-PostIs w s (turn.Stale kept told) t = Shows w s.caller told × (told.answer ≡ answer.Stale kept) × (t ≡ s)
-PostIs w s (turn.Stopped j told) t = Shows w s.caller told × (told.answer ≡ answer.Stopped j) × (t ≡ s)
-PostIs w s turn.Memory t = t ≡ s
+-- the event is that with which this transfer of the caller ends, in a world where its end is what the caller does next
+pub record EndsTransfer (k : ℕ) (ticket : Ticket) (e : Event) : Type 0 where
+  pub world : World
+  pub chosen : next world k ≡ Does (Done ticket)
+  pub event : e ≡ event_of world k (Done ticket)
+
+-- a post: the one event is the end of the transfer, so the seat counts it and no end of its caller; the result is stale only where the
+-- board keeps another ticket, or none, for the caller; the leases are as before at every answer
+abbrev pub PostIs : World → Ticket → SeatShown → Turn → SeatShown → Type 0
+PostIs w ticket s (turn.Did p told) t = (e : Event) × Counts w s.caller p told e × EndsTransfer s.caller ticket e × (told.lease ≡ Keep) × (t ≡ posted s)
+PostIs w ticket s (turn.Transfer other told) t = ⊥
+PostIs w ticket s turn.Closed t = ⊥
+PostIs w ticket s (turn.Stale kept told) t = Shows w s.caller told × (told.answer ≡ answer.Stale kept) × (kept ≢ Some ticket) × (t ≡ s)
+PostIs w ticket s (turn.Stopped j told) t = Shows w s.caller told × (told.answer ≡ answer.Stopped j) × (t ≡ s)
+PostIs w ticket s turn.Memory t = t ≡ s
 
 -- one taking of the lock: a turn, or none where the board waits, and then nothing changed
 abbrev pub TryIs : World → SeatShown → Option Turn → SeatShown → Type 0

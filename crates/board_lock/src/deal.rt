@@ -5,12 +5,11 @@ ghost use Rattle.board_lock.specs.Boards.{scripts_of, spots_of};
 ghost use Rattle.board_lock.specs.Seats.{fresh_seat, seats_below};
 ghost use Rattle.board_lock.specs.Tallies.{unused};
 
-use crate::leases::Leases;
 use crate::names::Naming;
 use crate::seat::Seat;
 use crate::tally::Shares;
 use cf_types::{List, Memory};
-use lease_table::LeaseSeat;
+use lease_table::{LeaseSeat, Leases};
 use std::alloc::Global;
 
 // The seat of a caller.
@@ -25,6 +24,7 @@ fn deal<N: Naming>(shares: Shares<N>, caller: u8, leases: Leases) -> Seat<N>
         shares,
         ends: 0,
         halted: false,
+        looked: None,
         leases,
     }
 }

@@ -6,7 +6,6 @@
 mod deal;
 mod finish;
 mod lease_slots;
-mod leases;
 mod locked;
 mod names;
 mod parts;

@@ -1,7 +1,9 @@
 //! What lies behind the lock.
-ghost use Rattle.std.specs.Prelude.{◌≡◌, ◌≢◌, ◌<◌, ◌≤◌, ◌+◌, true};
+ghost use Rattle.std.specs.Prelude.{◌≡◌, ◌≢◌, ◌<◌, ◌≤◌, ◌+◌, true, Some};
+ghost use Rattle.std.specs.Option.{option_or};
 ghost use Rattle.dev_board.specs.Shown.{Shown};
 ghost use Rattle.board_lock.specs.Boards.{spots_of, LeaseFits};
+ghost use Rattle.board_lock.specs.Carried.{CarriedRun};
 ghost use Rattle.board_lock.specs.Holding.{Settles};
 ghost use Rattle.board_lock.specs.Kept.{LockedKept};
 ghost use Rattle.board_lock.specs.Tallies.{more_in_all};
@@ -37,7 +39,7 @@ impl<N: Naming> Model for Locked<N> {
 
     ghost view = { λ l. l.board };
 
-    ghost invariant = { λ l. LockedKept N.opening N.table l.board l.books l.slots };
+    ghost invariant = { λ l. LockedKept N.opening N.table l.board l.books l.slots × CarriedRun N.carried N.opening l.board.events l.board.world };
 }
 
 // Counts an event of the seat's caller.
@@ -51,6 +53,7 @@ fn count_event<N: Naming>(books: &mut Books<N>, seat: &mut Seat<N>, event: &Even
     if ends_caller(event) && seat.ends < 2 {
         seat.ends += 1;
     }
+    seat.looked = None;
 }
 
 // Takes or gives back the lease that a step names.
@@ -72,7 +75,8 @@ fn settle<N: Naming>(table: &LeaseTable, seat: &mut Seat<N>, step: LeaseStep)
 impl<N: Naming> Locked<N> {
     /// The board of a run, with its slots and its books.
     pub fn make(board: Board, slots: LeaseSlots<N>, books: Books<N>) -> Locked<N>
-        requires { LockedKept N.opening N.table board books slots }
+        requires kept { LockedKept N.opening N.table board books slots }
+        requires carried { CarriedRun N.carried N.opening board.events board.world }
         ensures { result ≡ board }
     {
         Locked {
@@ -137,10 +141,11 @@ impl<N: Naming> Locked<N> {
         self.turn(table, seat)
     }
 
-    /// The end of a transfer of the seat's caller.
+    /// The end of a transfer of the seat's caller, which was carried out.
     pub fn accept(&mut self, seat: &mut Seat<N>, done: IoResult) -> Turn
-        requires { done.caller ≡ seat.old.caller }
-        ensures { PostIs N.opening seat.old result seat.new }
+        requires caller { done.caller ≡ seat.old.caller }
+        requires carried { N.carried done }
+        ensures { PostIs N.opening done seat.old result seat.new }
     {
         let Locked {
             board,
@@ -161,7 +166,8 @@ impl<N: Naming> Locked<N> {
     /// Stops the board for the seat's caller.
     pub fn halt(&mut self, seat: &mut Seat<N>)
         requires { seat.old.stops ≡ 0 }
-        ensures { seat.new ≡ halted seat.old }
+        ensures seat { seat.new ≡ halted seat.old }
+        ensures named { self.new.stopped ≡ option_or self.old.stopped (Some seat.old.caller) }
     {
         let Locked {
             board,
@@ -189,7 +195,9 @@ impl<N: Naming> Locked<N> {
 
     /// The board, the slots and the books.
     pub fn into_parts(self) -> (Board, LeaseSlots<N>, Books<N>)
-        ensures { LockedKept N.opening N.table result.0 result.2 result.1 × (result.0 ≡ self) }
+        ensures kept { LockedKept N.opening N.table result.0 result.2 result.1 }
+        ensures carried { CarriedRun N.carried N.opening result.0.events result.0.world }
+        ensures board { result.0 ≡ self }
     {
         let Locked {
             board,

@@ -1,6 +1,7 @@
 //! The names of one run.
-ghost use Rattle.std.specs.Prelude.{ℕ};
+ghost use Rattle.std.specs.Prelude.{ℕ, ⊤};
 ghost use Rattle.atomic_table.specs.Seated.{TableId};
+ghost use Rattle.cf_types.specs.declared.machine.Ticket.{Ticket};
 ghost use Rattle.run_rules.specs.World.{World};
 ghost use Rattle.board_lock.specs.Boards.{nowhere, scripts_of};
 ghost use Rattle.board_lock.specs.Names.{no_table};
@@ -8,8 +9,9 @@ ghost use Rattle.board_lock.specs.Names.{no_table};
 use std::marker::{Brand, PhantomData};
 use std::sync::ledger::Ledger;
 
-/// The names of one run, which contracts alone see: its opening world, its three ledgers, and its table of leases. What lies
-/// behind the lock and every seat carry them in their types, so a seat of one run can't be used on the board of another.
+/// The names of one run, which contracts alone see: its opening world, its three ledgers, its table of leases, and which transfers
+/// were carried out for it. What lies behind the lock and every seat carry them in their types, so a seat of one run can't be used
+/// on the board of another.
 pub trait Naming {
     ghost opening: { World };
 
@@ -20,6 +22,8 @@ pub trait Naming {
     ghost stops: { ℕ };
 
     ghost table: { TableId };
+
+    ghost carried: { Ticket → Type 0 };
 }
 
 impl Naming for Brand {
@@ -32,6 +36,8 @@ impl Naming for Brand {
     ghost stops = { 0 };
 
     ghost table = { no_table };
+
+    ghost carried = { λ ticket. ⊤ };
 }
 
 /// The ledger of the callers that have ended.

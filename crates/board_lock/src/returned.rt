@@ -1,12 +1,12 @@
 //! Shares whose callers hold nothing any more.
 ghost use Rattle.std.specs.Prelude.{◌≡◌};
 ghost use Rattle.board_lock.specs.Boards.{scripts_of};
-ghost use Rattle.board_lock.specs.Holding.{HoldsNothing};
+ghost use Rattle.lease_table.specs.Holding.{HoldsNothing};
 ghost use Rattle.board_lock.specs.Tallies.{Tally, Agrees, together};
 
-use crate::leases::Leases;
 use crate::names::Naming;
 use crate::tally::{Books, Shares};
+use lease_table::Leases;
 use std::marker::Model;
 
 /// Shares of callers that gave all their leases back. Only such shares are put together and held against the books.

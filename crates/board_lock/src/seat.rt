@@ -4,16 +4,15 @@ ghost use Rattle.board_lock.specs.Boards.{scripts_of, one_end};
 ghost use Rattle.board_lock.specs.Kept.{SeatKept, DoneKept};
 ghost use Rattle.board_lock.specs.Seats.{SeatShown, DoneShown, EndFits, left_by};
 
-use crate::leases::Leases;
 use crate::names::Naming;
 use crate::returned::Returned;
 use crate::tally::Shares;
 use dev_board::Told;
-use lease_table::LeaseTable;
+use lease_table::{LeaseTable, Leases};
 use std::marker::Model;
 
-/// A caller's seat. Contracts see the caller, three numbers, and what it knows of the slots: how often it ended, how many events
-/// it did, and how often it stopped the board.
+/// A caller's seat. Contracts see the caller, how often it ended, how many events it did, how often it stopped the board, the slot
+/// that it looked at since its last event, if that look gave a word, and what it knows of the slots.
 #[derive(Drop)]
 pub struct Seat<N: Naming> {
     pub(crate) caller: u8,
@@ -21,13 +20,15 @@ pub struct Seat<N: Naming> {
     /// How often the caller ended, or 2 where it is more often.
     pub(crate) ends: u8,
     pub(crate) halted: bool,
+    /// The slot of the last look, if it gave a word and no event of the caller came after it.
+    pub(crate) looked: Option<u16>,
     pub(crate) leases: Leases,
 }
 
 impl<N: Naming> Model for Seat<N> {
     ghost Value = { SeatShown };
 
-    ghost view = { λ s. record { caller = s.caller; closings = s.shares.closings; dids = s.shares.dids; stops = 1 - s.shares.rights; leases = s.leases.view } };
+    ghost view = { λ s. record { caller = s.caller; closings = s.shares.closings; dids = s.shares.dids; stops = 1 - s.shares.rights; looked = s.looked; leases = s.leases.view } };
 
     ghost invariant = { λ s. SeatKept (scripts_of N.opening) N.table s.caller s.ends s.halted s.shares s.leases };
 }
@@ -97,6 +98,7 @@ impl<N: Naming> Seat<N> {
             shares,
             ends: _,
             halted: _,
+            looked: _,
             leases,
         } = self;
         Done {

@@ -2,17 +2,18 @@
 ghost use Rattle.std.specs.Prelude.{◌≡◌, ◌<◌, ◌+◌, IfOk, Some, length, sum_by};
 ghost use Rattle.std.specs.Arc.{arc_value};
 ghost use Rattle.atomic_table.specs.Seated.{TableId};
+ghost use Rattle.lease_table.specs.Holding.{LookIs};
 ghost use Rattle.run_rules.specs.Counts.{ends_of, dids_of};
 ghost use Rattle.run_rules.specs.Run.{Run};
 ghost use Rattle.run_sound.specs.Kept.{MayRun};
 ghost use Rattle.dev_board.specs.Booting.{IsBooted};
 ghost use Rattle.dev_board.specs.Shown.{began};
 ghost use Rattle.board_lock.specs.Boards.{scripts_of, spots_of};
-ghost use Rattle.board_lock.specs.Holding.{LookIs};
+ghost use Rattle.board_lock.specs.Carried.{CarriedRun};
 ghost use Rattle.board_lock.specs.Kept.{LockedKept};
 ghost use Rattle.board_lock.specs.Names.{AreNames};
 ghost use Rattle.board_lock.specs.Seats.{PartsFit, seats_below};
-ghost use Rattle.board_lock.specs.Turning.{PostIs, TriesAre, TurnIs, halted, settled};
+ghost use Rattle.board_lock.specs.Turning.{PostIs, TriesAre, TurnIs, halted, looking};
 
 use crate::deal::deal_seats;
 use crate::finish::gather_all;
@@ -46,11 +47,36 @@ impl<N: Naming> Model for SharedBoard<N> {
     ghost invariant = { λ s. arc_value s.table ≡ N.table };
 }
 
-/// What is left of a run: the board, and how many scripts have ended.
+/// What is left of a run of scripts: the board that was behind its lock, and how many scripts have ended. Only `finish` of a
+/// `SharedBoard` makes one.
 #[derive(Drop)]
 pub struct Finished {
-    pub board: Board,
-    pub ended: u64,
+    board: Board,
+    ended: u64,
+}
+
+impl Model for Finished {
+    ghost use Rattle.board_lock.specs.Boards.{FinishedShown};
+
+    ghost Value = { FinishedShown };
+
+    ghost view = { λ f. record { board = f.board; ended = f.ended } };
+}
+
+impl Finished {
+    /// The board.
+    pub fn board(&self) -> &Board
+        ensures { result.now ≡ self.now.board }
+    {
+        &self.board
+    }
+
+    /// How many scripts have ended.
+    pub fn ended(&self) -> u64
+        ensures { result ≡ self.now.ended }
+    {
+        self.ended
+    }
 }
 
 // A board for threads. The table is beside the lock too, since a look at a lease takes no lock.
@@ -62,6 +88,7 @@ fn share<N: Naming>(
     books: Books<N>,
 ) -> SharedBoard<N>
     requires kept { LockedKept N.opening N.table board books keeper }
+    requires carried { CarriedRun N.carried N.opening board.events board.world }
     requires table { (arc_value outside ≡ N.table) × (arc_value behind ≡ N.table) × (keeper.table ≡ N.table) }
 {
     let locked = Locked::make(board, LeaseSlots::make(behind, keeper), books);
@@ -151,11 +178,13 @@ impl<N: Naming> SharedBoard<N> {
         }
     }
 
-    /// Hands in the result of a transfer of the seat's caller. The result is spent at every answer. Nobody is woken, since the end
-    /// of a transfer ends no wait.
+    /// Hands in the result of a transfer of the seat's caller, which was carried out after a look that showed its slot live. The result
+    /// is spent at every answer. Nobody is woken, since the end of a transfer ends no wait.
     pub fn post<R: Wait>(&self, rt: &R, seat: &mut Seat<N>, done: IoResult) -> Turn
-        requires { done.caller ≡ seat.old.caller }
-        ensures { PostIs N.opening seat.old result seat.new }
+        requires caller { done.caller ≡ seat.old.caller }
+        requires carried { N.carried done }
+        requires looked { seat.old.looked ≡ Some done.slot }
+        ensures { PostIs N.opening done seat.old result seat.new }
     {
         self.lock.lock(rt).accept(seat, done)
     }
@@ -163,9 +192,14 @@ impl<N: Naming> SharedBoard<N> {
     /// What the word of a transfer's slot says, without the lock; none where the seat has no lease on that slot.
     pub fn look(&self, seat: &mut Seat<N>, ticket: &Ticket) -> Option<Word>
         ensures look { LookIs seat.old.leases seat.old.caller ticket.now.slot result seat.new.leases }
-        ensures rest { seat.new ≡ settled seat.old seat.new.leases }
+        ensures rest { seat.new ≡ looking seat.old ticket.now.slot result seat.new.leases }
     {
-        seat.leases.look(&self.table, ticket.slot)
+        let word = seat.leases.look(&self.table, ticket.slot);
+        seat.looked = match word {
+            Some(_) => Some(ticket.slot),
+            None => None,
+        };
+        word
     }
 
     /// Stops the board once for the seat's caller, and tells all who wait.
@@ -185,6 +219,7 @@ impl<N: Naming> SharedBoard<N> {
         requires some { 0 < length done }
         ensures opening { began result.board ≡ N.opening }
         ensures run { Run N.opening result.board.events result.board.world }
+        ensures carried { CarriedRun N.carried N.opening result.board.events result.board.world }
         ensures may { MayRun result.board.world.setup }
         ensures ended { result.ended ≡ sum_by (λ d. d.closings) done }
         ensures ends { result.ended ≡ ends_of result.board.events }

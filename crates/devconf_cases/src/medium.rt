@@ -1,4 +1,5 @@
 //! What the transfers of a case go through.
+ghost use Rattle.std.specs.Prelude.{⊤};
 
 use cf_types::Ticket;
 use dev_board::IoResult;
@@ -10,47 +11,52 @@ use std::thread;
 /// How often a transfer looks whether the others have come.
 const LOOKS: u32 = 10_000_000;
 
-/// Keeps each transfer until so many are under way, for a bounded number of looks.
+/// Keeps each transfer until so many are under way at the same time, for a bounded number of looks.
 #[derive(Drop)]
 pub struct Meeting {
     together: u64,
+    /// How many transfers are under way.
     under_way: AtomicU64,
-    /// Some transfer has looked in vain.
-    is_missed: AtomicBool,
+    /// So many were under way at the same time.
+    is_met: AtomicBool,
 }
 
 impl Meeting {
+    /// A meeting of so many transfers; one of none is met before any comes.
     pub fn make(together: u64) -> Meeting {
         Meeting {
             together,
             under_way: AtomicU64::new(0),
-            is_missed: AtomicBool::new(false),
+            is_met: AtomicBool::new(together == 0),
         }
     }
 
-    /// Whether some transfer has looked in vain for the others.
-    pub fn is_missed(&self) -> bool {
-        self.is_missed.load(Ordering::SeqCst)
+    /// Whether so many transfers were under way at the same time.
+    pub fn is_met(&self) -> bool {
+        self.is_met.load(Ordering::SeqCst)
     }
 
-    /// Waits for the others; false where they did not come.
-    fn meets(&self) -> bool {
+    /// Waits until so many are under way, or were at some time.
+    fn await_others(&self) {
         for _ in 0..LOOKS {
             if self.under_way.load(Ordering::SeqCst) >= self.together {
-                return true;
+                self.is_met.store(true, Ordering::SeqCst);
+            }
+            if self.is_met() {
+                return;
             }
             thread::yield_now();
         }
-        false
     }
 }
 
 impl Medium for Meeting {
+    ghost carried = { λ ticket. ⊤ };
+
     fn transfer<R: Wait>(&self, rt: &R, ticket: Ticket) -> IoResult {
         self.under_way.fetch_add(1, Ordering::SeqCst);
-        if !self.meets() {
-            self.is_missed.store(true, Ordering::SeqCst);
-        }
+        self.await_others();
+        self.under_way.fetch_sub(1, Ordering::SeqCst);
         SoftMedium.transfer(rt, ticket)
     }
 }

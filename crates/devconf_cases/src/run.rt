@@ -62,7 +62,7 @@ pub fn answer_to<R: Threads + Wait + Sync>(
         }
     };
     let mut errors = Vec::from_slice(alloc, err.bytes())?;
-    if medium.is_missed() {
+    if !medium.is_met() {
         errors.extend_from_slice(MISSED)?;
     }
     let came = Answer {

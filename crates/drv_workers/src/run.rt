@@ -6,6 +6,7 @@ ghost use Rattle.run_sound.specs.Kept.{MayRun};
 ghost use Rattle.dev_board.specs.Booting.{IsBooted};
 ghost use Rattle.dev_board.specs.Shown.{began};
 ghost use Rattle.board_lock.specs.Boards.{scripts_of};
+ghost use Rattle.board_lock.specs.Carried.{CarriedRun, CarriesFor};
 ghost use Rattle.board_lock.specs.Names.{AreNames};
 ghost use Rattle.board_lock.specs.Seats.{PartsFit};
 ghost use Rattle.drv_workers.specs.Whole.{IsWhole};
@@ -53,14 +54,19 @@ fn run_seats<'s, E, M: Medium + Sync, N: Naming + Send + Sync, R: Threads + Wait
     seats: &mut Vec<Seat<N>>,
     done: &mut Vec<Done<N>>,
 )
-    requires { vec_len done.old + vec_len seats.old ≤ vec_capacity done.old }
+    requires carries { CarriesFor M.carried N.carried }
+    requires room { vec_len done.old + vec_len seats.old ≤ vec_capacity done.old }
     ensures len { vec_len done.new ≡ vec_len done.old + vec_len seats.old }
     ensures capacity { vec_capacity done.new ≡ vec_capacity done.old }
 {
     let Some(seat) = seats.pop() else {
         return;
     };
-    match scope.spawn(move || work(rt, shared, seat, medium)) {
+    match scope.spawn(
+        move || -> Done<N>
+            requires { CarriesFor M.carried N.carried }
+        { work(rt, shared, seat, medium) },
+    ) {
         Ok(handle) => {
             run_seats(scope, rt, shared, medium, seats, done);
             append(done, handle.join(rt));
@@ -80,14 +86,16 @@ fn run_scope<N: Naming + Send + Sync, M: Medium + Sync, R: Threads + Wait + Sync
     seats: Vec<Seat<N>>,
     done: Vec<Done<N>>,
 ) -> Vec<Done<N>>
-    requires { (vec_len done ≡ 0) × (vec_len seats ≤ vec_capacity done) }
+    requires carries { CarriesFor M.carried N.carried }
+    requires room { (vec_len done ≡ 0) × (vec_len seats ≤ vec_capacity done) }
     ensures { vec_len result ≡ vec_len seats }
 {
     thread::scope(
         thread::scope_env(),
         rt,
         move |scope| -> Vec<Done<N>>
-            requires { (vec_len done ≡ 0) × (vec_len seats ≤ vec_capacity done) }
+            requires carries { CarriesFor M.carried N.carried }
+            requires room { (vec_len done ≡ 0) × (vec_len seats ≤ vec_capacity done) }
             ensures { vec_len result ≡ vec_len seats }
         {
             let mut seats = seats;
@@ -106,6 +114,7 @@ fn run_all<N: Naming + Send + Sync, M: Medium + Sync, R: Threads + Wait + Sync>(
     medium: &M,
     seats: List<Seat<N>>,
 ) -> Result<List<Done<N>>, Memory>
+    requires { CarriesFor M.carried N.carried }
     ensures { IfOk result (λ done. length done ≡ length seats) }
 {
     let seats = values_of(seats);
@@ -123,7 +132,8 @@ fn whole_only(left: Finished, scripts: u64) -> Result<Finished, Memory>
     ensures same { IfOk result (λ r. r ≡ left) }
     ensures whole { IfOk result (λ r. IsWhole r.ended r.board) }
 {
-    if left.ended != scripts {
+    let ended = left.ended();
+    if ended != scripts {
         return Err(Memory);
     }
     Ok(left)
@@ -141,8 +151,10 @@ fn run_named<N: Naming + Send + Sync, M: Medium + Sync, R: Threads + Wait + Sync
     requires fits { PartsFit parts board }
     requires booted { IsBooted board }
     requires some { 0 < scripts_of board.world }
+    requires carries { CarriesFor M.carried N.carried }
     ensures opening { IfOk result (λ r. began r.board ≡ began board) }
     ensures run { IfOk result (λ r. Run (began board) r.board.events r.board.world) }
+    ensures carried { IfOk result (λ r. CarriedRun N.carried (began board) r.board.events r.board.world) }
     ensures ended { IfOk result (λ r. r.ended ≡ ends_of r.board.events) }
     ensures whole { IfOk result (λ r. IsWhole r.ended r.board) }
 {
@@ -155,7 +167,7 @@ fn run_named<N: Naming + Send + Sync, M: Medium + Sync, R: Threads + Wait + Sync
 /// Runs the scripts of a board that has done its boot, each in a thread of its own, until every one has ended: then all have.
 /// A script whose thread can't be started is run by the caller's thread. A worker ends before its script does only where
 /// memory ran out, for it or for the one that stopped the board; then the answer is want of memory. The history that is left
-/// is one run from where the board began.
+/// is one run from where the board began, and each transfer that ended in it was carried out by the medium.
 pub fn run_scripts<M: Medium + Sync, R: Threads + Wait + Sync>(
     rt: &R,
     alloc: Global,
@@ -166,6 +178,7 @@ pub fn run_scripts<M: Medium + Sync, R: Threads + Wait + Sync>(
     requires some { 0 < scripts_of board.world }
     ensures opening { IfOk result (λ r. began r.board ≡ began board) }
     ensures run { IfOk result (λ r. Run (began board) r.board.events r.board.world) }
+    ensures carried { IfOk result (λ r. CarriedRun M.carried (began board) r.board.events r.board.world) }
     ensures ended { IfOk result (λ r. r.ended ≡ ends_of r.board.events) }
     ensures whole { IfOk result (λ r. IsWhole r.ended r.board) }
 {

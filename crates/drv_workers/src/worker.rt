@@ -1,4 +1,5 @@
 //! One worker.
+ghost use Rattle.board_lock.specs.Carried.{CarriesFor};
 ghost use Rattle.drv_workers.specs.Ends.{WorkEnds};
 
 use crate::medium::Medium;
@@ -6,22 +7,24 @@ use board_lock::{Done, DoneEnd, Naming, Seat, SharedBoard, Turn};
 use std::sync::Wait;
 
 /// Steps a seat until its caller has ended, the board was stopped, or memory ran out, at which it stops the board once. A
-/// transfer is carried out outside the lock, after a look at the lease on its device.
+/// transfer is carried out outside the lock, after a look that showed the slot of its device live and leased to the caller. Without
+/// a lease there it steps again.
 pub fn work<M: Medium, N: Naming, R: Wait>(
     rt: &R,
     shared: &SharedBoard<N>,
     seat: Seat<N>,
     medium: &M,
 ) -> Done<N>
+    requires { CarriesFor M.carried N.carried }
     ensures { WorkEnds N.opening seat result }
 {
     let mut seat = seat;
     for _ in rt.forever() {
         let turn = match shared.steps(rt, &mut seat) {
-            Turn::Transfer(ticket, _) => {
-                let _ = shared.look(&mut seat, &ticket);
-                shared.post(rt, &mut seat, medium.transfer(rt, ticket))
-            }
+            Turn::Transfer(ticket, _) => match shared.look(&mut seat, &ticket) {
+                Some(_) => shared.post(rt, &mut seat, medium.transfer(rt, ticket)),
+                None => continue,
+            },
             turn => turn,
         };
         match turn {

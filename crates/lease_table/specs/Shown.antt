@@ -17,6 +17,11 @@ pub record KeeperShown : Type 0 where
   pub table : TableId
   pub view : View
 
+-- a lease on a slot, of the slot's generation when it was taken
+pub record LeaseShown : Type 0 where
+  pub slot : ℕ
+  pub generation : ℕ
+
 -- the seats of the first k callers of a table of n slots
 abbrev pub first_seat : TableId → ℕ → ℕ → SeatShown
 first_seat z n k = record { table = z; caller = k; view = caller_view n k }

@@ -3,10 +3,14 @@
 //! live, bit 17 that it is condemned, and the others are its generation. All of it is this project's profile.
 #![tactic(auto)]
 
+mod holding;
+mod lease;
 mod rule;
 mod table;
 mod view;
 
+pub use holding::Leases;
+pub use lease::Lease;
 pub use rule::LeaseRule;
-pub use table::{Lease, LeaseKeeper, LeaseSeat, LeaseTable, Taken, Word};
+pub use table::{LeaseKeeper, LeaseSeat, LeaseTable, Taken, Word};
 pub use view::{Claim, SlotRecord, Standing, View};

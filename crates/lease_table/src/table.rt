@@ -8,6 +8,7 @@ ghost use Rattle.lease_table.specs.Leases.{claim_at, showing, with_claim, gained
 ghost use Rattle.lease_table.specs.Shown.{SeatShown, KeeperShown, first_seats, states_in, BuryIs};
 ghost use Rattle.lease_table.specs.Words.{WordOf, TakenIs};
 
+use crate::lease::Lease;
 use crate::rule::{Condemns, Deals, Frees, Gives, LeaseRule, Looks, Peeks, Publishes, Takes};
 use crate::view::View;
 use atomic_table::{Seat, Table};
@@ -60,13 +61,6 @@ impl Model for LeaseKeeper {
     ghost view = { λ s. record { table = s.seat.table_id; view = s.seat.me.0 } };
 
     ghost invariant = { λ s. (s.seat.me.0.standing.keeps ≡ true) × (length s.seat.me.0.standing.slots + 1 ≡ s.seat.table_id.words) };
-}
-
-/// A lease on a slot, of the slot's generation when it was taken. It can't be dropped, only given back. What it is worth is in
-/// its seat's view alone.
-pub struct Lease {
-    pub slot: u16,
-    pub generation: u64,
 }
 
 /// What a slot's word says: its generation, below 2^46; whether it is live, and condemned; its holders, bit k-1 for caller k.

@@ -364,7 +364,7 @@ known = record {
 }
 
 -- what each step carries on says something of each event
-same_setup : (s : Setup) (h : List Event) (v : World) → Run (opening s) h v → v.setup ≡ s
+pub same_setup : (s : Setup) (h : List Event) (v : World) → Run (opening s) h v → v.setup ≡ s
 unfolding opening
 same_setup s h v run = run_setup (opening s) h v run
 

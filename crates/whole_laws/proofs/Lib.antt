@@ -1,6 +1,7 @@
 pub mod Below
 pub mod Order
 pub mod Commands
+pub mod Ordered
 pub mod Changes
 pub mod Transfers
 pub mod Living

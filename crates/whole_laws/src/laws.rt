@@ -2,7 +2,7 @@
 ghost use Rattle.run_rules.specs.Tree.{tree_lines};
 ghost use Rattle.history_laws.specs.Always.{OfEveryRun, OfEveryEvent};
 ghost use Rattle.whole_laws.specs.Below.{ChainsLive, FreesBare, ReachesRoot, SleepsThroughout};
-ghost use Rattle.whole_laws.specs.Order.{CommandsInOrder, FirstAnswers, OfEveryPlace};
+ghost use Rattle.whole_laws.specs.Order.{AreInOrder, CommandsInOrder, FirstAnswers, OfEveryPlace};
 ghost use Rattle.whole_laws.specs.Transfers.{DoneAfterStarted, DoneNext};
 ghost use Rattle.whole_laws.specs.Tree.{TellsWholeTree};
 
@@ -30,6 +30,11 @@ pub fn whole_subtree_sleeps()
 /// the answer of that command, `drop` and `end` come after all commands, and nothing comes after `end`.
 pub fn commands_in_order()
     ensures { OfEveryPlace CommandsInOrder }
+{}
+
+/// So it is of each event of every history.
+pub fn all_in_order()
+    ensures { OfEveryRun AreInOrder }
 {}
 
 /// The first event of a script's caller with a number is the answer of the command of that number.

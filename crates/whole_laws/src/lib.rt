@@ -5,6 +5,6 @@
 mod laws;
 
 pub use laws::{
-    chains_live, commands_in_order, done_after_started, first_answers, nothing_lives_below,
-    root_reached, started_then_done, tree_told_whole, whole_subtree_sleeps,
+    all_in_order, chains_live, commands_in_order, done_after_started, first_answers,
+    nothing_lives_below, root_reached, started_then_done, tree_told_whole, whole_subtree_sleeps,
 };

@@ -6,6 +6,8 @@ mod looks;
 #[cfg(test)]
 mod runs;
 #[cfg(test)]
+mod stale;
+#[cfg(test)]
 mod stops;
 #[cfg(test)]
 mod turns;

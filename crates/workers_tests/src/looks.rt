@@ -1,6 +1,7 @@
-ghost use Rattle.std.specs.Prelude.{◌≡◌, ◌<◌, IfOk, IfSome, length};
+ghost use Rattle.std.specs.Prelude.{◌≡◌, ◌<◌, ⊤, IfOk, IfSome, Some, length};
 ghost use Rattle.dev_board.specs.Booting.{IsBooted};
 ghost use Rattle.board_lock.specs.Boards.{scripts_of};
+ghost use Rattle.board_lock.specs.Carried.{CarriesFor};
 ghost use Rattle.board_lock.specs.Names.{AreNames};
 ghost use Rattle.board_lock.specs.Seats.{PartsFit};
 
@@ -35,7 +36,9 @@ fn ended<N: Naming, R: Wait>(
     seat: &mut Seat<N>,
     ticket: Ticket,
 ) -> Option<u64>
-    requires { ticket.caller ≡ seat.old.caller }
+    requires caller { ticket.caller ≡ seat.old.caller }
+    requires looked { seat.old.looked ≡ Some ticket.slot }
+    requires carries { CarriesFor (λ _. ⊤) N.carried }
 {
     let done = IoResult::make(ticket, answer_for(ticket));
     let _ = place_of(shared.post(rt, seat, done))?;
@@ -48,7 +51,9 @@ fn look_around<N: Naming, R: Wait>(
     shared: &SharedBoard<N>,
     first: &mut Seat<N>,
     second: &mut Seat<N>,
-) -> Option<(u64, Looks)> {
+) -> Option<(u64, Looks)>
+    requires { CarriesFor (λ _. ⊤) N.carried }
+{
     let ticket = started(rt, shared, first)?;
     let before = shared.look(first, &ticket)?;
     let _ = place_of(shared.step(rt, second))?;
@@ -75,7 +80,7 @@ fn is_free(board: &Board, place: u64) -> bool {
 
 // Whether a device was freed by the event at a place, in a run that is over.
 fn has_freed(left: Finished, place: u64) -> bool {
-    let freed = is_free(&left.board, place);
+    let freed = is_free(left.board(), place);
     drop(left);
     freed
 }
@@ -109,6 +114,7 @@ fn looked_with<N: Naming, R: Wait>(
     shared: &SharedBoard<N>,
     seats: List<Seat<N>>,
 ) -> Option<(u64, Looks, List<Done<N>>)>
+    requires { CarriesFor (λ _. ⊤) N.carried }
     ensures each { IfSome result (λ r. length r.2 ≡ length seats) }
     ensures some { IfSome result (λ r. 0 < length r.2) }
 {
@@ -134,7 +140,8 @@ fn looks_left<N: Naming, R: Wait>(
     shared: SharedBoard<N>,
     seats: List<Seat<N>>,
 ) -> Option<(Looks, bool)>
-    requires { length seats ≡ scripts_of N.opening }
+    requires each { length seats ≡ scripts_of N.opening }
+    requires carries { CarriesFor (λ _. ⊤) N.carried }
 {
     match looked_with(rt, alloc, &shared, seats) {
         Some((place, seen, done)) => Some((seen, has_freed(shared.finish(done), place))),
@@ -152,6 +159,7 @@ fn looks_of<N: Naming, R: Wait>(
     requires fits { PartsFit parts board }
     requires booted { IsBooted board }
     requires some { 0 < scripts_of board.world }
+    requires carries { CarriesFor (λ _. ⊤) N.carried }
 {
     match SharedBoard::<N>::make(alloc, board, parts) {
         Ok((shared, seats)) => looks_left(rt, alloc, shared, seats),

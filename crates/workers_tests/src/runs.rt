@@ -1,3 +1,5 @@
+ghost use Rattle.std.specs.Prelude.{⊤};
+
 use board_lock::Finished;
 use cf_types::{Memory, Ticket, put_bytes};
 use dev_board::{Board, IoResult};
@@ -22,6 +24,8 @@ struct Meeting {
 }
 
 impl Medium for Meeting {
+    ghost carried = { λ ticket. ⊤ };
+
     fn transfer<R: Wait>(&self, rt: &R, ticket: Ticket) -> IoResult {
         self.inside.fetch_add(1, Ordering::SeqCst);
         for _ in 0..LOOKS {
@@ -68,14 +72,14 @@ fn ran<M: Medium + Sync, R: Threads + Wait + Sync>(
 
 // What the callers did in a run that is over; nothing where memory ran out.
 fn lines_left(alloc: Global, left: Finished) -> Option<Vec<u8>> {
-    let lines = lines_of(alloc, &left.board).ok();
+    let lines = lines_of(alloc, left.board()).ok();
     drop(left);
     lines
 }
 
 // How many callers ended in a run that is over.
 fn ended_left(left: Finished) -> u64 {
-    let ended = left.ended;
+    let ended = left.ended();
     drop(left);
     ended
 }

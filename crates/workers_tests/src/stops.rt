@@ -1,11 +1,12 @@
-ghost use Rattle.std.specs.Prelude.{◌<◌};
+ghost use Rattle.std.specs.Prelude.{◌<◌, ⊤};
 ghost use Rattle.dev_board.specs.Booting.{IsBooted};
 ghost use Rattle.board_lock.specs.Boards.{scripts_of};
+ghost use Rattle.board_lock.specs.Carried.{CarriesFor};
 ghost use Rattle.board_lock.specs.Names.{AreNames};
 ghost use Rattle.board_lock.specs.Seats.{PartsFit};
 
 use crate::turns::started;
-use board_lock::{DoneEnd, Naming, RunParts, Seat, SharedBoard};
+use board_lock::{Done, DoneEnd, Naming, RunParts, Seat, SharedBoard};
 use cf_types::{List, Ticket};
 use dev_board::Board;
 use drv_workers::{SoftMedium, work};
@@ -38,39 +39,65 @@ fn stopper(end: &DoneEnd) -> Option<u8> {
     }
 }
 
-// A worker runs beside caller 1, which stops the board once the worker has condemned the device of this transfer, for whose
+// A worker runs beside a caller, which stops the board once the worker has condemned the device of this transfer, for whose
 // references it waits then: by whom the worker was stopped.
 fn stopped_by<N: Naming + Send + Sync, R: Threads + Wait + Sync>(
     rt: &R,
     shared: &SharedBoard<N>,
-    first: Seat<N>,
+    stops: Seat<N>,
     ticket: Ticket,
-    second: Seat<N>,
-) -> Option<u8> {
-    thread::scope(thread::scope_env(), rt, move |scope| {
-        match scope.spawn(move || work(rt, shared, second, &SoftMedium)) {
-            Ok(handle) => {
-                let mut first = first;
-                await_condemned(shared, &mut first, &ticket);
-                shared.stop(rt, &mut first);
-                stopper(handle.join(rt).end())
+    works: Seat<N>,
+) -> Option<u8>
+    requires { CarriesFor (λ _. ⊤) N.carried }
+{
+    thread::scope(
+        thread::scope_env(),
+        rt,
+        move |scope| -> Option<u8>
+            requires { CarriesFor (λ _. ⊤) N.carried }
+        {
+            match scope.spawn(
+                move || -> Done<N>
+                    requires { CarriesFor (λ _. ⊤) N.carried }
+                { work(rt, shared, works, &SoftMedium) },
+            ) {
+                Ok(handle) => {
+                    let mut stops = stops;
+                    await_condemned(shared, &mut stops, &ticket);
+                    shared.stop(rt, &mut stops);
+                    stopper(handle.join(rt).end())
+                }
+                Err(_) => None,
             }
-            Err(_) => None,
-        }
-    })
+        },
+    )
 }
 
-// Caller 1 is in a transfer, and caller 2 takes the device of it away: by whom the worker of caller 2 was stopped.
+// Which caller is in a transfer, and stops the board.
+#[derive(Clone, Copy)]
+enum Stops {
+    First,
+    Second,
+}
+
+// One caller is in a transfer, and the other takes the device of it away: by whom the worker of the other was stopped.
 fn stopped_with<N: Naming + Send + Sync, R: Threads + Wait + Sync>(
     rt: &R,
     shared: &SharedBoard<N>,
     seats: List<Seat<N>>,
-) -> Option<u8> {
+    which: Stops,
+) -> Option<u8>
+    requires { CarriesFor (λ _. ⊤) N.carried }
+{
     let mut seats = seats.into_vec();
     let second = seats.pop()?;
-    let mut first = seats.pop()?;
-    let ticket = started(rt, shared, &mut first)?;
-    stopped_by(rt, shared, first, ticket, second)
+    let first = seats.pop()?;
+    let (mut stops, works) = match which {
+        Stops::First => (first, second),
+        Stops::Second => (second, first),
+    };
+    let ticket = started(rt, shared, &mut stops)?;
+    stopped_by(rt, shared, stops, ticket, works)
 }
 
 fn stopped_of<N: Naming + Send + Sync, R: Threads + Wait + Sync>(
@@ -78,23 +105,30 @@ fn stopped_of<N: Naming + Send + Sync, R: Threads + Wait + Sync>(
     alloc: Global,
     board: Board,
     parts: RunParts,
+    which: Stops,
 ) -> Option<u8>
     requires names { AreNames N.opening N.closings N.dids N.stops N.table board parts }
     requires fits { PartsFit parts board }
     requires booted { IsBooted board }
     requires some { 0 < scripts_of board.world }
+    requires carries { CarriesFor (λ _. ⊤) N.carried }
 {
     match SharedBoard::<N>::make(alloc, board, parts) {
-        Ok((shared, seats)) => stopped_with(rt, &shared, seats),
+        Ok((shared, seats)) => stopped_with(rt, &shared, seats, which),
         Err(_) => None,
     }
 }
 
-// By whom the worker of caller 2 was stopped; nothing where memory ran out, or where it went another way.
-fn stopped<R: Threads + Wait + Sync>(rt: &R, alloc: Global) -> Option<u8> {
-    let board = booted(alloc, &[b"open com0\nio com0 5\n", b"detach com0\n"])?;
+// By whom the worker of the other caller was stopped; nothing where memory ran out, or where it went another way.
+fn stopped<R: Threads + Wait + Sync>(
+    rt: &R,
+    alloc: Global,
+    scripts: &[&[u8]],
+    which: Stops,
+) -> Option<u8> {
+    let board = booted(alloc, scripts)?;
     match RunParts::make(alloc, &board) {
-        Ok(parts) => stopped_of::<Brand, R>(rt, alloc, board, parts),
+        Ok(parts) => stopped_of::<Brand, R>(rt, alloc, board, parts, which),
         Err(_) => {
             drop(board);
             None
@@ -104,6 +138,14 @@ fn stopped<R: Threads + Wait + Sync>(rt: &R, alloc: Global) -> Option<u8> {
 
 #[test]
 fn a_stop_ends_a_worker_that_waits(rt: HostRuntime) -> Result<(), Fail> {
-    assert_eq!(rt; stopped(&rt, rt.alloc()), Some(1));
+    let scripts: [&[u8]; 2] = [b"open com0\nio com0 5\n", b"detach com0\n"];
+    assert_eq!(rt; stopped(&rt, rt.alloc(), &scripts, Stops::First), Some(1));
+    Ok(())
+}
+
+#[test]
+fn caller_2_stops_in_its_own_name(rt: HostRuntime) -> Result<(), Fail> {
+    let scripts: [&[u8]; 2] = [b"detach com0\n", b"open com0\nio com0 5\n"];
+    assert_eq!(rt; stopped(&rt, rt.alloc(), &scripts, Stops::Second), Some(2));
     Ok(())
 }

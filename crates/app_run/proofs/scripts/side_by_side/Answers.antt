@@ -5,6 +5,7 @@ use Rattle.run_rules.specs.Run.{Run}
 use Rattle.boot_laws.proofs.Thorough.{thorough}
 use Rattle.dev_board.proofs.Began.{opening_setup}
 use Rattle.dev_board.proofs.ScriptedLaws.{scripts_may}
+use Rattle.board_lock.specs.Carried.{CarriedRun}
 use Rattle.board_lock.proofs.Opened.{same_setup}
 use Rattle.app_run.proofs.scripts.side_by_side.Goals as goal
 
@@ -21,6 +22,7 @@ returns g c =
     let may = scripts_may c.args.tables c.args.machine c.args.scripts c.requires.formed c.requires.fits c.requires.few c.requires.scripts in
     record {
       run = run;
+      transfers = subst (λ (x : Setup). CarriedRun g.M.Medium.carried (opening x) left.events left.world) is c.in_ok-left.ensures.carried;
       made = begun ∙ (opening_setup c.in_ok-board.board.world.setup ∙ is);
       whole = c.in_ok-left.ensures.whole.whole;
       reliable = c.in_ok-left.ensures.whole.reliable;

@@ -9,7 +9,7 @@ pub returns-clause-explained : goal.returns-clause-explained
 returns-clause-explained g c =
     let form = drvrun_form (map string_bytes c.args.words.now) in
     let told = g.F.Files.told c.args.files.now in
-    explains_told (Asks form told) (IsRefused form told) _ _ c.run-status.result c.report.result c.run-status.ensures.explained c.report.ensures.status
+    explains_told (Asks g.M.Medium.carried form told) (IsRefused form told) _ _ c.run-status.result c.report.result c.run-status.ensures.explained c.report.ensures.status
 
 pub returns-clause-faults : goal.returns-clause-faults
 returns-clause-faults g c = faults_told _ _ _ _ c.run-status.result c.report.result c.run-status.ensures.faults c.report.ensures.status

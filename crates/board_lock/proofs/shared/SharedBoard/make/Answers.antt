@@ -1,6 +1,9 @@
-use Rattle.std.proofs.Common.{length, sym, ap, ◌∙◌, arith}
+use Rattle.std.proofs.Common.{length, sym, ap, ◌∙◌, subst, arith}
+use Rattle.run_rules.specs.World.{World}
 use Rattle.board_lock.specs.Boards.{scripts_of, spots_of}
+use Rattle.board_lock.specs.Carried.{CarriedRun}
 use Rattle.board_lock.specs.Tallies.{none_yet, unused}
+use Rattle.board_lock.proofs.Carried.{boot_carried}
 use Rattle.board_lock.proofs.Opened.{calm_of, first_kept, same_scripts, same_spots, seats_dealt}
 use Rattle.board_lock.proofs.Seated.{length_below}
 use Rattle.board_lock.proofs.shared.SharedBoard.make.Goals as goal
@@ -54,6 +57,12 @@ share-requires-clause-kept g c =
     (calm_of c.args.board c.stands.ensures.may c.requires.booted)
     (c.open-books.ensures.books ∙ ap none_yet (c.callers.ensures ∙ same_scripts c.args.board n.opening c.requires.names.opening))
     (ap (λ p. p.states) c.parts.view_is)
+
+pub share-requires-clause-carried : goal.share-requires-clause-carried
+share-requires-clause-carried g c =
+    let n = g.N.Naming in
+    let b = c.args.board in
+    subst (λ (w : World). CarriedRun n.carried w b.events b.world) c.requires.names.opening (boot_carried n.carried b.world.setup b.events b.world c.stands.ensures.may c.requires.booted.boot)
 
 pub share-requires-clause-table : goal.share-requires-clause-table
 share-requires-clause-table g c =

@@ -12,18 +12,19 @@ load-word-requires c =
     let wide = c.self.invariant in
     let words = ap (λ z. z.words) c.self.view_is in
     let slot = c.requires.slot in
+    let at = ap (λ z. z.slot) c.lease.view_is in
     let mine = c.seat.invariant in (
       ap (λ z. z.table) c.seat.view_is ∙ (c.requires.table ∙ sym c.self.view_is),
       omega arith,
-      looks t.table.shared.key t.table.shared.table_id.slots s.id s.me.0 s.me.1 c.args.lease.now.slot (omega arith) (let a = mine.0 in let b = mine.1 in omega arith),
+      looks t.table.shared.key t.table.shared.table_id.slots s.id s.me.0 s.me.1 c.lease.inside.slot (omega arith) (let a = mine.0 in let b = mine.1 in omega arith),
     )
 
 pub returns-clause-own : goal.returns-clause-own
 returns-clause-own c =
-    let x = c.args.lease.now.slot in
+    let x = c.lease.inside.slot in
     let word = c.load-word.result in
     let s = c.seat.inside in
-    let held = ap (λ z. claim_at z.view.standing x) c.seat.view_is ∙ c.requires.held in
+    let held = ap (λ z. claim_at z.view.standing x) c.seat.view_is ∙ (ap (λ z. claim_at c.args.seat.now.view.standing z.slot) c.lease.view_is ∙ c.requires.held) in
     let own : bit_at word (s.seat.me.0.standing.number - 1) ≡ 1 = (c.load-word.ensures.2.held c.args.lease.now.generation held).2 in
     let same : s.caller ≡ c.args.seat.now.caller = ap (λ z. z.caller) c.seat.view_is in
     let number : s.seat.me.0.standing.number ≡ c.args.seat.now.caller = c.seat.invariant.0 ∙ same in

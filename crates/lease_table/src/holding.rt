@@ -3,10 +3,11 @@ ghost use Rattle.std.specs.Prelude.{◌≡◌, ◌<◌, ◌+◌, IfOk, IsSome, l
 ghost use Rattle.lease_table.specs.Shown.{SeatShown};
 ghost use Rattle.lease_table.specs.Leases.{without};
 ghost use Rattle.lease_table.specs.declared.view.Claim.TheVariants.{Nothing};
-ghost use Rattle.board_lock.specs.Holding.{HoldsNothing, LookIs, Takes, claim_of};
+ghost use Rattle.lease_table.specs.Holding.{HoldsNothing, LookIs, Takes, claim_of};
 
+use crate::lease::Lease;
+use crate::table::{LeaseSeat, LeaseTable, Taken, Word};
 use cf_types::Memory;
-use lease_table::{Lease, LeaseSeat, LeaseTable, Taken, Word};
 use std::alloc::Global;
 use std::marker::Model;
 

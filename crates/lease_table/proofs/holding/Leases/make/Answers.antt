@@ -1,9 +1,9 @@
 use Rattle.std.proofs.Common.{◌≡◌, sym, ap, ◌∙◌, rules, map, length}
 use Rattle.std.specs.Prelude.{replicate, None}
 use Rattle.std.proofs.lemmas.List.{length-replicate}
-use Rattle.board_lock.specs.Holding.{claim_of}
-use Rattle.board_lock.proofs.Held.{none_held}
-use Rattle.board_lock.proofs.leases.Leases.make.Goals as goal
+use Rattle.lease_table.specs.Holding.{claim_of}
+use Rattle.lease_table.proofs.Held.{none_held}
+use Rattle.lease_table.proofs.holding.Leases.make.Goals as goal
 
 pub invariant_of-result : goal.invariant_of-result
 invariant_of-result c =

@@ -3,7 +3,7 @@ use Rattle.std.proofs.Common.{◌≡◌, ℕ, zero, suc, List, [], ◌∷◌, ma
 use Rattle.std.specs.Prelude.{slice_index_or, slice_set, replicate, None}
 use Rattle.lease_table.specs.declared.view.Claim.{Claim}
 use Rattle.lease_table.specs.declared.view.Claim.TheVariants.{Nothing}
-use Rattle.board_lock.specs.Holding.{claim_of}
+use Rattle.lease_table.specs.Holding.{claim_of}
 
 pub none_held : (n : ℕ) → map claim_of (replicate n None) ≡ replicate n Nothing
 none_held zero = refl

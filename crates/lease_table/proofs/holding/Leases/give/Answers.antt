@@ -2,8 +2,8 @@ use Rattle.std.proofs.Common.{sym, ap, ◌∙◌, length-set}
 use Rattle.std.specs.Prelude.{slice_set, None}
 use Rattle.std.proofs.lemmas.List.{map-set}
 use Rattle.lease_table.specs.declared.view.Claim.TheVariants.{Nothing}
-use Rattle.board_lock.specs.Holding.{claim_of}
-use Rattle.board_lock.proofs.leases.Leases.give.Goals as goal
+use Rattle.lease_table.specs.Holding.{claim_of}
+use Rattle.lease_table.proofs.holding.Leases.give.Goals as goal
 
 pub invariant_of-self : goal.invariant_of-self
 invariant_of-self c =

@@ -2,8 +2,8 @@ use Rattle.std.proofs.Common.{◌≡◌, sym, refl, ap, ◌∙◌, inl, length-s
 use Rattle.std.specs.Prelude.{slice_set, Some, map, slice_index_or}
 use Rattle.std.proofs.lemmas.List.{map-set}
 use Rattle.lease_table.specs.declared.view.Claim.TheVariants.{Nothing, Held}
-use Rattle.board_lock.specs.Holding.{claim_of, Takes}
-use Rattle.board_lock.proofs.leases.Leases.take.Goals as goal
+use Rattle.lease_table.specs.Holding.{claim_of, Takes}
+use Rattle.lease_table.proofs.holding.Leases.take.Goals as goal
 
 pub returns-in-Some-clause-taken : goal.returns-in-Some-clause-taken
 returns-in-Some-clause-taken c =
@@ -14,8 +14,8 @@ pub invariant_of-self : goal.invariant_of-self
 invariant_of-self c =
     let s = c.self.inside in
     let kept = c.self.invariant in
-    let g = c.in-Lease.lease.generation in (
-      ap (λ z. z.standing.claims) c.in-Lease.ensures.taken.1 ∙ (ap (λ h. slice_set h c.args.slot (Held g)) kept.0 ∙ sym (map-set claim_of s.held.items c.args.slot (Some g))),
+    let g = c.lease.inside.generation in (
+      ap (λ z. z.standing.claims) c.in-Lease.ensures.taken.1 ∙ (ap (λ l. slice_set s.seat.view.standing.claims c.args.slot (Held l.generation)) (sym c.lease.view_is) ∙ (ap (λ h. slice_set h c.args.slot (Held g)) kept.0 ∙ sym (map-set claim_of s.held.items c.args.slot (Some g)))),
       length-set s.held.items c.args.slot (Some g) ∙ kept.1,
       kept.2 ∙ sym (ap (λ z. z.words) c.in-Lease.ensures.same.0),
     )

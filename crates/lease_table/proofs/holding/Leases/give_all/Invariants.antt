@@ -1,7 +1,7 @@
 use Rattle.std.proofs.Common.{◌≡◌, ◌<◌, ℕ, length}
 use Rattle.lease_table.specs.Leases.{claim_at}
 use Rattle.lease_table.specs.declared.view.Claim.TheVariants.{Nothing}
-use Rattle.board_lock.proofs.leases.Leases.give_all.Given as goal
+use Rattle.lease_table.proofs.holding.Leases.give_all.Given as goal
 
 abbrev pub invariant-loop-slot : goal.invariant-loop-slot
 invariant-loop-slot l =
