@@ -12,7 +12,7 @@ use Rattle.app_input.specs.Asked.{AsksInputs, Names}
 use Rattle.app_input.specs.Inputs.{Reads}
 use Rattle.app_input.specs.Stop.{status_of_stop}
 use Rattle.app_words.specs.Status.{status_of}
-use Rattle.app_words.specs.Words.{Form, boot, ioconf, is_compiled, is_from_outside, load, machine_in, scripted, side_by_side, sources}
+use Rattle.app_words.specs.Words.{Form, boot, following, ioconf, is_compiled, is_from_outside, load, machine_in, scripted, side_by_side, sources}
 use Rattle.app_input.specs.declared.inputs.Inputs.{Inputs}
 use Rattle.app_input.specs.declared.inputs.Inputs.TheVariants as input
 use Rattle.app_words.specs.declared.status.Status.{Status}
@@ -94,6 +94,9 @@ found_asked form told reads (input.Upgrade tables machine scripts history) statu
     run_asked form told Upgrade file name course names status old mid new is asked later
 found_asked form told reads (input.Watch tables machine scripts watch) status old mid new same (file, name, course, names, is, meant, described, given) asked later =
     run_asked form told Watch file name course names status old mid new is asked later
+found_asked form told reads (input.Follow tables machine plan) status old mid new same (file, name, at, is, meant, described, given) asked later =
+    subst (λ (f : Option Form). AsksFiles f told status old new) (sym is)
+    (quiet_then (Some (following file name at)) told status old mid new (subst (λ (f : Option Form). AsksInputs f told Ok old mid) is asked) later)
 found_asked form told reads (input.Run tables machine scripts) status old mid new same (file, name, names, is, meant, described, given) asked later =
     subst (λ (f : Option Form). AsksFiles f told status old new) (sym is)
     (quiet_then (Some (side_by_side file name names)) told status old mid new (subst (λ (f : Option Form). AsksInputs f told Ok old mid) is asked) later)
