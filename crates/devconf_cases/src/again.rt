@@ -1,5 +1,5 @@
-//! Plays and runs that were watched, run once more: `replay` has to give their tree, and `upgrade` their history with it; where there
-//! is one script and it has ended, `drvrun` has to write the same.
+//! Plays that are run once more: `replay` has to give their tree, and `upgrade` their history with it; where there is one
+//! script and it has ended, `drvrun` has to write what the play wrote.
 
 use crate::case::Case;
 use crate::stop::Stop;
@@ -11,28 +11,13 @@ use std::alloc::Global;
 /// The name of the history.
 const HISTORY: &str = "the-history";
 
-/// Whether the case is a play or is watched, and ends well.
+/// Whether the case is a play that ends well.
 fn is_play(case: &Case) -> bool {
     let plays = match (case.program, case.words.first()) {
-        (Program::Devconf, Some(word)) => matches!(word.as_str(), "play" | "watch"),
+        (Program::Devconf, Some(word)) => word.as_str() == "play",
         _ => false,
     };
     plays && case.answer.status == 0
-}
-
-/// What a text says before the line `notes`: what a run that was watched has in common with a play.
-pub fn text_before_notes(alloc: Global, text: &[u8]) -> Result<Vec<u8>, Stop> {
-    let mut told = Vec::new(alloc);
-    for line in text.split(|byte| *byte == b'\n') {
-        if line == b"notes" {
-            return Ok(told);
-        }
-        told.extend_from_slice(line)?;
-        told.push(b'\n')?;
-    }
-    // Behind the last newline there is no line.
-    let _ = told.pop();
-    Ok(told)
 }
 
 /// What a text says from this line on.
@@ -51,7 +36,7 @@ fn text_from(alloc: Global, text: &[u8], head: &[u8]) -> Result<Vec<u8>, Stop> {
     Ok(rest)
 }
 
-/// The words of a play with another first one, and the history in place of the order file or the watch file.
+/// The words of a play with another first one, and the history in place of the order file.
 fn words_again(alloc: Global, words: &[String], form: &str) -> Result<Vec<String>, Stop> {
     let mut again = Vec::new(alloc);
     for (place, word) in words.iter().enumerate() {
@@ -66,22 +51,21 @@ fn words_again(alloc: Global, words: &[String], form: &str) -> Result<Vec<String
 }
 
 /// The files of a play, and what it wrote as the history.
-fn files_again(alloc: Global, case: &Case, told: &[u8]) -> Result<List<MemFile>, Stop> {
+fn files_again(alloc: Global, case: &Case) -> Result<List<MemFile>, Stop> {
     let mut files = case.copied_files(alloc)?;
     files.push(MemFile {
         name: Text::copied(alloc, HISTORY.as_bytes())?,
-        bytes: Text::copied(alloc, told)?,
+        bytes: Text::copied(alloc, &case.answer.output)?,
     })?;
     Ok(files)
 }
 
 /// The play read again by another form, which has to write what the play wrote from this line on.
 fn case_again(alloc: Global, case: &Case, form: &str, head: &[u8]) -> Result<Case, Stop> {
-    let told = text_before_notes(alloc, &case.answer.output)?;
     let mut again = Case::make(alloc, format!(in alloc; "{} ({form})", case.name)?);
     again.words = words_again(alloc, &case.words, form)?;
-    again.files = files_again(alloc, case, &told)?;
-    again.answer.output = text_from(alloc, &told, head)?;
+    again.files = files_again(alloc, case)?;
+    again.answer.output = text_from(alloc, &case.answer.output, head)?;
     Ok(again)
 }
 
@@ -108,7 +92,7 @@ fn is_whole_of_one(case: &Case) -> bool {
             .any(|line| line.starts_with(b"1.") && line.ends_with(b" end"))
 }
 
-/// The words of a play without the form and the order file or the watch file.
+/// The words of a play without the form and the order file.
 fn words_of_run(alloc: Global, words: &[String]) -> Result<Vec<String>, Stop> {
     let mut left = Vec::new(alloc);
     for (place, word) in words.iter().enumerate() {
@@ -124,12 +108,11 @@ pub fn cases_of_one(alloc: Global, cases: &[Case]) -> Result<Vec<Case>, Stop> {
     let mut runs = Vec::new(alloc);
     for case in cases {
         if is_whole_of_one(case) {
-            let told = text_before_notes(alloc, &case.answer.output)?;
             let mut run = Case::make(alloc, format!(in alloc; "{} (drvrun)", case.name)?);
             run.program = Program::Drvrun;
             run.words = words_of_run(alloc, &case.words)?;
-            run.files = files_again(alloc, case, &told)?;
-            run.answer.output = told;
+            run.files = files_again(alloc, case)?;
+            run.answer.output = Vec::from_slice(alloc, &case.answer.output)?;
             runs.push(run)?;
         }
     }

@@ -1,6 +1,5 @@
-//! Boots, plays and runs that were watched, followed by plain looks.
+//! Boots and plays that are followed by plain looks.
 
-use crate::again::text_before_notes;
 use crate::case::Case;
 use crate::stop::Stop;
 use app_input::{Inputs, read_inputs};
@@ -11,25 +10,20 @@ use plain_forms::{Followed, follow};
 use std::alloc::Global;
 use std::mem::drop;
 
-/// Whether the case has a history and ends well.
+/// Whether the case is a boot or a play that ends well.
 fn has_history(case: &Case) -> bool {
     let boots = match (case.program, case.words.first()) {
-        (Program::Devconf, Some(word)) => matches!(word.as_str(), "boot" | "play" | "watch"),
+        (Program::Devconf, Some(word)) => matches!(word.as_str(), "boot" | "play"),
         _ => false,
     };
     boots && case.answer.status == 0
 }
 
-/// How far plain looks follow a text by the tables and the machine of a run.
+/// How far plain looks follow a text by the tables and the machine of a boot or a play.
 fn followed_by(alloc: Global, inputs: &Inputs, text: &[u8]) -> Result<Option<Followed>, Memory> {
     match inputs {
         Inputs::Boot { tables, machine } => Ok(Some(follow(alloc, tables, machine, text)?)),
         Inputs::Play {
-            tables,
-            machine,
-            ..
-        }
-        | Inputs::Watch {
             tables,
             machine,
             ..
@@ -43,12 +37,11 @@ pub fn followed(alloc: Global, case: &Case) -> Result<Option<Followed>, Stop> {
     if !has_history(case) {
         return Ok(None);
     }
-    let told = text_before_notes(alloc, &case.answer.output)?;
     let mut files = MemFiles::make(case.copied_files(alloc)?, List::make(alloc));
     let Ok(inputs) = read_inputs(alloc, case.program, &case.words, &mut files) else {
         return Ok(None);
     };
-    let answer = followed_by(alloc, &inputs, &told);
+    let answer = followed_by(alloc, &inputs, &case.answer.output);
     drop(inputs);
     Ok(answer?)
 }
