@@ -8,15 +8,17 @@ use Rattle.run_rules.specs.declared.world.Setup.{Setup}
 use Rattle.run_rules.specs.Run.{Run}
 use Rattle.run_rules.specs.World.{World, opening}
 use Rattle.script_laws.specs.Whole.{AllRanWhole}
+use Rattle.whole_laws.specs.Order.{AreInOrder}
 use Rattle.board_lock.specs.Carried.{CarriedRun}
 
 -- the history is one run of this setup, which leaves this world; each transfer that ended in it was carried out; it begins with the boot,
--- every script has ended in it, and each command of a script was answered once, in the order of its script; the history is reliable and
--- thorough
+-- every script has ended in it, and each command of a script was answered once, in the order of its script; each event of a script is in
+-- the order of its commands, the first one of each the answer, `drop` and `end` last; the history is reliable and thorough
 pub record RanSideBySide (carried : Ticket → Type 0) (setup : Setup) (h : List Event) (w : World) : Type 0 where
   pub run : Run (opening setup) h w
   pub transfers : CarriedRun carried (opening setup) h w
   pub made : w.setup ≡ setup
   pub whole : AllRanWhole h w
+  pub ordered : AreInOrder h w
   pub reliable : IsReliable h w
   pub thorough : IsThorough h w

@@ -4,6 +4,8 @@
 #[cfg(test)]
 mod compiled;
 #[cfg(test)]
+mod parts;
+#[cfg(test)]
 mod replayed;
 #[cfg(test)]
 mod waits;

@@ -7,6 +7,7 @@ use Rattle.dev_board.proofs.Began.{opening_setup}
 use Rattle.dev_board.proofs.ScriptedLaws.{scripts_may}
 use Rattle.board_lock.specs.Carried.{CarriedRun}
 use Rattle.board_lock.proofs.Opened.{same_setup}
+use Rattle.whole_laws.proofs.Ordered.{all_in_order}
 use Rattle.app_run.proofs.scripts.side_by_side.Goals as goal
 
 pub run_scripts-requires-clause-some : goal.run_scripts-requires-clause-some
@@ -25,6 +26,7 @@ returns g c =
       transfers = subst (λ (x : Setup). CarriedRun g.M.Medium.carried (opening x) left.events left.world) is c.in_ok-left.ensures.carried;
       made = begun ∙ (opening_setup c.in_ok-board.board.world.setup ∙ is);
       whole = c.in_ok-left.ensures.whole.whole;
+      ordered = all_in_order s left.events left.world may run;
       reliable = c.in_ok-left.ensures.whole.reliable;
       thorough = thorough s left.events left.world may run;
     }
