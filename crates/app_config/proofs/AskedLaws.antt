@@ -36,13 +36,16 @@ sources_unread name told (ConfigRefused file line code) (f, is, compiled, fault)
 sources_unread name told Usage reads = absurd cc
 sources_unread name told (MachineRefused line code) (f, file, tables, is, machine, meant, described) = let never = at_sources (λ form. machine_in form ≡ Some file) name f is machine in absurd cc
 sources_unread name told (ScriptRefused which line code) (inl (task, tables, m, (file, machine, course, names, is, meant, described, refused))) = absurd cc
-sources_unread name told (ScriptRefused which line code) (inr (tables, m, (file, machine, names, is, meant, described, refused))) = absurd cc
+sources_unread name told (ScriptRefused which line code) (inr (inl (tables, m, (file, machine, names, is, meant, described, refused)))) = absurd cc
+sources_unread name told (ScriptRefused which line code) (inr (inr (tables, m, (file, machine, plan, is, meant, described, refused)))) = absurd cc
 sources_unread name told (Absent absent) (inl (f, file, tables, is, machine, meant, why)) = let never = at_sources (λ form. machine_in form ≡ Some file) name f is machine in absurd cc
 sources_unread name told (Absent absent) (inr (inl (task, tables, m, (file, machine, course, names, is, meant, described, refused)))) = absurd cc
-sources_unread name told (Absent absent) (inr (inr (tables, m, (file, machine, names, is, meant, described, refused)))) = absurd cc
+sources_unread name told (Absent absent) (inr (inr (inl (tables, m, (file, machine, names, is, meant, described, refused))))) = absurd cc
+sources_unread name told (Absent absent) (inr (inr (inr (tables, m, (file, machine, plan, is, meant, described, refused))))) = absurd cc
 sources_unread name told (TooLong long) (inl (f, file, tables, is, machine, meant, why)) = let never = at_sources (λ form. machine_in form ≡ Some file) name f is machine in absurd cc
 sources_unread name told (TooLong long) (inr (inl (task, tables, m, (file, machine, course, names, is, meant, described, refused)))) = absurd cc
-sources_unread name told (TooLong long) (inr (inr (tables, m, (file, machine, names, is, meant, described, refused)))) = absurd cc
+sources_unread name told (TooLong long) (inr (inr (inl (tables, m, (file, machine, names, is, meant, described, refused))))) = absurd cc
+sources_unread name told (TooLong long) (inr (inr (inr (tables, m, (file, machine, plan, is, meant, described, refused))))) = absurd cc
 sources_unread name told ReadFault (f, is, outside) = let never = at_sources (λ form. is_from_outside form ≡ true) name f is outside in absurd cc
 sources_unread name told Ok never = elim never [ ]
 sources_unread name told WriteFault never = elim never [ ]
@@ -58,6 +61,7 @@ refused_asked None told status old new reads asked = asked
 refused_asked (Some (ioconf file)) told status old new reads asked = asked
 refused_asked (Some (boot file machine)) told status old new reads asked = asked
 refused_asked (Some (load n)) told status old new reads asked = asked
+refused_asked (Some (following file machine plan)) told status old new reads asked = asked
 refused_asked (Some (scripted task file machine course names)) told status old new reads asked = asked
 refused_asked (Some (side_by_side file machine names)) told status old new reads asked = asked
 refused_asked (Some (sources name)) told status old new reads asked =
@@ -117,6 +121,7 @@ files_all None told status old new asked = asked
 files_all (Some (ioconf file)) told status old new asked = inputs_all (Some (ioconf file)) told status old new asked
 files_all (Some (boot file machine)) told status old new asked = inputs_all (Some (boot file machine)) told status old new asked
 files_all (Some (load n)) told status old new asked = asked
+files_all (Some (following file machine plan)) told status old new asked = inputs_all (Some (following file machine plan)) told status old new asked
 files_all (Some (scripted task file machine course names)) told status old new asked = inputs_all (Some (scripted task file machine course names)) told status old new asked
 files_all (Some (side_by_side file machine names)) told status old new asked = inputs_all (Some (side_by_side file machine names)) told status old new asked
 files_all (Some (sources name)) told status old new asked = sources_all told name status old new asked
@@ -130,6 +135,7 @@ files_memory None told status old new asked = asked
 files_memory (Some (ioconf file)) told status old new asked = inputs_memory (Some (ioconf file)) told status old new asked
 files_memory (Some (boot file machine)) told status old new asked = inputs_memory (Some (boot file machine)) told status old new asked
 files_memory (Some (load n)) told status old new asked = asked
+files_memory (Some (following file machine plan)) told status old new asked = inputs_memory (Some (following file machine plan)) told status old new asked
 files_memory (Some (scripted task file machine course names)) told status old new asked = inputs_memory (Some (scripted task file machine course names)) told status old new asked
 files_memory (Some (side_by_side file machine names)) told status old new asked = inputs_memory (Some (side_by_side file machine names)) told status old new asked
 files_memory (Some (sources name)) told status old new asked = sources_memory told name status old new asked
