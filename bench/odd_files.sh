@@ -83,12 +83,13 @@ echo '1 2 2 1 2 1 2' >ord
 printf 'open com0\nclose com0\n' >s1
 echo 'detach com0' >s2
 echo 'list isa0' >s3
+printf 'group ports com\nscan\nadd ports\nremove ports\n' >plan
 printf 'sub 1 2\nboot\nturn 1\nturn 2\nturn 1\nread 1 1\nturn 2\nread 1 9\n' >mon
 "$devconf" play conf mach ord s1 s2 >hist || { echo "bench/odd_files.sh: the first play does not end well" >&2; exit 1; }
 sed 's/^history 2$/history 1/; s/^\(0.0 found [^ ]*\) on [^ ]*: \(.*\) row [0-9]*$/\1: \2/' hist >former
 
 # Each form with its words, and what it writes.
-forms='ioconf files boot play replay upgrade watch load drvrun'
+forms='ioconf files boot play replay upgrade tables watch load drvrun'
 words_of() {
     case $1 in
     ioconf | files) echo "$1 conf" ;;
@@ -96,6 +97,7 @@ words_of() {
     play) echo play conf mach ord s1 s2 ;;
     replay) echo replay conf mach hist s1 s2 ;;
     upgrade) echo upgrade conf mach former s1 s2 ;;
+    tables) echo tables conf mach plan ;;
     watch) echo watch conf mach mon s1 s2 ;;
     load) echo load 5 ;;
     drvrun) echo drvrun conf mach s3 ;;
@@ -177,12 +179,12 @@ written() { timeout 2 sh -c 'cat "$1" >pipe' - "$1" 2>/dev/null; }
 # The words of a form with this file in the place of its word number $2.
 with() { words_of "$1" | awk -v at="$2" -v name="$3" '{ $at = name; print }'; }
 
-for form in ioconf files boot play replay upgrade watch drvrun; do
+for form in ioconf files boot play replay upgrade tables watch drvrun; do
     at=1
     for word in $(words_of "$form"); do
         case $word in
         "$form") ;;
-        conf | mach | ord | hist | former | mon | s1 | s2 | s3)
+        conf | mach | ord | hist | former | plan | mon | s1 | s2 | s3)
             is_conf=
             [ "$word" != conf ] || is_conf=1
             try "$form, $word a folder" 8 'read fault' '' $(with "$form" $at folder)
@@ -218,6 +220,7 @@ try 'play, ord is /dev/null' 0 '' any play conf mach /dev/null s1 s2
 try 'play, scripts are /dev/null' 0 '' any play conf mach ord /dev/null /dev/null
 try 'replay, hist is /dev/null' 5 'history /dev/null:0: refused' '' replay conf mach /dev/null s1 s2
 try 'upgrade, hist is /dev/null' 5 'history /dev/null:0: refused' '' upgrade conf mach /dev/null s1 s2
+try 'tables, plan is /dev/null' 0 '' any tables conf mach /dev/null
 try 'watch, mon is /dev/null' 0 '' any watch conf mach /dev/null s1 s2
 try 'drvrun, scripts are /dev/null' 0 '' any drvrun conf mach /dev/null /dev/null
 

@@ -1,6 +1,6 @@
 #!/bin/sh
 # Refuses each allocation of a call once, and each thread, in a run of its own: of a listing, a boot, a play, a reading of
-# its history and one that is refused, of `files`, `upgrade`, `watch`, and two pairs of scripts side by side. The answer has to be that of a call
+# its history and one that is refused, of `files`, `upgrade`, `watch`, a plan, and two pairs of scripts side by side. The answer has to be that of a call
 # which is refused nothing, or `out of memory`, status 10, with a prefix of its output. A thread that cannot be started changes
 # no answer. A line for each call, and one for each answer that is wrong; status 1 then. It takes a C compiler.
 # Usage: bench/refused.sh [DEVCONF [DRVRUN]]
@@ -152,6 +152,8 @@ try 'play of a detach that waits' "$devconf" "$work" play conf mach ord open det
 try 'replay of it' "$devconf" "$work" replay conf mach hist open detach
 try 'upgrade of it' "$devconf" "$work" upgrade conf mach former open detach
 try 'watch of it' "$devconf" "$work" watch conf mach mon open detach
+printf 'group ports com\ngroup bus isa\nscan\nadd ports\nadd bus\nremove ports\nadd ports\nremove bus\n' >"$work/plan"
+try 'tables of ports that come and go' "$devconf" "$work" tables conf mach plan
 due=5
 try 'replay of a wrong line' "$devconf" "$work" replay conf mach odd open detach
 due=0 config='conf mach' scripts='s1 s2'

@@ -30,3 +30,4 @@ rows_of rescan.sh 'play, 1,024 spots,' rescans
 rows_of tree.sh 'play, trees of' disks
 rows_of power.sh 'play, a bus that sleeps with' disks
 rows_of replay.sh 'replay, 1,024 spots,' KiB
+rows_of tables.sh 'tables, a plan of' lines

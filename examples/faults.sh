@@ -81,6 +81,13 @@ try_watch() {
     expect 0 '' watch conf mach w s s
 }
 
+try_plan() {
+    write p "$2"
+    expect 4 "$1" tables conf mach p
+    write p "$3"
+    expect 0 '' tables conf mach p
+}
+
 # So many lines of this text, in which # stands for the number of the line, counted from 0.
 count() {
     awk -v n="$1" -v text="$2" 'BEGIN {
@@ -148,6 +155,22 @@ watches_by_number() {
     expect 7 'w: too long' watch conf mach w o
 }
 
+plans_by_number() {
+    expect 6 'nofile: absent' tables conf mach nofile
+    printf 'scan \001\n' >"$folder/p"
+    expect 4 'script p:1: code 2' tables conf mach p
+    printf 'fly \001\n' >"$folder/p"
+    expect 4 'script p:1: code 1' tables conf mach p
+    { printf 'group '; count 64 a | tr -d '\n'; echo ' com'; } >"$folder/p"
+    expect 4 'script p:1: code 2' tables conf mach p
+    { echo 'group ports com'; count 499 'remove ports'; echo '# not counted'; } >"$folder/p"
+    expect 0 '' tables conf mach p
+    { echo 'group ports com'; count 500 'remove ports'; } >"$folder/p"
+    expect 4 'script p:501: code 4' tables conf mach p
+    head -c 1048577 /dev/zero | tr '\0' '\n' >"$folder/p"
+    expect 7 'p: too long' tables conf mach p
+}
+
 # A history of the empty script `o`, with these lines in place of its boot's.
 history() {
     { printf 'history 2\n'; printf "$1"; } >"$folder/h"
@@ -210,6 +233,9 @@ rows 'script o:' >"$folder/rows"
 while IFS=$tab read -r said wrongly rightly; do try_order "$said" "$wrongly" "$rightly"; done <"$folder/rows"
 rows 'script w:' >"$folder/rows"
 while IFS=$tab read -r said wrongly rightly; do try_watch "$said" "$wrongly" "$rightly"; done <"$folder/rows"
+rows 'script p:' >"$folder/rows"
+while IFS=$tab read -r said wrongly rightly; do try_plan "$said" "$wrongly" "$rightly"; done <"$folder/rows"
+plans_by_number
 echo '# no turns, and no commands' >"$folder/o"
 scripts_by_number
 watches_by_number

@@ -38,5 +38,7 @@ same power.play pc devconf play GENERIC ../machines/pc ../power.order ../power.s
 same check.play pc devconf play GENERIC ../machines/pc ../check.order ../mount.script ../check.script
 same detach.tree pc devconf replay GENERIC ../machines/pc ../outputs/detach.play ../hold.script ../detach.script
 same detach.upgraded pc devconf upgrade GENERIC ../machines/pc ../detach.history ../hold.script ../detach.script
+same serial.tables . devconf tables small.conf small.machine serial.plan
+same modules.tables amd64 devconf tables GENERIC ../machines/server ../modules.plan
 same plug.play pc drvrun GENERIC ../machines/pc ../plug.script
 same power.play pc drvrun GENERIC ../machines/pc ../power.script

@@ -133,7 +133,7 @@ try_examples() {
     tool=examples/outputs
     before=$wrong
     count=0
-    for output in "$top"/examples/outputs/*.boot "$top"/examples/outputs/*.play; do
+    for output in "$top"/examples/outputs/*.boot "$top"/examples/outputs/*.play "$top"/examples/outputs/*.tables; do
         name=$(basename "$output")
         count=$((count + 1))
         $shell "$tools/summary" "$output" >"$work/said" 2>&1 && status=0 || status=$?
@@ -170,7 +170,8 @@ try_words() {
     END {
         for (k = 1; k <= kind_count; k++)
             for (n = kinds[k] ~ /order/ ? 2 : 1; n <= last[kinds[k]]; n++)
-                if (!((kinds[k], n) in words) && !(kinds[k] ~ /watch/ && n >= 5 && n <= 8)) print kinds[k] ": no words for code " n
+                if (!((kinds[k], n) in words) && !(kinds[k] ~ /plan/ && n == 3) && !(kinds[k] ~ /watch/ && n >= 5 && n <= 8))
+                    print kinds[k] ": no words for code " n
         print "codes " count
     }' "$top/docs/FAULTS.md")
     case $said in "codes "*) ;; *) differ words "$said" '' ;; esac
@@ -184,6 +185,10 @@ try_words() {
             "$tools/explain" "$kind" "$code" >/dev/null 2>&1 \
                 || differ "$kind $code" 'no words for a code of crates/cf_types/src/code.rt' ''
         done
+    done
+    # Those of a plan go on behind those of scripts.
+    for code in 1 2 4 $(sed -n 's/^.*: u8 = \([0-9]*\);.*/\1/p' "$top/crates/live_rules/src/code.rt" 2>/dev/null); do
+        "$tools/explain" plan "$code" >/dev/null 2>&1 || differ "plan $code" 'no words for a code of a plan' ''
     done
     ended "the words of ${said#codes } codes"
 }
@@ -315,12 +320,14 @@ try_completion() {
         next "$known" '' boot devconf b
         next "$known" '' FILE ./devconf boot ''
         next "$known" '' FILE devconf play a b c d ''
+        next "$known" '' FILE devconf tables a b ''
+        next "$known" '' '' devconf tables a b c ''
         next "$known" '' '' devconf load ''
         next "$known" '' '' devconf boot a b ''
         next "$known" '' '' devconf fly ''
         next "$known" '' '-a -c -m -n -s -t FILE' devconf-summary ''
         next "$known" '' FILE devconf-summary -m ''
-        next "$known" '' 'config history machine order script status watch' devconf-explain ''
+        next "$known" '' 'config history machine order plan script status watch' devconf-explain ''
         next "$known" '' FILE devconf-check a ''
         next "$known" '' '' devconf-check a b ''
     done

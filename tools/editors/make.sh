@@ -8,10 +8,12 @@ make() { LC_ALL=C awk -v editor="$1" -v kind="$2" -f "$here/../lib/syntax.awk" "
 make vim config vim/syntax/devconf.vim &&
     make vim machine vim/syntax/devconfmachine.vim &&
     make vim script vim/syntax/devconfscript.vim &&
+    make vim plan vim/syntax/devconfplan.vim &&
     make emacs '' emacs/devconf-mode.el || exit 1
 cat >"$to/vim/ftdetect/devconf.vim" <<'END'
 " Files of devconf by their names. Any other file is one of these with a line `# vim: ft=devconf` in it.
 au BufRead,BufNewFile files.*,std.*,GENERIC,GENERIC.*,*/conf/files,*/conf/std setfiletype devconf
 au BufRead,BufNewFile *.machine,*/machines/* setfiletype devconfmachine
 au BufRead,BufNewFile *.script setfiletype devconfscript
+au BufRead,BufNewFile *.plan setfiletype devconfplan
 END

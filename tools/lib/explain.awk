@@ -83,7 +83,7 @@ function explain_code(kind, code,   n, list, count, told) {
 
 # The kinds of files that have codes: those of this page first, then what else has a section.
 function kinds_of_codes(   kind, list) {
-    list = "config machine script order watch"
+    list = "config machine script order watch plan"
     for (kind in section) if (!index(" " list " ", " " kind " ")) list = list " " kind
     return list
 }
@@ -173,21 +173,24 @@ function tell_status(number) {
 
 function explain_fault(kind, file, number, code,   first, is_found) {
     first = line_of(file, number)
-    if (kind == "script" && (is_watch(file, first) || !((kind, code) in in_words) && (("watch", code) in in_words))) kind = "watch"
-    if (kind == "script" && is_order(file, first)) kind = "order"
+    if (kind == "script") kind = kind_of_script(file, first, code)
     is_found = find_fault(kind, file, number, first, code)
     if (is_all && !is_told(kind, file, number, code, is_found)) return
     show_statement(kind, file, number)
     if (!((kind, code) in in_words)) complain("there is no code " code " of the kind " kind)
     tell_code(kind, code)
-    if (kind == "script" && ((("order", code) in in_words)) && !given_word[1] && first == "") {
-        print "  or, if " file " is the order file:"
-        tell_code("order", code)
+    if (kind == "script" && !given_word[1] && first == "") {
+        tell_other(file, "order", "the order file", code)
+        tell_other(file, "watch", "the watch file", code)
+        tell_other(file, "plan", "the plan", code)
     }
-    if (kind == "script" && ((("watch", code) in in_words)) && !given_word[1] && first == "") {
-        print "  or, if " file " is the watch file:"
-        tell_code("watch", code)
-    }
+}
+
+# The same code of a file of another kind, which the fault line does not tell apart.
+function tell_other(file, kind, title, code) {
+    if (!((kind, code) in in_words)) return
+    print "  or, if " file " is " title ":"
+    tell_code(kind, code)
 }
 
 # Finds the word that is at fault; answers whether the line as it stands has this fault.
@@ -224,6 +227,22 @@ function mark_token(t) { mark(tok_line[t], tok_at[t], length(tok[t])) }
 
 # The configuration that was compiled: the second word of the program, else the file in which the fault stands.
 function configuration(file) { return given_word[2] != "" ? given_word[2] : file }
+
+# A fault line calls scripts, order files, watch files and plans scripts: which one is the file?
+function kind_of_script(file, line, code) {
+    if (is_plan(file, line, code)) return "plan"
+    if (is_watch(file, line) || !(("script", code) in in_words) && (("watch", code) in in_words)) return "watch"
+    return is_order(file, line) ? "order" : "script"
+}
+
+# Is the file a plan, by the words of the program, or else by its code or the first word of the line? Scripts have other ones.
+function is_plan(file, line, code,   word) {
+    if (given_word[1]) return given_word[1] == "tables" && given_word[4] == file
+    if (!(("script", code) in in_words) && (("plan", code) in in_words)) return 1
+    split(line, word, /[ \t#]+/)
+    word[1] = word[1] == "" ? word[2] "" : word[1]
+    return (("plan", word[1]) in begins_form) && !(("script", word[1]) in begins_form)
+}
 
 # Is the file the order file, by the words of the program and none of its scripts, or else by what stands in the line?
 function is_order(file, line) { return given_word[1] ? is_fourth("play", file) : line ~ /^[ \t]*[-0-9]/ }

@@ -1,5 +1,5 @@
-# Finds the word of a machine file, a script, an order file or a watch file that a fault is about, marks it, and says what is known of it:
-# `find_in_line(KIND, FILE, LINE, TEXT, CODE)` answers whether the line as it stands has this fault. For a machine file the configuration is read, too, where the words of the
+# Finds the word of a machine file, a script, an order file, a watch file or a plan that a fault is about, marks it, and says what is known
+# of it: `find_in_line(KIND, FILE, LINE, TEXT, CODE)` answers whether the line as it stands has this fault. For a machine file or a plan the configuration is read, too, where the words of the
 # program name it.
 
 function find_in_line(kind, file, number, text, code,   n) {
@@ -7,17 +7,25 @@ function find_in_line(kind, file, number, text, code,   n) {
     cut_words(text)
     line_number = number
     if (code == (kind == "machine" ? 1 : 2) && find_odd_byte(text)) return 1
+    if (kind == "machine" || kind == "plan") read_known()
     if (kind == "machine") {
-        if (given_word[2] != "" && config_read != given_word[2]) { read_configuration(given_word[2]); config_read = given_word[2] }
-        is_known = given_word[2] != ""
         read_spots(file, number)
         if (is_known && code >= 3 && code <= 6 && !has_fault(code)) return 0
         find_in_machine(code)
     } else if (kind == "script") find_in_script(code)
     else if (kind == "order") find_in_order(code)
     else if (kind == "watch") find_in_watch(file, number, code)
+    else if (kind == "plan") find_in_plan(file, number, code)
     else if (code <= 2) misfits(kind)
     return 1
+}
+
+# Reads the configuration of the program's words, once.
+function read_known() {
+    is_known = given_word[2] != ""
+    if (!is_known || config_read == given_word[2]) return
+    read_configuration(given_word[2])
+    config_read = given_word[2]
 }
 
 # Does a name of the line stand nowhere, by the configuration and the lines before?
@@ -278,4 +286,78 @@ function subscribes(line, who,   word) {
     sub(/#.*/, "", line)
     if (split(line, word, " ") != 3 || word[1] != "sub" || !is_number(word[2]) || !is_number(word[3])) return 0
     return value_of(word[2]) == who && value_of(word[3]) >= 1 && value_of(word[3]) <= 64
+}
+
+# ---- plans
+
+function find_in_plan(file, number, code,   n) {
+    if (code == 1) {
+        misfits("plan")
+        if (tolower(piece[1]) != piece[1]) say("commands are written in small letters")
+    } else if (code == 2) { if (misfits("plan")) tell_long_name(stop_at) }
+    else if (code >= 5) {
+        read_groups(file, number)
+        if (code == 5) find_device()
+        else if (code == 6) { mark_piece(2); say("the group `" piece[2] "` is named first at line " group_line[piece[2]]) }
+        else if (code == 7) find_group()
+        else if (code == 8) find_grouped()
+    }
+}
+
+function tell_long_name(n) {
+    if (n <= piece_count && is_name(piece[n]) && length(piece[n]) > 63) say("a name has at most 63 bytes here, and this one has " length(piece[n]))
+}
+
+# The lines that name groups, and the groups of devices in lines before this one.
+function read_groups(file, number,   line, n, k, count, word) {
+    split("", group_line)
+    split("", group_with)
+    while ((getline line < file) > 0) {
+        n++
+        sub(/#.*/, "", line)
+        count = split(line, word, " ")
+        if (count < 3 || word[1] != "group" || word[2] in group_line) continue
+        group_line[word[2]] = n
+        for (k = 3; k <= count && n < number; k++) if (!(word[k] in group_with)) group_with[word[k]] = word[2]
+    }
+    close(file)
+}
+
+# The first device of a group that the configuration does not define.
+function find_device(   n, name, base, names) {
+    if (!is_known) { if (piece_count == 3) mark_piece(3); return }
+    for (n = 3; n <= piece_count; n++) if (!(piece[n] in is_device)) break
+    if (n > piece_count) return
+    name = base = piece[n]
+    mark_piece(n)
+    sub(/[0-9]+$/, "", base)
+    if (name in attachment_by) say("`" name "` is an attachment, of the device `" device_of(name) "`")
+    else if (base in is_device) say("`" name "` is a unit; a group has all rows of the device `" base "`")
+    else if (name in is_attr) say("`" name "` is an attribute, and no device")
+    else say("there is no device `" name "`" meant(nearest(name, is_device)))
+}
+
+function device_of(name,   a) {
+    for (a = 1; a <= attach_count; a++) if (attach_name[a] == name) return attached_device[a]
+}
+
+function find_group(   name, names, other) {
+    name = piece[2]
+    mark_piece(2)
+    if (name in group_line) { say("the group `" name "` is named only later, at line " group_line[name]); return }
+    for (other in group_line) if (group_line[other] < line_number) names[other] = 1
+    say("no line names a group `" name "`" meant(nearest(name, names)))
+}
+
+# The first device that an earlier group or the line itself has already.
+function find_grouped(   n, seen) {
+    for (n = 3; n <= piece_count; n++) {
+        if (piece[n] in group_with) {
+            mark_piece(n)
+            say("`" piece[n] "` is in the group `" group_with[piece[n]] "` of line " group_line[group_with[piece[n]]])
+            return
+        }
+        if (piece[n] in seen) { mark_piece(n); say("`" piece[n] "` stands first at column " piece_at[seen[piece[n]]]); return }
+        seen[piece[n]] = n
+    }
 }

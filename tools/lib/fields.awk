@@ -38,6 +38,7 @@ function take_line(section, line,   word, n) {
     n = split(line, word, " ")
     if (section == "tables") take_table(line, word, n)
     else if (section == "history") take_event(line, word, n)
+    else if (section == "live") take_live(line, word)
     else if (section == "tree") take_device(line, word, n)
     else put("line", line)
 }
@@ -45,6 +46,7 @@ function take_line(section, line,   word, n) {
 function line_of(section) {
     if (section == "tables") return line_of_table()
     if (section == "history") return value["caller"] "." value["command"] " " line_of_event()
+    if (section == "live") return line_of_live()
     if (section == "tree") return line_of_device()
     return value["line"]
 }
@@ -210,6 +212,25 @@ function line_of_event(   act, text, n) {
     if (act == "io") return text " " value["value"] ": " value["reply"]
     if (act ~ /plug$/) return act " " value["spot"] ": " value["reply"]
     return text ": " value["reply"]
+}
+
+# ---- what the commands of a plan did
+
+# add GROUP: REPLY, scan: ok, attach NAME at PARENT row R, free NAME
+function take_live(line, word,   act) {
+    act = bare_name(word[1])
+    put("act", act)
+    if (act == "attach" || act == "free") put("device", word[2])
+    if (act == "attach") { put("parent", word[4]); put_number("row", word[6]) }
+    if (act == "add" || act == "remove") put("group", bare_name(word[2]))
+    if (act != "attach" && act != "free") put("reply", substr(line, index(line, ": ") + 2))
+}
+
+function line_of_live(   act) {
+    act = value["act"]
+    if (act == "attach") return act " " value["device"] " at " value["parent"] " row " value["row"]
+    if (act == "free") return act " " value["device"]
+    return act (("group" in value) ? " " value["group"] : "") ": " value["reply"]
 }
 
 # ---- the tree

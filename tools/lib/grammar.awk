@@ -132,7 +132,7 @@ function is_chunk(text) { return text ~ /^[A-Za-z0-9_.\/*?$-]+$/ }
 
 function fits_class(class, text) {
     if (text == "") return 0
-    if (class == "NAME") return is_name(text) && length(text) <= 63
+    if (class == "NAME" || class == "GROUP" || class == "DRIVER") return is_name(text) && length(text) <= 63
     if (class == "D" || class == "A" || class == "S") return is_name(text) && length(text) <= 80
     if (class == "LOC") return is_name(text) && length(text) <= 80 && text != "flags"
     if (class == "DEVICE") return is_name(text) && text !~ /[0-9]$/ && length(text) <= 63
@@ -170,6 +170,8 @@ function class_in_words(class) {
     if (class == "TEXT") return "a word or a string"
     if (class == "LOC=VALUE") return "a locator with its value (as port=0x3f8)"
     if (class == "D") return "the name of a device (as com0)"
+    if (class == "DRIVER") return "the name of a device without a unit (as com)"
+    if (class == "GROUP") return "the name of a group"
     if (class ~ /^(S|SPOT\|\*)$/) return "the name of a spot" (class == "S" ? "" : ", or `*`")
     if (class == "ATTACHMENT") return "the name of an attachment"
     if (class == "A" || class == "ATTR") return "the name of an attribute"

@@ -59,7 +59,8 @@ function read_output(file,   line, got, section) {
     if (!output_line) complain(output_name ": it is empty, and no output of a run")
     output_line++
     if (section == "history" || section == "live") stray("the output is cut off: it has no tree")
-    if (has("history") && tree_count != live_count()) stray("the tree is not that of the history: a part is missing")
+    if ((has("history") || has("live")) && tree_count != live_count())
+        stray("the tree is not that of the " (has("live") ? "plan" : "history") ": a part is missing")
 }
 
 function has(section) { return index(sections, " " section " ") > 0 }
@@ -282,7 +283,7 @@ function read_device(line,   word, n, w, name) {
     tree_name[++tree_count] = name
     depth[name] = RLENGTH / 2
     if (!(name in live)) {
-        if (has("history") || has("live")) stray("the history has no device " name)
+        if (has("history") || has("live")) stray("the " (has("live") ? "plan" : "history") " has no device " name)
         attach_device(0, name, word[3], "", word[5])
     }
     for (w = 6; w <= n && word[w] != "held"; w++) {

@@ -1,7 +1,7 @@
 # Makes the syntax files of editors from tools/forms: `awk -v editor=vim -v kind=config -f tools/lib/syntax.awk tools/forms`, with kind
-# config, machine or script; for emacs one file has all three. tools/editors/make.sh writes them all.
+# config, machine, script or plan; for emacs one file has all four. tools/editors/make.sh writes them all.
 
-/^(config|machine|script): / { take_form() }
+/^(config|machine|script|plan): / { take_form() }
 
 END {
     if (editor == "vim") put_vim()
@@ -54,7 +54,7 @@ function put_vim(   name) {
         print "syn region devconfString start=/\"/ end=/\"/ oneline"
         print "syn match devconfUnit /\\v<\\h[A-Za-z0-9_-]*%(\\d|[*?])%([ \\t,#]|$)@=/"
     }
-    print "syn match devconfWord /\\v(^|[ \\t,}])@<=(" listed(kind, "other", "|") ")([ \\t,#]|$)@=/"
+    if (words[kind, "other"] != "") print "syn match devconfWord /\\v(^|[ \\t,}])@<=(" listed(kind, "other", "|") ")([ \\t,#]|$)@=/"
     print "syn match devconfStatement /\\v^" (kind == "config" ? "" : "\\s*") "(" listed(kind, "first", "|") ")([ \\t#]|$)@=/"
     print "syn match devconfComment /#.*/ contains=@Spell"
     print "hi def link devconfNumber Number"
@@ -62,7 +62,7 @@ function put_vim(   name) {
         print "hi def link devconfString String"
         print "hi def link devconfUnit Identifier"
     }
-    print "hi def link devconfWord Keyword"
+    if (words[kind, "other"] != "") print "hi def link devconfWord Keyword"
     print "hi def link devconfStatement Statement"
     print "hi def link devconfComment Comment"
     print "setlocal commentstring=#\\ %s"
@@ -70,7 +70,7 @@ function put_vim(   name) {
 }
 
 function put_emacs(   n, kinds, name, title) {
-    print ";;; devconf-mode.el --- Syntax of devconf: configurations, machine files, scripts  -*- lexical-binding: t -*-"
+    print ";;; devconf-mode.el --- Syntax of devconf: configurations, machine files, scripts, plans  -*- lexical-binding: t -*-"
     print ";; Made from tools/forms by tools/editors/make.sh."
     print "(defvar devconf-mode-syntax-table"
     print "  (let ((table (make-syntax-table)))"
@@ -81,19 +81,19 @@ function put_emacs(   n, kinds, name, title) {
     print "    (modify-syntax-entry ?\\\\ \".\" table)"
     print "    table)"
     print "  \"Comments begin with #, and a string ends at the next quote.\")"
-    split("config machine script", kinds, " ")
-    for (n = 1; n <= 3; n++) {
+    split("config machine script plan", kinds, " ")
+    for (n = 1; n <= 4; n++) {
         name = kinds[n] == "config" ? "devconf" : "devconf-" kinds[n]
-        title = kinds[n] == "config" ? "configurations" : kinds[n] == "machine" ? "machine files" : "scripts"
+        title = kinds[n] == "config" ? "configurations" : kinds[n] == "machine" ? "machine files" : kinds[n] "s"
         print ""
         print ";;;###autoload"
-        print "(define-derived-mode " name "-mode prog-mode \"" (n == 1 ? "Devconf" : n == 2 ? "Devconf machine" : "Devconf script") "\""
+        print "(define-derived-mode " name "-mode prog-mode \"" (n == 1 ? "Devconf" : "Devconf " kinds[n]) "\""
         print "  \"The mode for " title " of devconf.\""
         print "  :syntax-table devconf-mode-syntax-table"
         print "  (setq-local comment-start \"# \")"
         print "  (setq-local font-lock-defaults"
         print "    '(((\"^" (n == 1 ? "" : "[ \\t]*") "\\\\(" listed(kinds[n], "first", "\\\\|") "\\\\)\\\\_>\" . font-lock-keyword-face)"
-        print "       (\"\\\\_<\\\\(" listed(kinds[n], "other", "\\\\|") "\\\\)\\\\_>\" . font-lock-builtin-face)"
+        if (words[kinds[n], "other"] != "") print "       (\"\\\\_<\\\\(" listed(kinds[n], "other", "\\\\|") "\\\\)\\\\_>\" . font-lock-builtin-face)"
         if (n == 1) print "       (\"\\\\_<[A-Za-z_][A-Za-z0-9_-]*\\\\([0-9]+\\\\|[*?]\\\\)\" . font-lock-variable-name-face)"
         print "       (\"\\\\_<-?\\\\(0[xX][0-9a-fA-F]+\\\\|[0-9]+\\\\)\\\\_>\" . font-lock-constant-face)))))"
     }
@@ -103,7 +103,8 @@ function put_emacs(   n, kinds, name, title) {
     print "  (add-to-list 'auto-mode-alist '(\"/\\\\(files\\\\|std\\\\)\\\\.[^/]+\\\\'\" . devconf-mode))"
     print "  (add-to-list 'auto-mode-alist '(\"/\\\\(GENERIC[^/]*\\\\|conf/files\\\\|conf/std\\\\)\\\\'\" . devconf-mode))"
     print "  (add-to-list 'auto-mode-alist '(\"\\\\.machine\\\\'\" . devconf-machine-mode))"
-    print "  (add-to-list 'auto-mode-alist '(\"\\\\.script\\\\'\" . devconf-script-mode)))"
+    print "  (add-to-list 'auto-mode-alist '(\"\\\\.script\\\\'\" . devconf-script-mode))"
+    print "  (add-to-list 'auto-mode-alist '(\"\\\\.plan\\\\'\" . devconf-plan-mode)))"
     print "(provide 'devconf-mode)"
     print ";;; devconf-mode.el ends here"
 }

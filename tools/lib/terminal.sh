@@ -64,7 +64,7 @@ beside() {
 # Below an output, tells its warnings, the callers that have not ended, and what tools/lint finds. The program is asked again for
 # that, since its output goes where it goes; so each file has to be one that can be read twice.
 tell_what_is_left() {
-    case $1 in ioconf | boot | play | files) ;; *) return 0 ;; esac
+    case $1 in ioconf | boot | play | files | tables) ;; *) return 0 ;; esac
     tools=${explain%/*}
     number=0
     for file; do
@@ -75,6 +75,8 @@ tell_what_is_left() {
     play) "$program" "$@" 2>/dev/null </dev/null | tell_summary "$@" >&2 2>/dev/null ;;
     *)
         [ "$1" = files ] || "$program" "$@" 2>/dev/null </dev/null | "$tools/summary" -b >&2 2>/dev/null
+        # A plan is nothing to lint.
+        [ "$1" != tables ] || set -- "$1" "$2" "$3"
         shift
         found=$("$tools/lint" "$@" 2>/dev/null)
         case $(printf '%s\n' "$found" | grep -c .) in

@@ -12,7 +12,7 @@ use Rattle.app_input.specs.Asked.{AsksInputs, Names}
 use Rattle.app_input.specs.Inputs.{Reads}
 use Rattle.app_input.specs.Stop.{status_of_stop}
 use Rattle.app_words.specs.Status.{status_of}
-use Rattle.app_words.specs.Words.{Form, boot, ioconf, is_compiled, is_from_outside, load, machine_in, scripted, side_by_side, sources}
+use Rattle.app_words.specs.Words.{Form, boot, following, ioconf, is_compiled, is_from_outside, load, machine_in, scripted, side_by_side, sources}
 use Rattle.app_input.specs.declared.inputs.Inputs.{Inputs}
 use Rattle.app_input.specs.declared.inputs.Inputs.TheVariants as input
 use Rattle.app_words.specs.declared.status.Status.{Status}
@@ -36,13 +36,16 @@ sources_unread name told (ConfigRefused file line code) (f, is, compiled, fault)
 sources_unread name told Usage reads = absurd cc
 sources_unread name told (MachineRefused line code) (f, file, tables, is, machine, meant, described) = let never = at_sources (λ form. machine_in form ≡ Some file) name f is machine in absurd cc
 sources_unread name told (ScriptRefused which line code) (inl (task, tables, m, (file, machine, course, names, is, meant, described, refused))) = absurd cc
-sources_unread name told (ScriptRefused which line code) (inr (tables, m, (file, machine, names, is, meant, described, refused))) = absurd cc
+sources_unread name told (ScriptRefused which line code) (inr (inl (tables, m, (file, machine, names, is, meant, described, refused)))) = absurd cc
+sources_unread name told (ScriptRefused which line code) (inr (inr (tables, m, (file, machine, plan, is, meant, described, refused)))) = absurd cc
 sources_unread name told (Absent absent) (inl (f, file, tables, is, machine, meant, why)) = let never = at_sources (λ form. machine_in form ≡ Some file) name f is machine in absurd cc
 sources_unread name told (Absent absent) (inr (inl (task, tables, m, (file, machine, course, names, is, meant, described, refused)))) = absurd cc
-sources_unread name told (Absent absent) (inr (inr (tables, m, (file, machine, names, is, meant, described, refused)))) = absurd cc
+sources_unread name told (Absent absent) (inr (inr (inl (tables, m, (file, machine, names, is, meant, described, refused))))) = absurd cc
+sources_unread name told (Absent absent) (inr (inr (inr (tables, m, (file, machine, plan, is, meant, described, refused))))) = absurd cc
 sources_unread name told (TooLong long) (inl (f, file, tables, is, machine, meant, why)) = let never = at_sources (λ form. machine_in form ≡ Some file) name f is machine in absurd cc
 sources_unread name told (TooLong long) (inr (inl (task, tables, m, (file, machine, course, names, is, meant, described, refused)))) = absurd cc
-sources_unread name told (TooLong long) (inr (inr (tables, m, (file, machine, names, is, meant, described, refused)))) = absurd cc
+sources_unread name told (TooLong long) (inr (inr (inl (tables, m, (file, machine, names, is, meant, described, refused))))) = absurd cc
+sources_unread name told (TooLong long) (inr (inr (inr (tables, m, (file, machine, plan, is, meant, described, refused))))) = absurd cc
 sources_unread name told ReadFault (f, is, outside) = let never = at_sources (λ form. is_from_outside form ≡ true) name f is outside in absurd cc
 sources_unread name told Ok never = elim never [ ]
 sources_unread name told WriteFault never = elim never [ ]
@@ -58,6 +61,7 @@ refused_asked None told status old new reads asked = asked
 refused_asked (Some (ioconf file)) told status old new reads asked = asked
 refused_asked (Some (boot file machine)) told status old new reads asked = asked
 refused_asked (Some (load n)) told status old new reads asked = asked
+refused_asked (Some (following file machine plan)) told status old new reads asked = asked
 refused_asked (Some (scripted task file machine course names)) told status old new reads asked = asked
 refused_asked (Some (side_by_side file machine names)) told status old new reads asked = asked
 refused_asked (Some (sources name)) told status old new reads asked =
@@ -94,6 +98,9 @@ found_asked form told reads (input.Upgrade tables machine scripts history) statu
     run_asked form told Upgrade file name course names status old mid new is asked later
 found_asked form told reads (input.Watch tables machine scripts watch) status old mid new same (file, name, course, names, is, meant, described, given) asked later =
     run_asked form told Watch file name course names status old mid new is asked later
+found_asked form told reads (input.Follow tables machine plan) status old mid new same (file, name, at, is, meant, described, given) asked later =
+    subst (λ (f : Option Form). AsksFiles f told status old new) (sym is)
+    (quiet_then (Some (following file name at)) told status old mid new (subst (λ (f : Option Form). AsksInputs f told Ok old mid) is asked) later)
 found_asked form told reads (input.Run tables machine scripts) status old mid new same (file, name, names, is, meant, described, given) asked later =
     subst (λ (f : Option Form). AsksFiles f told status old new) (sym is)
     (quiet_then (Some (side_by_side file name names)) told status old mid new (subst (λ (f : Option Form). AsksInputs f told Ok old mid) is asked) later)
@@ -114,6 +121,7 @@ files_all None told status old new asked = asked
 files_all (Some (ioconf file)) told status old new asked = inputs_all (Some (ioconf file)) told status old new asked
 files_all (Some (boot file machine)) told status old new asked = inputs_all (Some (boot file machine)) told status old new asked
 files_all (Some (load n)) told status old new asked = asked
+files_all (Some (following file machine plan)) told status old new asked = inputs_all (Some (following file machine plan)) told status old new asked
 files_all (Some (scripted task file machine course names)) told status old new asked = inputs_all (Some (scripted task file machine course names)) told status old new asked
 files_all (Some (side_by_side file machine names)) told status old new asked = inputs_all (Some (side_by_side file machine names)) told status old new asked
 files_all (Some (sources name)) told status old new asked = sources_all told name status old new asked
@@ -127,6 +135,7 @@ files_memory None told status old new asked = asked
 files_memory (Some (ioconf file)) told status old new asked = inputs_memory (Some (ioconf file)) told status old new asked
 files_memory (Some (boot file machine)) told status old new asked = inputs_memory (Some (boot file machine)) told status old new asked
 files_memory (Some (load n)) told status old new asked = asked
+files_memory (Some (following file machine plan)) told status old new asked = inputs_memory (Some (following file machine plan)) told status old new asked
 files_memory (Some (scripted task file machine course names)) told status old new asked = inputs_memory (Some (scripted task file machine course names)) told status old new asked
 files_memory (Some (side_by_side file machine names)) told status old new asked = inputs_memory (Some (side_by_side file machine names)) told status old new asked
 files_memory (Some (sources name)) told status old new asked = sources_memory told name status old new asked

@@ -33,6 +33,7 @@ asked_status files (input.Play tables machine scripts order) text is = refl
 asked_status files (input.Replay tables machine scripts history) text (h, w, takes, reliable, thorough, is) = sym (ap history_status takes)
 asked_status files (input.Upgrade tables machine scripts history) text (h, w, takes, reliable, thorough, is) = sym (ap history_status takes)
 asked_status files (input.Watch tables machine scripts watch) text is = refl
+asked_status files (input.Follow tables machine plan) text is = refl
 asked_status files (input.Run tables machine scripts) text is = absurd is
 
 -- why the sources were not selected, where no reading failed
@@ -75,6 +76,7 @@ unfound_status files (input.Boot tables machine) before after status why counts 
 unfound_status files (input.Load n tables machine) before after status why counts quiet = absurd why
 unfound_status files (input.Play tables machine scripts order) before after status why counts quiet = absurd why
 unfound_status files (input.Watch tables machine scripts watch) before after status why counts quiet = absurd why
+unfound_status files (input.Follow tables machine plan) before after status why counts quiet = absurd why
 unfound_status files (input.Run tables machine scripts) before after status why counts quiet = absurd why
 
 due_found : (form : Option Form) (files : Files) (asked : Inputs) (before after : ℕ) (result : Result Found Status) → IsDue form files (std.Ok asked)

@@ -16,6 +16,7 @@ found_or_not told (input.Play tables machine scripts order) why = why
 found_or_not told (input.Replay tables machine scripts history) why = why
 found_or_not told (input.Upgrade tables machine scripts history) why = why
 found_or_not told (input.Watch tables machine scripts watch) why = why
+found_or_not told (input.Follow tables machine plan) why = why
 found_or_not told (input.Run tables machine scripts) why = why
 
 written_or_not : (told : Option Files) (asked : Inputs) → Unfound told asked WriteFault → ⊥
@@ -27,6 +28,7 @@ written_or_not told (input.Play tables machine scripts order) why = why
 written_or_not told (input.Replay tables machine scripts history) why = why
 written_or_not told (input.Upgrade tables machine scripts history) why = why
 written_or_not told (input.Watch tables machine scripts watch) why = why
+written_or_not told (input.Follow tables machine plan) why = why
 written_or_not told (input.Run tables machine scripts) why = why
 
 pub never_found : (form : Option Form) (told : Option Files) → IsRefused form told Ok → ⊥

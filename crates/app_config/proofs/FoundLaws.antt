@@ -1,5 +1,5 @@
 -- What was found for the inputs has the text that they ask for.
-use Rattle.std.proofs.Common.{inl, inr, ◌≡◌, ℕ, ◌++◌, List, [], Option, Some, None, refl, sym, ap, subst}
+use Rattle.std.proofs.Common.{inl, inr, ◌≡◌, ℕ, ◌++◌, List, [], Option, Some, None, refl, sym, ap, ◌∙◌, subst}
 use Rattle.std.specs.Prelude.{◌⊎◌, IfSome, IsErrAnd, Result}
 use Rattle.cf_types.specs.Lines.{text_of}
 use Rattle.std.specs.Prelude as std
@@ -33,6 +33,9 @@ use Rattle.app_tasks.specs.Ran.{IsBootOf, IsPlayOf, IsPlayed}
 use Rattle.app_tasks.specs.Retold.{Retells, Untaken}
 use Rattle.app_tasks.specs.Summary.{IsSummary}
 use Rattle.app_tasks.specs.Watched.{IsWatchOf, IsWatched}
+use Rattle.live_rules.specs.declared.plan.Plan.{Plan}
+use Rattle.live_rules.specs.LiveText.{live_texts}
+use Rattle.live_run.specs.Told.{site_of}
 use Rattle.dev_monitor.specs.declared.reading.Reading.{Reading}
 use Rattle.script_text.specs.declared.watch_line.WatchLine.{WatchLine}
 use Rattle.app_config.specs.Found.{FindsFor, Finds, Unfound, Unselected}
@@ -103,6 +106,16 @@ watch_ran told asked tables machine scripts watch lines said b is same watches =
       watches.thorough,
       ap (λ (s : Setup). watch_text s.tables b.events b.world said) watches.made,
     )
+
+pub follow_graph : (asked : Inputs) (tables given : Tables) (machine : Machine) (plan : Plan) → FormedInputs asked → asked ≡ input.Follow tables machine plan → given ≡ tables → FitGraph given
+follow_graph asked tables given machine plan formed is same = subst FitGraph (sym same) (subst FormedInputs is formed).0.graph
+
+pub follow_ran : (told : Option Files) (asked : Inputs) (tables given : Tables) (machine : Machine) (plan : Plan) (lines : List (List ℕ)) → asked ≡ input.Follow tables machine plan → given ≡ tables
+    → lines ≡ live_texts (site_of tables machine plan) plan.commands → IsAskedText told asked (listing given ++ text_of lines)
+unfolding IsAskedText
+follow_ran told asked tables given machine plan lines is same told_so =
+    subst (λ (i : Inputs). IsAskedText told i (listing given ++ text_of lines)) (sym is)
+    (ap (λ (t : Tables). listing t ++ text_of lines) same ∙ ap (λ (ls : List (List ℕ)). listing tables ++ text_of ls) told_so)
 
 pub load_ran : (told : Option Files) (asked : Inputs) (n : ℕ) (tables : Tables) (machine : Machine) (line : List ℕ) → asked ≡ input.Load n tables machine
     → IsSummary n tables machine line → IsAskedText told asked line

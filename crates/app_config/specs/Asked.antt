@@ -11,6 +11,9 @@ use Rattle.file_rules.specs.Sources.{Selects}
 use Rattle.boot_laws.specs.Thorough.{IsThorough}
 use Rattle.dev_monitor.specs.declared.reading.Reading.{Reading}
 use Rattle.history_laws.specs.Reliable.{IsReliable}
+use Rattle.live_rules.specs.declared.plan.Plan.{Plan}
+use Rattle.live_rules.specs.LiveText.{live_texts}
+use Rattle.live_run.specs.Told.{site_of}
 use Rattle.replay_laws.specs.Taken.{Takes}
 use Rattle.run_rules.specs.declared.event.Event.{Event}
 use Rattle.run_rules.specs.declared.world.Setup.{Setup}
@@ -50,6 +53,11 @@ IsWatchedText tables machine scripts watch text =
     (h : List Event) × (w : World) × (told : List Reading)
     × IsWatched (setup_of tables machine scripts) watch h w told × IsReliable h w × IsThorough h w × (text ≡ watch_text tables h w told)
 
+-- the listing of the tables, and the lines of a plan that is followed on the machine: the head, each command with its reply and its
+-- lines, and the device tree that is left
+abbrev pub follow_text : Tables → Machine → Plan → List ℕ
+follow_text tables machine plan = listing tables ++ text_of (live_texts (site_of tables machine plan) plan.commands)
+
 -- the text of what a history is taken as, by its events and the world that they lead to; the same holds of these events
 abbrev pub IsTakenText : (List Event → World → List ℕ) → Setup → List ℕ → List ℕ → Type 0
 IsTakenText text_by setup history text = (h : List Event) × (w : World) × Takes setup history h w × IsReliable h w × IsThorough h w × (text ≡ text_by h w)
@@ -73,6 +81,7 @@ IsAskedText told (input.Play tables machine scripts order) text = IsPlayedText t
 IsAskedText told (input.Replay tables machine scripts history) text = IsTakenText replay_text (setup_of tables machine scripts) history text
 IsAskedText told (input.Upgrade tables machine scripts history) text = IsTakenText upgrade_text (setup_of tables machine scripts) history text
 IsAskedText told (input.Watch tables machine scripts watch) text = IsWatchedText tables machine scripts watch text
+IsAskedText told (input.Follow tables machine plan) text = text ≡ follow_text tables machine plan
 IsAskedText told (input.Run tables machine scripts) text = ⊥
 
 -- the words and the files give inputs, which are formed and ask for the text

@@ -19,15 +19,17 @@ use Rattle.app_output.specs.RunText.{run_text, tree_of}
 use Rattle.app_tasks.specs.Retold.{Untaken}
 use Rattle.app_config.specs.Asked.{Asks, IsAskedText}
 use Rattle.app_config.specs.declared.found.Found.{Found}
-use Rattle.app_config.specs.declared.found.Found.TheVariants.{Listed, Selected, Ran, Watched, Line, Tree, Retold}
+use Rattle.app_config.specs.declared.found.Found.TheVariants.{Listed, Selected, Ran, Watched, Followed, Line, Tree, Retold}
 
--- the listing; or the paths, one a line; or the listing, the history and the tree, maybe with what was read; or the line; or the tree, or a history with
+-- the listing; or the paths, one a line; or the listing, the history and the tree, maybe with what was read; or the listing and the
+-- lines of a plan; or the line; or the tree, or a history with
 -- its tree
 abbrev pub found_text : Found → List ℕ
 found_text (Listed tables) = listing tables
 found_text (Selected paths) = text_of paths
 found_text (Ran board) = run_text board.world.setup.tables board.events board.world
 found_text (Watched run) = watch_text run.board.world.setup.tables run.board.events run.board.world run.readings
+found_text (Followed run) = listing run.tables ++ text_of run.lines
 found_text (Line line) = line.items
 found_text (Tree devices) = tree_of devices
 found_text (Retold told) = lines told.events ++ tree_of told.tree
@@ -38,6 +40,7 @@ HasGraph (Listed tables) = FitGraph tables
 HasGraph (Selected paths) = ⊤
 HasGraph (Ran board) = FitGraph board.world.setup.tables
 HasGraph (Watched run) = FitGraph run.board.world.setup.tables
+HasGraph (Followed run) = FitGraph run.tables
 HasGraph (Line line) = ⊤
 HasGraph (Tree devices) = ⊤
 HasGraph (Retold told) = ⊤

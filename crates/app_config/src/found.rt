@@ -9,7 +9,7 @@ ghost use Rattle.app_config.specs.Found.{FindsFor, HasGraph, found_text};
 
 use app_input::{Inputs, status_of_stop};
 use app_output::{
-    OutputStop, put_history, put_listing_with, put_paths, put_piece, put_run, put_tree, put_watch,
+    OutputStop, put_history, put_listing_with, put_paths, put_piece, put_plan, put_run, put_tree, put_watch,
 };
 use app_tasks::{WatchedRun, booted, loaded, played, retold, watched};
 use app_words::Status;
@@ -19,6 +19,7 @@ use cf_types::{DevLine, List, Text};
 use dev_board::Board;
 use file_select::select;
 use history_replay::Replayed;
+use live_run::{LiveRun, live_run};
 use std::alloc::Global;
 use std::mem::forget;
 
@@ -33,6 +34,8 @@ pub enum Found {
     Ran(Board),
     /// A run that was watched.
     Watched(WatchedRun),
+    /// What a plan left.
+    Followed(LiveRun),
     /// A line with its newline.
     Line(Vec<u8>),
     /// The device tree that a history leads to.
@@ -50,7 +53,7 @@ fn tree_alone(told: Replayed) -> List<DevLine>
     tree
 }
 
-/// Compiles, selects, boots, plays, watches and replays as the inputs ask for. Files are read for the sources alone.
+/// Compiles, selects, boots, plays, watches, replays and follows a plan as the inputs ask for. Files are read for the sources alone.
 pub fn found_by<F: Files>(alloc: Global, files: &mut F, inputs: Inputs) -> Result<Found, Status>
     requires formed { FormedInputs inputs }
     requires kind { IsInputsOf Program.Devconf inputs }
@@ -117,6 +120,14 @@ pub fn found_by<F: Files>(alloc: Global, files: &mut F, inputs: Inputs) -> Resul
             let run = watched(alloc, tables, machine, scripts, watch.items())?;
             Ok(Found::Watched(run))
         }
+        Inputs::Follow {
+            tables,
+            machine,
+            plan,
+        } => {
+            let run = live_run(alloc, tables, machine, plan)?;
+            Ok(Found::Followed(run))
+        }
         Inputs::Run { .. } => unreachable!(),
     }
 }
@@ -132,6 +143,7 @@ pub fn put_found<S: Sink>(alloc: Global, found: &Found, out: &mut S) -> Result<(
         Found::Selected(paths) => put_paths(alloc, paths.items(), out),
         Found::Ran(board) => put_run(alloc, board, out),
         Found::Watched(run) => put_watch(alloc, &run.board, run.readings.items(), out),
+        Found::Followed(run) => put_plan(alloc, &run.tables, run.lines.items(), out),
         Found::Line(line) => put_piece(line, out),
         Found::Tree(devices) => put_tree(alloc, devices.items(), out),
         Found::Retold(told) => put_history(alloc, told.events.items(), told.tree.items(), out),

@@ -16,16 +16,18 @@ use Rattle.cf_compile.specs.declared.stop.CompileStop.{CompileStop}
 use Rattle.cf_compile.specs.declared.stop.CompileStop.TheVariants as stops
 use Rattle.config_rules.specs.Reading.{Files, reading}
 use Rattle.config_rules.specs.Meaning.{Means}
-use Rattle.app_input.specs.Asked.{AsksForm, AsksIf, AsksInputs, DueFile, IsAskedFor, Names, StopsFirst, files_behind, giving, machine_file, script_files, scripted_files, up_to_refused}
+use Rattle.app_input.specs.Asked.{AsksForm, AsksIf, AsksInputs, DueFile, IsAskedFor, Names, StopsFirst, files_behind, giving, machine_file, plan_files, script_files, scripted_files, up_to_refused}
 use Rattle.app_input.specs.declared.inputs.Inputs.{Inputs}
 use Rattle.app_input.specs.declared.inputs.Inputs.TheVariants.{Boot}
 use Rattle.app_input.specs.Inputs.{IsMeant, ReadsMachine, ReadsTables, booted, booted_from}
 use Rattle.app_input.specs.declared.scripts.Course.{Course}
 use Rattle.app_words.specs.declared.words.Task.{Task}
+use Rattle.live_rules.specs.declared.plan.Plan.{Plan}
+use Rattle.app_input.specs.Plans.{plan_from}
 use Rattle.app_input.specs.Scripted.{IsCalledFor, course_of, script_of, scripts_from, scripts_of, unless_refused}
 use Rattle.app_input.specs.Stop.{status_of_stop}
 use Rattle.app_words.specs.Status.{status_of}
-use Rattle.app_words.specs.Words.{Form, boot, config_of, ioconf, is_from_outside, scripted, side_by_side}
+use Rattle.app_words.specs.Words.{Form, boot, config_of, following, ioconf, is_from_outside, scripted, side_by_side}
 use Rattle.app_words.specs.declared.status.Status.{Status}
 use Rattle.app_words.specs.declared.status.Status.TheVariants.{Ok, ConfigRefused, Usage, MachineRefused, ScriptRefused, HistoryRefused, Absent, TooLong, ReadFault, WriteFault, Memory}
 use Rattle.app_input.proofs.DueLaws.{long_file, short_file}
@@ -315,6 +317,22 @@ scripts_asked f told names i n old new h so_far = by_told told (subst (λ (left 
     by_told None so_far = tt
     by_told (Some files) so_far = whole_asked (up_to_refused (script_files files 1 (map f names))) old new so_far
 
+-- a plan was asked for
+pub plan_asked : (tables : Tables) (name : List ℕ) (told : Option Files) (given : Result Plan Status) (old new : Names) → IsCalledFor told (λ files. plan_from files tables name) given
+    → IsAskedFor (name ∷ []) (status_of given) old new → IfSome told (λ files. IsAskedFor (up_to_refused (plan_files tables name files)) (status_of given) old new)
+plan_asked tables name None given old new called asked = tt
+plan_asked tables name (Some files) given old new called asked = by_plan given called asked
+  where
+    due : List (List ℕ)
+    due = up_to_refused (plan_files tables name files)
+
+    due_plan : Files → Result Plan Status
+    due_plan files = plan_from files tables name
+
+    by_plan : (given : Result Plan Status) → IsCalledFor (Some files) due_plan given → IsAskedFor (name ∷ []) (status_of given) old new → IsAskedFor due (status_of given) old new
+    by_plan (std.Ok plan) called asked = whole_asked due old new (goes_on due (name ∷ []) [] (due_plan files) plan old old new (none_asked due old) (called_ok files due_plan plan called) asked)
+    by_plan (std.Err status) called asked = ends_at files due (name ∷ []) [] due_plan status old old new (none_asked due old) called asked
+
 -- ---- the machine file
 
 -- the boot that a machine file gives
@@ -416,11 +434,11 @@ boot_asked told reads file name tables machine old mid new same meant before rea
         )
 
 -- behind a configuration, these files are due behind the machine file
-abbrev pub BehindMachine : Form → List ℕ → (Files → List DueFile) → Type 0
-BehindMachine form name rest = (files : Files) (tables : Tables) → files_behind form files tables ≡ machine_file files tables name ∷ rest files
+abbrev pub BehindMachine : Form → Tables → List ℕ → (Files → List DueFile) → Type 0
+BehindMachine form tables name rest = (files : Files) → files_behind form files tables ≡ machine_file files tables name ∷ rest files
 
 -- the machine file of a run was refused, or could not be read
-pub run_unfit : (form : Form) (name : List ℕ) (rest : Files → List DueFile) (told reads : Option Files) (tables : Tables) (status : Status) (old mid new : Names) → BehindMachine form name rest
+pub run_unfit : (form : Form) (name : List ℕ) (rest : Files → List DueFile) (told reads : Option Files) (tables : Tables) (status : Status) (old mid new : Names) → BehindMachine form tables name rest
     → reads ≡ told → IsMeant told (config_of form) tables → IfSome told (λ files. mid ≡ asked_behind old (reading files (config_of form)).asked)
     → ReadsMachine reads name tables (std.Err status) → IsAskedFor (name ∷ []) status mid new → IfSome told (λ files. AsksForm form files status old new)
 run_unfit form name rest told reads tables status old mid new behind same meant before read asked =
@@ -429,11 +447,11 @@ run_unfit form name rest told reads tables status old mid new behind same meant 
     by_told : (told : Option Files) → IsMeant told (config_of form) tables → IfSome told (λ files. mid ≡ asked_behind old (reading files (config_of form)).asked)
         → ReadsMachine told name tables (std.Err status) → IfSome told (λ files. AsksForm form files status old new)
     by_told None meant before read = tt
-    by_told (Some files) meant before read = machine_ends form files name tables (rest files) status old mid new meant (behind files tables) before read asked
+    by_told (Some files) meant before read = machine_ends form files name tables (rest files) status old mid new meant (behind files) before read asked
 
 -- the files of a run behind the machine file were asked for
 pub run_asked : (form : Form) (name : List ℕ) (rest : Files → List DueFile) (told reads later : Option Files) (tables : Tables) (machine : Machine) (status : Status) (old mid loaded new : Names)
-    → BehindMachine form name rest → reads ≡ told → later ≡ told → IsMeant told (config_of form) tables
+    → BehindMachine form tables name rest → reads ≡ told → later ≡ told → IsMeant told (config_of form) tables
     → IfSome told (λ files. mid ≡ asked_behind old (reading files (config_of form)).asked) → ReadsMachine reads name tables (std.Ok machine)
     → loaded ≡ asked_behind mid (name ∷ []) → IfSome later (λ files. IsAskedFor (up_to_refused (rest files)) status loaded new)
     → IfSome told (λ files. AsksForm form files status old new)
@@ -452,7 +470,7 @@ run_asked form name rest told reads later tables machine status old mid loaded n
         inr (
           tables,
           meant,
-          subst (λ (behind : List DueFile). IsAskedFor (config ++ up_to_refused behind) status old new) (sym (behind files tables))
+          subst (λ (behind : List DueFile). IsAskedFor (config ++ up_to_refused behind) status old new) (sym (behind files))
               (rest_asked (config ++ due) more status old loaded new
               (goes_on (config ++ due) (name ∷ []) more (boot_of tables name files) (Boot tables machine) old mid loaded (config_read config due old mid before)
               (machine_read files name tables machine read) asked) rest_due),
@@ -508,6 +526,15 @@ pub boot_words : (form : Option Form) (told : Option Files) (file name given nam
 boot_words form told file name given named status old new is same same' asked =
     subst (λ (f : Option Form). AsksInputs f told status old new) (sym is)
     (subst (λ (n : List ℕ). AsksInputs (Some (boot given n)) told status old new) same' (subst (λ (f : List ℕ). AsksInputs (Some (boot f name)) told status old new) same asked))
+
+pub following_words : (form : Option Form) (told : Option Files) (file name plan given named other : List ℕ) (status : Status) (old new : Names)
+    → form ≡ Some (following given named other) → file ≡ given → name ≡ named → plan ≡ other
+    → IfSome told (λ files. AsksForm (following file name plan) files status old new) → AsksInputs form told status old new
+following_words form told file name plan given named other status old new is same same' same'' asked =
+    subst (λ (f : Option Form). AsksInputs f told status old new) (sym is)
+    (subst (λ (o : List ℕ). AsksInputs (Some (following given named o)) told status old new) same''
+    (subst (λ (n : List ℕ). AsksInputs (Some (following given n plan)) told status old new) same'
+    (subst (λ (f : List ℕ). AsksInputs (Some (following f name plan)) told status old new) same asked)))
 
 pub scripted_words : (form : Option Form) (told : Option Files) (task : Task) (file name course given named other : List ℕ) (scripts : List (List ℕ)) (status : Status) (old new : Names)
     → form ≡ Some (scripted task given named other scripts) → file ≡ given → name ≡ named → course ≡ other

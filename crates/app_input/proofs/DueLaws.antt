@@ -15,17 +15,19 @@ use Rattle.config_rules.specs.MachineText.{machine_of}
 use Rattle.config_rules.specs.Meaning.{Means}
 use Rattle.config_rules.specs.Reading.{Files}
 use Rattle.app_input.specs.declared.inputs.Inputs.{Inputs}
-use Rattle.app_input.specs.declared.inputs.Inputs.TheVariants.{Ioconf, Boot, Load, Play, Replay, Upgrade, Watch, Run}
+use Rattle.app_input.specs.declared.inputs.Inputs.TheVariants.{Ioconf, Boot, Load, Follow, Play, Replay, Upgrade, Watch, Run}
 use Rattle.app_input.specs.declared.inputs.Inputs.TheVariants as inputs
 use Rattle.app_words.specs.declared.status.Status.{Status}
 use Rattle.app_words.specs.declared.status.Status.TheVariants.{Ok, ConfigRefused, Usage, MachineRefused, ScriptRefused, HistoryRefused, Absent, TooLong, ReadFault, WriteFault, Memory}
 use Rattle.app_input.specs.declared.scripts.Course.{Course}
 use Rattle.app_input.specs.declared.scripts.Course.TheVariants as courses
 use Rattle.app_words.specs.declared.words.Task.{Task}
-use Rattle.app_input.specs.Inputs.{IsDue, IsDueAt, IsDueIf, IsRefusedRun, IsRun, Reads, booted, booted_from, files_of, given_by, inputs_at, inputs_by, refused_by, scripted_with, side_by_side_with, told_of}
+use Rattle.app_input.specs.Inputs.{IsDue, IsDueAt, IsDueIf, IsRefusedRun, IsRun, Reads, booted, booted_from, files_of, followed_with, given_by, inputs_at, inputs_by, refused_by, scripted_with, side_by_side_with, told_of}
 use Rattle.app_words.specs.Status.{Counts}
+use Rattle.app_input.specs.Plans.{plan_from}
+use Rattle.live_rules.specs.declared.plan.Plan.{Plan}
 use Rattle.app_input.specs.Scripted.{file_gives, scripts_of, task_of}
-use Rattle.app_words.specs.Words.{Form, boot, config_of, ioconf, is_compiled, load, machine_in, scripted, side_by_side, sources}
+use Rattle.app_words.specs.Words.{Form, boot, config_of, following, ioconf, is_compiled, load, machine_in, scripted, side_by_side, sources}
 
 -- where the files are told, those that a form speaks of are
 at_files : (P : Files → Type 0) (form : Form) (files : Files) → IfSome (told_of form (Some files)) P → P (files_of form files)
@@ -33,6 +35,7 @@ at_files P (ioconf file) files holds = holds
 at_files P (sources file) files holds = holds
 at_files P (boot file name) files holds = holds
 at_files P (load n) files holds = holds
+at_files P (following file name plan) files holds = holds
 at_files P (scripted task file name course names) files holds = holds
 at_files P (side_by_side file name names) files holds = holds
 
@@ -60,6 +63,7 @@ machine_compiled (ioconf file) name is = refl
 machine_compiled (sources file) name is = absurd cc
 machine_compiled (boot file machine) name is = refl
 machine_compiled (load n) name is = refl
+machine_compiled (following file machine plan) name is = refl
 machine_compiled (scripted task file machine course names) name is = refl
 machine_compiled (side_by_side file machine names) name is = refl
 
@@ -74,6 +78,9 @@ machine_given (boot file other) files name tables is =
 machine_given (load n) files name tables is =
     let same : codes "mach" ≡ name = cc in let next : Machine → Result Inputs Status = λ machine. std.Ok (Load n tables machine) in
     (next, ap (λ (x : List ℕ). booted_from next tables x (files x)) same)
+machine_given (following file other plan) files name tables is =
+    let same : other ≡ name = cc in
+    (followed_with files plan tables, ap (λ (x : List ℕ). booted_from (followed_with files plan tables) tables x (files x)) same)
 machine_given (scripted task file other course names) files name tables is =
     let same : other ≡ name = cc in
     (scripted_with task files course names tables, ap (λ (x : List ℕ). booted_from (scripted_with task files course names tables) tables x (files x)) same)
@@ -134,13 +141,25 @@ due_side_by_side form files file name names tables machine text given is meant t
     rw is (due_by_tables (side_by_side file name names) files tables answer refl meant
     (sym (short_file next tables name text (files name) there short ∙ ap (booted next) described ∙ ap (λ r. r >>= λ scripts. std.Ok (Run tables machine scripts)) gives)))
 
--- the refusal of a script or of the file with their course is due
+-- what a plan gives is due, where the machine file describes a machine
+due_plan : (form : Option Form) (files : Files) (file name plan : List ℕ) (tables : Tables) (machine : Machine) (text : List ℕ) (given : Result Plan Status)
+    → form ≡ Some (following file name plan) → Means files file tables → files name ≡ Some text → length text ≤ MAX_FILE → machine_of tables text ≡ std.Ok machine
+    → plan_from files tables plan ≡ given → IsDue form files (given >>= λ p. std.Ok (Follow tables machine p))
+due_plan form files file name plan tables machine text given is meant there short described gives =
+    let next = followed_with files plan tables in
+    let answer : Result Inputs Status = given >>= λ p. std.Ok (Follow tables machine p) in
+    rw is (due_by_tables (following file name plan) files tables answer refl meant
+    (sym (short_file next tables name text (files name) there short ∙ ap (booted next) described ∙ ap (λ r. r >>= λ p. std.Ok (Follow tables machine p)) gives)))
+
+-- the refusal of a script, of the file with their course or of a plan is due
 due_refused : (form : Option Form) (files : Files) (status : Status) → IsRefusedRun form (Some files) status → IsDue form files (std.Err status)
 due_refused form files status (inl (task, tables, machine, (file, name, course, names, is, meant, (text, there, short, described), (gives, of)))) =
     due_by_run form files task file name course names tables machine text (std.Err status) is meant there short described
     (ap (λ r. r >>= λ p. std.Ok (inputs_by tables machine p)) gives)
-due_refused form files status (inr (tables, machine, (file, name, names, is, meant, (text, there, short, described), (gives, of)))) =
+due_refused form files status (inr (inl (tables, machine, (file, name, names, is, meant, (text, there, short, described), (gives, of))))) =
     due_side_by_side form files file name names tables machine text (std.Err status) is meant there short described gives
+due_refused form files status (inr (inr (tables, machine, (file, name, plan, is, meant, (text, there, short, described), (gives, of))))) =
+    due_plan form files file name plan tables machine text (std.Err status) is meant there short described gives
 
 due : (form : Option Form) (files : Files) (before after : ℕ) (answer : Result Inputs Status) → Reads form (Some files) answer → Counts before after answer
     → ¬ Rose before after → (answer ≡ std.Err Memory) ⊎ IsDue form files answer
@@ -152,6 +171,8 @@ due form files before after (std.Ok (Boot tables machine)) (file, name, is, mean
 due form files before after (std.Ok (Load n tables machine)) (is, (meant, (text, there, short, described))) counts quiet =
     inr (rw is (due_by_tables (load n) files tables (std.Ok (Load n tables machine)) refl meant
     (sym (short_file (λ m. std.Ok (Load n tables m)) tables (codes "mach") text _ there short ∙ ap (booted (λ m. std.Ok (Load n tables m))) described))))
+due form files before after (std.Ok (Follow tables machine plan)) (file, name, at, is, meant, (text, there, short, described), gives) counts quiet =
+    inr (due_plan form files file name at tables machine text (std.Ok plan) is meant there short described gives)
 due form files before after (std.Ok (Play tables machine scripts order)) run counts quiet = inr (due_run form files tables machine scripts (courses.Play order) run)
 due form files before after (std.Ok (Replay tables machine scripts history)) run counts quiet = inr (due_run form files tables machine scripts (courses.Replay history) run)
 due form files before after (std.Ok (Upgrade tables machine scripts history)) run counts quiet = inr (due_run form files tables machine scripts (courses.Upgrade history) run)

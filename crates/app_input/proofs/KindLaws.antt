@@ -13,7 +13,7 @@ use Rattle.app_words.specs.declared.status.Status.{Status}
 use Rattle.app_words.specs.declared.words.Task.{Task}
 use Rattle.app_words.specs.declared.words.Task.TheVariants.{Play, Replay, Upgrade, Watch}
 use Rattle.app_input.specs.Inputs.{IsInputsOf, Reads}
-use Rattle.app_words.specs.Words.{Form, boot, boot_form, count_of, file_in, form_named, form_of, ioconf, is_operand, is_script_count, load, load_form, scripted, scripted_form, side_by_side, side_by_side_form, sources}
+use Rattle.app_words.specs.Words.{Form, boot, boot_form, count_of, file_in, following, following_form, form_named, form_of, ioconf, is_operand, is_script_count, load, load_form, scripted, scripted_form, side_by_side, side_by_side_form, sources}
 
 -- a form that words of the program may have
 abbrev IsFormOf : Program → Option Form → Type 0
@@ -23,6 +23,7 @@ IsFormOf Drvrun (Some (ioconf file)) = ⊥
 IsFormOf Drvrun (Some (sources file)) = ⊥
 IsFormOf Drvrun (Some (boot file machine)) = ⊥
 IsFormOf Drvrun (Some (load n)) = ⊥
+IsFormOf Drvrun (Some (following file machine plan)) = ⊥
 IsFormOf Drvrun (Some (scripted task file machine course scripts)) = ⊥
 IsFormOf Drvrun form = ⊤
 
@@ -45,6 +46,13 @@ boot_of (file ∷ []) = tt
 boot_of (file ∷ machine ∷ []) = tt
 boot_of (file ∷ machine ∷ other ∷ more) = tt
 
+following_of : (operands : List (List ℕ)) → IsFormOf Devconf (following_form operands)
+following_of [] = tt
+following_of (file ∷ []) = tt
+following_of (file ∷ machine ∷ []) = tt
+following_of (file ∷ machine ∷ plan ∷ []) = tt
+following_of (file ∷ machine ∷ plan ∷ other ∷ more) = tt
+
 load_of : (operands : List (List ℕ)) → IsFormOf Devconf (load_form operands)
 load_of [] = tt
 load_of (word ∷ []) = mapped load (count_of word) (λ n. tt)
@@ -65,7 +73,8 @@ named word operands =
     (either Devconf _ _ (bytes_eq word (codes "play")) (scripted_of Play operands)
     (either Devconf _ _ (bytes_eq word (codes "replay")) (scripted_of Replay operands)
     (either Devconf _ _ (bytes_eq word (codes "upgrade")) (scripted_of Upgrade operands)
-    (either Devconf _ _ (bytes_eq word (codes "watch")) (scripted_of Watch operands) tt)))))))
+    (either Devconf _ _ (bytes_eq word (codes "watch")) (scripted_of Watch operands)
+    (either Devconf _ _ (bytes_eq word (codes "tables")) (following_of operands) tt))))))))
 
 run_of : (words : List (List ℕ)) → IsFormOf Drvrun (side_by_side_form words)
 run_of [] = tt
@@ -84,6 +93,7 @@ inputs_by Devconf form told (input.Ioconf tables) fits reads = tt
 inputs_by Devconf form told (input.Files name) fits reads = tt
 inputs_by Devconf form told (input.Boot tables machine) fits reads = tt
 inputs_by Devconf form told (input.Load n tables machine) fits reads = tt
+inputs_by Devconf form told (input.Follow tables machine plan) fits reads = tt
 inputs_by Devconf form told (input.Play tables machine scripts order) fits reads = tt
 inputs_by Devconf form told (input.Replay tables machine scripts history) fits reads = tt
 inputs_by Devconf form told (input.Upgrade tables machine scripts history) fits reads = tt
@@ -93,6 +103,7 @@ inputs_by Drvrun form told (input.Ioconf tables) fits (file, is, meant) = subst 
 inputs_by Drvrun form told (input.Files name) fits is = subst (IsFormOf Drvrun) is fits
 inputs_by Drvrun form told (input.Boot tables machine) fits (file, name, is, meant, described) = subst (IsFormOf Drvrun) is fits
 inputs_by Drvrun form told (input.Load n tables machine) fits (is, made) = subst (IsFormOf Drvrun) is fits
+inputs_by Drvrun form told (input.Follow tables machine plan) fits (file, name, at, is, meant, described, gives) = subst (IsFormOf Drvrun) is fits
 inputs_by Drvrun form told (input.Play tables machine scripts order) fits (file, name, course, names, is, meant, described, gives) = subst (IsFormOf Drvrun) is fits
 inputs_by Drvrun form told (input.Replay tables machine scripts history) fits (file, name, course, names, is, meant, described, gives) = subst (IsFormOf Drvrun) is fits
 inputs_by Drvrun form told (input.Upgrade tables machine scripts history) fits (file, name, course, names, is, meant, described, gives) = subst (IsFormOf Drvrun) is fits

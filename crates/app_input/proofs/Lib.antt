@@ -3,5 +3,6 @@ mod AskedVectors
 pub mod DueLaws
 pub mod KindLaws
 pub mod MadeLaws
+pub mod PlanLaws
 pub mod ScriptedLaws
 pub mod StopLaws

@@ -160,14 +160,14 @@ course_of_file task callers text name (std.Err status) (inr is) = course_refused
 
 -- ---- the inputs
 
-called_refused : {A : Type 0} (told : Option Files) (called : Files → Result A Status) (status : Status) → ¬ (status ≡ ReadFault) → ¬ (status ≡ Memory)
+pub called_refused : {A : Type 0} (told : Option Files) (called : Files → Result A Status) (status : Status) → ¬ (status ≡ ReadFault) → ¬ (status ≡ Memory)
     → IsCalledFor told called (std.Err status) → IfSome told (λ files. called files ≡ std.Err status)
 called_refused told called status read room (inl e) = absurd (read (cc))
 called_refused told called status read room (inr (inl e)) = absurd (room (cc))
 called_refused told called status read room (inr (inr is)) = is
 
 -- the words and the files are refused by one of the files behind the machine file
-reads_refused : (form : Option Form) (told : Option Files) (f : Form) (which : ℕ) (name : List ℕ) (status : Status) → form ≡ Some f → is_from_outside f ≡ true → IsOfFile which name status
+pub reads_refused : (form : Option Form) (told : Option Files) (f : Form) (which : ℕ) (name : List ℕ) (status : Status) → form ≡ Some f → is_from_outside f ≡ true → IsOfFile which name status
     → (¬ (status ≡ ReadFault) → ¬ (status ≡ Memory) → IsRefusedRun form told status) → Reads form told (std.Err status)
 reads_refused form told f which name (ScriptRefused number line code) is outside of refused = refused (λ e. absurd (cc)) (λ e. absurd (cc))
 reads_refused form told f which name (Absent absent) is outside of refused = inr (refused (λ e. absurd (cc)) (λ e. absurd (cc)))
@@ -201,10 +201,10 @@ pub side_by_side_refused : (form : Option Form) (told : Option Files) (file name
     → IsCalledFor told (λ files. scripts_of files names) (std.Err status) → IsOfScript names status → Reads form told (std.Err status)
 side_by_side_refused form told file name names tables machine status is meant described called (place, script, there, one) =
     reads_refused form told (side_by_side file name names) (place + 1) script status is refl one
-    (λ read room. inr (tables, machine, (file, name, names, is, meant, described, (called_refused told (λ files. scripts_of files names) status read room called, (place, script, there, one)))))
+    (λ read room. inr (inl (tables, machine, (file, name, names, is, meant, described, (called_refused told (λ files. scripts_of files names) status read room called, (place, script, there, one))))))
 
 -- scripts and a course that were read
-called_given : {A : Type 0} (told : Option Files) (called : Files → Result A Status) (x : A) → IsCalledFor told called (std.Ok x) → IfSome told (λ files. called files ≡ std.Ok x)
+pub called_given : {A : Type 0} (told : Option Files) (called : Files → Result A Status) (x : A) → IsCalledFor told called (std.Ok x) → IfSome told (λ files. called files ≡ std.Ok x)
 called_given told called x (inl e) = absurd (cc)
 called_given told called x (inr (inl e)) = absurd (cc)
 called_given told called x (inr (inr is)) = is

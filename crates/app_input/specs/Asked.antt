@@ -9,8 +9,9 @@ use Rattle.cf_io.specs.Load.{asked_behind}
 use Rattle.config_rules.specs.Meaning.{Means}
 use Rattle.config_rules.specs.Reading.{Files, reading}
 use Rattle.app_input.specs.Inputs.{booted_from}
+use Rattle.app_input.specs.Plans.{plan_from}
 use Rattle.app_input.specs.Scripted.{course_of, script_of}
-use Rattle.app_words.specs.Words.{Form, ioconf, sources, boot, load, scripted, side_by_side, config_of, is_from_outside}
+use Rattle.app_words.specs.Words.{Form, ioconf, sources, boot, load, following, scripted, side_by_side, config_of, is_from_outside}
 use Rattle.app_input.specs.declared.inputs.Inputs.TheVariants.{Boot}
 use Rattle.app_words.specs.declared.status.Status.{Status}
 use Rattle.app_words.specs.declared.words.Task.{Task}
@@ -39,12 +40,17 @@ script_files files n names = map (λ s. giving s.1 (script_of files s.0 s.1)) (e
 abbrev pub scripted_files : Task → Files → List (List ℕ) → List ℕ → List DueFile
 scripted_files task files names course = script_files files 1 names ++ giving course (course_of task files (length names) course) ∷ []
 
--- the files behind a configuration that means these tables: the machine file, the scripts, the file with their course
+-- the plan with this name, which is read by the tables
+abbrev pub plan_files : Tables → List ℕ → Files → List DueFile
+plan_files tables name files = giving name (plan_from files tables name) ∷ []
+
+-- the files behind a configuration that means these tables: the machine file, the scripts, the file with their course or a plan
 abbrev pub files_behind : Form → Files → Tables → List DueFile
 files_behind (ioconf file) files tables = []
 files_behind (sources file) files tables = []
 files_behind (boot file name) files tables = machine_file files tables name ∷ []
 files_behind (load n) files tables = []
+files_behind (following file name plan) files tables = machine_file files tables name ∷ plan_files tables plan files
 files_behind (scripted task file name course scripts) files tables = machine_file files tables name ∷ scripted_files task files scripts course
 files_behind (side_by_side file name scripts) files tables = machine_file files tables name ∷ script_files files 1 scripts
 

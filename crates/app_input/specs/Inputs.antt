@@ -14,9 +14,11 @@ use Rattle.config_rules.specs.Formed.{FittingMachine, FormedTables}
 use Rattle.config_rules.specs.MachineText.{machine_of}
 use Rattle.config_rules.specs.Meaning.{Means}
 use Rattle.config_rules.specs.Reading.{Files}
+use Rattle.live_rules.specs.declared.plan.Plan.{Plan}
+use Rattle.live_rules.specs.PlanText.{FormedPlan}
 use Rattle.load_maker.specs.Generated.{conf_text, machine_text}
 use Rattle.app_input.specs.declared.inputs.Inputs.{Inputs}
-use Rattle.app_input.specs.declared.inputs.Inputs.TheVariants.{Ioconf, Boot, Load, Play, Replay, Upgrade, Watch, Run}
+use Rattle.app_input.specs.declared.inputs.Inputs.TheVariants.{Ioconf, Boot, Load, Follow, Play, Replay, Upgrade, Watch, Run}
 use Rattle.app_input.specs.declared.inputs.Inputs.TheVariants as inputs
 use Rattle.app_words.specs.declared.program.Program.{Program}
 use Rattle.app_words.specs.declared.program.Program.TheVariants.{Devconf, Drvrun}
@@ -26,8 +28,9 @@ use Rattle.app_input.specs.declared.scripts.Course.{Course}
 use Rattle.app_input.specs.declared.scripts.Course.TheVariants as courses
 use Rattle.app_input.specs.declared.scripts.Scripted.{Scripted}
 use Rattle.app_words.specs.declared.words.Task.{Task}
-use Rattle.app_input.specs.Scripted.{FormedRun, FormedScripts, IsOfScript, IsOfScripted, file_gives, scripted_of, scripts_of, task_of}
-use Rattle.app_words.specs.Words.{Form, ioconf, sources, boot, load, scripted, side_by_side, config_of, is_compiled, is_from_outside, machine_in}
+use Rattle.app_input.specs.Plans.{plan_from}
+use Rattle.app_input.specs.Scripted.{FormedRun, FormedScripts, IsOfFile, IsOfScript, IsOfScripted, file_gives, scripted_of, scripts_of, task_of}
+use Rattle.app_words.specs.Words.{Form, ioconf, sources, boot, load, following, scripted, side_by_side, config_of, is_compiled, is_from_outside, machine_in}
 
 -- the generated files of a machine with so many spots
 unfoldable pub made_files : ℕ → List MemFile
@@ -38,6 +41,7 @@ abbrev pub told_of : Form → Option Files → Option Files
 told_of (ioconf file) told = told
 told_of (sources file) told = told
 told_of (boot file machine) told = told
+told_of (following file machine plan) told = told
 told_of (scripted task file machine course scripts) told = told
 told_of (side_by_side file machine scripts) told = told
 told_of (load n) told = Some (file_named (made_files n))
@@ -47,6 +51,7 @@ abbrev pub files_of : Form → Files → Files
 files_of (ioconf file) files = files
 files_of (sources file) files = files
 files_of (boot file machine) files = files
+files_of (following file machine plan) files = files
 files_of (scripted task file machine course scripts) files = files
 files_of (side_by_side file machine scripts) files = files
 files_of (load n) files = file_named (made_files n)
@@ -147,6 +152,16 @@ RunsSideBySide form told tables machine P =
 abbrev pub AreScripts : Option Files → Result (List (List Command)) Status → List (List ℕ) → Type 0
 AreScripts told given names = IfSome told (λ files. scripts_of files names ≡ given)
 
+-- the words ask for a plan, the configuration means the tables, the machine file describes the machine with them, and P holds of
+-- the name of the plan
+abbrev pub Follows : Option Form → Option Files → Tables → Machine → (List ℕ → Type 0) → Type 0
+Follows form told tables machine P =
+    (file name plan : List ℕ) × (form ≡ Some (following file name plan)) × IsMeant told file tables × IsDescribed told name tables (std.Ok machine) × P plan
+
+-- where the files are told, the plan file gives this
+abbrev pub IsPlan : Option Files → Tables → Result Plan Status → List ℕ → Type 0
+IsPlan told tables given name = IfSome told (λ files. plan_from files tables name ≡ given)
+
 -- the scripts or the file with their course are refused so
 abbrev pub IsRefusedScripted : Option Form → Option Files → Status → Type 0
 IsRefusedScripted form told status =
@@ -159,9 +174,14 @@ IsRefusedSideBySide form told status =
     (tables : Tables) × (machine : Machine)
     × RunsSideBySide form told tables machine (λ names. AreScripts told (std.Err status) names × IsOfScript names status)
 
--- the scripts are refused so, or the file with their course where there is one
+-- the plan is refused so
+abbrev pub IsRefusedPlan : Option Form → Option Files → Status → Type 0
+IsRefusedPlan form told status =
+    (tables : Tables) × (machine : Machine) × Follows form told tables machine (λ name. IsPlan told tables (std.Err status) name × IsOfFile 0 name status)
+
+-- the scripts are refused so, or the file with their course where there is one, or a plan
 abbrev pub IsRefusedRun : Option Form → Option Files → Status → Type 0
-IsRefusedRun form told status = IsRefusedScripted form told status ⊎ IsRefusedSideBySide form told status
+IsRefusedRun form told status = IsRefusedScripted form told status ⊎ (IsRefusedSideBySide form told status ⊎ IsRefusedPlan form told status)
 
 -- the generated configuration means the tables, and the generated machine file describes the machine with them
 abbrev pub Made : ℕ → Tables → Machine → Type 0
@@ -175,6 +195,7 @@ Reads form told (std.Ok (inputs.Files name)) = form ≡ Some (sources name)
 Reads form told (std.Ok (Boot tables machine)) =
     (file name : List ℕ) × (form ≡ Some (boot file name)) × IsMeant told file tables × IsDescribed told name tables (std.Ok machine)
 Reads form told (std.Ok (Load n tables machine)) = (form ≡ Some (load n)) × Made n tables machine
+Reads form told (std.Ok (Follow tables machine plan)) = Follows form told tables machine (IsPlan told tables (std.Ok plan))
 Reads form told (std.Ok (Play tables machine scripts order)) = IsRun form told tables machine scripts (courses.Play order)
 Reads form told (std.Ok (Replay tables machine scripts history)) = IsRun form told tables machine scripts (courses.Replay history)
 Reads form told (std.Ok (Upgrade tables machine scripts history)) = IsRun form told tables machine scripts (courses.Upgrade history)
@@ -205,6 +226,7 @@ FormedInputs (Ioconf tables) = FormedTables tables
 FormedInputs (inputs.Files name) = ⊤
 FormedInputs (Boot tables machine) = FormedTables tables × FittingMachine tables machine
 FormedInputs (Load n tables machine) = FormedTables tables × FittingMachine tables machine
+FormedInputs (Follow tables machine plan) = FormedTables tables × FittingMachine tables machine × FormedPlan plan
 FormedInputs (Play tables machine scripts order) = AreFormed tables machine scripts (courses.Play order)
 FormedInputs (Replay tables machine scripts history) = AreFormed tables machine scripts (courses.Replay history)
 FormedInputs (Upgrade tables machine scripts history) = AreFormed tables machine scripts (courses.Upgrade history)
@@ -245,11 +267,16 @@ scripted_with task files course names tables machine = scripted_of task files na
 abbrev pub side_by_side_with : Files → List (List ℕ) → Tables → Machine → Result Inputs Status
 side_by_side_with files names tables machine = scripts_of files names >>= λ scripts. std.Ok (Run tables machine scripts)
 
+-- what a plan gives behind a machine
+abbrev pub followed_with : Files → List ℕ → Tables → Machine → Result Inputs Status
+followed_with files name tables machine = plan_from files tables name >>= λ plan. std.Ok (Follow tables machine plan)
+
 -- what a form gives where its configuration means the tables
 abbrev pub given_by : Form → Files → Tables → Result Inputs Status
 given_by (ioconf file) files tables = std.Ok (Ioconf tables)
 given_by (sources file) files tables = std.Ok (inputs.Files file)
 given_by (boot file name) files tables = booted_from (λ machine. std.Ok (Boot tables machine)) tables name (files name)
+given_by (following file name plan) files tables = booted_from (followed_with files plan tables) tables name (files name)
 given_by (load n) files tables = booted_from (λ machine. std.Ok (Load n tables machine)) tables (codes "mach") (files (codes "mach"))
 given_by (scripted task file name course names) files tables = booted_from (scripted_with task files course names tables) tables name (files name)
 given_by (side_by_side file name names) files tables = booted_from (side_by_side_with files names tables) tables name (files name)

@@ -1,9 +1,13 @@
 pub mod Asked
 pub mod Inputs
+pub mod Plans
 pub mod Scripted
 pub mod Stop
 pub use Rattle.config_rules.specs.Formed
 pub use Rattle.config_rules.specs.MachineText
 pub use Rattle.config_rules.specs.Meaning
 pub use Rattle.config_rules.specs.ScriptText
+pub use Rattle.live_rules.specs.Live
+pub use Rattle.live_rules.specs.LiveText
+pub use Rattle.live_rules.specs.PlanText
 pub use Rattle.load_maker.specs.Generated

@@ -5,16 +5,18 @@ ghost use Rattle.config_rules.specs.Reading.{Files as NamedFiles, reading};
 ghost use Rattle.app_input.specs.Asked.{AsksForm, AsksInputs, IsAskedFor};
 ghost use Rattle.app_input.specs.Inputs.{FormedInputs, IsDue, IsInputsOf, Reads, ReadsTables, inputs_by};
 ghost use Rattle.app_words.specs.Status.{Counts, status_of};
-ghost use Rattle.app_words.specs.Words.{boot, form_of, ioconf, load, scripted, side_by_side, sources};
+ghost use Rattle.app_words.specs.Words.{boot, following, form_of, ioconf, load, scripted, side_by_side, sources};
 
 use crate::machine_file::load_machine;
 use crate::made::made_files;
+use crate::plans::load_plan;
 use crate::scripts::{Course, Scripted, load_scripted, load_scripts};
 use crate::stop::status_of_stop;
 use app_words::{Program, Status, Task, WordStop, Words, read_words};
 use cf_compile::{Compiled, compile};
 use cf_io::Files;
 use cf_types::{List, Machine, Script, Tables, Text};
+use live_tables::Plan;
 use script_text::WatchLine;
 use std::alloc::Global;
 
@@ -39,6 +41,13 @@ pub enum Inputs {
         count: u32,
         tables: Tables,
         machine: Machine,
+    },
+    /// The tables of a configuration and a machine, and a plan by which groups of rows come and go. See
+    /// config_cfdata_attach(9).
+    Follow {
+        tables: Tables,
+        machine: Machine,
+        plan: Plan,
     },
     /// The same of a boot with 1 to 16 scripts behind it, and the numbers of the scripts whose turns follow, each from 1.
     /// See drvctl(8).
@@ -157,6 +166,46 @@ fn read_boot<F: Files>(
         Ok(machine) => Ok(Inputs::Boot { tables, machine }),
         Err(status) => {
             drop(tables);
+            Err(status)
+        }
+    }
+}
+
+/// Reads the inputs of `tables FILE MACHINE PLAN`: the configuration, the machine, the plan.
+fn read_follow<F: Files>(
+    alloc: Global,
+    files: &mut F,
+    config: &[u8],
+    name: &[u8],
+    plan: &[u8],
+) -> Result<Inputs, Status>
+    ensures told { F.told files.new ≡ F.told files.old }
+    ensures reads { Reads (Some (following config.now name.now plan.now)) (F.told files.old) result }
+    ensures asked { IfSome (F.told files.old)
+        (λ named. AsksForm (following config.now name.now plan.now) named (status_of result) (F.asked files.old) (F.asked files.new)) }
+    ensures counted { Counts (F.faults files.old) (F.faults files.new) result }
+    ensures formed { IfOk result FormedInputs }
+{
+    let tables = match read_tables(alloc, files, config) {
+        Ok(tables) => tables,
+        Err(status) => return Err(status),
+    };
+    let machine = match load_machine(alloc, files, name, &tables) {
+        Ok(machine) => machine,
+        Err(status) => {
+            drop(tables);
+            return Err(status);
+        }
+    };
+    match load_plan(alloc, files, plan, &tables) {
+        Ok(plan) => Ok(Inputs::Follow {
+            tables,
+            machine,
+            plan,
+        }),
+        Err(status) => {
+            drop(tables);
+            drop(machine);
             Err(status)
         }
     }
@@ -314,7 +363,7 @@ fn read_load(alloc: Global, count: u32) -> Result<Inputs, Status>
 
 /// Reads the words behind a program's name and the files that they name, the configuration before the machine: what they
 /// give, or the first refusal in this order: the words, the configuration, the machine file, the scripts in order, the
-/// order file or history. Each file is judged before the next is loaded, but for a history, which is judged when it is
+/// order file, history or watch file, or the plan. Each file is judged before the next is loaded, but for a history, which is judged when it is
 /// replayed. See config(1), config(5) and drvctl(8).
 pub fn read_inputs<F: Files>(
     alloc: Global,
@@ -338,6 +387,21 @@ pub fn read_inputs<F: Files>(
         Ok(Words::Files { file }) => read_files(alloc, file.as_bytes()),
         Ok(Words::Boot { file, machine }) => {
             read_boot(alloc, files, file.as_bytes(), machine.as_bytes())
+        }
+        Ok(
+            Words::Follow {
+                file,
+                machine,
+                plan,
+            },
+        ) => {
+            read_follow(
+                alloc,
+                files,
+                file.as_bytes(),
+                machine.as_bytes(),
+                plan.as_bytes(),
+            )
         }
         Ok(Words::Load { count }) => read_load(alloc, count),
         Ok(

@@ -5,6 +5,7 @@ mod file;
 mod inputs;
 mod machine_file;
 mod made;
+mod plans;
 mod scripts;
 mod stop;
 

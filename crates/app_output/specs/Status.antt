@@ -7,7 +7,7 @@ use Rattle.app_words.specs.declared.status.Status.TheVariants.{Ok, ConfigRefused
 
 -- the forms that the words of a program may have
 abbrev pub usage_text : Program → List ℕ
-usage_text Devconf = codes "usage: devconf ioconf FILE | boot FILE MACHINE | play FILE MACHINE ORDER SCRIPT.. | replay FILE MACHINE HISTORY SCRIPT.. | upgrade FILE MACHINE HISTORY SCRIPT.. | files FILE | watch FILE MACHINE WATCH SCRIPT.. | load N"
+usage_text Devconf = codes "usage: devconf ioconf FILE | boot FILE MACHINE | play FILE MACHINE ORDER SCRIPT.. | replay FILE MACHINE HISTORY SCRIPT.. | upgrade FILE MACHINE HISTORY SCRIPT.. | files FILE | tables FILE MACHINE PLAN | watch FILE MACHINE WATCH SCRIPT.. | load N"
 usage_text Drvrun = codes "usage: drvrun FILE MACHINE SCRIPT.."
 
 -- a file of a kind, at a line

@@ -1,4 +1,4 @@
-//! Puts what a run found to a sink, line by line: the listing of its tables, its history and its device tree, what was read of it, a
+//! Puts what a run found to a sink, line by line: the listing of its tables, its history and its device tree, what was read of it, the lines of a plan, a
 //! history that was read, the sources that are selected, and the line of its status.
 #![tactic(auto)]
 
@@ -8,6 +8,7 @@ mod listing;
 mod notes;
 mod paths;
 mod piece;
+mod plan;
 mod run;
 mod status;
 mod stop;
@@ -18,6 +19,7 @@ pub use listing::{put_listing, put_listing_with};
 pub use notes::put_watch;
 pub use paths::put_paths;
 pub use piece::{flush, put_piece};
+pub use plan::put_plan;
 pub use run::put_run;
 pub use status::report;
 pub use stop::{OutputStop, status_after};

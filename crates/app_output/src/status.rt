@@ -10,7 +10,7 @@ use cf_types::{Memory, put_decimal};
 use std::alloc::Global;
 
 const DEVCONF_USAGE: &[u8] =
-    b"usage: devconf ioconf FILE | boot FILE MACHINE | play FILE MACHINE ORDER SCRIPT.. | replay FILE MACHINE HISTORY SCRIPT.. | upgrade FILE MACHINE HISTORY SCRIPT.. | files FILE | watch FILE MACHINE WATCH SCRIPT.. | load N\n";
+    b"usage: devconf ioconf FILE | boot FILE MACHINE | play FILE MACHINE ORDER SCRIPT.. | replay FILE MACHINE HISTORY SCRIPT.. | upgrade FILE MACHINE HISTORY SCRIPT.. | files FILE | tables FILE MACHINE PLAN | watch FILE MACHINE WATCH SCRIPT.. | load N\n";
 
 const DRVRUN_USAGE: &[u8] = b"usage: drvrun FILE MACHINE SCRIPT..\n";
 

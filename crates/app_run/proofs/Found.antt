@@ -45,6 +45,7 @@ asked_by P form told (input.Play tables machine scripts order) left read formed 
 asked_by P form told (input.Replay tables machine scripts history) left read formed ran = absurd ran
 asked_by P form told (input.Upgrade tables machine scripts history) left read formed ran = absurd ran
 asked_by P form told (input.Watch tables machine scripts watch) left read formed ran = absurd ran
+asked_by P form told (input.Follow tables machine plan) left read formed ran = absurd ran
 
 -- its tables have a graph
 ran_graph : (P : Ticket → Type 0) (inputs : Inputs) (left : FinishedShown) → FormedInputs inputs → HasRun P inputs left → FitGraph left.board.world.setup.tables
@@ -57,6 +58,7 @@ ran_graph P (input.Play tables machine scripts order) left formed ran = absurd r
 ran_graph P (input.Replay tables machine scripts history) left formed ran = absurd ran
 ran_graph P (input.Upgrade tables machine scripts history) left formed ran = absurd ran
 ran_graph P (input.Watch tables machine scripts watch) left formed ran = absurd ran
+ran_graph P (input.Follow tables machine plan) left formed ran = absurd ran
 
 -- what was found for the words and the files
 pub found_by : (P : Ticket → Type 0) (form : Option Form) (told : Option Files) (inputs : Inputs) (result : Result FinishedShown Status) → Reads form told (std.Ok inputs) → FormedInputs inputs

@@ -17,13 +17,14 @@ use Rattle.clap.specs.declared.error.kind.ErrorKind.TheVariants as kind
 use Rattle.app_words.specs.declared.words.WordStop.TheVariants.{Usage, Memory}
 
 -- what words ask for: the listing of a configuration, the sources that it selects, the boot of a machine by a
--- configuration, the boot of a generated machine with so many spots, or a boot with scripts behind it, whose course a file
--- has, or which run side by side
+-- configuration, the boot of a generated machine with so many spots, a plan of tables that come and go, or a boot with scripts
+-- behind it, whose course a file has, or which run side by side
 pub data Form : Type 0 where
   ioconf : List ℕ → Form
   sources : List ℕ → Form
   boot : List ℕ → List ℕ → Form
   load : ℕ → Form
+  following : List ℕ → List ℕ → List ℕ → Form
   scripted : Task → List ℕ → List ℕ → List ℕ → List (List ℕ) → Form
   side_by_side : List ℕ → List ℕ → List (List ℕ) → Form
 
@@ -43,6 +44,14 @@ boot_form [] = None
 boot_form (file ∷ []) = None
 boot_form (file ∷ machine ∷ []) = Some (boot file machine)
 boot_form (file ∷ machine ∷ other ∷ more) = None
+
+-- `FILE MACHINE PLAN`
+abbrev pub following_form : List (List ℕ) → Option Form
+following_form [] = None
+following_form (file ∷ []) = None
+following_form (file ∷ machine ∷ []) = None
+following_form (file ∷ machine ∷ plan ∷ []) = Some (following file machine plan)
+following_form (file ∷ machine ∷ plan ∷ other ∷ more) = None
 
 -- a count of spots is from 1 to 1,000
 abbrev pub in_count_range : ℤ → Bool
@@ -85,7 +94,8 @@ form_named word operands =
     else (if bytes_eq word (codes "play") then scripted_form Play operands
     else (if bytes_eq word (codes "replay") then scripted_form Replay operands
     else (if bytes_eq word (codes "upgrade") then scripted_form Upgrade operands
-    else (if bytes_eq word (codes "watch") then scripted_form Watch operands else None)))))))
+    else (if bytes_eq word (codes "watch") then scripted_form Watch operands
+    else (if bytes_eq word (codes "tables") then following_form operands else None))))))))
 
 -- the form of the words of `devconf`: each word behind the first is an operand
 abbrev pub devconf_form : List (List ℕ) → Option Form
@@ -106,6 +116,7 @@ abbrev pub config_of : Form → List ℕ
 config_of (ioconf file) = file
 config_of (sources file) = file
 config_of (boot file machine) = file
+config_of (following file machine plan) = file
 config_of (scripted task file machine course scripts) = file
 config_of (side_by_side file machine scripts) = file
 config_of (load n) = codes "conf"
@@ -115,6 +126,7 @@ abbrev pub machine_in : Form → Option (List ℕ)
 machine_in (ioconf file) = None
 machine_in (sources file) = None
 machine_in (boot file machine) = Some machine
+machine_in (following file machine plan) = Some machine
 machine_in (scripted task file machine course scripts) = Some machine
 machine_in (side_by_side file machine scripts) = Some machine
 machine_in (load n) = Some (codes "mach")
@@ -124,6 +136,7 @@ abbrev pub is_compiled : Form → Bool
 is_compiled (ioconf file) = true
 is_compiled (sources file) = false
 is_compiled (boot file machine) = true
+is_compiled (following file machine plan) = true
 is_compiled (scripted task file machine course scripts) = true
 is_compiled (side_by_side file machine scripts) = true
 is_compiled (load n) = true
@@ -133,6 +146,7 @@ abbrev pub is_from_outside : Form → Bool
 is_from_outside (ioconf file) = true
 is_from_outside (sources file) = false
 is_from_outside (boot file machine) = true
+is_from_outside (following file machine plan) = true
 is_from_outside (scripted task file machine course scripts) = true
 is_from_outside (side_by_side file machine scripts) = true
 is_from_outside (load n) = false
@@ -147,6 +161,7 @@ abbrev pub HasForm : Option Form → Result Words WordStop → Type 0
 HasForm form (std.Ok (words.Ioconf file)) = form ≡ Some (ioconf file.now)
 HasForm form (std.Ok (words.Files file)) = form ≡ Some (sources file.now)
 HasForm form (std.Ok (words.Boot file machine)) = form ≡ Some (boot file.now machine.now)
+HasForm form (std.Ok (words.Follow file machine plan)) = form ≡ Some (following file.now machine.now plan.now)
 HasForm form (std.Ok (words.Load count)) = (form ≡ Some (load count)) × (1 ≤ count) × (count ≤ 1000)
 HasForm form (std.Ok (words.Scripted task file machine course scripts)) =
     (form ≡ Some (scripted task file.now machine.now course.now (map string_bytes scripts.now))) × (1 ≤ length scripts.now) × (length scripts.now ≤ 16)

@@ -1,6 +1,6 @@
 ghost use Rattle.std.specs.Prelude.{◌≡◌, map, option_map, string_bytes, true};
 ghost use Rattle.std.specs.List.{list_all};
-ghost use Rattle.app_words.specs.Words.{HasForm, devconf_form, drvrun_form, file_in, form_of, ioconf, is_operand, load_form, sources};
+ghost use Rattle.app_words.specs.Words.{HasForm, devconf_form, drvrun_form, file_in, form_of, ioconf, is_operand, following_form, load_form, sources};
 
 use crate::count::count_of;
 use crate::operands::{MAX_SCRIPTS, boot_words, file_word, scripted_words};
@@ -35,6 +35,12 @@ pub enum Words<'a> {
     Boot {
         file: &'a str,
         machine: &'a str,
+    },
+    /// `tables FILE MACHINE PLAN`
+    Follow {
+        file: &'a str,
+        machine: &'a str,
+        plan: &'a str,
     },
     /// `load N`, N from 1 to 1,000.
     Load {
@@ -116,6 +122,20 @@ fn load_words<'a>(operands: &'a [String]) -> Result<Words<'a>, WordStop>
     }
 }
 
+/// Reads the operands `FILE MACHINE PLAN`.
+fn tables_words<'a>(operands: &'a [String]) -> Result<Words<'a>, WordStop>
+    ensures { HasForm (following_form (map string_bytes operands.now)) result }
+{
+    let [file, machine, plan] = operands else {
+        return Err(WordStop::Usage);
+    };
+    Ok(Words::Follow {
+        file: file.as_str(),
+        machine: machine.as_str(),
+        plan: plan.as_str(),
+    })
+}
+
 fn devconf_words<'a>(alloc: Global, words: &'a [String]) -> Result<Words<'a>, WordStop>
     ensures { HasForm (devconf_form (map string_bytes words.now)) result }
 {
@@ -148,6 +168,9 @@ fn devconf_words<'a>(alloc: Global, words: &'a [String]) -> Result<Words<'a>, Wo
     }
     if word.as_bytes() == b"watch".as_slice() {
         return scripted_words(alloc, Task::Watch, operands);
+    }
+    if word.as_bytes() == b"tables".as_slice() {
+        return tables_words(operands);
     }
     Err(WordStop::Usage)
 }

@@ -6,6 +6,7 @@ mod come;
 mod commands;
 mod doomed;
 mod driver_groups;
+mod ends;
 mod live_tables;
 mod look;
 mod members;

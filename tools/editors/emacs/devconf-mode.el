@@ -1,4 +1,4 @@
-;;; devconf-mode.el --- Syntax of devconf: configurations, machine files, scripts  -*- lexical-binding: t -*-
+;;; devconf-mode.el --- Syntax of devconf: configurations, machine files, scripts, plans  -*- lexical-binding: t -*-
 ;; Made from tools/forms by tools/editors/make.sh.
 (defvar devconf-mode-syntax-table
   (let ((table (make-syntax-table)))
@@ -42,10 +42,20 @@
        ("\\_<-?\\(0[xX][0-9a-fA-F]+\\|[0-9]+\\)\\_>" . font-lock-constant-face)))))
 
 ;;;###autoload
+(define-derived-mode devconf-plan-mode prog-mode "Devconf plan"
+  "The mode for plans of devconf."
+  :syntax-table devconf-mode-syntax-table
+  (setq-local comment-start "# ")
+  (setq-local font-lock-defaults
+    '((("^[ \t]*\\(add\\|group\\|remove\\|scan\\)\\_>" . font-lock-keyword-face)
+       ("\\_<-?\\(0[xX][0-9a-fA-F]+\\|[0-9]+\\)\\_>" . font-lock-constant-face)))))
+
+;;;###autoload
 (progn
   (add-to-list 'auto-mode-alist '("/\\(files\\|std\\)\\.[^/]+\\'" . devconf-mode))
   (add-to-list 'auto-mode-alist '("/\\(GENERIC[^/]*\\|conf/files\\|conf/std\\)\\'" . devconf-mode))
   (add-to-list 'auto-mode-alist '("\\.machine\\'" . devconf-machine-mode))
-  (add-to-list 'auto-mode-alist '("\\.script\\'" . devconf-script-mode)))
+  (add-to-list 'auto-mode-alist '("\\.script\\'" . devconf-script-mode))
+  (add-to-list 'auto-mode-alist '("\\.plan\\'" . devconf-plan-mode)))
 (provide 'devconf-mode)
 ;;; devconf-mode.el ends here

@@ -2,3 +2,4 @@
 au BufRead,BufNewFile files.*,std.*,GENERIC,GENERIC.*,*/conf/files,*/conf/std setfiletype devconf
 au BufRead,BufNewFile *.machine,*/machines/* setfiletype devconfmachine
 au BufRead,BufNewFile *.script setfiletype devconfscript
+au BufRead,BufNewFile *.plan setfiletype devconfplan

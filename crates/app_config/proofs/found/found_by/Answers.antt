@@ -1,6 +1,6 @@
 use Rattle.std.proofs.Common.{refl, Err}
 use Rattle.app_input.specs.declared.inputs.Inputs.TheVariants as input
-use Rattle.app_config.proofs.FoundLaws.{boot_graph, boot_ran, history_retold, listed, load_ran, not_selected, not_selected_counted, play_graph, play_ran, selected, tree_retold, watch_graph, watch_ran}
+use Rattle.app_config.proofs.FoundLaws.{boot_graph, boot_ran, follow_graph, follow_ran, history_retold, listed, load_ran, not_selected, not_selected_counted, play_graph, play_ran, selected, tree_retold, watch_graph, watch_ran}
 use Rattle.app_words.specs.Status.{status_of}
 use Rattle.app_words.specs.declared.status.Status.TheVariants as status
 use Rattle.app_config.proofs.AskedLaws.{selected_then, then_by, unselected_then}
@@ -106,3 +106,19 @@ returns-in_ok-run-in-Watch-clause-asked g c =
 pub returns-in_err-run-in-Watch-clause-asked : goal.returns-in_err-run-in-Watch-clause-asked
 returns-in_err-run-in-Watch-clause-asked g c =
     then_by (g.F.Files.told c.args.files.now) c.args.inputs (input.Watch c.in-Watch.tables c.in-Watch.machine c.in-Watch.scripts c.in-Watch.watch) (status_of c.from_residual-in_err-run-in-Watch.result) (g.F.Files.asked c.args.files.now) c.in-Watch.is refl
+
+pub returns-in_ok-run-in-Follow-clause-found : goal.returns-in_ok-run-in-Follow-clause-found
+returns-in_ok-run-in-Follow-clause-found g c =
+    follow_ran _ c.args.inputs c.in-Follow.tables _ c.in-Follow.machine c.in-Follow.plan _ c.in-Follow.is c.in_ok-run-in-Follow.ensures.tables c.in_ok-run-in-Follow.ensures.lines
+
+pub returns-in_ok-run-in-Follow-clause-graphed : goal.returns-in_ok-run-in-Follow-clause-graphed
+returns-in_ok-run-in-Follow-clause-graphed g c =
+    follow_graph c.args.inputs c.in-Follow.tables _ c.in-Follow.machine c.in-Follow.plan c.requires.formed c.in-Follow.is c.in_ok-run-in-Follow.ensures.tables
+
+pub returns-in_ok-run-in-Follow-clause-asked : goal.returns-in_ok-run-in-Follow-clause-asked
+returns-in_ok-run-in-Follow-clause-asked g c =
+    then_by (g.F.Files.told c.args.files.now) c.args.inputs (input.Follow c.in-Follow.tables c.in-Follow.machine c.in-Follow.plan) status.Ok (g.F.Files.asked c.args.files.now) c.in-Follow.is refl
+
+pub returns-in_err-run-in-Follow-clause-asked : goal.returns-in_err-run-in-Follow-clause-asked
+returns-in_err-run-in-Follow-clause-asked g c =
+    then_by (g.F.Files.told c.args.files.now) c.args.inputs (input.Follow c.in-Follow.tables c.in-Follow.machine c.in-Follow.plan) (status_of c.from_residual-in_err-run-in-Follow.result) (g.F.Files.asked c.args.files.now) c.in-Follow.is refl

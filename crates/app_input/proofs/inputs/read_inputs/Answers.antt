@@ -5,7 +5,7 @@ use Rattle.app_input.specs.Inputs.{Reads}
 use Rattle.app_words.specs.Words.{Form, form_of, sources}
 use Rattle.app_input.specs.declared.inputs.Inputs.{Inputs}
 use Rattle.app_words.specs.declared.status.Status.{Status}
-use Rattle.app_input.proofs.AskedLaws.{boot_words, scripted_words, side_by_side_words}
+use Rattle.app_input.proofs.AskedLaws.{boot_words, following_words, scripted_words, side_by_side_words}
 use Rattle.app_input.proofs.DueLaws.{due_told}
 use Rattle.app_input.proofs.KindLaws.{kind_read}
 use Rattle.app_input.proofs.MadeLaws.{counts_quiet}
@@ -57,6 +57,22 @@ returns-in-Ok-Files-clause-due g c =
 pub returns-in-Ok-Boot-clause-asked : goal.returns-in-Ok-Boot-clause-asked
 returns-in-Ok-Boot-clause-asked g c =
     boot_words _ _ _ _ c.in-Ok-Boot.file.now c.in-Ok-Boot.machine.now _ _ _ (rw c.in-Ok-Boot.field-0-is at c.in-Ok-Boot.ensures) c.as_bytes-in-Ok-Boot.ensures.value c.as_bytes-in-Ok-Boot-2.ensures.value c.read_boot.ensures.asked
+
+pub returns-in-Ok-Follow-clause-due : goal.returns-in-Ok-Follow-clause-due
+returns-in-Ok-Follow-clause-due g c =
+    let reads : Reads (form_of c.args.program (map string_bytes c.args.words.now)) (g.F.Files.told c.args.files.now) c.read_follow.result = search rules in
+    due_told _ _ _ _ c.read_follow.result reads c.read_follow.ensures.counted
+
+pub returns-in-Ok-Follow-clause-asked : goal.returns-in-Ok-Follow-clause-asked
+returns-in-Ok-Follow-clause-asked g c =
+    following_words _ _ _ _ _ c.in-Ok-Follow.file.now c.in-Ok-Follow.machine.now c.in-Ok-Follow.plan.now _ _ _
+    (rw c.in-Ok-Follow.field-0-is at c.in-Ok-Follow.ensures) c.as_bytes-in-Ok-Follow.ensures.value c.as_bytes-in-Ok-Follow-2.ensures.value c.as_bytes-in-Ok-Follow-3.ensures.value
+    c.read_follow.ensures.asked
+
+pub returns-in-Ok-Follow-clause-kind : goal.returns-in-Ok-Follow-clause-kind
+returns-in-Ok-Follow-clause-kind g c =
+    let reads : Reads (form_of c.args.program (map string_bytes c.args.words.now)) (g.F.Files.told c.args.files.now) c.read_follow.result = search rules in
+    kind_read c.args.program (map string_bytes c.args.words.now) _ c.read_follow.result reads
 
 pub returns-in-Ok-Scripted-clause-asked : goal.returns-in-Ok-Scripted-clause-asked
 returns-in-Ok-Scripted-clause-asked g c =

@@ -40,14 +40,14 @@ pub returns-in-Err-load_machine-clause-asked : goal.returns-in-Err-load_machine-
 returns-in-Err-load_machine-clause-asked g c =
     let names = map string_bytes c.args.scripts.now in
     run_unfit (scripted c.args.task c.args.config.now c.args.name.now c.args.course.now names) c.args.name.now (λ files. scripted_files c.args.task files names c.args.course.now)
-    _ _ c.in-Ok.tables c.in-Err-load_machine.status _ _ _ (λ files tables. refl) c.read_tables.ensures.told
+    _ _ c.in-Ok.tables c.in-Err-load_machine.status _ _ _ (λ files. refl) c.read_tables.ensures.told
     c.in-Ok.ensures.reads c.in-Ok.ensures.asked c.in-Err-load_machine.ensures.reads c.in-Err-load_machine.ensures.asked
 
 pub returns-in-Ok-load_scripted-clause-asked : goal.returns-in-Ok-load_scripted-clause-asked
 returns-in-Ok-load_scripted-clause-asked g c =
     let names = map string_bytes c.args.scripts.now in
     run_asked (scripted c.args.task c.args.config.now c.args.name.now c.args.course.now names) c.args.name.now (λ files. scripted_files c.args.task files names c.args.course.now)
-    _ _ _ c.in-Ok.tables c.in-Ok-load_machine.machine status.Ok _ _ _ _ (λ files tables. refl)
+    _ _ _ c.in-Ok.tables c.in-Ok-load_machine.machine status.Ok _ _ _ _ (λ files. refl)
     c.read_tables.ensures.told (c.load_machine.ensures.told ∙ c.read_tables.ensures.told) c.in-Ok.ensures.reads c.in-Ok.ensures.asked
     c.in-Ok-load_machine.ensures.reads c.in-Ok-load_machine.ensures.asked c.in-Ok-load_scripted.ensures.asked
 
@@ -55,6 +55,6 @@ pub returns-in-Err-load_scripted-clause-asked : goal.returns-in-Err-load_scripte
 returns-in-Err-load_scripted-clause-asked g c =
     let names = map string_bytes c.args.scripts.now in
     run_asked (scripted c.args.task c.args.config.now c.args.name.now c.args.course.now names) c.args.name.now (λ files. scripted_files c.args.task files names c.args.course.now)
-    _ _ _ c.in-Ok.tables c.in-Ok-load_machine.machine c.in-Err-load_scripted.status _ _ _ _ (λ files tables. refl)
+    _ _ _ c.in-Ok.tables c.in-Ok-load_machine.machine c.in-Err-load_scripted.status _ _ _ _ (λ files. refl)
     c.read_tables.ensures.told (c.load_machine.ensures.told ∙ c.read_tables.ensures.told) c.in-Ok.ensures.reads c.in-Ok.ensures.asked
     c.in-Ok-load_machine.ensures.reads c.in-Ok-load_machine.ensures.asked c.in-Err-load_scripted.ensures.asked

@@ -35,14 +35,14 @@ pub returns-in-Err-load_machine-clause-asked : goal.returns-in-Err-load_machine-
 returns-in-Err-load_machine-clause-asked g c =
     let names = map string_bytes c.args.scripts.now in
     run_unfit (side_by_side c.args.config.now c.args.name.now names) c.args.name.now (λ files. script_files files 1 names)
-    _ _ c.in-Ok.tables c.in-Err-load_machine.status _ _ _ (λ files tables. refl) c.read_tables.ensures.told
+    _ _ c.in-Ok.tables c.in-Err-load_machine.status _ _ _ (λ files. refl) c.read_tables.ensures.told
     c.in-Ok.ensures.reads c.in-Ok.ensures.asked c.in-Err-load_machine.ensures.reads c.in-Err-load_machine.ensures.asked
 
 pub returns-in-Ok-load_scripts-clause-asked : goal.returns-in-Ok-load_scripts-clause-asked
 returns-in-Ok-load_scripts-clause-asked g c =
     let names = map string_bytes c.args.scripts.now in
     run_asked (side_by_side c.args.config.now c.args.name.now names) c.args.name.now (λ files. script_files files 1 names)
-    _ _ _ c.in-Ok.tables c.in-Ok-load_machine.machine status.Ok _ _ _ _ (λ files tables. refl)
+    _ _ _ c.in-Ok.tables c.in-Ok-load_machine.machine status.Ok _ _ _ _ (λ files. refl)
     c.read_tables.ensures.told (c.load_machine.ensures.told ∙ c.read_tables.ensures.told) c.in-Ok.ensures.reads c.in-Ok.ensures.asked
     c.in-Ok-load_machine.ensures.reads c.in-Ok-load_machine.ensures.asked c.in-Ok-load_scripts.ensures.asked
 
@@ -50,6 +50,6 @@ pub returns-in-Err-load_scripts-clause-asked : goal.returns-in-Err-load_scripts-
 returns-in-Err-load_scripts-clause-asked g c =
     let names = map string_bytes c.args.scripts.now in
     run_asked (side_by_side c.args.config.now c.args.name.now names) c.args.name.now (λ files. script_files files 1 names)
-    _ _ _ c.in-Ok.tables c.in-Ok-load_machine.machine c.in-Err-load_scripts.status _ _ _ _ (λ files tables. refl)
+    _ _ _ c.in-Ok.tables c.in-Ok-load_machine.machine c.in-Err-load_scripts.status _ _ _ _ (λ files. refl)
     c.read_tables.ensures.told (c.load_machine.ensures.told ∙ c.read_tables.ensures.told) c.in-Ok.ensures.reads c.in-Ok.ensures.asked
     c.in-Ok-load_machine.ensures.reads c.in-Ok-load_machine.ensures.asked c.in-Err-load_scripts.ensures.asked
