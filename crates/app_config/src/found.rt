@@ -1,4 +1,4 @@
-//! Does what the inputs ask for. Nothing here sees the output, so a run has ended before anything of it is put.
+//! Does what the inputs ask for. Nothing here sees the output, so a run has ended before any of it is put.
 ghost use Rattle.std.specs.Prelude.{◌≡◌, IfOk};
 ghost use Rattle.app_input.specs.Inputs.{FormedInputs, IsInputsOf};
 ghost use Rattle.app_words.specs.declared.program.Program.TheVariants as Program;
@@ -9,7 +9,8 @@ ghost use Rattle.app_config.specs.Found.{FindsFor, HasGraph, found_text};
 
 use app_input::{Inputs, status_of_stop};
 use app_output::{
-    OutputStop, put_history, put_listing_with, put_paths, put_piece, put_plan, put_run, put_tree, put_watch,
+    OutputStop, put_history, put_listing_with, put_paths, put_piece, put_plan, put_run, put_tree,
+    put_watch,
 };
 use app_tasks::{WatchedRun, booted, loaded, played, retold, watched};
 use app_words::Status;
@@ -40,11 +41,11 @@ pub enum Found {
     Line(Vec<u8>),
     /// The device tree that a history leads to.
     Tree(List<DevLine>),
-    /// What a history tells, with this tree.
+    /// A history that was read, with its tree.
     Retold(Replayed),
 }
 
-/// The tree of what a history tells. Its events are not taken apart, since the program ends soon.
+/// The tree of a history that was read. Its events are not freed, because the program ends soon.
 fn tree_alone(told: Replayed) -> List<DevLine>
     ensures { result ≡ told.tree }
 {

@@ -20,7 +20,7 @@ use live_tables::Plan;
 use script_text::WatchLine;
 use std::alloc::Global;
 
-/// What the words and the files that they name give.
+/// What the words ask for, read from the files that they name.
 #[derive(Drop)]
 pub enum Inputs {
     /// The tables of a configuration, with their graph. See config(5).
@@ -36,7 +36,7 @@ pub enum Inputs {
         tables: Tables,
         machine: Machine,
     },
-    /// The same of a generated machine with so many spots behind its bus, 1 to 1,000, and its configuration.
+    /// The same for a generated machine and its configuration; the machine has this many spots on its bus, 1 to 1,000.
     Load {
         count: u32,
         tables: Tables,
@@ -49,22 +49,22 @@ pub enum Inputs {
         machine: Machine,
         plan: Plan,
     },
-    /// The same of a boot with 1 to 16 scripts behind it, and the numbers of the scripts whose turns follow, each from 1.
-    /// See drvctl(8).
+    /// The same with 1 to 16 scripts to run after the boot, and the order of their turns: numbers of scripts, counted
+    /// from 1. See drvctl(8).
     Play {
         tables: Tables,
         machine: Machine,
         scripts: List<Script>,
         order: List<u8>,
     },
-    /// The same with a history in place of these numbers, which is to be checked. It is not judged yet.
+    /// The same with a history to be checked in place of the order. The history is not judged yet.
     Replay {
         tables: Tables,
         machine: Machine,
         scripts: List<Script>,
         history: Text,
     },
-    /// The same, to be written in format 2 besides.
+    /// The same; the history is also to be written in format 2.
     Upgrade {
         tables: Tables,
         machine: Machine,
@@ -78,8 +78,8 @@ pub enum Inputs {
         scripts: List<Script>,
         watch: List<WatchLine>,
     },
-    /// The tables of a configuration, a machine that is to boot by them, and 1 to 16 scripts that run side by side behind
-    /// that. See drvctl(8).
+    /// The tables of a configuration, a machine that is to boot by them, and 1 to 16 scripts to run side by side after
+    /// the boot. See drvctl(8).
     Run {
         tables: Tables,
         machine: Machine,
@@ -102,7 +102,7 @@ fn read_compiled<F: Files>(alloc: Global, files: &mut F, file: &[u8]) -> Result<
     }
 }
 
-/// Compiles the configuration to its tables alone.
+/// Compiles the configuration to its tables, without their graph.
 fn read_tables<F: Files>(alloc: Global, files: &mut F, file: &[u8]) -> Result<Tables, Status>
     ensures told { F.told files.new ≡ F.told files.old }
     ensures reads { ReadsTables (F.told files.old) file.now result }
@@ -327,7 +327,7 @@ fn read_side_by_side<F: Files>(
     }
 }
 
-/// Reads the inputs of `load N` from the generated files, the configuration first. No file from outside is asked for.
+/// Reads the inputs of `load N` from the generated files, the configuration first. No other file is asked for.
 fn read_load(alloc: Global, count: u32) -> Result<Inputs, Status>
     requires some { 1 ≤ count }
     requires few { count ≤ 1000 }
@@ -378,7 +378,7 @@ pub fn read_inputs<F: Files>(
     ensures kind { IfOk result (IsInputsOf program) }
     ensures formed { IfOk result FormedInputs }
 
-    // With files that are told and no fault, the answer is the one that is due, or memory ran out.
+    // If the files are told and no fault was counted, the result is the one that is due, or memory ran out.
     ensures due { IfSome (F.told files.old) (λ named. ¬ Rose (F.faults files.old) (F.faults files.new)
         → (result ≡ Err Status.Memory) ⊎ IsDue (form_of program (map string_bytes words.now)) named result) }
 {

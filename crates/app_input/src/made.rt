@@ -49,7 +49,7 @@ fn made_file(alloc: Global, name: &[u8], bytes: Text) -> Result<MemFile, Memory>
     })
 }
 
-/// The generated configuration and the generated machine of so many spots, under the names `conf` and `mach`.
+/// The generated configuration and the generated machine with this many spots, under the names `conf` and `mach`.
 #[tactic(auto, unfolding(crate::specs::Inputs::made_files))]
 pub fn made_files(alloc: Global, count: u32) -> Result<MadeFiles, Memory>
     requires some { 1 ≤ count }

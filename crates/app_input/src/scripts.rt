@@ -34,7 +34,7 @@ pub struct Scripted {
     pub course: Course,
 }
 
-/// The script that a text says.
+/// The script that a text spells.
 fn judge_script(alloc: Global, text: &[u8], which: u8) -> Result<Script, Status>
     requires { length text.now ≤ MAX_FILE }
     ensures says { Says which (commands_of text.now) result }
@@ -47,7 +47,7 @@ fn judge_script(alloc: Global, text: &[u8], which: u8) -> Result<Script, Status>
     }
 }
 
-/// The turns that a text says.
+/// The turns that a text spells.
 fn judge_order(alloc: Global, text: &[u8], callers: u8) -> Result<List<u8>, Status>
     requires short { length text.now ≤ MAX_FILE }
     requires some { 1 ≤ callers }
@@ -83,7 +83,7 @@ fn judge_watch(alloc: Global, text: &[u8], callers: u8) -> Result<List<WatchLine
     }
 }
 
-/// The course that a text has for so many callers. A history is judged when it is replayed.
+/// The course that a text gives to this many callers. A history is judged when it is replayed.
 fn judge_course(alloc: Global, task: Task, text: Text, callers: u8) -> Result<Course, Status>
     requires short { length text ≤ MAX_FILE }
     requires some { 1 ≤ callers }
@@ -125,7 +125,7 @@ fn load_script<F: Files>(
     }
 }
 
-/// Loads the file with the course of so many callers.
+/// Loads the file with the course of this many callers.
 fn load_course<F: Files>(
     alloc: Global,
     files: &mut F,

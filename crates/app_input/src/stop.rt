@@ -5,7 +5,7 @@ use app_words::Status;
 use cf_compile::CompileStop;
 use cf_types::Refusal;
 
-/// The status that tells why a configuration was not compiled.
+/// The status that says why a configuration was not compiled.
 pub fn status_of_stop(stop: CompileStop) -> Status
     ensures { result ≡ status_of_stop stop }
 {

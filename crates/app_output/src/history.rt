@@ -1,4 +1,4 @@
-//! Puts a history that was read, with the device tree behind it.
+//! Puts a history that was read, followed by the device tree.
 ghost use Rattle.std.specs.Prelude.{◌++◌, map};
 ghost use Rattle.run_rules.specs.Lines as history;
 ghost use Rattle.app_output.specs.Output.{Puts};

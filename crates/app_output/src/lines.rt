@@ -15,12 +15,12 @@ use std::alloc::Global;
 pub trait Lines {
     ghost lines: { Self → List (List ℕ) };
 
-    /// Appends the line at a place, counted from 0, without its newline; `false` where there is none.
+    /// Appends the line at a place, counted from 0, without its newline; `false` if there is none.
     fn put_line(&self, place: u64, line: &mut Vec<u8>) -> Result<bool, Memory>
         ensures { IfOk result (λ there. PutsLine (slice_get (lines self.now) place) there line.old.items line.new.items) };
 }
 
-/// Makes the line at a place with its newline, in place of what is there; `false` where there is none.
+/// Makes the line at a place with its newline, replacing what is there; `false` if there is none.
 fn make_line<L: Lines>(lines: &L, place: u64, line: &mut Vec<u8>) -> Result<bool, Memory>
     ensures { IfOk result (λ there. IsNextLine (L.lines lines.now) place there line.new.items) }
 {
@@ -32,7 +32,7 @@ fn make_line<L: Lines>(lines: &L, place: u64, line: &mut Vec<u8>) -> Result<bool
     Ok(true)
 }
 
-/// Puts the lines, one at a time. No memory holds more lines than can be counted.
+/// Puts the lines, one at a time. Memory never holds more lines than can be counted.
 pub fn put_lines<L: Lines, S: Sink>(alloc: Global, lines: &L, out: &mut S) -> Result<(), OutputStop>
     ensures { Puts (text_of (L.lines lines.now)) (S.told out.old) (S.told out.new) result }
 {

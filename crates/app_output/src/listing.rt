@@ -47,7 +47,7 @@ pub fn put_listing_with<S: Sink>(
     put_lines(alloc, &Listing { tables, graph }, out)
 }
 
-/// Puts the listing of tables without a graph at hand. It is made, and not taken apart, since the program ends soon.
+/// Puts the listing of tables without their graph. The graph is made here and not freed, because the program ends soon.
 pub fn put_listing<S: Sink>(alloc: Global, tables: &Tables, out: &mut S) -> Result<(), OutputStop>
     requires { FitGraph tables.now }
     ensures { Puts (listing tables.now) (S.told out.old) (S.told out.new) result }

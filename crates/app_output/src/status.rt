@@ -53,7 +53,7 @@ fn put_refused(
     Ok(())
 }
 
-/// Appends the line that says something of a file.
+/// Appends a line that says something about a file.
 fn put_named(out: &mut Vec<u8>, name: &[u8], text: &[u8]) -> Result<(), Memory>
     ensures { OnOk result (out.new.items ≡ out.old.items ++ ((name.now ++ text.now) ++ 10 ∷ [])) }
 {
@@ -93,7 +93,7 @@ fn script_word(program: Program, words: &[String], which: u8) -> &[u8]
     }
 }
 
-/// The line that tells of a status of these words.
+/// The line that reports a status for these words.
 fn err_line(
     alloc: Global,
     program: Program,
@@ -136,7 +136,7 @@ fn err_line(
     Ok(line)
 }
 
-/// Puts a text, and hands on what is held back. Of a fault only the sink knows, which counts it.
+/// Puts a text, and hands on what is held back. A fault is only counted by the sink.
 fn deliver<E: Sink>(text: &[u8], err: &mut E)
     ensures { Takes text.now (E.told err.old) (E.told err.new) }
 {
@@ -146,7 +146,7 @@ fn deliver<E: Sink>(text: &[u8], err: &mut E)
     let _ = err.flush();
 }
 
-/// Delivers a text. Where that is empty nothing is put.
+/// Delivers a text. If it is empty, nothing is put.
 fn tell<E: Sink>(text: &[u8], err: &mut E)
     ensures { Takes text.now (E.told err.old) (E.told err.new) }
 {
@@ -156,7 +156,7 @@ fn tell<E: Sink>(text: &[u8], err: &mut E)
     let _ = err.flush();
 }
 
-/// Tells of a status. Where that wants memory, the status is the want of it.
+/// Reports a status, and returns it; if memory runs out on the way, it returns `Memory`.
 pub fn report<E: Sink>(
     alloc: Global,
     program: Program,

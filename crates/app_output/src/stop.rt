@@ -3,7 +3,7 @@ ghost use Rattle.app_output.specs.Ended.{status_after};
 
 use app_words::Status;
 
-/// Why a text was not put whole.
+/// Why a text was not put as a whole.
 #[derive(Clone, Copy)]
 pub enum OutputStop {
     /// Writing failed; the sink counted that.
@@ -12,7 +12,7 @@ pub enum OutputStop {
     Memory,
 }
 
-/// The status behind writing.
+/// The status after writing.
 pub fn status_after(written: Result<(), OutputStop>) -> Status
     ensures { result ≡ status_after written }
 {

@@ -79,7 +79,7 @@ fn write_run<S: Sink>(alloc: Global, left: &Finished, out: &mut S) -> Result<(),
     flush(out)
 }
 
-/// Runs the scripts that the words name, and once all of them have ended writes what they did.
+/// Runs the scripts that the words name, and writes what they did once all of them have ended.
 fn run<R: Threads + Wait + Sync, F: Files, S: Sink, M: Medium + Sync>(
     rt: &R,
     alloc: Global,
@@ -105,10 +105,10 @@ fn run<R: Threads + Wait + Sync, F: Files, S: Sink, M: Medium + Sync>(
     }
 }
 
-/// Runs the program on the words behind its name: reads what they name from `files`, boots the machine, runs each script in
-/// a thread of its own, with transfers through `medium`, and once all have ended writes the listing, the history and the
-/// device tree to `out`; the line of a refusal or a fault goes to `err`. Nothing is held back in the end. Where scripts wait
-/// for one another for good, so does the call. See config(1), autoconf(9) and drvctl(8).
+/// Runs the program on the words after its name: reads the files that they name from `files`, boots the machine, runs
+/// each script in a thread of its own, with transfers through `medium`, and once all have ended writes the listing, the
+/// history and the device tree to `out`; the line of a refusal or a fault goes to `err`. It leaves nothing held back.
+/// If scripts wait for each other for good, so does the call. See config(1), autoconf(9) and drvctl(8).
 pub fn drvrun_top<R: Threads + Wait + Sync, F: Files, S: Sink, E: Sink, M: Medium + Sync>(
     rt: &R,
     alloc: Global,
@@ -121,7 +121,7 @@ pub fn drvrun_top<R: Threads + Wait + Sync, F: Files, S: Sink, E: Sink, M: Mediu
     ensures explained { Explains M.carried (drvrun_form (map string_bytes words.now)) (F.told files.old) (S.told out.old) (S.told out.new) result }
     ensures faults { Faults (F.faults files.old) (F.faults files.new) (S.told out.old).faults (S.told out.new).faults result }
 
-    // With files that are told and no fault, the status is the one that is due, or memory ran out.
+    // If the files are told and no fault was counted, the status is the one that is due, or memory ran out.
     ensures due { IfSome (F.told files.old) (λ named. ¬ Rose (F.faults files.old) (F.faults files.new) → ¬ Rose (S.told out.old).faults (S.told out.new).faults
         → IsDueOr (drvrun_form (map string_bytes words.now)) named result) }
     ensures asked { AsksInputs (drvrun_form (map string_bytes words.now)) (F.told files.old) result (F.asked files.old) (F.asked files.new) }

@@ -8,7 +8,7 @@ use crate::summary::summary_of;
 use cf_types::{Machine, Memory, Tables};
 use std::alloc::Global;
 
-/// The summary of the boot of a generated machine with so many spots behind its bus.
+/// The summary of the boot of a generated machine with this many spots on its bus.
 pub fn loaded(
     alloc: Global,
     count: u32,

@@ -12,7 +12,8 @@ use history_replay::{ReplayStop, Replayed, reread};
 use std::alloc::Global;
 use std::mem::forget;
 
-/// What a history tells of a machine and its scripts, or its first bad line. A file has fewer lines than a status can count.
+/// Reads a history of a machine and its scripts: what it says, or its first bad line. A file has fewer lines than a
+/// status can count.
 fn reread_history(
     alloc: Global,
     tables: &Tables,
@@ -34,8 +35,8 @@ fn reread_history(
     }
 }
 
-/// What a history tells of a machine and its scripts: the events and the device tree that they lead to, or its first bad
-/// line. What it was given is not taken apart, since the program ends soon. See drvctl(8).
+/// Reads a history of a machine and its scripts: its events and the device tree that they lead to, or its first bad
+/// line. The arguments are not freed, because the program ends soon. See drvctl(8).
 pub fn retold(
     alloc: Global,
     tables: Tables,

@@ -22,7 +22,7 @@ fn attaches(event: &Event) -> bool
     }
 }
 
-/// Whether an event says that no driver takes what was found.
+/// Whether an event says that no driver takes the spot that was found.
 fn is_unconfigured(event: &Event) -> bool
     ensures { result ≡ is_unconfigured event.now }
 {
@@ -42,7 +42,7 @@ fn attached(board: &Board) -> u64
     count
 }
 
-/// How many events say that no driver takes what was found.
+/// How many events say that no driver takes the spot that was found.
 fn unconfigured(board: &Board) -> u64
     ensures { result ≡ count_by is_unconfigured board.now.events }
 {
@@ -84,8 +84,8 @@ fn line_of(
     Ok(line)
 }
 
-/// The summary of a boot of a generated machine with so many spots behind its bus. A boot frees no device, so those that
-/// live are those that its events attached.
+/// The summary of a boot of a generated machine with this many spots on its bus. A boot frees no device, so the live
+/// devices are those that its events attached.
 pub fn summary_of(alloc: Global, count: u32, board: &Board) -> Result<Vec<u8>, Memory>
     requires { length board.now.world.live ≡ count_by attaches board.now.events }
     ensures { IfOk result (λ line. line.items ≡ ended (summary count board.now.events board.now.world)) }

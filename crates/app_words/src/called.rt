@@ -4,10 +4,10 @@ use cf_types::Memory;
 use std::alloc::Global;
 use std::env::{Env, FillError};
 
-/// How many bytes a word is given at first. It is asked for again with twice as many until it fits.
+/// The room for a word at first, in bytes. The word is asked for again with twice the room until it fits.
 const FIRST_ROOM: usize = 256;
 
-/// The bytes of the word with this number, or `None` behind the last one.
+/// The bytes of the word with this number, or `None` after the last one.
 fn bytes_of_word<R: Env>(rt: &R, alloc: Global, number: usize) -> Result<Option<Vec<u8>>, Memory> {
     let mut room = FIRST_ROOM;
     for _ in 0..usize::BITS {
@@ -25,8 +25,8 @@ fn bytes_of_word<R: Env>(rt: &R, alloc: Global, number: usize) -> Result<Option<
     Err(Memory)
 }
 
-/// The words behind the program's name, which may be any bytes. If one of them is not UTF-8 they are taken for none,
-/// which no form has.
+/// The words after the program's name, which may be any bytes. If one of them is not UTF-8, there are no words, and no
+/// form has none.
 pub fn words_behind_name<R: Env>(rt: &R, alloc: Global) -> Result<Vec<String>, Memory> {
     let mut words = Vec::new(alloc);
     for number in 1..usize::MAX {

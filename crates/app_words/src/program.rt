@@ -3,6 +3,6 @@
 pub enum Program {
     /// The compiler of configurations, which also boots machines by them.
     Devconf,
-    /// It boots a machine and runs scripts on it side by side.
+    /// Boots a machine and runs scripts on it side by side.
     Drvrun,
 }

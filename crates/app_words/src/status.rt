@@ -19,8 +19,8 @@ pub enum Status {
     /// A script, by its number from 1, or the order file, by 0, has a bad line: its number, counted from 1, and its code.
     /// See drvctl(8).
     ScriptRefused { which: u8, line: u32, code: u8 },
-    /// A history is not taken: its first bad line, counted from 1, or 0 where it has no head. Reading the inputs never
-    /// answers so.
+    /// A history is not accepted: its first bad line, counted from 1, or 0 if it has no head. Reading the inputs never
+    /// returns this.
     HistoryRefused { line: u32 },
     /// There is no file of this name.
     Absent { name: Text },

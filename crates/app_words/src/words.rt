@@ -7,7 +7,7 @@ use crate::operands::{MAX_SCRIPTS, boot_words, file_word, scripted_words};
 use crate::program::Program;
 use std::alloc::Global;
 
-/// What is done with the scripts of a machine, by the file that has their course.
+/// What is done with the scripts of a machine and the file that gives their course.
 #[derive(Clone, Copy)]
 pub enum Task {
     /// They take turns, in the order of an order file.
@@ -198,7 +198,7 @@ fn drvrun_words<'a>(words: &'a [String]) -> Result<Words<'a>, WordStop>
     })
 }
 
-/// Reads the words behind the program's name as the form that they have.
+/// Reads the words after the program's name, by the form that they have.
 pub fn read_words<'a>(
     alloc: Global,
     program: Program,

@@ -8,7 +8,7 @@ use crate::returned::Returned;
 use crate::seat::Done;
 use lease_table::LeaseTable;
 
-/// Puts the shares of these callers to others, once they have given their leases back.
+/// Adds the shares of these callers to others, once they have given their leases back.
 pub fn gather<N: Naming>(all: &mut Returned<N>, table: &LeaseTable, done: Vec<Done<N>>)
     requires table { table.now ≡ N.table }
     ensures parts { all.new.parts ≡ all.old.parts + length done.items }

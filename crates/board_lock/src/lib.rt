@@ -1,6 +1,6 @@
-//! A board behind one lock, with a seat for each script, so that scripts run in threads of their own. What lies behind the lock
-//! is the board, the keeper of the leases, and three books: of the callers that ended, of their events, and of the rights to stop
-//! that are left. A caller's share of each book is in its seat. All of it is this project's profile.
+//! A board behind one lock, with a seat for each script, so that scripts run in threads of their own. Behind the lock
+//! are the board, the keeper of the leases, and three books: of the callers that ended, of their events, and of the
+//! rights to stop that are left. A caller's share of each book is in its seat. All of this is this project's profile.
 #![tactic(auto)]
 
 mod deal;

@@ -1,4 +1,4 @@
-//! What lies behind the lock.
+//! What is behind the lock.
 ghost use Rattle.std.specs.Prelude.{◌≡◌, ◌≢◌, ◌<◌, ◌≤◌, ◌+◌, true, Some};
 ghost use Rattle.std.specs.Option.{option_or};
 ghost use Rattle.dev_board.specs.Shown.{Shown};
@@ -23,7 +23,7 @@ use lease_table::LeaseTable;
 use run_rules::Event;
 use std::marker::Model;
 
-/// How many events of one caller there are in one taking of the lock at most.
+/// The most events of one caller while it has the lock once.
 const MANY: u32 = 32;
 
 /// The board, with the slots of its spots and the books of its ledgers. Contracts see the board.
@@ -86,7 +86,7 @@ impl<N: Naming> Locked<N> {
         }
     }
 
-    /// One step of the seat's caller; none where the board waits.
+    /// One step of the seat's caller; none if the caller has to wait.
     #[tactic(auto, using(crate::proofs::Opened::kept_same))]
     #[inline(always)]
     pub fn turn(&mut self, table: &LeaseTable, seat: &mut Seat<N>) -> Option<Turn>
@@ -117,7 +117,7 @@ impl<N: Naming> Locked<N> {
         Some(Turn::Did(place, told))
     }
 
-    /// Whether an answer is an event that ends the wait of no other caller.
+    /// Whether an answer is an event that ends no other caller's wait.
     #[inline(always)]
     fn is_quiet(&self, turn: &Turn) -> bool
         ensures { result ≡ true → IsEvent turn.now }
@@ -125,8 +125,8 @@ impl<N: Naming> Locked<N> {
         matches!(turn, Turn::Did(..)) && !self.may_end_waits(turn)
     }
 
-    /// Steps of the seat's caller as long as each is an event that ends no other's wait, so many at most. The last answer; none where
-    /// the board waits.
+    /// Steps of the seat's caller as long as each is an event that ends no other caller's wait, at most `MANY` of them.
+    /// It returns the last answer; none if the caller has to wait.
     #[inline(always)]
     pub fn turns(&mut self, table: &LeaseTable, seat: &mut Seat<N>) -> Option<Turn>
         requires { table.now ≡ N.table }

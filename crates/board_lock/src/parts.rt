@@ -1,4 +1,4 @@
-//! The things that the names of a run stand for.
+//! What the names of a run stand for.
 ghost use Rattle.std.specs.Prelude.{◌≡◌, ◌≢◌, ◌<◌, ◌+◌, ℕ, IfOk, Some, slice_get};
 ghost use Rattle.std.specs.Arc.{arc_value};
 ghost use Rattle.ref_ledger.specs.declared.state.SlotState.TheVariants.{Condemned};
@@ -16,7 +16,7 @@ use std::marker::Model;
 use std::sync::Arc;
 use std::sync::ledger::Blank;
 
-/// Three ledgers that are still blank, and the table of the leases, for each side of the lock, with its keeper and its seats.
+/// Three blank ledgers, and the table of the leases, for each side of the lock, with its keeper and its seats.
 #[derive(Drop)]
 pub struct RunParts {
     pub(crate) closings: Blank,
@@ -36,7 +36,7 @@ impl Model for RunParts {
     ghost invariant = { λ p. (p.dids.parts ≡ p.closings.parts) × (p.stops.parts ≡ p.closings.parts) × (arc_value p.outside ≡ p.keeper.table) × (arc_value p.behind ≡ p.keeper.table) };
 }
 
-// Publishes the slot of a spot where something stands.
+// Publishes the slot of a spot if a device is on it.
 fn publish_at(table: &LeaseTable, keeper: &mut LeaseKeeper, board: &Board, slot: u16)
     requires table { keeper.old.table ≡ table.now }
     requires inside { slot < spots_of board.now.world }
@@ -51,7 +51,7 @@ fn publish_at(table: &LeaseTable, keeper: &mut LeaseKeeper, board: &Board, slot:
     table.publish(keeper, slot);
 }
 
-// Publishes the slot of each spot where something stands.
+// Publishes the slot of each spot with a device on it.
 fn publish(table: &LeaseTable, keeper: &mut LeaseKeeper, board: &Board)
     requires table { keeper.old.table ≡ table.now }
     requires start { states_in keeper.old.view ≡ published_below (slots_of board.now.world) 0 }
@@ -65,7 +65,7 @@ fn publish(table: &LeaseTable, keeper: &mut LeaseKeeper, board: &Board)
 }
 
 impl RunParts {
-    /// The parts of a run of a board that has done its boot and nothing else.
+    /// The parts of a run, for a board that has done its boot and nothing else.
     pub fn make(alloc: Global, board: &Board) -> Result<RunParts, Memory>
         requires booted { IsBooted board.now }
         ensures { IfOk result (λ p. PartsFit p board.now) }

@@ -1,4 +1,4 @@
-//! Shares whose callers hold nothing any more.
+//! Shares whose callers no longer hold anything.
 ghost use Rattle.std.specs.Prelude.{◌≡◌};
 ghost use Rattle.board_lock.specs.Boards.{scripts_of};
 ghost use Rattle.lease_table.specs.Holding.{HoldsNothing};
@@ -9,7 +9,7 @@ use crate::tally::{Books, Shares};
 use lease_table::Leases;
 use std::marker::Model;
 
-/// Shares of callers that gave all their leases back. Only such shares are put together and held against the books.
+/// Shares of callers that gave all their leases back. Only such shares are added up and compared with the books.
 #[derive(Drop)]
 pub struct Returned<N: Naming> {
     pub(crate) shares: Shares<N>,
@@ -25,7 +25,7 @@ impl<N: Naming> Model for Returned<N> {
 }
 
 impl<N: Naming> Returned<N> {
-    /// Puts the shares of another caller to these.
+    /// Adds the shares of another caller to these.
     pub fn merge(&mut self, other: Returned<N>)
         ensures { self.new ≡ together self.old other }
     {
@@ -33,7 +33,7 @@ impl<N: Naming> Returned<N> {
         self.shares.merge(shares);
     }
 
-    /// The shares of all seats have what the books say.
+    /// Shows that the shares of all seats add up to what the books say.
     pub fn audit(&mut self, books: &mut Books<N>)
         requires { self.old.parts ≡ scripts_of N.opening }
         ensures { Agrees self.old books.old }

@@ -17,7 +17,7 @@ use std::marker::Model;
 pub struct Seat<N: Naming> {
     pub(crate) caller: u8,
     pub(crate) shares: Shares<N>,
-    /// How often the caller ended, or 2 where it is more often.
+    /// How often the caller ended, or 2 if it is more often.
     pub(crate) ends: u8,
     pub(crate) halted: bool,
     /// The slot of the last look, if it gave a word and no event of the caller came after it.
@@ -44,7 +44,8 @@ pub enum DoneEnd {
     Stopped(u8, Told),
 }
 
-/// What a caller leaves. Contracts see the caller, the three numbers of its seat, and how it ended, which is as these say.
+/// What a caller leaves. Contracts see the caller, the three numbers of its seat, and how it ended, which agrees with
+/// the numbers.
 #[derive(Drop)]
 pub struct Done<N: Naming> {
     pub(crate) caller: u8,
@@ -87,8 +88,8 @@ impl<N: Naming> Seat<N> {
         self.halted
     }
 
-    /// The caller is done, and leaves what it has. `Closed` is for a caller that ended, `Memory` for one that stopped the board,
-    /// `Stopped` for one with a witness that another did.
+    /// The caller is done, and leaves what it has. `Closed` is for a caller that ended, `Memory` for one that stopped
+    /// the board, `Stopped` for one with a witness that another one did.
     pub fn into_done(self, end: DoneEnd) -> Done<N>
         requires { EndFits N.opening self.caller self.closings self.stops end }
         ensures { result ≡ left_by self end }

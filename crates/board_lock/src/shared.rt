@@ -79,7 +79,7 @@ impl Finished {
     }
 }
 
-// A board for threads. The table is beside the lock too, since a look at a lease takes no lock.
+// A board for threads. The table is also beside the lock, because a look at a lease takes no lock.
 fn share<N: Naming>(
     board: Board,
     outside: Arc<LeaseTable, Global>,
@@ -135,8 +135,8 @@ impl<N: Naming> SharedBoard<N> {
         }
     }
 
-    /// One step of the seat's caller. Where the board waits, the call waits for a notice and steps again. At an event the lease
-    /// that it names is taken or given back, in the same taking of the lock.
+    /// One step of the seat's caller. If the caller has to wait, the call waits for a notice and steps again. At an
+    /// event, the lease that it names is taken or given back before the lock is released.
     #[inline(always)]
     pub fn step<R: Wait>(&self, rt: &R, seat: &mut Seat<N>) -> Turn
         ensures { TurnIs N.opening seat.old result seat.new }
@@ -156,8 +156,8 @@ impl<N: Naming> SharedBoard<N> {
         unreachable!()
     }
 
-    /// Steps of the seat's caller, as many in one taking of the lock as are events that end no other's wait, at most 32 of them; the
-    /// answer is that of the last. Where the board waits, it goes on as `step` does.
+    /// Steps of the seat's caller while it has the lock once, as long as each is an event that ends no other caller's
+    /// wait, at most 32 of them; the answer is that of the last. If the caller has to wait, it goes on as `step` does.
     pub fn steps<R: Wait>(&self, rt: &R, seat: &mut Seat<N>) -> Turn
         ensures { TriesAre N.opening seat.old (Some result) seat.new }
     {
@@ -189,7 +189,7 @@ impl<N: Naming> SharedBoard<N> {
         self.lock.lock(rt).accept(seat, done)
     }
 
-    /// What the word of a transfer's slot says, without the lock; none where the seat has no lease on that slot.
+    /// What the word of a transfer's slot says, without the lock; none if the seat has no lease on that slot.
     pub fn look(&self, seat: &mut Seat<N>, ticket: &Ticket) -> Option<Word>
         ensures look { LookIs seat.old.leases seat.old.caller ticket.now.slot result seat.new.leases }
         ensures rest { seat.new ≡ looking seat.old ticket.now.slot result seat.new.leases }
@@ -202,7 +202,7 @@ impl<N: Naming> SharedBoard<N> {
         word
     }
 
-    /// Stops the board once for the seat's caller, and tells all who wait.
+    /// Stops the board once for the seat's caller, and wakes all who wait.
     pub fn stop<R: Wait>(&self, rt: &R, seat: &mut Seat<N>)
         ensures { seat.new ≡ halted seat.old }
     {
@@ -213,7 +213,7 @@ impl<N: Naming> SharedBoard<N> {
         self.moved.notify_all();
     }
 
-    /// The board, once every caller is done; the leases that callers still hold are given back.
+    /// The board, once every caller is done; leases that callers still hold are given back.
     pub fn finish(self, done: List<Done<N>>) -> Finished
         requires all { length done ≡ scripts_of N.opening }
         requires some { 0 < length done }

@@ -9,7 +9,7 @@ use run_rules::{Act, Event};
 use std::marker::Model;
 use std::sync::ledger::{Blank, Book, Share};
 
-/// Shares of the three ledgers, of as many seats in each. Contracts see the numbers.
+/// Shares of the three ledgers, of equally many seats in each. Contracts see the numbers.
 #[derive(Drop)]
 pub struct Shares<N: Naming> {
     closings: Share<Closings<N>>,
@@ -25,7 +25,7 @@ impl<N: Naming> Model for Shares<N> {
     ghost invariant = { λ s. (s.dids.parts ≡ s.closings.parts) × (s.stops.parts ≡ s.closings.parts) };
 }
 
-/// The books of the three ledgers. Contracts see what all shares have together.
+/// The books of the three ledgers. Contracts see the totals of all shares.
 #[derive(Drop)]
 pub struct Books<N: Naming> {
     closings: Book<Closings<N>>,
@@ -50,7 +50,7 @@ pub fn ends_caller(event: &Event) -> bool
 }
 
 impl<N: Naming> Shares<N> {
-    /// The shares of one seat, out of those of many that did nothing yet.
+    /// Splits off the shares of one seat from those of many that have done nothing yet.
     pub fn split_off(&mut self) -> Shares<N>
         requires { (self.old ≡ unused self.old.parts) × (0 < self.old.parts) }
         ensures one { result ≡ unused 1 }
@@ -63,7 +63,7 @@ impl<N: Naming> Shares<N> {
         }
     }
 
-    /// Puts other shares to these.
+    /// Adds other shares to these.
     pub fn merge(&mut self, other: Shares<N>)
         ensures { self.new ≡ together self.old other }
     {
@@ -92,7 +92,7 @@ fn charged<N: Naming>(stops: Blank, seats: u8) -> (Book<Stops<N>>, Share<Stops<N
 }
 
 impl<N: Naming> Books<N> {
-    /// Opens the ledgers: nothing was done yet, and each of the seats has one right to stop.
+    /// Opens the ledgers: nothing has been done yet, and each seat has one right to stop.
     pub fn open(closings: Blank, dids: Blank, stops: Blank, seats: u8) -> (Books<N>, Shares<N>)
         requires names { (closings.name ≡ N.closings) × (dids.name ≡ N.dids) × (stops.name ≡ N.stops) }
         requires closings { closings.parts ≡ scripts_of N.opening }
@@ -132,7 +132,7 @@ impl<N: Naming> Books<N> {
         }
     }
 
-    /// Takes a right to stop, in the books and in the caller's shares. There is one, since the caller has it.
+    /// Takes a right to stop, in the books and in the caller's shares. There is one, because the caller has it.
     pub fn halt(&mut self, shares: &mut Shares<N>)
         requires { (0 < shares.old.parts) × (0 < shares.old.rights) }
         ensures right { self.new.rights + 1 ≡ self.old.rights }
@@ -144,7 +144,7 @@ impl<N: Naming> Books<N> {
         self.stops.sub(&mut shares.stops, 1);
     }
 
-    /// The shares of all seats have what the books say.
+    /// Shows that the shares of all seats add up to what the books say.
     pub fn audit(&mut self, all: &mut Shares<N>)
         requires { all.old.parts ≡ scripts_of N.opening }
         ensures agree { Agrees all.old self.old }

@@ -1,7 +1,7 @@
 use cf_types::Ticket;
 use dev_board::Told;
 
-/// What the lock answers a caller.
+/// What the lock answers to a caller.
 #[derive(Drop)]
 pub enum Turn {
     /// Exactly the one event that the caller does next was appended, at this place.

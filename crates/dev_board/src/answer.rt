@@ -1,13 +1,13 @@
 use cf_types::Ticket;
 
-/// What a caller was answered, as a witness tells it.
+/// What a caller was answered, as a witness shows it.
 #[derive(Clone, Copy)]
 pub enum Answer {
     /// Its event was appended at this place.
     Did(u64),
     /// It has a transfer that was started.
     Transfer(Ticket),
-    /// The result was not that of the transfer that the board keeps for the caller.
+    /// The result is not that of the transfer that the board keeps for the caller.
     Stale(Option<Ticket>),
     /// The board was stopped, first by this caller.
     Stopped(u8),

@@ -65,7 +65,7 @@ impl Model for Board {
     ghost invariant = { board_kept };
 }
 
-/// What is known of a setup before any event: the rows that suit each spot, and where the spots below each one stand.
+/// What is known about a setup before any event: the rows that suit each spot, and where the spots below each one are.
 fn known_of(alloc: Global, setup: &Setup) -> Result<(RowIndex, ChildSpans), Memory>
     requires { Bounded setup.now }
     ensures { IfOk result (λ known. IsIndexOf setup.now.tables setup.now.machine known.0 × AreSpansOf setup.now.machine known.1) }
@@ -101,7 +101,8 @@ fn site_of(alloc: Global, setup: Setup) -> Result<Site, Memory>
 }
 
 impl Board {
-    /// The board before any event, of formed tables, a machine that fits them, and at most 16 formed scripts of drvctl(8) commands.
+    /// The board before any event, for formed tables, a machine that fits them, and at most 16 formed scripts of
+    /// drvctl(8) commands.
     pub fn start(
         alloc: Global,
         tables: Tables,
@@ -162,7 +163,8 @@ impl Board {
         stepped
     }
 
-    /// The result of a transfer: the transfer ends by it, or nothing changes. The result is spent at every answer.
+    /// Hands in the result of a transfer: the transfer ends by it, or nothing changes. The result is spent in either
+    /// case.
     pub fn post(&mut self, done: IoResult) -> Posted
         ensures post { PostIs self.old done result self.new }
         ensures slots { slots_of self.new.world ≡ slots_of self.old.world }
@@ -175,7 +177,8 @@ impl Board {
         posted
     }
 
-    /// Stops the board in the name of a caller. Each later step answers so, and nothing else changes; the first stop stays.
+    /// Stops the board on behalf of a caller. Each later step returns `Stopped`, and nothing else changes; a later stop
+    /// has no effect.
     pub fn stop(&mut self, caller: u8)
         ensures world { self.new.world ≡ self.old.world }
         ensures events { self.new.events ≡ self.old.events }
@@ -189,7 +192,7 @@ impl Board {
         }
     }
 
-    /// What every board keeps; nothing is done.
+    /// The facts that every board keeps. It does nothing.
     pub fn stands(&self)
         ensures run { Run (began self.now) self.now.events self.now.world }
         ensures sound { Sound self.now.world }
@@ -205,8 +208,8 @@ impl Board {
         let _ = &self.core;
     }
 
-    /// Makes room for so many more events, where there is memory for them all: then each comes without a call for it. Nothing that the
-    /// board shows changes.
+    /// Makes room for this many more events, if there is memory for them all, so that none of them asks for memory.
+    /// Nothing that the board shows changes.
     pub(crate) fn make_room(&mut self, more: usize)
         ensures { self.new ≡ self.old }
     {
@@ -237,7 +240,7 @@ impl Board {
         closed_in(&self.core.events)
     }
 
-    /// Whether a live device stands on a spot.
+    /// Whether a live device is on a spot.
     pub fn occupied(&self, slot: u16) -> bool
         requires { slot < length self.now.world.setup.machine.spots }
         ensures { result ≡ search.is_occupied self.now.world.live slot }

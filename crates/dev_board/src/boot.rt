@@ -8,7 +8,8 @@ use crate::stepped::Stepped;
 use cf_types::Memory;
 use ref_ledger::Slots;
 
-/// The boot: steps of caller 0 until it has ended. Where memory runs out the events up to then stay, and the boot may be gone on with.
+/// The boot: steps of caller 0 until it has ended. If memory runs out, the events up to then stay, and the boot can be
+/// continued.
 pub fn run_boot<S: Slots>(board: &mut Board, slots: &mut S) -> Result<(), Memory>
     requires agree { S.states slots.old ≡ slots_of board.old.world }
     requires goes_on { board.old.stopped ≡ None }

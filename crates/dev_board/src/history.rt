@@ -8,7 +8,7 @@ use crate::told::Told;
 use run_rules::{Event, Setup};
 use run_world::append;
 
-/// Appends the event of a caller, and is its witness.
+/// Appends the event of a caller, and returns its witness.
 #[inline(always)]
 pub fn append_event(
     setup: &Setup,

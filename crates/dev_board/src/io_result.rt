@@ -5,7 +5,8 @@ use cf_types::Ticket;
 use run_rules::IoAnswer;
 use std::marker::Model;
 
-/// The result of a transfer: its ticket, with the answer that belongs to it. It can't be dropped: whoever has it posts it.
+/// The result of a transfer: its ticket, with the answer that belongs to it. It cannot be dropped: whoever has it has
+/// to post it.
 pub struct IoResult {
     ticket: Ticket,
     answer: IoAnswer,
@@ -28,7 +29,7 @@ impl IoResult {
         IoResult { ticket, answer }
     }
 
-    /// The ticket. The result is gone.
+    /// The ticket. The result is used up.
     pub(crate) fn spend(self) -> Ticket
         ensures { result ≡ self }
     {

@@ -55,8 +55,8 @@ fn return_step(core: &Core, caller: u8, of: u64) -> LeaseStep
     }
 }
 
-/// The slot that a deed of a caller takes or gives back, on a board that has not done it yet: it opens a device, or closes
-/// one.
+/// The slot that a deed of a caller takes or gives back, on a board that has not done it yet: the deed opens a device,
+/// or closes one.
 #[inline(always)]
 pub fn lease_of(core: &Core, caller: u8, deed: &Deed) -> LeaseStep
     ensures { (w : World) → w.live ≡ core.now.tree.live → w.refs ≡ core.now.refs.refs → next w caller ≡ Does deed.now → lease_step w (after w caller deed.now) caller ≡ result }

@@ -1,4 +1,5 @@
-//! The board: a world and its history, one event at a time. It boots formed tables on each machine that fits them; then the callers of scripts take their turns.
+//! The board: a world and its history, one event at a time. It boots any machine that fits its formed tables; then the
+//! callers of the scripts take their turns.
 #![tactic(auto)]
 
 mod answer;

@@ -1,4 +1,4 @@
-//! The result of a transfer, over the parts of a board.
+//! Posting the result of a transfer, over the parts of a board.
 ghost use Rattle.std.specs.Prelude.{◌≡◌, IfOk, None, OnErr, OnOk, Some, length};
 ghost use Rattle.run_rules.specs.declared.deed.Choice.TheVariants.{Does};
 ghost use Rattle.run_rules.specs.declared.deed.Deed.TheVariants.{Done};
@@ -76,7 +76,7 @@ fn end_transfer(
     }
 }
 
-/// The result of the transfer that the board keeps.
+/// Posts the result of the transfer that the board keeps.
 fn post_kept(alloc: Global, setup: &Setup, core: &mut Core, ticket: Ticket) -> Posted
     requires kept { CoreKept setup.now core.old }
     requires goes_on { core.old.stopped ≡ None }
@@ -92,7 +92,7 @@ fn post_kept(alloc: Global, setup: &Setup, core: &mut Core, ticket: Ticket) -> P
     }
 }
 
-/// The result of a transfer, on a board that was not stopped.
+/// Posts the result of a transfer, on a board that was not stopped.
 fn post_result(alloc: Global, setup: &Setup, core: &mut Core, ticket: Ticket) -> Posted
     requires kept { CoreKept setup.now core.old }
     requires goes_on { core.old.stopped ≡ None }
@@ -108,7 +108,7 @@ fn post_result(alloc: Global, setup: &Setup, core: &mut Core, ticket: Ticket) ->
     }
 }
 
-/// The result of a transfer: the transfer ends by it, or nothing changes.
+/// Posts the result of a transfer: the transfer ends by it, or nothing changes.
 pub fn post_core(alloc: Global, setup: &Setup, core: &mut Core, ticket: Ticket) -> Posted
     requires kept { CoreKept setup.now core.old }
     ensures post { PostIs (shown_of setup.now core.old) ticket result (shown_of setup.now core.new) }

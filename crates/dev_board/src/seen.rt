@@ -4,7 +4,7 @@ ghost use Rattle.std.specs.Borrow.{ftrue};
 
 use std::marker::{Model, PhantomData};
 
-/// The note that a value was seen; a contract reads that value as `value`. At run time the note is empty and owns nothing.
+/// A note that a value was seen; contracts read the value as `value`. At run time the note is empty and owns nothing.
 #[derive(Drop)]
 pub struct Seen<A> {
     of: PhantomData<A>,
@@ -15,7 +15,7 @@ impl<A> Model for Seen<A> {
     ghost also_owns = { λ _. ftrue };
 }
 
-// The note owns nothing, so it may go to another thread wherever its type may.
+// The note owns nothing, so it may go to another thread if its type may.
 unsafe impl<A: Send> Send for Seen<A> {}
 
 impl<A> Seen<A> {

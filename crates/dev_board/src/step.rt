@@ -32,7 +32,7 @@ use run_world::{Core, Site, is_ended};
 use std::alloc::Global;
 use std::mem::drop;
 
-/// How many frames a deed may push, beside the one of a rescan.
+/// How many frames a deed may push, besides the one of a rescan.
 #[inline(always)]
 fn frames_for(core: &Core, deed: &Deed) -> usize
     ensures { result ≡ commits.frames_for core.now.deferred deed.now }
@@ -46,7 +46,7 @@ fn frames_for(core: &Core, deed: &Deed) -> usize
     }
 }
 
-/// Makes room for one more in a list, by a call only where there is none.
+/// Makes room for one more value in a list; memory is asked for only if there is no room.
 #[inline(always)]
 fn make_room<T: Drop>(list: &mut Vec<T>) -> Result<(), Memory>
     ensures items { list.new.items ≡ list.old.items }
@@ -60,7 +60,7 @@ fn make_room<T: Drop>(list: &mut Vec<T>) -> Result<(), Memory>
     Ok(())
 }
 
-/// Makes room for all that a deed may append; what the board shows stays.
+/// Makes room for all that a deed may append; nothing that the board shows changes.
 #[inline(always)]
 fn reserve(setup: &Setup, core: &mut Core, caller: u8, deed: &Deed) -> Result<(), Memory>
     requires caller { caller < length core.old.callers.items }
@@ -76,7 +76,7 @@ fn reserve(setup: &Setup, core: &mut Core, caller: u8, deed: &Deed) -> Result<()
     Ok(())
 }
 
-/// Does what a caller chose, where there is room for it, and appends its event; or nothing changes but the denials.
+/// Does what a caller chose, if there is room for it, and appends its event; else only the denials change.
 #[inline(always)]
 fn do_told<S: Slots>(
     alloc: Global,
@@ -112,7 +112,7 @@ fn do_told<S: Slots>(
     }
 }
 
-/// Does what a caller chose, where there is room for it, and appends its event; or nothing changes but the denials.
+/// Does what a caller chose, if there is room for it, and appends its event; else only the denials change.
 #[inline(always)]
 fn perform<S: Slots>(
     alloc: Global,
@@ -141,7 +141,7 @@ fn perform<S: Slots>(
     }
 }
 
-/// What a caller chose is done, where there is room for it, or memory runs out, or the caller waits for those who hold the
+/// Does what a caller chose, if there is room for it; else memory ran out, or the caller waits for those who hold the
 /// slot of the device that it frees.
 #[inline(always)]
 fn step_in_room<S: Slots>(
@@ -173,7 +173,7 @@ fn step_in_room<S: Slots>(
     }
 }
 
-/// What a caller chose is done, once there is room for it.
+/// Makes room for what a caller chose, and does it.
 #[inline(always)]
 fn step_with_room<S: Slots>(
     alloc: Global,
@@ -195,7 +195,7 @@ fn step_with_room<S: Slots>(
     }
 }
 
-/// What a caller chose is done, but for the end of a transfer, whose result it waits for.
+/// Does what a caller chose, except the end of a transfer, whose result the caller waits for.
 #[inline(never)]
 fn step_deed<S: Slots>(
     alloc: Global,
@@ -219,7 +219,7 @@ fn step_deed<S: Slots>(
     }
 }
 
-/// The next event of a caller that did not end, chosen of all that it may do.
+/// The next event of a caller that has not ended, chosen among all that it may do.
 #[inline(never)]
 fn chosen_step<S: Slots>(
     alloc: Global,
@@ -241,8 +241,8 @@ fn chosen_step<S: Slots>(
     }
 }
 
-/// The next event of a caller that goes on by its frames. A search, as most events are, goes its own way: its deed is put
-/// together anew, so that nothing asks again of what kind it is.
+/// The next event of a caller that goes on by its frames. A search, which most events are, branches off early: its deed
+/// is made here, so that nothing checks its kind again.
 #[inline(never)]
 fn framed_step<S: Slots>(
     alloc: Global,
@@ -275,15 +275,15 @@ fn framed_step<S: Slots>(
             step_with_room(alloc, site, core, caller, &search, slots)
         }
         _ => {
-            // It has a name, so that what the other arm answers is not put into the memory of this call's answer first.
+            // Bound to a local, so that the other arm is not built in the return slot.
             let stepped = chosen_step(alloc, site, core, caller, slots);
             stepped
         }
     }
 }
 
-/// The next event of a caller that goes on by no frame. That a device falls asleep or wakes, as goes on in power commands, goes its own
-/// way, as a search does.
+/// The next event of a caller that goes on by no frame. Sleep and wake, the events of power commands, branch off early,
+/// as a search does.
 #[inline(never)]
 fn powered_step<S: Slots>(
     alloc: Global,
@@ -305,7 +305,7 @@ fn powered_step<S: Slots>(
             step_with_room(alloc, site, core, caller, &Deed::Wake { of }, slots)
         }
         _ => {
-            // A name for it, as in `framed_step`.
+            // Bound to a local, as in `framed_step`.
             let stepped = chosen_step(alloc, site, core, caller, slots);
             stepped
         }

@@ -7,8 +7,8 @@ use cf_types::Ticket;
 use run_rules::{Event, Setup};
 use std::marker::Model;
 
-/// The witness of an answer: of which board it is, for which caller, and of which event. Only this crate makes one, with no memory.
-/// Nearly all of it are notes for proofs, so it is small.
+/// The witness of an answer: of which board it is, for which caller, and of which event. Only this crate makes one; it
+/// takes no memory. Nearly all of it is notes for proofs, so it is small.
 #[derive(Drop)]
 pub struct Told {
     setup: Seen<Setup>,
@@ -37,7 +37,7 @@ impl Model for Told {
 impl Told {
     ghost use Rattle.dev_board.specs.Witness.{told_did, told_stale, told_stop, told_transfer};
 
-    /// The witness of an event of a caller, with what becomes of its leases.
+    /// The witness of an event of a caller, with what it means for the caller's leases.
     #[inline(always)]
     pub(crate) fn of_event(
         setup: &Setup,

@@ -32,7 +32,7 @@ fn answer_transfer(board: &mut Board, ticket: Ticket) -> Result<(), Memory>
     }
 }
 
-/// One turn of a caller: its next event, or nothing where it waits or has ended. At `Memory` all is as before.
+/// One turn of a caller: its next event, or nothing if it waits or has ended. At `Memory` all is as before.
 #[inline(always)]
 fn turn(board: &mut Board, slots: &mut PlainSlots, caller: u8) -> Result<(), Memory>
     requires caller { caller ≤ length board.old.world.setup.scripts }
@@ -52,7 +52,7 @@ fn turn(board: &mut Board, slots: &mut PlainSlots, caller: u8) -> Result<(), Mem
     }
 }
 
-/// The turns of an order, one after the other.
+/// Takes the turns of an order, one after the other.
 fn take_turns(board: &mut Board, slots: &mut PlainSlots, order: &[u8]) -> Result<(), Memory>
     requires agree { slots.old ≡ slots_of board.old.world }
     requires goes_on { board.old.stopped ≡ None }
@@ -67,8 +67,8 @@ fn take_turns(board: &mut Board, slots: &mut PlainSlots, order: &[u8]) -> Result
     Ok(())
 }
 
-/// The turns of an order, one after the other; a caller that waits or has ended is passed. Where memory runs out, the
-/// turns up to then stay. Room for an event of each turn is taken at once, if there is so much.
+/// Takes the turns of an order, one after the other; a caller that waits or has ended is skipped. If memory runs out,
+/// the turns up to then stay. Room for an event of each turn is taken at once, if there is that much.
 pub fn run_turns(board: &mut Board, slots: &mut PlainSlots, order: &[u8]) -> Result<(), Memory>
     requires agree { slots.old ≡ slots_of board.old.world }
     requires goes_on { board.old.stopped ≡ None }

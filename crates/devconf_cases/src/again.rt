@@ -30,12 +30,12 @@ pub fn text_before_notes(alloc: Global, text: &[u8]) -> Result<Vec<u8>, Stop> {
         told.extend_from_slice(line)?;
         told.push(b'\n')?;
     }
-    // Behind the last newline there is no line.
+    // After the last newline there is no line.
     let _ = told.pop();
     Ok(told)
 }
 
-/// What a text says from this line on.
+/// A text from this line on.
 fn text_from(alloc: Global, text: &[u8], head: &[u8]) -> Result<Vec<u8>, Stop> {
     let mut rest = Vec::new(alloc);
     let mut begun = false;
@@ -46,7 +46,7 @@ fn text_from(alloc: Global, text: &[u8], head: &[u8]) -> Result<Vec<u8>, Stop> {
             rest.push(b'\n')?;
         }
     }
-    // Behind the last newline there is no line.
+    // After the last newline there is no line.
     let _ = rest.pop();
     Ok(rest)
 }
@@ -75,7 +75,7 @@ fn files_again(alloc: Global, case: &Case, told: &[u8]) -> Result<List<MemFile>,
     Ok(files)
 }
 
-/// The play read again by another form, which has to write what the play wrote from this line on.
+/// The play read again by another form, which has to print what the play printed from this line on.
 fn case_again(alloc: Global, case: &Case, form: &str, head: &[u8]) -> Result<Case, Stop> {
     let told = text_before_notes(alloc, &case.answer.output)?;
     let mut again = Case::make(alloc, format!(in alloc; "{} ({form})", case.name)?);
@@ -97,7 +97,7 @@ pub fn cases_again(alloc: Global, cases: &[Case]) -> Result<Vec<Case>, Stop> {
     Ok(again)
 }
 
-/// Whether the case is a play of one script, which has ended: so the turns were no fewer than its events.
+/// Whether the case is a play of one script that has ended, so that there were enough turns for all its events.
 fn is_whole_of_one(case: &Case) -> bool {
     is_play(case)
         && case.words.len() == 5

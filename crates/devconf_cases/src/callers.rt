@@ -13,7 +13,7 @@ fn caller_of(line: &[u8]) -> Option<u64> {
     number.parse().ok().filter(|caller| *caller < CALLERS)
 }
 
-/// Where a line belongs: before the history, to a caller, or behind it.
+/// Where a line belongs: before the history, to a caller, or after the history.
 fn place_of(line: &[u8], begun: &mut bool) -> u64 {
     match caller_of(line) {
         Some(caller) => {

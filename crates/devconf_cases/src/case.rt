@@ -15,7 +15,7 @@ pub struct Case {
     /// What the case shows.
     pub name: String,
     pub program: Program,
-    /// The words behind the program's name.
+    /// The words after the program's name.
     pub words: Vec<String>,
     pub files: List<MemFile>,
     pub failing_loads: Calls,
@@ -23,7 +23,7 @@ pub struct Case {
     pub failing_puts: Calls,
     /// Calls of standard error that have to fail.
     pub failing_errors: Calls,
-    /// How many transfers have to be under way at the same time.
+    /// How many transfers have to be in progress at the same time.
     pub together: u64,
     pub answer: Answer,
 }
@@ -37,7 +37,7 @@ pub struct Answer {
 }
 
 impl Case {
-    /// A case of devconf without words and files that is to write nothing and to end well.
+    /// A case of devconf without words and files that has to print nothing and to end with status 0.
     pub fn make(alloc: Global, name: String) -> Case {
         Case {
             name,

@@ -4,7 +4,7 @@ use crate::case::Answer;
 use crate::run::Wanted;
 use cf_types::{Memory, put_bytes, put_decimal};
 
-/// A line of a text, or `None` behind its last one.
+/// A line of a text, or `None` after its last one.
 type Line<'a> = Option<&'a [u8]>;
 
 /// The first line that differs.

@@ -38,7 +38,7 @@ fn followed_by(alloc: Global, inputs: &Inputs, text: &[u8]) -> Result<Option<Fol
     }
 }
 
-/// How far plain looks follow the history that a case tells; nothing where it tells none.
+/// How far linear search agrees with the history that a case wants; nothing if it wants none.
 pub fn followed(alloc: Global, case: &Case) -> Result<Option<Followed>, Stop> {
     if !has_history(case) {
         return Ok(None);

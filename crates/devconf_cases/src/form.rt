@@ -1,4 +1,4 @@
-//! Lines that stand for many.
+//! Lines that stand for many lines.
 
 use cf_types::Memory;
 

@@ -1,7 +1,8 @@
-//! Runs the cases of the programs `devconf` and `drvrun`: each file that a word names is a topic, whose cases are run over
-//! files and sinks in memory. Each play that ends well is read again by `replay` and by `upgrade`, each play of one script
-//! that has ended is run by `drvrun` too, and the history of each boot and play is followed by plain looks. For each topic it writes how many of each there are, and for each case that is
-//! answered otherwise than it tells, the first line that differs. The status is 0 where none differs.
+//! Runs the cases of the programs `devconf` and `drvrun`: each file that a word names is a topic, whose cases are run
+//! over files and sinks in memory. Each play that ends well is read again by `replay` and by `upgrade`, each play of
+//! one script that has ended is also run by `drvrun`, and the history of each boot and play is re-checked by linear
+//! search. For each topic it prints how many of each there are, and for each case whose answer differs, the first line
+//! that differs. The status is 0 if none differs.
 #![tactic(auto)]
 
 mod again;
@@ -31,8 +32,8 @@ use std::process::ExitCode;
 use std::sync::Wait;
 use std::thread::Threads;
 
-/// How many cases there are, how many plays were read again, how many were run by `drvrun` too, how many histories were
-/// followed by plain looks, and how many of all these differ.
+/// How many cases there are, how many plays were read again, how many were also run by `drvrun`, how many histories
+/// were re-checked by linear search, and how many of all these differ.
 #[derive(Clone, Copy)]
 struct Count {
     cases: usize,
@@ -72,7 +73,7 @@ impl Count {
     }
 }
 
-/// Runs cases, and writes of each that differs where it does; answers how many differ.
+/// Runs cases, and prints where each of those that differ does; returns how many differ.
 fn try_cases<R: Threads + Wait + Sync, W: Write>(
     threads: &R,
     alloc: Global,
@@ -93,7 +94,7 @@ fn try_cases<R: Threads + Wait + Sync, W: Write>(
     Ok(different)
 }
 
-/// Follows the histories of cases, and writes of each that plain looks would have otherwise where that is; answers how many
+/// Re-checks the histories of cases by linear search, and prints where each of those that differ does; returns how many
 /// there are, and how many differ.
 fn follow_all<W: Write>(
     alloc: Global,
@@ -167,7 +168,7 @@ fn try_topic<R: Threads + Wait + Sync, W: Write>(
     Ok(count)
 }
 
-/// Runs the topics that the words name, and tells whether no case differs.
+/// Runs the topics that the words name, and returns whether no case differs.
 fn try_topics<R: Threads + Wait + Sync>(rt: &HostRuntime, threads: &R) -> Result<bool, Stop> {
     let mut reader = Reader::make(rt.alloc());
     let mut out = rt.stdout();

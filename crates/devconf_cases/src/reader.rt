@@ -1,4 +1,4 @@
-//! Reads files of cases. docs/CASES.md says what stands in one.
+//! Reads files of cases. docs/CASES.md describes them.
 
 use crate::case::Case;
 use crate::form::put_form;
@@ -22,18 +22,18 @@ enum Section {
     Errors,
 }
 
-/// Reads the files of topics one after the other. Texts stay known in later ones.
+/// Reads the files of topics one after the other. Their texts may be used in later ones.
 #[derive(Drop)]
 pub struct Reader {
     alloc: Global,
     texts: Vec<MemFile>,
     cases: Vec<Case>,
     section: Section,
-    /// What the lines of this section say so far.
+    /// The lines of this section so far.
     bytes: Vec<u8>,
 }
 
-/// A word and what stands behind the blank after it.
+/// A word, and what follows the blank after it.
 fn parted(line: &str) -> (&str, &str) {
     line.split_once(' ').unwrap_or((line, ""))
 }
@@ -53,12 +53,12 @@ impl Reader {
         }
     }
 
-    /// The cases that were read since this was asked last.
+    /// The cases that were read since the last call.
     pub fn take_cases(&mut self) -> Vec<Case> {
         mem::replace(&mut self.cases, Vec::new(self.alloc))
     }
 
-    /// Reads the file of a topic, or tells its first bad line.
+    /// Reads the file of a topic; the error names its first bad line.
     pub fn read(&mut self, file: &[u8]) -> Result<(), Stop> {
         let Ok(text) = str::from_utf8(file) else {
             return Err(Stop::BadLine(0));
@@ -67,7 +67,7 @@ impl Reader {
         for line in text.lines() {
             number = number.saturating_add(1);
             match self.take_line(line) {
-                // What takes a line does not know its number.
+                // The function that takes a line does not know its number.
                 Err(Stop::BadLine(_)) => return Err(Stop::BadLine(number)),
                 other => other?,
             }
@@ -108,7 +108,7 @@ impl Reader {
         self.cases.last_mut().ok_or(Stop::BadLine(0))
     }
 
-    /// Gives the lines of the section to what it tells of.
+    /// Ends the section, and gives its lines to what they belong to.
     fn close(&mut self) -> Result<(), Stop> {
         let bytes = mem::replace(&mut self.bytes, Vec::new(self.alloc));
         match mem::replace(&mut self.section, Section::Nothing) {
@@ -127,7 +127,7 @@ impl Reader {
         Ok(())
     }
 
-    /// Takes a line that tells of the case.
+    /// Takes a line that says something about the case.
     fn direct(&mut self, said: &str) -> Result<(), Stop> {
         let (word, rest) = parted(said);
         match word {
@@ -150,7 +150,7 @@ impl Reader {
         }
     }
 
-    /// Opens a section that begins with the texts behind the `=`, if there is one.
+    /// Opens a section that begins with the texts after the `=`, if there is one.
     fn open(&mut self, section: Section, rest: &str) -> Result<(), Stop> {
         self.close()?;
         self.section = section;
@@ -223,7 +223,7 @@ impl Reader {
         Ok(())
     }
 
-    /// Adds so many copies of a form, numbered from 0 upwards.
+    /// Adds this many copies of a form, numbered from 0 upwards.
     fn add_upwards(&mut self, rest: &str) -> Result<(), Stop> {
         let (copies, form) = parted(rest);
         for copy in 0..number(copies)? {
@@ -232,7 +232,7 @@ impl Reader {
         Ok(())
     }
 
-    /// Adds so many copies of a form, numbered downwards to 0.
+    /// Adds this many copies of a form, numbered downwards to 0.
     fn add_downwards(&mut self, rest: &str) -> Result<(), Stop> {
         let (copies, form) = parted(rest);
         for copy in (0..number(copies)?).rev() {
@@ -241,7 +241,7 @@ impl Reader {
         Ok(())
     }
 
-    /// Adds bytes that are told by two hexadecimal digits each.
+    /// Adds bytes that are given by two hexadecimal digits each.
     fn add_bytes(&mut self, rest: &str) -> Result<(), Stop> {
         for digits in rest.split_whitespace() {
             let byte = u8::from_str_radix(digits, 16).map_err(|_| Stop::BadLine(0))?;

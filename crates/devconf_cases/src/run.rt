@@ -12,23 +12,24 @@ use std::alloc::Global;
 use std::sync::Wait;
 use std::thread::Threads;
 
-/// How many bytes a run may write; a case that tells more than a part of it has a smaller machine.
+/// How many bytes a run may write; a case that would write more needs a smaller machine.
 const ROOM: usize = 262_144;
 
 /// How many bytes a run may write to standard error.
 const ERROR_ROOM: usize = 4_096;
 
-/// What is added to standard error where transfers were to be under way at the same time and were not.
+/// What is added to standard error if transfers had to be in progress at the same time and were not.
 const MISSED: &[u8] = b"the transfers were not under way at the same time\n";
 
-/// What a run is compared with: the name of its case, and the answer that the case tells.
+/// What a run is compared with: the name of its case, and the answer that the case wants.
 #[derive(Drop)]
 pub struct Wanted {
     pub name: String,
     pub answer: Answer,
 }
 
-/// Runs the program on what the case gives it, over files and sinks in memory, and answers what is wanted and what came.
+/// Runs the program on the words and files of the case, over files and sinks in memory, and returns what is wanted and
+/// what came.
 pub fn answer_to<R: Threads + Wait + Sync>(
     threads: &R,
     alloc: Global,

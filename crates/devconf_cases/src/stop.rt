@@ -8,13 +8,13 @@ use thiserror::Error;
 /// Why the cases of a file cannot be run.
 #[derive(Debug, Drop, Error)]
 pub enum Stop {
-    /// The line with this number, counted from 1, has none of the forms; of a file that is not UTF-8 the line 0.
+    /// The line with this number, counted from 1, has none of the forms; line 0 if the file is not UTF-8.
     #[error("line {0} has none of the forms of docs/CASES.md")]
     BadLine(usize),
     /// The file is not there, or cannot be read.
     #[error("cannot be read")]
     NoFile,
-    /// The words could not be read, or what was found not be written.
+    /// The words could not be read, or the result could not be written.
     #[error("fault of reading or writing")]
     Fault,
     /// Memory ran out.

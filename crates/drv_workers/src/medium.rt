@@ -7,12 +7,12 @@ use deed_event::answer_for;
 use dev_board::IoResult;
 use std::sync::Wait;
 
-/// Hardware that carries out transfers. A call may wait, and others may be under way at the same time. Contracts see which transfers
-/// were carried out, and code that takes any medium learns it of a call of `transfer` alone.
+/// Hardware that carries out transfers. A call may wait, and others may be in progress at the same time. Contracts see
+/// which transfers were carried out, and code that takes any medium learns it of a call of `transfer` alone.
 pub trait Medium {
     ghost carried: { Ticket → Type 0 };
 
-    /// Carries a transfer out. The result is that of this ticket.
+    /// Carries out a transfer. The result is that of this ticket.
     fn transfer<R: Wait>(&self, rt: &R, ticket: Ticket) -> IoResult
         ensures result { result ≡ ticket }
         ensures carried { carried ticket };

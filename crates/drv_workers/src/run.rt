@@ -22,7 +22,7 @@ use std::sync::Wait;
 use std::thread;
 use std::thread::{Scope, Threads};
 
-// Puts a value where there is room.
+// Appends a value to a list that has room.
 fn append<T: Drop>(list: &mut Vec<T>, value: T)
     requires { vec_len list.old < vec_capacity list.old }
     ensures len { vec_len list.new ≡ vec_len list.old + 1 }
@@ -31,21 +31,21 @@ fn append<T: Drop>(list: &mut Vec<T>, value: T)
     list.push_reserved(value);
 }
 
-// The values of a list, as many as it has.
+// The values of a list.
 fn values_of<T>(list: List<T>) -> Vec<T>
     ensures { vec_len result ≡ length list }
 {
     list.into_vec()
 }
 
-// The list of these values, as many as there are.
+// The list of these values.
 fn list_of<T>(values: Vec<T>) -> List<T>
     ensures { length result ≡ vec_len values }
 {
     List::from_vec(values)
 }
 
-// Runs each seat in a thread of its own; a start that is handed back is run here, after the others were started.
+// Runs each seat in a thread of its own; a seat whose thread does not start is run here, after the others were started.
 fn run_seats<'s, E, M: Medium + Sync, N: Naming + Send + Sync, R: Threads + Wait + Sync>(
     scope: &'s Scope<'s, E>,
     rt: &'s R,
@@ -78,7 +78,7 @@ fn run_seats<'s, E, M: Medium + Sync, N: Naming + Send + Sync, R: Threads + Wait
     }
 }
 
-// Runs all seats, and gives what their callers leave.
+// Runs all seats, and returns what their callers leave.
 fn run_scope<N: Naming + Send + Sync, M: Medium + Sync, R: Threads + Wait + Sync>(
     rt: &R,
     shared: &SharedBoard<N>,
@@ -123,7 +123,7 @@ fn run_all<N: Naming + Send + Sync, M: Medium + Sync, R: Threads + Wait + Sync>(
     Ok(list_of(done))
 }
 
-// What is left, where every script has ended; else memory ran out.
+// What is left, if every script has ended; else memory ran out.
 fn whole_only(left: Finished, scripts: u64) -> Result<Finished, Memory>
     requires scripts { (scripts ≡ scripts_of left.board.world) × (0 < scripts) }
     requires may { MayRun left.board.world.setup }

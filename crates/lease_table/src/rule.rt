@@ -1,4 +1,4 @@
-//! The rule of the leases, and what each kind of atomic step tells who makes it.
+//! The rule of the leases, and what each kind of atomic step shows to the one who takes it.
 ghost use Rattle.std.specs.Prelude.{◌≡◌, map};
 ghost use Rattle.lease_table.specs.Leases.{Ruled, standing, keeper_view, knowing, Looked, Took, Gave, Peeked, Buries};
 ghost use Rattle.ref_ledger.specs.declared.state.SlotState.TheVariants.{Live, Condemned};
@@ -6,8 +6,8 @@ ghost use Rattle.ref_ledger.specs.declared.state.SlotState.TheVariants.{Live, Co
 use crate::view::View;
 use atomic_table::{Play, Split, TableRule};
 
-/// The rule of the leases: what the words of a table and the views of its seats have to do with each other at every moment.
-/// The key is the number of slots.
+/// The rule of the leases: how the words of a table and the views of its seats agree at every moment. The key is the
+/// number of slots.
 pub struct LeaseRule;
 
 impl TableRule<(), View, u16> for LeaseRule {

@@ -17,8 +17,8 @@ use ref_ledger::{Buried, Bury};
 use std::alloc::Global;
 use std::marker::Model;
 
-/// The words of the slots. It is shared by `&`: no call waits, and once it stands none takes memory. Contracts see which
-/// table it is.
+/// The words of the slots. It is shared by `&`: no call waits, and once the table is made none takes memory. Contracts
+/// see which table it is.
 #[derive(Drop)]
 pub struct LeaseTable {
     table: Table<(), View, u16, LeaseRule, Global>,
@@ -48,8 +48,8 @@ impl Model for LeaseSeat {
     ghost invariant = { λ s. (s.seat.me.0.standing.number ≡ s.caller) × (0 < s.caller) × (s.caller ≤ 16) };
 }
 
-/// The seat that publishes, condemns and buries slots; there is one, and it stands behind the device lock. Contracts see its
-/// table and its view: the record of each slot, how many burials were denied, and the word of the last denial.
+/// The seat that publishes, condemns and buries slots; there is one, and it is behind the device lock. Contracts see
+/// its table and its view: the record of each slot, how many burials were denied, and the word of the last denial.
 #[derive(Drop)]
 pub struct LeaseKeeper {
     seat: Seat<(), View>,
@@ -72,7 +72,7 @@ pub struct Word {
     pub holders: u16,
 }
 
-/// What a try for a lease answers: a lease, or the generation of a slot that is condemned, or not live.
+/// The answer to a try for a lease: a lease, or the generation of a slot that is condemned or not live.
 pub enum Taken {
     Lease(Lease),
     Condemned(u64),
@@ -181,7 +181,7 @@ impl LeaseTable {
         }
     }
 
-    /// Looks at the slot of a lease by one load. The answer is the word that was shown to the seat last: it has the lease's
+    /// Looks at the slot of a lease by one load. The answer is the word that the seat saw last: it has the lease's
     /// generation, is live, and has the caller's own bit, whatever other threads do.
     pub fn look(&self, seat: &mut LeaseSeat, lease: &Lease) -> Word
         requires table { seat.old.table ≡ self.now }
@@ -201,8 +201,8 @@ impl LeaseTable {
         word_of(word)
     }
 
-    /// Tries for a lease: one step sets the caller's bit, and the word that it found decides. Where there is no lease the bit is
-    /// cleared again.
+    /// Tries for a lease: one step sets the caller's bit, and the word that was there decides. If there is no lease,
+    /// the bit is cleared again.
     pub fn take(&self, seat: &mut LeaseSeat, slot: u16) -> Taken
         requires table { seat.old.table ≡ self.now }
         requires slot { slot + 1 < self.now.words }
@@ -257,7 +257,7 @@ impl LeaseTable {
             .fetch_or::<Publishes>(&mut keeper.seat, slot as usize, 0x1_0000);
     }
 
-    /// Takes a slot from live to condemned; who holds it keeps its lease.
+    /// Takes a slot from live to condemned; whoever holds it keeps the lease.
     pub fn condemn(&self, keeper: &mut LeaseKeeper, slot: u16)
         requires table { keeper.old.table ≡ self.now }
         requires state { slice_get (states_in keeper.old.view) slot ≡ Some Live }
@@ -269,8 +269,9 @@ impl LeaseTable {
             .fetch_or::<Condemns>(&mut keeper.seat, slot as usize, 0x2_0000);
     }
 
-    /// Takes a slot from condemned to free and raises its generation, if nobody holds it: one load, and one try of an exchange
-    /// from a word without holders. Else it answers who holds it, bit k-1 for caller k; that is never nobody.
+    /// Takes a slot from condemned to free and raises its generation, if nobody holds it: one load, and one
+    /// compare-and-exchange from a word without holders. Else it returns who holds it, bit k-1 for caller k, and at
+    /// least one bit is set.
     pub fn bury(&self, keeper: &mut LeaseKeeper, slot: u16) -> Bury
         requires table { keeper.old.table ≡ self.now }
         requires state { slice_get (states_in keeper.old.view) slot ≡ Some Condemned }

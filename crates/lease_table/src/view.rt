@@ -1,8 +1,8 @@
-//! What a seat knows. Only contracts speak of these types: no value of them is made.
+//! What a seat knows. Only contracts use these types: no value of them is made.
 use ref_ledger::SlotState;
 use std::collections::LinkedList;
 
-/// What a caller has of a slot: nothing, its bit set in vain, or a lease of this generation.
+/// What a caller has on a slot: nothing, its bit without a lease, or a lease of this generation.
 #[derive(Drop)]
 pub enum Claim {
     Nothing,

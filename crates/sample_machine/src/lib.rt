@@ -1,4 +1,4 @@
-//! A small machine after its boot, with its scripts: what the tests of the lock and of the workers begin with.
+//! A small machine after its boot, with its scripts: the start of the tests of the lock and of the workers.
 #![tactic(auto)]
 
 ghost use Rattle.std.specs.Prelude.{◌<◌, ◌≤◌, All, IfOk, IfSome, length};
@@ -20,7 +20,7 @@ const CONF: &[u8] =
 const MACHINE: &[u8] =
     b"spot mb root root\nspot isa mb mainbus\nspot u0 isa isa port=0x3f8 irq=4\nspot u1 isa isa port=0x2f8 irq=3\nmatch mainbus mb 10\nmatch isa isa 10\nmatch com_isa * 10\n";
 
-// Puts a file to others.
+// Adds a file to others.
 fn put_file(
     alloc: Global,
     files: &mut List<MemFile>,
@@ -50,7 +50,7 @@ fn files_of(alloc: Global, scripts: &[&[u8]]) -> Result<MemFiles, Memory> {
     Ok(MemFiles::make(files, List::make(alloc)))
 }
 
-// The words of a call with so many scripts.
+// The words of a call with this many scripts.
 fn words_of(alloc: Global, scripts: usize) -> Result<Vec<String>, Memory> {
     let mut words = Vec::new(alloc);
     for word in ["conf", "mach"] {
@@ -62,7 +62,7 @@ fn words_of(alloc: Global, scripts: usize) -> Result<Vec<String>, Memory> {
     Ok(words)
 }
 
-// The board of a machine after its boot; none where memory ran out.
+// The board of a machine after its boot; none if memory ran out.
 fn ready_board(
     alloc: Global,
     tables: Tables,
@@ -85,7 +85,7 @@ fn ready_board(
     }
 }
 
-// The board of the inputs of a run; none where memory ran out.
+// The board of the inputs of a run; none if memory ran out.
 fn board_of(alloc: Global, inputs: Inputs) -> Option<Board>
     requires formed { FormedInputs inputs }
     requires kind { IsInputsOf Program.Drvrun inputs }
@@ -111,8 +111,8 @@ pub fn inputs_of(alloc: Global, scripts: &[&[u8]]) -> Result<Inputs, Status>
     read_inputs(alloc, Program::Drvrun, words.as_slice(), &mut files)
 }
 
-/// A machine with the spots mb, isa, u0 and u1, after the boot that attached com0 and com1, with up to sixteen scripts of
-/// drvctl(8) commands; none where a script is refused, where there is none, or where memory ran out.
+/// A machine with the spots mb, isa, u0 and u1, after the boot that attached com0 and com1, with 1 to 16 scripts of
+/// drvctl(8) commands; none if a script is refused, if there is none, or if memory ran out.
 pub fn booted(alloc: Global, scripts: &[&[u8]]) -> Option<Board>
     ensures { IfSome result IsReady }
 {

@@ -1,4 +1,4 @@
-//! Laws of the scripts of a run: that each ran to its end can be read off its history. Nothing here runs: each function's
+//! Laws of the scripts of a run: its history shows whether each ran to its end. Nothing here runs: each function's
 //! contract is a law.
 #![tactic(auto)]
 

@@ -12,10 +12,10 @@ use cf_types::{Command, List};
 use machine_text::LineStop;
 use std::alloc::Global;
 
-/// The word behind `open` that asks for sole use.
+/// The word after `open` that asks for sole use.
 const SOLE: &[u8] = b"-x";
 
-/// Reads `-x D` behind `open`.
+/// Reads `-x D` after `open`.
 fn sole_command(alloc: Global, option: &[u8], device: &[u8]) -> Result<Command, LineStop>
     ensures { Leaves (sole_form option.now device.now) result }
 {
@@ -25,7 +25,7 @@ fn sole_command(alloc: Global, option: &[u8], device: &[u8]) -> Result<Command, 
     Ok(Command::OpenSole(operand(alloc, device)?))
 }
 
-/// Reads what stands behind `open`.
+/// Reads what follows `open`.
 fn open_command(alloc: Global, words: &[&[u8]]) -> Result<Command, LineStop>
     ensures { Leaves (open_form (seen words.now)) result }
 {
@@ -45,7 +45,7 @@ fn transfer_command(alloc: Global, device: &[u8], value: &[u8]) -> Result<Comman
     Ok(Command::Io(device, value))
 }
 
-/// Reads what stands behind `io`.
+/// Reads what follows `io`.
 fn io_command(alloc: Global, words: &[&[u8]]) -> Result<Command, LineStop>
     ensures { Leaves (io_form (seen words.now)) result }
 {
@@ -55,7 +55,7 @@ fn io_command(alloc: Global, words: &[&[u8]]) -> Result<Command, LineStop>
     }
 }
 
-/// Reads `rescan D A` with the words behind it.
+/// Reads `rescan D A` and the words after it.
 fn rescan_on(
     alloc: Global,
     device: &[u8],
@@ -74,7 +74,7 @@ fn rescan_on(
     })
 }
 
-/// Reads what stands behind `rescan`.
+/// Reads what follows `rescan`.
 fn rescan_command(alloc: Global, words: &[&[u8]]) -> Result<Command, LineStop>
     ensures { Leaves (rescan_form (seen words.now)) result }
 {
@@ -92,7 +92,7 @@ fn rescan_command(alloc: Global, words: &[&[u8]]) -> Result<Command, LineStop>
     }
 }
 
-/// Reads what stands behind a verb.
+/// Reads what follows a verb.
 fn command_by(alloc: Global, verb: Verb, words: &[&[u8]]) -> Result<Command, LineStop>
     ensures { Leaves (form_by verb (seen words.now)) result }
 {
@@ -112,7 +112,7 @@ fn command_by(alloc: Global, verb: Verb, words: &[&[u8]]) -> Result<Command, Lin
     }
 }
 
-/// Reads the command of a word with others behind it.
+/// Reads a command from its first word and the words after it.
 pub fn command_of(alloc: Global, word: &[u8], words: &[&[u8]]) -> Result<Command, LineStop>
     ensures { Leaves (command_of word.now (seen words.now)) result }
 {

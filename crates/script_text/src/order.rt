@@ -13,7 +13,7 @@ use cf_types::code::script as code;
 use machine_text::{LineStop, has_bad_byte, uncommented};
 use std::alloc::Global;
 
-/// Whether a part between spaces is nothing, or spells a number.
+/// Whether a part between spaces is empty or spells a number.
 fn is_fine(part: &[u8]) -> bool
     ensures { result ≡ (length part.now == 0 || is_number part.now) }
 {
@@ -32,7 +32,7 @@ fn are_numbers(bytes: &[u8]) -> bool
     true
 }
 
-/// Adds the callers of the words between spaces and tabs, up to the first that is none.
+/// Adds the callers that the words between spaces and tabs name, up to the first word that names none.
 fn add_words(turns: &mut List<u8>, callers: u8, bytes: &[u8]) -> Result<(), LineStop>
     ensures { AddsWords callers (parted bytes.now) turns.old turns.new result }
 {
@@ -44,7 +44,7 @@ fn add_words(turns: &mut List<u8>, callers: u8, bytes: &[u8]) -> Result<(), Line
     Ok(())
 }
 
-/// The code of words of which one is no caller: one may spell no number at all.
+/// The code of words of which one names no caller. It depends on whether a word is no number at all.
 fn code_of(bytes: &[u8]) -> u8
     ensures { result ≡ (if list_all is_number (parted bytes.now) then OUT_OF_RANGE else WRONG_WORDS) }
 {
@@ -55,7 +55,7 @@ fn code_of(bytes: &[u8]) -> u8
     }
 }
 
-/// Adds the turns of a line. Only where a word is no caller are the words gone through once more, for their code.
+/// Adds the turns of a line. Only if a word names no caller, the words are read once more, for their code.
 fn add_line(turns: &mut List<u8>, callers: u8, line: &[u8]) -> Result<(), LineStop>
     ensures { AddsTurns callers line.now turns.old turns.new result }
 {
@@ -70,7 +70,7 @@ fn add_line(turns: &mut List<u8>, callers: u8, line: &[u8]) -> Result<(), LineSt
     }
 }
 
-/// Reads an order file of at most 1,048,576 bytes for so many callers: the callers of the turns, each from 1 to
+/// Reads an order file of at most 1,048,576 bytes for this many callers: the callers of the turns, each from 1 to
 /// `callers`, or the first bad line and its code, `WRONG_WORDS` or `OUT_OF_RANGE`. An empty file has no turns. The
 /// format is this project's own.
 pub fn read_order(alloc: Global, text: &[u8], callers: u8) -> Result<List<u8>, ScriptStop>

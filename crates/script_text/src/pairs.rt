@@ -9,7 +9,7 @@ use cf_types::{Given, List};
 use machine_text::LineStop;
 use std::alloc::Global;
 
-/// The most words behind `rescan D A`: 16 pairs.
+/// The most words after `rescan D A`: 16 pairs.
 const MAX_PAIR_WORDS: usize = 32;
 
 /// Whether the words are pairs of a name and a number.

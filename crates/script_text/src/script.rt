@@ -16,7 +16,7 @@ const MAX_COMMANDS: usize = 500;
 /// The code of a command too many.
 const TOO_MANY: u8 = 4;
 
-/// What the words of a line say: `None` where there are none.
+/// The command that the words of a line spell; `None` if there are no words.
 fn words_say(alloc: Global, words: &[&[u8]]) -> Result<Option<Command>, LineStop>
     ensures { Says (words_say (seen words.now)) result }
 {
@@ -26,7 +26,8 @@ fn words_say(alloc: Global, words: &[&[u8]]) -> Result<Option<Command>, LineStop
     }
 }
 
-/// What a line says: `None` where it has no words. They are lent, and stand in room that is used again.
+/// The command that a line spells; `None` if it has no words. The words are borrowed from the line, and their room is
+/// reused.
 fn line_says<'t>(
     alloc: Global,
     words: &mut Vec<&'t [u8]>,

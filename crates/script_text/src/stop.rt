@@ -4,7 +4,7 @@ ghost use Rattle.script_text.specs.Left.{stop_at};
 use machine_text::LineStop;
 use thiserror::Error;
 
-/// Why a script or an order file can't be read.
+/// Why a script or an order file cannot be read.
 #[derive(Clone, Copy, Debug, PartialEq, Eq, Error)]
 pub enum ScriptStop {
     /// The first bad line, counted from 1, and its code, of those of scripts.

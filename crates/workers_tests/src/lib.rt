@@ -1,4 +1,5 @@
-//! Tests of what no contract says of workers: that they run at once, that who waits is woken, and that they end.
+//! Tests of what no contract says about workers: that they run at the same time, that those who wait are woken, and
+//! that they end.
 #![tactic(auto)]
 
 #[cfg(test)]

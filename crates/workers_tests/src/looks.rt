@@ -85,7 +85,7 @@ fn has_freed(left: Finished, place: u64) -> bool {
     freed
 }
 
-// What a caller leaves that stops the board.
+// What a caller that stops the board leaves.
 fn stopped_done<N: Naming, R: Wait>(rt: &R, shared: &SharedBoard<N>, seat: Seat<N>) -> Done<N> {
     let mut seat = seat;
     shared.stop(rt, &mut seat);
@@ -106,8 +106,8 @@ fn both_done<N: Naming>(
     Ok(done)
 }
 
-// What two seats leave that looked around: the place and what caller 1 saw, and what is left of both; nothing where there are
-// more or fewer seats, or where they went another way.
+// What two seats that looked around leave: the place and what caller 1 saw, and what is left of both; nothing if there
+// are more or fewer seats, or if they went another way.
 fn looked_with<N: Naming, R: Wait>(
     rt: &R,
     alloc: Global,
@@ -167,7 +167,7 @@ fn looks_of<N: Naming, R: Wait>(
     }
 }
 
-// What caller 1 saw, and whether the device was freed; nothing where memory ran out, or where a caller went another way.
+// What caller 1 saw, and whether the device was freed; nothing if memory ran out, or if a caller went another way.
 fn looked<R: Wait>(rt: &R, alloc: Global) -> Option<(Looks, bool)> {
     let board = booted(
         alloc,

@@ -60,7 +60,7 @@ fn lines_of(alloc: Global, board: &Board) -> Result<Vec<u8>, Memory> {
     Ok(lines)
 }
 
-// What scripts leave over a medium; nothing where memory ran out.
+// What scripts leave over a medium; nothing if memory ran out.
 fn ran<M: Medium + Sync, R: Threads + Wait + Sync>(
     rt: &R,
     alloc: Global,
@@ -70,7 +70,7 @@ fn ran<M: Medium + Sync, R: Threads + Wait + Sync>(
     run_scripts(rt, alloc, booted(alloc, scripts)?, medium).ok()
 }
 
-// What the callers did in a run that is over; nothing where memory ran out.
+// What the callers did in a run that is over; nothing if memory ran out.
 fn lines_left(alloc: Global, left: Finished) -> Option<Vec<u8>> {
     let lines = lines_of(alloc, left.board()).ok();
     drop(left);
@@ -84,7 +84,7 @@ fn ended_left(left: Finished) -> u64 {
     ended
 }
 
-// What two callers do that each open a device, carry a transfer of 5 out, and close it.
+// The events of two callers that each open a device, carry out a transfer of 5, and close it.
 const DONE: &[u8] =
     b"1.1 open com0: ok\n1.2 io com0 5: started\n1.2 done com0: 7\n1.3 close com0: ok\n1.4 end\n2.1 open com1: ok\n2.2 io com1 5: started\n2.2 done com1: 8\n2.3 close com1: ok\n2.4 end\n";
 
@@ -107,8 +107,8 @@ fn two_transfers_are_under_way_at_once(rt: HostRuntime) -> Result<(), Fail> {
     Ok(())
 }
 
-// Wants what the others of its kind want: to hold, to search, to put to sleep and to take away the same devices. It holds
-// nothing while it waits, so some caller can always go on.
+// Wants the same as the others of its kind: to hold, search, suspend and remove the same devices. It holds nothing
+// while it waits, so some caller can always go on.
 const GREEDY: &[u8] =
     b"open com0\nio com0 1\nclose com0\nsuspend isa0\nresumetree isa0\nrescan isa0\nunplug u1\nplug u1\nopen -x com1\nclose com1\ndetach com0\nrescan isa0\n";
 

@@ -31,7 +31,7 @@ fn await_condemned<N: Naming>(shared: &SharedBoard<N>, seat: &mut Seat<N>, ticke
     }
 }
 
-// The caller that stopped the board, where a worker ended by that.
+// The caller that stopped the board, if a worker ended because of that.
 fn stopper(end: &DoneEnd) -> Option<u8> {
     match end {
         DoneEnd::Stopped(first, _) => Some(*first),

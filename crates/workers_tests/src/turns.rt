@@ -4,7 +4,7 @@ use board_lock::{Naming, Seat, SharedBoard, Turn};
 use cf_types::Ticket;
 use std::sync::Wait;
 
-// The place of the event, where there was one.
+// The place of the event, if there was one.
 pub fn place_of(turn: Turn) -> Option<u64> {
     match turn {
         Turn::Did(place, _) => Some(place),
