@@ -74,7 +74,7 @@ fn passes_filter(machine: &Machine, spot: u16, filter: &[Wanted]) -> bool
 #[tactic(auto, unfolding(run_rules::specs::Search::is_open))]
 #[inline(always)]
 pub fn is_open(setup: &Setup, core: &Core, filter: &[Wanted], spot: u16) -> bool
-    ensures { rule.is_open setup.now.machine core.now.tree.live core.now.absent.items core.now.hidden.items filter.now spot ≡ result }
+    ensures { rule.is_open setup.now.machine core.now.tree.live core.now.absent core.now.hidden filter.now spot ≡ result }
 {
     let absent = has_spot(&core.absent, spot);
     let hidden = has_spot(&core.hidden, spot);
