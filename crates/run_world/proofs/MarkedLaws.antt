@@ -46,7 +46,7 @@ has_less [] s x = none (s == x)
     none : (b : Bool) → false ≡ cond b false false
     none true = refl
     none false = refl
-has_less (y ∷ ys) s x = cases (y == s) refl
+has_less (y ∷ ys) s x = cases (has_less ys s x) (y == s) refl
   where
     split : (b c d : Bool) → cond b false c ≡ false → cond b false d ≡ cond b false (c || d)
     split true c d e = refl
@@ -61,9 +61,9 @@ has_less (y ∷ ys) s x = cases (y == s) refl
     apart : (y == s) ≡ false → (s == x) ≡ true → (y == x) ≡ false
     apart is same = let e : s ≡ x = eqb-true s x same in ap (λ n. y == n) (sym e) ∙ is
 
-    cases : (b : Bool) → (y == s) ≡ b → has (cond (not b) (y ∷ filter (λ y. not (y == s)) ys) (filter (λ y. not (y == s)) ys)) x ≡ cond (s == x) false (y == x || has ys x)
-    cases true is = has_less ys s x ∙ split (s == x) (y == x) (has ys x) (other s y x is)
-    cases false is = ap (λ b. y == x || b) (has_less ys s x) ∙ kept (s == x) (y == x) (has ys x) (apart is)
+    cases : has (filter (λ y. not (y == s)) ys) x ≡ cond (s == x) false (has ys x) → (b : Bool) → (y == s) ≡ b → has (cond (not b) (y ∷ filter (λ y. not (y == s)) ys) (filter (λ y. not (y == s)) ys)) x ≡ cond (s == x) false (y == x || has ys x)
+    cases rest true is = rest ∙ split (s == x) (y == x) (has ys x) (other s y x is)
+    cases rest false is = ap (λ b. y == x || b) rest ∙ kept (s == x) (y == x) (has ys x) (apart is)
 
 pub marked_less : (xs : List ℕ) (old new : List Bool) (spot : ℕ) → AreMarked xs old → IsSet old new spot false → AreMarked (filter (λ y. not (y == spot)) xs) new
 marked_less xs old new spot are set = λ x. set x ∙ ap (cond (spot == x) false) (are x) ∙ sym (has_less xs spot x)
@@ -71,8 +71,8 @@ marked_less xs old new spot are set = λ x. set x ∙ ap (cond (spot == x) false
 -- a list without the spot stays
 pub none_less : (xs : List ℕ) (s : ℕ) → has xs s ≡ false → xs ≡ filter (λ y. not (y == s)) xs
 none_less [] s h = refl
-none_less (y ∷ ys) s h = cases (y == s) refl h
+none_less (y ∷ ys) s h = cases (λ k. none_less ys s k) (y == s) refl h
   where
-    cases : (b : Bool) → (y == s) ≡ b → (b || has ys s) ≡ false → y ∷ ys ≡ cond (not b) (y ∷ filter (λ y. not (y == s)) ys) (filter (λ y. not (y == s)) ys)
-    cases true is k = absurd cc
-    cases false is k = ap (λ zs. y ∷ zs) (none_less ys s k)
+    cases : (has ys s ≡ false → ys ≡ filter (λ y. not (y == s)) ys) → (b : Bool) → (y == s) ≡ b → (b || has ys s) ≡ false → y ∷ ys ≡ cond (not b) (y ∷ filter (λ y. not (y == s)) ys) (filter (λ y. not (y == s)) ys)
+    cases rest true is k = absurd cc
+    cases rest false is k = ap (λ zs. y ∷ zs) (rest k)

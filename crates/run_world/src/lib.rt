@@ -23,5 +23,5 @@ pub use script::{command_of, given_by};
 pub use site::Site;
 pub use spot_set::SpotSet;
 pub use spots::{
-    attach_of, driver_name, driver_of, has, has_spot, is_occupied, place_of, policy_of,
+    attach_of, driver_name, driver_of, has, is_occupied, place_of, policy_of,
 };

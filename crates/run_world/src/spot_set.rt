@@ -1,5 +1,5 @@
 //! Sets of spots.
-ghost use Rattle.std.specs.Prelude.{◌≡◌, ◌<◌, ◌≤◌, ◌==◌, ◌++◌, ◌∷◌, [], ℕ, false, not, filter, length, if◌then◌else◌, vec_len, vec_capacity, OnOk, OnErr};
+ghost use Rattle.std.specs.Prelude.{◌≡◌, ◌<◌, ◌≤◌, ◌==◌, ◌++◌, ◌∷◌, [], ℕ, false, true, not, filter, length, if◌then◌else◌, vec_len, vec_capacity, OnOk, OnErr};
 ghost use Rattle.std.specs.List.{slice_index_or};
 ghost use Rattle.run_rules.specs.World as world;
 ghost use Rattle.run_world.specs.Marked.{AreMarked};
@@ -48,7 +48,19 @@ fn mark(marks: &mut Vec<bool>, spot: u16, value: bool)
     marks[spot as usize] = value;
 }
 
-/// Takes a spot out of a list, if its mark says that it is in it.
+/// Whether a spot is marked.
+#[inline(always)]
+fn is_marked(marks: &[bool], spot: u16) -> bool
+    ensures mark { result ≡ slice_index_or marks.now spot false }
+    ensures there { result ≡ true → spot < length marks.now }
+{
+    match marks.get(spot as usize) {
+        Some(mark) => *mark,
+        None => false,
+    }
+}
+
+/// Takes a spot out of a list, if it is in it.
 fn take_out(spots: &mut Vec<u16>, marks: &mut Vec<bool>, spot: u16)
     requires { AreMarked spots.old.items marks.old.items }
     ensures spots { spots.new.items ≡ filter (λ y. not (y == spot)) spots.old.items }
@@ -56,8 +68,7 @@ fn take_out(spots: &mut Vec<u16>, marks: &mut Vec<bool>, spot: u16)
     ensures count { length marks.new.items ≡ length marks.old.items }
     ensures room { (vec_len spots.new ≤ vec_len spots.old) × (vec_capacity spots.new ≡ vec_capacity spots.old) }
 {
-    let place = spot as usize;
-    if place < marks.len() && marks[place] {
+    if is_marked(marks, spot) {
         spots.retain(|y| *y != spot);
         mark(marks, spot, false);
     }
@@ -87,10 +98,7 @@ impl SpotSet {
     pub fn has(&self, spot: u16) -> bool
         ensures { result ≡ world.has self.now spot }
     {
-        match self.marks.get(spot as usize) {
-            Some(mark) => *mark,
-            None => false,
-        }
+        is_marked(&self.marks, spot)
     }
 
     /// Adds a spot after the others. At `Memory` the set is as before.
