@@ -1,7 +1,6 @@
 -- The first rows of each kind, row by row; and the tests that rows of a kind pass alike.
-use Rattle.std.proofs.Common.{◌≡◌, ◌<◌, ℕ, zero, suc, Bool, true, false, not, ◌&&◌, ◌||◌, cond, List, [], ◌∷◌, ◌++◌, length, map, find, Option, Some, None, option_map, slice_get, slice_index_or, refl, sym, ◌∙◌, ap, subst, inl, inr}
+use Rattle.std.proofs.Common.{◌≡◌, ◌<◌, ℕ, zero, suc, Bool, true, false, not, ◌&&◌, ◌||◌, cond, List, [], ◌∷◌, ◌++◌, length, find, Option, Some, None, option_map, slice_get, slice_index_or, refl, sym, ◌∙◌, ap, subst, inl, inr}
 use Rattle.std.specs.Option.{option_map_or}
-use Rattle.std.specs.Prelude.{◌⊎◌}
 use Rattle.std.proofs.lemmas.Option.{slice_get-map}
 use Rattle.cf_types.specs.declared.tables.Row.{Row}
 use Rattle.cf_types.specs.declared.tables.Tables.{Tables}

@@ -1,5 +1,4 @@
-use Rattle.std.proofs.Common.{◌≡◌, ◌∙◌, ap, find, sym, slice_index_or, Some, []}
-use Rattle.match_search.specs.Index.{is_open_to}
+use Rattle.std.proofs.Common.{◌∙◌, ap, sym, Some}
 use Rattle.match_search.proofs.ListedLaws.{listed_is, none_offered, none_open}
 use Rattle.match_search.proofs.choice.best_among.Goals as goal
 

@@ -1,4 +1,4 @@
-use Rattle.std.proofs.Common.{◌≡◌, List, length, take}
+use Rattle.std.proofs.Common.{List, take}
 use Rattle.cf_types.specs.declared.tables.Row.{Row}
 use Rattle.match_search.specs.Leaders.{AreKinds, AreLeaders}
 use Rattle.match_search.proofs.LeaderLaws.{AreNoted}
