@@ -80,10 +80,11 @@ impl LiveTables {
         ensures site { IfOk result (λ it. it.site ≡ record { setup = setup_of tables machine []; groups = groups }) }
         ensures world { IfOk result (λ it. it.world ≡ rule.opening) }
     {
+        let scripts = List::make(alloc);
         let setup = Setup {
             tables,
             machine,
-            scripts: List::make(alloc),
+            scripts,
         };
         match Site::make(alloc, setup) {
             Ok(site) => LiveTables::on_site(alloc, site, groups),
