@@ -22,6 +22,4 @@ pub use rescan_filter::{locator_place, wanted_by};
 pub use script::{command_of, given_by};
 pub use site::Site;
 pub use spot_set::SpotSet;
-pub use spots::{
-    attach_of, driver_name, driver_of, has, is_occupied, place_of, policy_of,
-};
+pub use spots::{attach_of, driver_name, driver_of, has, is_occupied, place_of, policy_of};
