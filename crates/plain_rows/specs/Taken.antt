@@ -11,9 +11,13 @@ use Rattle.run_rules.specs.World.{driver_of}
 abbrev pub is_of : List Row → ℕ → ℕ → ℕ → Bool
 is_of rows driver unit r = option_map_or (λ row. driver == row.device && unit == row.unit) (slice_get rows r) false
 
+-- whether a row is of the driver of another one and of this unit
+abbrev pub is_row_of : Setup → ℕ → ℕ → ℕ → Bool
+is_row_of s row unit r = is_of s.tables.rows (driver_of s row) unit r
+
 -- how many of the devices have the driver and the unit of a row
 abbrev pub takers : Setup → List Dev → ℕ → ℕ
-takers s live r = count_by (λ d. is_of s.tables.rows (driver_of s d.row) d.unit r) live
+takers s live r = count_by (λ d. is_row_of s d.row d.unit r) live
 
 -- these are the numbers of all rows
 abbrev pub AreTakers : Setup → List Dev → List ℕ → Type 0
