@@ -142,6 +142,18 @@ rows_ordered t m x (c ∷ cs) on h =
     let parts = off_parts (c.value.0 == worth t m c.row x) (list_any (is_off t m x) cs) on in
     (rows_after t m x c cs (eqb-true c.value.0 (worth t m c.row x) parts.0) parts.1 h.0, rows_ordered t m x cs parts.1 h.1)
 
+-- each is before each later one
+all_places : (P : ℕ → Type 0) (xs : List ℕ) (i d : ℕ) → AllByRecursion P xs → i < length xs → P (get_or xs i d)
+all_places P [] i d h lt = absurd (omega arith)
+all_places P (x ∷ xs) zero d h lt = h.0
+all_places P (x ∷ xs) (suc i) d h lt = all_places P xs i d h.1 (omega arith)
+
+later_pairs : (R : ℕ → ℕ → Type 0) (xs : List ℕ) (i j d : ℕ) → EachLater R xs → i < j → j < length xs → R (get_or xs i d) (get_or xs j d)
+later_pairs R [] i j d h less within = absurd (omega arith)
+later_pairs R (x ∷ xs) i zero d h less within = absurd (omega arith)
+later_pairs R (x ∷ xs) zero (suc j) d h less within = all_places (R x) xs j d h.0 (omega arith)
+later_pairs R (x ∷ xs) (suc i) (suc j) d h less within = later_pairs R xs i j d h.1 (omega arith) (omega arith)
+
 -- ---- which rows they are
 
 in_rows : (r : ℕ) (cs : List Candidate) → is_in r (map (λ c. c.row) cs) ≡ list_any (λ c. c.row == r) cs
@@ -221,9 +233,9 @@ best_first_is t m place x xs ys rows is moved sorted e = rw e (record {
   each = λ r.
       in_rows r ys ∙ sym (list_any-IsPermutation (λ (c : Candidate). c.row == r) xs ys moved) ∙ ap (list_any (λ (c : Candidate). c.row == r)) is
       ∙ in_candidates t m x r (filter (suits t m place x) (below (length t.rows))) ∙ in_kept (suits t m place x) (length t.rows) r ∙ suits_within t m place x r;
-  order = rows_ordered t m x ys
+  order = λ i j less within. later_pairs (NotBetter t m x) (map (λ c. c.row) ys) i j 0 (rows_ordered t m x ys
       (sym (list_any-IsPermutation (is_off t m x) xs ys moved) ∙ ap (list_any (is_off t m x)) is ∙ none_off t m x (filter (suits t m place x) (below (length t.rows))))
-      (later_all ys (λ k d lt. rw add-one at (sorted k d (omega arith) (omega arith))));
+      (later_all ys (λ k d lt. rw add-one at (sorted k d (omega arith) (omega arith))))) less within;
 })
 
 pub best_first_ok : {E : Type 0} (t : Tables) (m : Machine) (place : Place) (x : ℕ) (xs ys : List Candidate) (r : Result (Vec ℕ Global) E) → xs ≡ candidates t m place x (length t.rows)

@@ -1,5 +1,5 @@
 -- Which rows suit a spot before any device is live, and which of two is the better there.
-use Rattle.std.specs.Prelude.{◌≡◌, ℕ, Bool, false, ◌&&◌, ◌||◌, ◌==◌, nat_lt, List, [], length, map, filter, slice_get}
+use Rattle.std.specs.Prelude.{◌≡◌, ◌<◌, ℕ, Bool, false, ◌&&◌, ◌||◌, ◌==◌, nat_lt, List, [], length, map, filter, slice_get}
 use Rattle.std.specs.List.{slice_index_or}
 use Rattle.std.specs.Option.{option_map_or, ForSome}
 use Rattle.cf_types.specs.declared.machine.Machine.{Machine}
@@ -9,7 +9,6 @@ use Rattle.cf_types.specs.Gather.{is_in}
 use Rattle.cf_types.specs.Numbers.{below}
 use Rattle.cf_types.specs.Locators.{locators_at, submatch}
 use Rattle.run_rules.specs.Search.{found_at, match_value}
-use Rattle.run_rules.specs.Sound.{EachLater}
 use Rattle.run_rules.specs.World.{same_place}
 use Rattle.plain_rows.specs.declared.suited.Candidate.{Candidate}
 
@@ -39,7 +38,7 @@ candidates t m place x n = map (candidate t m x) (filter (suits t m place x) (be
 -- just the rows that suit the spot at the place, and none is better than one before it
 pub record AreBestFirst (t : Tables) (m : Machine) (place : Place) (x : ℕ) (rows : List ℕ) : Type 0 where
   pub each : (r : ℕ) → is_in r rows ≡ suits t m place x r
-  pub order : EachLater (λ q r. is_better t m x r q ≡ false) rows
+  pub order : (i j : ℕ) → i < j → j < length rows → is_better t m x (slice_index_or rows j 0) (slice_index_or rows i 0) ≡ false
 
 -- for each spot the rows that suit it at its own place, the best first
 pub record AreSuited (t : Tables) (m : Machine) (lists : List (List ℕ)) : Type 0 where

@@ -2,6 +2,7 @@
 //! looks at each spot of its bus at most once, and at the rows that suit a spot up to the first open one.
 #![tactic(auto)]
 
+mod count;
 mod matches;
 mod seeker;
 mod turns;

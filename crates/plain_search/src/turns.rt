@@ -1,6 +1,6 @@
 //! The due turn of a scan: on a direct bus by a look at each spot, on an indirect one by the row that takes each spot. See
 //! autoconf(9).
-ghost use Rattle.std.specs.Prelude.{◌≡◌, ◌≤◌, ◌<◌, ◌==◌, ◌&&◌, ℕ, false, true, find, map, option_map, reverse, length, slice_get, MatchOption, nat_lt};
+ghost use Rattle.std.specs.Prelude.{◌≡◌, ◌≤◌, ◌<◌, ◌==◌, ◌&&◌, ℕ, false, true, find, map, option_map, reverse, length, slice_get, MatchOption, nat_le};
 ghost use Rattle.cf_types.specs.declared.tables.Place.TheVariants.{At};
 ghost use Rattle.std.specs.Option.{option_map_or};
 ghost use Rattle.std.specs.Ordering.{int_eq};
@@ -8,14 +8,14 @@ ghost use Rattle.run_rules.specs.Next as next;
 ghost use Rattle.run_rules.specs.Search as rule;
 ghost use Rattle.run_rules.specs.World as world;
 ghost use Rattle.plain_world.specs.Rules.{AreFit, setup_by};
-ghost use Rattle.plain_search.specs.Buses.{IsOffered, IsOnlyTurn, MaySearch, row_turns, takes, turn_on, turns_among, turns_on};
+ghost use Rattle.plain_search.specs.Buses.{IsOffered, IsOnlyAt, IsTurnAt, MaySearch, better, row_turns, takes, takes_below, turn_on, turns_among, turns_on};
 ghost use Rattle.plain_search.specs.Open.{Follows, hangs_at};
 
 use crate::matches::{arrival, parent_offers, parent_ref, winner};
 use crate::seeker::Seeker;
 use cf_types::{Place, StyleLine};
 use plain_world::{
-    Live, Plain, Rules, attach_of, device_at, driver_of, found_at, has_spot, is_occupied, offered,
+    Plain, Rules, attach_of, device_at, driver_of, found_at, has_spot, is_occupied, offered,
     same_place, stretch_at,
 };
 use run_rules::{Deed, Dev, ParentRef, Position, Turn, Wanted};
@@ -169,17 +169,20 @@ fn first_row(scan: &Going, bus: Bus) -> u32
 
 /// The turn that a scan takes at a spot of an indirect bus: that of the row that takes the spot.
 #[inline(always)]
+#[tactic(auto, unfolding(run_rules::specs::Search::is_due))]
 fn spot_turn(seeker: &Seeker, plain: &Plain, scan: &Going, bus: Bus, spot: u16) -> Option<Turn>
     requires may { MaySearch seeker.now plain.now scan.now }
     requires offered { IsOffered seeker.now.rules.now scan.now bus }
     requires indirect { bus.indirect ≡ true }
     requires at { hangs_at seeker.now.rules.now.machine.now spot bus.place ≡ true }
-    ensures { MatchOption result ((r : ℕ) → takes seeker.now.rules.now plain.now scan.now (turn_on bus r spot) ≡ false) (IsOnlyTurn seeker.now.rules.now plain.now scan.now bus spot) }
+    ensures { MatchOption result ((r : ℕ) → takes seeker.now.rules.now plain.now scan.now (turn_on bus r spot) ≡ false) (IsTurnAt seeker.now.rules.now plain.now scan.now bus spot) }
 {
     if !is_open(seeker.rules, plain, scan.filter, spot) {
         return None;
     }
-    let row = winner(seeker, bus.offered, scan.parent, bus.place, spot)?;
+    let Some(row) = winner(seeker, bus.offered, scan.parent, bus.place, spot) else {
+        return None;
+    };
     let turn = turn_on(bus, row, spot);
     if is_before(turn.at, scan.from) {
         return None;
@@ -187,18 +190,50 @@ fn spot_turn(seeker: &Seeker, plain: &Plain, scan: &Going, bus: Bus, spot: u16) 
     Some(turn)
 }
 
-/// Whether a turn is of an earlier row than the best so far.
-fn is_earlier(turn: Turn, best: Option<Turn>) -> bool
-    ensures { result ≡ option_map_or (λ b. nat_lt turn.at.row b.at.row) best true }
+/// The same, if the spot is below a parent at the place of the bus.
+#[inline(always)]
+fn child_turn(
+    seeker: &Seeker,
+    plain: &Plain,
+    scan: &Going,
+    parent: Option<u16>,
+    bus: Bus,
+    spot: u16,
+) -> Option<Turn>
+    requires may { MaySearch seeker.now plain.now scan.now }
+    requires offered { IsOffered seeker.now.rules.now scan.now bus }
+    requires indirect { bus.indirect ≡ true }
+    ensures { IsOnlyAt (takes_below seeker.now.rules.now plain.now scan.now parent bus) (turn_on bus) (length seeker.now.rules.now.tables.now.rows) spot result }
 {
-    match best {
-        Some(best) => turn.at.row < best.at.row,
-        None => true,
+    if !is_child(seeker.rules, parent, bus.place, spot) {
+        return None;
+    }
+    spot_turn(seeker, plain, scan, bus, spot)
+}
+
+/// Whether a turn is of a row up to the least one.
+fn is_of_least(turn: Option<Turn>, least: u32) -> bool
+    ensures { result ≡ option_map_or (λ t. nat_le t.at.row least) turn false }
+{
+    match turn {
+        Some(turn) => turn.at.row <= least,
+        None => false,
     }
 }
 
-/// The turn that a scan takes on an indirect bus: row by row, and in each row spot by spot. Each spot has one row that takes
-/// it, so that of the earliest row is looked for, and a turn of the first row that is left ends the search.
+/// Of the best turn so far and that of a later spot the one of the earlier row.
+fn better(best: Option<Turn>, turn: Option<Turn>) -> Option<Turn>
+    ensures { result ≡ better best turn }
+{
+    match (best, turn) {
+        (None, _) => turn,
+        (Some(_), None) => best,
+        (Some(b), Some(t)) => { if t.at.row < b.at.row { turn } else { best } }
+    }
+}
+
+/// The turn that a scan takes on an indirect bus: row by row, and in each row spot by spot. One row takes each spot, so the
+/// spot whose row is the earliest is looked for; a row before which none is left ends the search.
 fn indirect_turn(
     seeker: &Seeker,
     plain: &Plain,
@@ -217,16 +252,11 @@ fn indirect_turn(
     let end = below.end.min(rules.machine.spots.len() as u16);
     let mut best = None;
     for spot in below.first..end {
-        if is_child(rules, parent, bus.place, spot) {
-            if let Some(turn) = spot_turn(seeker, plain, scan, bus, spot) {
-                if turn.at.row <= least {
-                    return Some(turn);
-                }
-                if is_earlier(turn, best) {
-                    best = Some(turn);
-                }
-            }
+        let turn = child_turn(seeker, plain, scan, parent, bus, spot);
+        if is_of_least(turn, least) {
+            return turn;
         }
+        best = better(best, turn);
     }
     best
 }
