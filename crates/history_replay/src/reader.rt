@@ -160,12 +160,7 @@ fn event_told(
 }
 
 /// Does what a caller does next, and counts the devices as they are then.
-fn perform(
-    reader: &mut Reader,
-    plain: &mut Plain,
-    caller: u8,
-    deed: &Deed,
-) -> Result<(), Memory>
+fn perform(reader: &mut Reader, plain: &mut Plain, caller: u8, deed: &Deed) -> Result<(), Memory>
     requires fit { AreFit reader.old.teller.rules.now }
     requires going { IsGoing (setup_in reader.old) plain.old }
     requires next { plain.old.live.next < 2 ^ 64 - 1 }
@@ -176,7 +171,13 @@ fn perform(
     ensures follows { OnOk result (Follows reader.new.seeker plain.new.live.devices) }
 {
     reader.seeker.heed(&plain.live, deed);
-    apply(reader.teller.alloc, reader.teller.rules, plain, caller, deed)
+    apply(
+        reader.teller.alloc,
+        reader.teller.rules,
+        plain,
+        caller,
+        deed,
+    )
 }
 
 /// Does what a caller does next, if a line is that of its event.

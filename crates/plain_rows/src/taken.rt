@@ -66,6 +66,14 @@ impl Taken {
         Ok(Taken { counts })
     }
 
+    /// A copy of the numbers.
+    pub fn copied(&self, alloc: Global) -> Result<Taken, Memory>
+        ensures { IfOk result (λ copy. copy ≡ self.now) }
+    {
+        let counts = Vec::from_slice(alloc, &self.counts)?;
+        Ok(Taken { counts })
+    }
+
     /// One more device has this driver and unit.
     pub fn enter(&mut self, rows: &[Row], driver: u32, unit: u32)
         requires rows { length self.old ≡ length rows.now }

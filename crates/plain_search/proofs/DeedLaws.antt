@@ -1,7 +1,9 @@
 -- How many live devices have the driver and the unit of a row, after a deed.
-use Rattle.std.proofs.Common.{◌≡◌, ℕ, ◌+◌, ◌-◌, ◌<◌, ◌≤◌, ◌∙◌, Bool, true, false, not, cond, ◌==◌, List, [], ◌∷◌, ◌++◌, length, map, find, Option, Some, None, refl, sym, ap, subst, arith}
+use Rattle.std.proofs.Common.{◌≡◌, ℕ, zero, suc, ◌+◌, ◌-◌, ◌<◌, ◌≤◌, ◌∙◌, Bool, true, false, not, cond, ◌==◌, List, [], ◌∷◌, ◌++◌, length, map, find, Option, Some, None, refl, sym, ap, subst, arith}
 use Rattle.std.specs.Prelude.{filter, if◌then◌else◌}
-use Rattle.std.specs.List.{AllByRecursion, count_by}
+use Rattle.std.specs.List.{AllByRecursion, count_by, slice_index_or}
+use Rattle.std.proofs.lemmas.List.{length-map}
+use Rattle.cf_types.specs.declared.tables.Row.{Row}
 use Rattle.std.proofs.lemmas.Bool.{eqb-true, ne_eqb}
 use Rattle.std.proofs.lemmas.List.Sums.{count_by-le-length, sum_by-append}
 use Rattle.run_rules.specs.declared.deed.Deed.{Deed}
@@ -39,29 +41,30 @@ some_same x y e = cc
 
 among : (s : Setup) (ds : List Dev) (serial : ℕ) (d : Dev) (r : ℕ) → device_at ds serial ≡ Some d → one_if (is_row_of s d.row d.unit r) ≤ takers s ds r
 among s [] serial d r found = absurd cc
-among s (e ∷ es) serial d r found = cases (e.serial == serial) found
+among s (e ∷ es) serial d r found = cases (among s es serial d r) (e.serial == serial) found
   where
-    cases : (b : Bool) → cond b (Some e) (device_at es serial) ≡ Some d → one_if (is_row_of s d.row d.unit r) ≤ takers s (e ∷ es) r
-    cases true k =
+    cases : (device_at es serial ≡ Some d → one_if (is_row_of s d.row d.unit r) ≤ takers s es r) → (b : Bool) → cond b (Some e) (device_at es serial) ≡ Some d
+        → one_if (is_row_of s d.row d.unit r) ≤ takers s (e ∷ es) r
+    cases rest true k =
         let same : one_if (is_row_of s e.row e.unit r) ≡ one_if (is_row_of s d.row d.unit r) = ap (λ (u : Dev). one_if (is_row_of s u.row u.unit r)) (some_same e d k) in
         omega (arith, first_more s e es r, same)
-    cases false k = omega (arith, first_more s e es r, among s es serial d r k)
+    cases rest false k = let more = rest k in omega (arith, first_more s e es r, more)
 
 pub one_less : (s : Setup) (ds : List Dev) (serial : ℕ) (d : Dev) (r : ℕ) → EachLater (λ d e. d.serial < e.serial) ds → device_at ds serial ≡ Some d
     → takers s (filter (λ d. not (d.serial == serial)) ds) r ≡ takers s ds r - one_if (is_row_of s d.row d.unit r)
 one_less s [] serial d r order found = absurd cc
-one_less s (e ∷ es) serial d r order found = cases (e.serial == serial) refl found
+one_less s (e ∷ es) serial d r order found = cases (λ k. one_less s es serial d r order.1 k) (e.serial == serial) refl found
   where
-    cases : (b : Bool) → (e.serial == serial) ≡ b → cond b (Some e) (device_at es serial) ≡ Some d
+    cases : (device_at es serial ≡ Some d → takers s (filter (λ d. not (d.serial == serial)) es) r ≡ takers s es r - one_if (is_row_of s d.row d.unit r)) → (b : Bool) → (e.serial == serial) ≡ b → cond b (Some e) (device_at es serial) ≡ Some d
         → takers s (cond (not b) (e ∷ filter (λ d. not (d.serial == serial)) es) (filter (λ d. not (d.serial == serial)) es)) r ≡ takers s (e ∷ es) r - one_if (is_row_of s d.row d.unit r)
-    cases true is k =
+    cases rest true is k =
         let same : e ≡ d = some_same e d k in
         let serial_is : e.serial ≡ serial = eqb-true e.serial serial is in
         let gone : filter (λ d. not (d.serial == serial)) es ≡ es = none_gone serial es (subst (λ n. AllByRecursion (λ d. n < d.serial) es) serial_is order.0) in
         let less : takers s es r ≡ takers s (e ∷ es) r - one_if (is_row_of s e.row e.unit r) = omega (arith, first_more s e es r) in
         ap (λ (ds : List Dev). takers s ds r) gone ∙ less ∙ ap (λ (u : Dev). takers s (e ∷ es) r - one_if (is_row_of s u.row u.unit r)) same
-    cases false isnt k =
-        let more = one_less s es serial d r order.1 k in
+    cases rest false isnt k =
+        let more = rest k in
         let within : one_if (is_row_of s d.row d.unit r) ≤ takers s es r = among s es serial d r k in
         omega (arith, first_more s e es r, first_more s e (filter (λ d. not (d.serial == serial)) es) r, more, within)
 
@@ -190,8 +193,23 @@ stays s w k Tell r e f = refl
 -- of no device nothing is less
 pub none_less : (s : Setup) (ds : List Dev) (serial : ℕ) (r : ℕ) → device_at ds serial ≡ None → takers s (filter (λ d. not (d.serial == serial)) ds) r ≡ takers s ds r
 none_less s [] serial r found = refl
-none_less s (e ∷ es) serial r found = cases (e.serial == serial) found
+none_less s (e ∷ es) serial r found = cases (none_less s es serial r) (e.serial == serial) found
   where
-    cases : (b : Bool) → cond b (Some e) (device_at es serial) ≡ None → takers s (cond (not b) (e ∷ filter (λ d. not (d.serial == serial)) es) (filter (λ d. not (d.serial == serial)) es)) r ≡ takers s (e ∷ es) r
-    cases true k = absurd cc
-    cases false k = omega (arith, first_more s e es r, first_more s e (filter (λ d. not (d.serial == serial)) es) r, none_less s es serial r k)
+    cases : (device_at es serial ≡ None → takers s (filter (λ d. not (d.serial == serial)) es) r ≡ takers s es r) → (b : Bool) → cond b (Some e) (device_at es serial) ≡ None → takers s (cond (not b) (e ∷ filter (λ d. not (d.serial == serial)) es) (filter (λ d. not (d.serial == serial)) es)) r ≡ takers s (e ∷ es) r
+    cases rest true k = absurd cc
+    cases rest false k =
+        let more = rest k in
+        let same : takers s (e ∷ filter (λ d. not (d.serial == serial)) es) r ≡ takers s (e ∷ es) r = omega (arith, first_more s e es r, first_more s e (filter (λ d. not (d.serial == serial)) es) r, more) in same
+
+-- ---- before any device
+
+zeros : (rows : List Row) (r : ℕ) → ◌≡◌ {A = ℕ} (slice_index_or (map (λ (row : Row). 0) rows) r 0) 0
+zeros [] r = refl
+zeros (row ∷ rows) zero = refl
+zeros (row ∷ rows) (suc r) = zeros rows r
+
+pub none_counted : (s : Setup) (counts : List ℕ) → counts ≡ map (λ (row : Row). 0) s.tables.rows → AreTakers s [] counts
+none_counted s counts e = λ r. ap (λ (xs : List ℕ). slice_index_or xs r 0) e ∙ zeros s.tables.rows r
+
+pub zeros_length : (rows : List Row) (counts : List ℕ) → counts ≡ map (λ (row : Row). 0) rows → length counts ≡ length rows
+zeros_length rows counts e = ap length e ∙ length-map rows (λ (row : Row). 0)

@@ -9,7 +9,8 @@ use Rattle.cf_types.specs.declared.machine.Machine.{Machine}
 use Rattle.cf_types.specs.declared.tables.Place.{Place}
 use Rattle.run_rules.specs.declared.world.Turn.{Turn}
 use Rattle.run_rules.specs.Search.{child_spots, is_child}
-use Rattle.run_rules.proofs.Below.{find-is, find-none}
+use Rattle.std.proofs.lemmas.Option.{slice_get_past}
+use Rattle.run_rules.proofs.Below.{and_both, find-is, find-none}
 use Rattle.run_rules.proofs.Turns.{find_children, flat_is, flat_none}
 use Rattle.plain_search.specs.Buses.{IsOnlyAt, better}
 
@@ -145,17 +146,25 @@ found_early q turn m parent place rows least n best (Some t) h only early within
     at_most : (a : ℕ) → nat_le a least ≡ true → a ≤ least
     at_most a e = grind (arith, nat_tests)
 
+child_inside : (m : Machine) (parent : Option ℕ) (place : Place) (x : ℕ) → is_child m parent place x ≡ true → x < length m.spots
+child_inside m parent place x h = elim (cases_lt x (length m.spots)) [
+  | inl less ↦ less
+  | inr past ↦ let none : false ≡ true = rw (slice_get_past m.spots x past) at h in absurd cc
+]
+
+pub no_spot : (m : Machine) (parent : Option ℕ) (place : Place) (x : ℕ) (b : Bool) → length m.spots ≤ x → (is_child m parent place x && b) ≡ false
+no_spot m parent place x b past = rw (slice_get_past m.spots x past) refl
+
 -- what is the best of all spots is the first
 pub found_best : (q : Turn → Bool) (turn : ℕ → ℕ → Turn) (m : Machine) (parent : Option ℕ) (place : Place) (rows least n : ℕ) (best : Option Turn)
-    → IsBestTo (λ r x. is_child m parent place x && q (turn r x)) turn rows least n best → n ≤ length m.spots
+    → IsBestTo (λ r x. is_child m parent place x && q (turn r x)) turn rows least n best
     → ((r x : ℕ) → n ≤ x → (is_child m parent place x && q (turn r x)) ≡ false)
     → find q (flat_map (λ r. map (turn r) (child_spots m parent place)) (below rows)) ≡ best
-found_best q turn m parent place rows least n None h within rest =
+found_best q turn m parent place rows least n None h rest =
     pairs_none q turn m parent place rows (λ r x. elim (cases_lt x n) [ inl less ↦ h r x less | inr past ↦ rest r x past ])
-found_best q turn m parent place rows least n (Some b) h within rest =
+found_best q turn m parent place rows least n (Some b) h rest =
     let least_is = h.0 in
-    let low = least_is.within in
-    pairs_least q turn m parent place rows b.at.row b.at.spot h.3 (omega (arith, low, within)) least_is.passes
+    pairs_least q turn m parent place rows b.at.row b.at.spot h.3 (child_inside m parent place b.at.spot (and_both _ _ least_is.passes).0) least_is.passes
     (λ k y lt. elim (cases_lt y n) [
       | inl less ↦ false_from_ne_true _ (λ pass. let more = least_is.rows k y less pass in absurd (omega (arith, more, lt)))
       | inr past ↦ rest k y past

@@ -1,5 +1,5 @@
 -- The first open one of the rows that suit a spot, the best first, is the winner.
-use Rattle.std.proofs.Common.{◌≡◌, ℕ, suc, ◌<◌, ◌≤◌, Bool, true, false, not, ◌&&◌, ◌||◌, ◌==◌, nat_lt, cond, List, [], ◌∷◌, length, find, Option, Some, None, slice_get, slice_index_or, refl, sym, ◌∙◌, ap, subst, inl, inr, eq-eqb, arith}
+use Rattle.std.proofs.Common.{◌≡◌, ℕ, suc, ◌+◌, ◌<◌, ◌≤◌, Bool, true, false, not, ◌&&◌, ◌||◌, ◌==◌, nat_lt, cond, List, [], ◌∷◌, length, find, Option, Some, None, slice_get, slice_index_or, refl, sym, ◌∙◌, ap, subst, inl, inr, eq-eqb, arith}
 use Rattle.std.specs.List.{AllByRecursion, count_by, list_any}
 use Rattle.std.specs.Option.{option_map_or}
 use Rattle.std.specs.Prelude.{◌⊎◌}

@@ -2,7 +2,7 @@
 use Rattle.std.proofs.Common.{◌≡◌, ℕ, ◌+◌, ◌<◌, ◌≤◌, Bool, true, false, not, ◌&&◌, ◌||◌, ◌==◌, cond, List, [], ◌∷◌, length, map, filter, find, Option, Some, None, refl, sym, ap, subst, ◌∙◌, eq-eqb, arith}
 use Rattle.std.specs.List.{AllByRecursion, enumerate_from}
 use Rattle.std.specs.Option.{option_map_or}
-use Rattle.std.specs.Prelude.{flat_map, slice_get}
+use Rattle.std.specs.Prelude.{MatchOption, flat_map, slice_get}
 use Rattle.std.proofs.lemmas.Bool.{eqb-true}
 use Rattle.cf_types.specs.Numbers.{below}
 use Rattle.cf_types.specs.declared.machine.Machine.{Machine}
@@ -22,7 +22,7 @@ use Rattle.plain_world.specs.declared.world.Plain.{Plain}
 use Rattle.plain_world.specs.Rules.{setup_by}
 use Rattle.plain_search.specs.declared.turns.Bus.{Bus}
 use Rattle.plain_search.specs.declared.turns.Going.{Going}
-use Rattle.plain_search.specs.Buses.{IsTurnAt, takes, turn_on}
+use Rattle.plain_search.specs.Buses.{IsOnlyAt, IsTurnAt, takes, takes_below, turn_on}
 use Rattle.plain_search.specs.Open.{hangs_at}
 
 -- ---- the row that takes a spot
@@ -103,11 +103,11 @@ child_hangs m parent place x h = cases (slice_get m.spots x) h
 
 passing : {A : Type 0} (P : A → Type 0) (c : A → Bool) (xs : List A) → ((x : A) → c x ≡ true → P x) → AllByRecursion P (filter c xs)
 passing P c [] h = tt
-passing {A} P c (x ∷ xs) h = cases (c x) refl
+passing {A} P c (x ∷ xs) h = cases (passing P c xs h) (c x) refl
   where
-    cases : (b : Bool) → c x ≡ b → AllByRecursion P (cond b (x ∷ filter c xs) (filter c xs))
-    cases true e = (h x e, passing P c xs h)
-    cases false e = passing P c xs h
+    cases : AllByRecursion P (filter c xs) → (b : Bool) → c x ≡ b → AllByRecursion P (cond b (x ∷ filter c xs) (filter c xs))
+    cases rest true e = (h x e, rest)
+    cases rest false e = rest
 
 children_hang : (m : Machine) (parent : Option ℕ) (place : Place) → AllByRecursion (λ x. hangs_at m x place ≡ true) (child_spots m parent place)
 unfolding child_spots
@@ -133,3 +133,15 @@ pub due_hangs : (s : Setup) (live : List Dev) (absent hidden : List ℕ) (p : �
 unfolding due
 due_hangs s live absent hidden p only wanted from t e =
     found_of (IsAtPlace s) (λ t. not (is_before t.at from) && is_due s live absent hidden p wanted t) (turns s live p only) t (turns_hang s live p only) e
+
+-- ---- below a parent at the place of the bus
+
+pub only_below : (r : Rules) (p : Plain) (g : Going) (parent : Option ℕ) (b : Bus) (x : ℕ) (o : Option Turn) → is_child r.machine.now parent b.place x ≡ true
+    → MatchOption o ((q : ℕ) → takes r p g (turn_on b q x) ≡ false) (IsTurnAt r p g b x) → IsOnlyAt (takes_below r p g parent b) (turn_on b) (length r.tables.now.rows) x o
+only_below r p g parent b x None child none = λ q. ap (λ (c : Bool). c && takes r p g (turn_on b q x)) child ∙ none q
+only_below r p g parent b x (Some t) child at = record {
+  is = at.is;
+  within = at.within;
+  passes = ap (λ (c : Bool). c && takes r p g (turn_on b t.at.row x)) child ∙ at.taken;
+  others = λ q pass. at.others q (sym (ap (λ (c : Bool). c && takes r p g (turn_on b q x)) child) ∙ pass);
+}

@@ -117,6 +117,15 @@ impl<'a> Seeker<'a> {
         count_deed(&mut self.taken, self.rules, live, deed);
     }
 
+    /// Goes by other numbers from now on, as those of a world that is gone back to.
+    pub fn put(&mut self, taken: Taken)
+        requires { length taken ≡ length self.old.rules.now.tables.now.rows }
+        ensures rules { self.new.rules.now ≡ self.old.rules.now }
+        ensures taken { self.new.taken ≡ taken }
+    {
+        self.taken = taken;
+    }
+
     /// Counts these devices anew.
     pub fn recount(&mut self, alloc: Global, live: &Live) -> Result<(), Memory>
         requires { length live.now.devices ≤ 1024 }
