@@ -99,7 +99,11 @@ pub fn finalise(
             of: serial,
             shown: Some(spot),
             got: arrival(
-                seeker, &plain.live, serial, place_of(seeker.rules, spot), spot,
+                seeker,
+                &plain.live,
+                serial,
+                place_of(seeker.rules, spot),
+                spot,
             ),
             listed,
             anew,
