@@ -35,7 +35,7 @@ use crate::post::post_core;
 use crate::posted::Posted;
 use crate::step::step_core;
 use crate::stepped::Stepped;
-use crate::waiting::{Standing, lines_of, standing};
+use crate::waiting::{Standing, how_it_stands, lines_of};
 use attr_graph::graph_of;
 use cf_types::{DevLine, List, Machine, Memory, Script, Tables, Text};
 use match_search::RowIndex;
@@ -261,9 +261,9 @@ impl Board {
 
     /// Whether any caller goes on, or some wait for good, or all have ended.
     pub fn standing(&self) -> Result<Standing, Memory>
-        ensures { IfOk result (λ standing. StandsSo standing self.now.world) }
+        ensures { IfOk result (λ how. StandsSo how self.now.world) }
     {
-        standing(self.alloc, &self.site, &self.core)
+        how_it_stands(self.alloc, &self.site, &self.core)
     }
 
     /// Who waits until nobody holds a device, and who holds it: a line for each such caller, in their order.

@@ -37,9 +37,9 @@ pub enum Standing {
 }
 
 /// Whether any caller goes on.
-pub fn standing(alloc: Global, site: &Site, core: &Core) -> Result<Standing, Memory>
+pub fn how_it_stands(alloc: Global, site: &Site, core: &Core) -> Result<Standing, Memory>
     requires { CoreKept site.now.setup core.now }
-    ensures { IfOk result (λ standing. StandsSo standing (world_at site.now core.now)) }
+    ensures { IfOk result (λ how. StandsSo how (world_at site.now core.now)) }
 {
     let scripts = site.setup.scripts.len() as u8;
     let mut waits = false;

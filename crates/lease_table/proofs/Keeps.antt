@@ -20,7 +20,7 @@ use Rattle.lease_table.specs.declared.view.View.{View}
 use Rattle.lease_table.specs.Leases.{Ruled, Says, At, standing, claim_at, slot_at, has_bit, showing, gained, gained_from, with_claim, with_slot, knowing, Buries, Peeked, noticed, next_generation, without, keeper_view, dealt, dealt_to, free_slot, is_live, is_condemned, Looked, Took, Gave}
 use Rattle.lease_table.specs.Words.{is_holder, said}
 use Rattle.lease_table.specs.declared.view.Word.{Word}
-use Rattle.std.proofs.lemmas.Nat.Bits.{bit_at-lt, bit_at-zero}
+use Rattle.std.proofs.lemmas.Nat.Bits.{bit_at-zero}
 use Rattle.std.proofs.lemmas.List.{length-replicate}
 use Rattle.lease_table.proofs.Bits.{holder_bit, same_high, or_other, or_same, and_other, and_own, shifted_low, shifted_high, none_low}
 
