@@ -7,7 +7,7 @@ ghost use Rattle.board_lock.specs.Carried.{CarriedRun};
 ghost use Rattle.board_lock.specs.Holding.{Settles};
 ghost use Rattle.board_lock.specs.Kept.{LockedKept};
 ghost use Rattle.board_lock.specs.Tallies.{more_in_all};
-ghost use Rattle.board_lock.specs.Turning.{EndsNone, IsEvent, PostIs, RestIs, TriesAre, TryIs, counted, halted, settled};
+ghost use Rattle.board_lock.specs.Turning.{EndsNone, IsEvent, PostIs, TriesAre, TryIs, counted, halted, settled};
 
 #[cfg(test)]
 mod tests;
@@ -17,7 +17,7 @@ use crate::names::Naming;
 use crate::seat::Seat;
 use crate::tally::{Books, ends_caller};
 use crate::turn::Turn;
-use dev_board::{Board, IoResult, LeaseStep, Posted, Standing, Stepped};
+use dev_board::{Board, IoResult, LeaseStep, Posted, Stepped};
 use lease_table::LeaseTable;
 use quiet_events::may_end_wait;
 use run_rules::Event;
@@ -32,8 +32,6 @@ pub struct Locked<N: Naming> {
     board: Board,
     slots: LeaseSlots<N>,
     books: Books<N>,
-    /// How many callers neither wait for a notice nor have ended.
-    at_work: u8,
 }
 
 impl<N: Naming> Model for Locked<N> {
@@ -81,12 +79,10 @@ impl<N: Naming> Locked<N> {
         requires carried { CarriedRun N.carried N.opening board.events board.world }
         ensures { result ≡ board }
     {
-        let at_work = board.callers();
         Locked {
             board,
             slots,
             books,
-            at_work,
         }
     }
 
@@ -101,7 +97,6 @@ impl<N: Naming> Locked<N> {
             board,
             slots,
             books,
-            at_work,
         } = self;
         board.stands();
         let (place, told) = match board.step(seat.caller(), slots) {
@@ -118,9 +113,6 @@ impl<N: Naming> Locked<N> {
             Stepped::Memory => return Some(Turn::Memory),
         };
         count_event(books, seat, board.event(place));
-        if seat.has_ended() {
-            *at_work = at_work.saturating_sub(1);
-        }
         settle(table, seat, told.lease());
         Some(Turn::Did(place, told))
     }
@@ -140,7 +132,7 @@ impl<N: Naming> Locked<N> {
         requires { table.now ≡ N.table }
         ensures { TriesAre N.opening seat.old result seat.new }
     {
-        for _ in 1..MANY {
+        for _many in 1..MANY {
             let turn = self.turn(table, seat)?;
             if !self.is_quiet(&turn) {
                 return Some(turn);
@@ -159,7 +151,6 @@ impl<N: Naming> Locked<N> {
             board,
             slots: _,
             books,
-            at_work: _,
         } = self;
         let _ = seat.caller();
         let (place, told) = match board.post(done) {
@@ -182,38 +173,11 @@ impl<N: Naming> Locked<N> {
             board,
             slots: _,
             books,
-            at_work: _,
         } = self;
         board.stands();
         books.halt(&mut seat.shares);
         seat.halted = true;
         board.stop(seat.caller);
-    }
-
-    /// What a caller that has to wait is answered: that nobody goes on, or that memory ran out as that was looked at; none if it
-    /// is to wait for a notice. While another caller is at work, nothing is looked at.
-    #[cold]
-    pub fn rest(&mut self) -> Option<Turn>
-        ensures rest { RestIs N.opening result }
-        ensures same { self.new ≡ self.old }
-    {
-        if self.at_work <= 1 {
-            self.board.stands();
-            match self.board.standing() {
-                Ok(Standing::Stuck) => return Some(Turn::Stuck),
-                Ok(_) => {}
-                Err(_) => return Some(Turn::Memory),
-            }
-        }
-        self.at_work = self.at_work.saturating_sub(1);
-        None
-    }
-
-    /// A caller that waited goes on.
-    pub fn wake(&mut self)
-        ensures { self.new ≡ self.old }
-    {
-        self.at_work = self.at_work.saturating_add(1);
     }
 
     /// Whether an answer may end the wait of another caller. If not, no other caller's wait ends with it.
@@ -241,7 +205,6 @@ impl<N: Naming> Locked<N> {
             board,
             slots,
             books,
-            at_work: _,
         } = self;
         (board, slots, books)
     }

@@ -13,7 +13,7 @@ ghost use Rattle.board_lock.specs.Carried.{CarriedRun};
 ghost use Rattle.board_lock.specs.Kept.{LockedKept};
 ghost use Rattle.board_lock.specs.Names.{AreNames};
 ghost use Rattle.board_lock.specs.Seats.{PartsFit, seats_below};
-ghost use Rattle.board_lock.specs.Turning.{AsAt, PostIs, StepsAre, TurnIs, halted, looking};
+ghost use Rattle.board_lock.specs.Turning.{LastIs, PostIs, StepsAre, TurnIs, halted, looking};
 
 use crate::deal::deal_seats;
 use crate::finish::gather_all;
@@ -135,9 +135,8 @@ impl<N: Naming> SharedBoard<N> {
         }
     }
 
-    /// One step of the seat's caller. If the caller has to wait, the call waits for a notice and steps again; if no other caller is
-    /// at work then and nobody goes on, it returns `Stuck`. At an event, the lease that it names is taken or given back
-    /// before the lock is released.
+    /// One step of the seat's caller. If the caller has to wait, the call waits for a notice and steps again. At an
+    /// event, the lease that it names is taken or given back before the lock is released.
     #[inline(always)]
     pub fn step<R: Wait>(&self, rt: &R, seat: &mut Seat<N>) -> Turn
         ensures { TurnIs N.opening seat.old result seat.new }
@@ -152,11 +151,7 @@ impl<N: Naming> SharedBoard<N> {
                 }
                 return turn;
             }
-            if let Some(turn) = guard.rest() {
-                return turn;
-            }
             guard = self.moved.wait(rt, guard);
-            guard.wake();
         }
         unreachable!()
     }
@@ -166,7 +161,7 @@ impl<N: Naming> SharedBoard<N> {
     /// contract has them as a list of turns, each as `step` answers it.
     pub fn steps<R: Wait>(&self, rt: &R, seat: &mut Seat<N>) -> Turn
         ensures turns { StepsAre N.opening seat.old result seat.new }
-        ensures kept { AsAt result seat.old seat.new }
+        ensures last { LastIs N.opening seat.old result seat.new }
     {
         let mut guard = self.lock.lock(rt);
         match guard.turns(&self.table, seat) {

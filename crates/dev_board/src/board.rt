@@ -26,8 +26,6 @@ ghost use Rattle.scan_engine.specs.Spans.{AreSpansOf};
 ghost use Rattle.dev_board.specs.Posting.{PostIs};
 ghost use Rattle.dev_board.specs.Shown.{began};
 ghost use Rattle.dev_board.specs.Stepping.{StepIs, IsDid, IsOfBoot, DenialsAre};
-ghost use Rattle.dev_board.specs.Waiting.{StandsSo};
-ghost use Rattle.wait_lines.specs.Waits.{wait_lines};
 
 use crate::closed::closed_in;
 use crate::io_result::IoResult;
@@ -35,9 +33,8 @@ use crate::post::post_core;
 use crate::posted::Posted;
 use crate::step::step_core;
 use crate::stepped::Stepped;
-use crate::waiting::{Standing, how_it_stands, lines_of};
 use attr_graph::graph_of;
-use cf_types::{DevLine, List, Machine, Memory, Script, Tables, Text};
+use cf_types::{DevLine, List, Machine, Memory, Script, Tables};
 use match_search::RowIndex;
 use ref_ledger::Slots;
 use run_rules::{Event, Setup};
@@ -257,20 +254,6 @@ impl Board {
         ensures told { IfOk result (λ lines. TellsTree self.now.events lines) }
     {
         tree_of(self.alloc, &self.site.setup, &self.core)
-    }
-
-    /// Whether any caller goes on, or some wait for good, or all have ended.
-    pub fn standing(&self) -> Result<Standing, Memory>
-        ensures { IfOk result (λ how. StandsSo how self.now.world) }
-    {
-        how_it_stands(self.alloc, &self.site, &self.core)
-    }
-
-    /// Who waits until nobody holds a device, and who holds it: a line for each such caller, in their order.
-    pub fn wait_lines(&self) -> Result<List<Text>, Memory>
-        ensures { IfOk result (λ lines. lines ≡ wait_lines self.now.world) }
-    {
-        lines_of(self.alloc, &self.site, &self.core)
     }
 
     /// The tables of the run.

@@ -17,7 +17,6 @@ mod step;
 mod stepped;
 mod told;
 mod turns;
-mod waiting;
 
 pub use answer::{Answer, LeaseStep};
 pub use board::Board;
@@ -29,4 +28,3 @@ pub use run_rules::Wait;
 pub use stepped::Stepped;
 pub use told::Told;
 pub use turns::run_turns;
-pub use waiting::Standing;
