@@ -1,5 +1,5 @@
 -- The turns of one call, one after the other.
-use Rattle.std.proofs.Common.{◌≡◌, ◌∙◌, ◌≤◌, ℕ, Option, Some, None, List, [], ◌∷◌, ◌++◌, length, refl, sym, ap, subst, arith, length-append, ◌+◌}
+use Rattle.std.proofs.Common.{◌≡◌, ◌∙◌, ◌≤◌, ℕ, Option, Some, None, List, [], ◌∷◌, ◌++◌, refl, sym, ap, subst, arith, length-append, ◌+◌}
 use Rattle.std.specs.List.{AllByRecursion}
 use Rattle.run_rules.specs.World.{World}
 use Rattle.run_sound.proofs.Callers.{all_append}
