@@ -30,7 +30,8 @@ use Rattle.boot_laws.specs.Settled.{IsPassedOver, IsSettled}
 use Rattle.run_rules.proofs.Free.{winner_below}
 use Rattle.run_rules.specs.declared.world.ParentRef.{ParentRef}
 use Rattle.std.proofs.lemmas.Bool.{false_from_ne_true}
-use Rattle.boot_laws.proofs.Candidates.{no_candidate, still_first, taken_row, was_candidate, winner_candidate}
+use Rattle.run_sound.proofs.Candidates.{no_candidate}
+use Rattle.boot_laws.proofs.Candidates.{still_first, taken_row, was_candidate, winner_candidate}
 use Rattle.boot_laws.proofs.Scans.{HasTurn, among, has_turn}
 use Rattle.boot_laws.proofs.Watched.{Covers, IsPast, IsToCome, IsWatched, covers_whole}
 use Rattle.boot_laws.proofs.Deeds.{end_watched, phase_watched, search_watched}

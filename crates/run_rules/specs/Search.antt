@@ -21,6 +21,16 @@ use Rattle.run_rules.specs.declared.world.Setup.{Setup}
 use Rattle.run_rules.specs.World.{has, same_place, is_number, device_at, row_at, driver_of, attach_of}
 use Rattle.cf_types.specs.Numbers.{below}
 
+-- ---- the best of some numbers
+
+-- of the first n it passes the test, and none that passes has a greater value
+abbrev pub is_best : (ℕ → Bool) → (ℕ → ℕ) → ℕ → ℕ → Bool
+is_best passes value n i = passes i && list_all (λ j. not (passes j) || nat_le (value j) (value i)) (below n)
+
+-- of the first n that pass the test the one of the greatest value, and of equals the first
+abbrev pub first_best : (ℕ → Bool) → (ℕ → ℕ) → ℕ → Option ℕ
+first_best passes value n = find (is_best passes value n) (below n)
+
 -- ---- the winner: after autoconf(9), the best match
 
 -- this project's profile: the last line for the attachment and the spot, else the last for the attachment and all spots, else 0
@@ -70,15 +80,9 @@ is_candidate s live p place x r =
     && nat_lt 0 (match_value s.machine row.attach x))
     (row_at s r) false
 
--- no candidate is better than r: none has a greater match value, and no earlier one an equal value
-unfoldable pub is_winner : Setup → List Dev → ParentRef → Place → ℕ → ℕ → Bool
-is_winner s live p place x r =
-    is_candidate s live p place x r
-    && list_all (λ q. not (is_candidate s live p place x q) || nat_lt (value_of s q x) (value_of s r x)
-    || (value_of s q x == value_of s r x && nat_le r q)) (below (length s.tables.rows))
-
+-- the best candidate by match value
 unfoldable pub winner : Setup → List Dev → ParentRef → Place → ℕ → Option ℕ
-winner s live p place x = find (is_winner s live p place x) (below (length s.tables.rows))
+winner s live p place x = first_best (is_candidate s live p place x) (λ r. value_of s r x) (length s.tables.rows)
 
 -- how far the least free unit is from the first one; of so many numbers one is always free
 unfoldable pub free_after : Setup → List Dev → ℕ → ℕ → ℕ

@@ -2,6 +2,7 @@ pub mod Callers
 pub mod Members
 pub mod Reasons
 pub mod Plain
+pub mod Candidates
 pub mod References
 pub mod Inputs
 pub mod FormedDevices
