@@ -185,7 +185,7 @@ boot_run g w (e ∷ h) v at alone run goes over watched =
     let d : Deed = step.deed in
     let on : has_ended (after w 0 d) 0 ≡ false → d ≢ EndCaller → IsSettled v =
     λ still not_end. boot_run (g ++ e ∷ []) run.0 h v (stands_on g w e.caller e run.0 at run.1) alone.1 run.2 (ap (λ (x : World). has_ended x 0) step.world ∙ still) over
-    (subst IsWatched (sym step.world) (watched_after w d at.kept step.chosen not_end (boot_deed w d at.kept.ranges.booting step.chosen) watched)) in
+    (subst IsWatched (sym step.world) (watched_after w d at.kept step.chosen not_end (boot_deed w d at.kept.ranges.callers.booting step.chosen) watched)) in
     elim (kind_of w 0 at.kept d step.chosen) [
       | inl answers ↦ on answers.on.goes (λ is. clash (has_ended (after w 0 d) 0) (ends step is) answers.on.goes)
       | inr other ↦ elim other [

@@ -80,7 +80,7 @@ row_named s r u may row small = written_device (driver_name s (driver_of s r)) u
 -- the names of live devices are those of devices
 all_named : (w : World) → MayRun w.setup → Kept w → AllNamed w
 all_named w may kept =
-    all_both (λ (d : Dev). d.row < length w.setup.tables.rows) (λ (d : Dev). d.unit < 2 ^ 32) (Named w) (λ d row small. row_named w.setup d.row d.unit may row small) w.live kept.ranges.rows kept.ranges.units
+    all_both (λ (d : Dev). d.row < length w.setup.tables.rows) (λ (d : Dev). d.unit < 2 ^ 32) (Named w) (λ d row small. row_named w.setup d.row d.unit may row small) w.live kept.ranges.devices.rows kept.ranges.devices.units
 
 live_named : (w : World) (s : ℕ) → AllNamed w → IsLive w.live s → IsDeviceName (name_at w s)
 live_named w s named live = cases (device_at w.live s) refl
@@ -525,7 +525,7 @@ may_be_told w k Tell may kept calls chosen = tt
 -- ---- what is printed is formed
 
 few_live : (w : World) → MayRun w.setup → Kept w → length w.live < 2 ^ 32
-few_live w may kept = omega (arith, kept.ranges.few, may.machine.few_spots)
+few_live w may kept = omega (arith, kept.ranges.devices.few, may.machine.few_spots)
 
 -- the answer of a transfer fits
 answer_formed : (t : Ticket) → IsFormedAnswer (answer_of t)

@@ -193,7 +193,7 @@ called_live w k s (Some place) false kept calls goes called =
     rw called.5 (at_live w.live w.finalisers place (omega (arith, called.3, called.4)) (kept.sound.boot (not_ended w 0 (subst (λ j. has_ended w j ≡ false) called.0 goes))).finalisers)
 called_live w k s (Some place) true kept calls goes called =
     let boots : has_ended w 0 ≡ false = subst (λ j. has_ended w j ≡ false) called.0 goes in
-    rw called.5 (at_live w.live w.finalisers 0 (kept.ranges.some_called boots called.6) (kept.sound.boot (not_ended w 0 boots)).finalisers)
+    rw called.5 (at_live w.live w.finalisers 0 ((kept.ranges.list boots).some called.6) (kept.sound.boot (not_ended w 0 boots)).finalisers)
 
 -- ---- spots
 

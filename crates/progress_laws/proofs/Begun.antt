@@ -54,7 +54,7 @@ idle_of (activity.Power kind t) q e s = absurd cc
 pub end_idle : (w : World) (k : ℕ) → Kept w → next w k ≡ Does EndCaller → (caller_at w k).doing ≡ activity.Idle
 end_idle w k kept e =
     let why : IsEnd w k = has_reason w k EndCaller e in
-    idle_of (caller_at w k).doing (quiet_end w k e) (doing_so w k EndCaller e).unended (λ scans. (kept.ranges.placed k).scans scans why.stack)
+    idle_of (caller_at w k).doing (quiet_end w k e) (doing_so w k EndCaller e).unended (λ scans. (kept.ranges.callers.placed k).scans scans why.stack)
 
 pub end_ahead : (w : World) (k : ℕ) → Kept w → next w k ≡ Does EndCaller → ahead (after w k EndCaller) k < ahead w k
 unfolding after

@@ -169,7 +169,7 @@ drop_lowers n w k s kept e =
 -- ---- devices are condemned
 
 pub few_live : (w : World) → Kept w → length w.live ≤ length w.setup.machine.spots
-few_live w kept = omega (arith, kept.ranges.few)
+few_live w kept = omega (arith, kept.ranges.devices.few)
 
 abbrev marked_live : World → ℕ → ℕ → List Dev
 marked_live w k s = map (with_condemner w.live k s) w.live

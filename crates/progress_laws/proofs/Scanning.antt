@@ -36,7 +36,7 @@ use Rattle.progress_laws.proofs.Turns.{turn_stirs}
 -- ---- who has a frame is in no power command
 
 boot_calm : (w : World) → Kept w → is_power (caller_at w 0).doing ≡ false
-boot_calm w kept = elim kept.ranges.booting [ inl idle ↦ ap is_power idle | inr ended ↦ ap is_power ended ]
+boot_calm w kept = elim kept.ranges.callers.booting [ inl idle ↦ ap is_power idle | inr ended ↦ ap is_power ended ]
 
 scan_calm : (w : World) (k : ℕ) → Kept w → (caller_at w k).stack ≢ [] → is_power (caller_at w k).doing ≡ false
 scan_calm w zero kept some = boot_calm w kept

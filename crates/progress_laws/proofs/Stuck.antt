@@ -140,7 +140,7 @@ module _ (w : World) (at : KeptInFull w) (stuck : NobodyDoes w) where
 
       cases : (b : Bool) → has_ended w 0 ≡ b → has_ended w 0 ≡ true
       cases true e = e
-      cases false e = elim at.kept.ranges.booting [ inl is ↦ idle e is | inr is ↦ rw is refl ]
+      cases false e = elim at.kept.ranges.callers.booting [ inl is ↦ idle e is | inr is ↦ rw is refl ]
 
   boot_ended : (caller_at w 0).doing ≡ activity.Ended
   boot_ended = is_ended_so (caller_at w 0).doing boot_over

@@ -113,7 +113,7 @@ interrupts_after w k d kept e before ended = cases (has_ended w 0) refl
     by_boot goes same =
         let chosen : next w 0 ≡ Does d = ap (next w) (sym same) ∙ e in
         ap (λ (j : ℕ). (after w j d).interrupts_on) same
-        ∙ ends_on w d chosen (boot_deed w d kept.ranges.booting chosen) goes (ap (λ (j : ℕ). has_ended (after w j d) 0) (sym same) ∙ ended)
+        ∙ ends_on w d chosen (boot_deed w d kept.ranges.callers.booting chosen) goes (ap (λ (j : ℕ). has_ended (after w j d) 0) (sym same) ∙ ended)
 
     cases : (b : Bool) → has_ended w 0 ≡ b → (after w k d).interrupts_on ≡ true
     cases true is = stay_on w k d (before is)

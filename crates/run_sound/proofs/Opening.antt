@@ -108,19 +108,22 @@ sound_opens s = record {
 ranges_open : (s : Setup) → InRange (opening s)
 unfolding opening
 ranges_open s = record {
-  rows = tt;
-  units = tt;
-  spots = tt;
-  bare = all_bare (late_spots s);
+  devices = record {
+    rows = tt;
+    units = tt;
+    spots = tt;
+    bare = all_bare (late_spots s);
+    few = omega (arith, all_free (length s.machine.spots));
+  };
+  callers = record {
+    as_many = omega (arith, length-map s.scripts (λ script. beginning []));
+    booting = inl refl;
+    placed = scripts_open s;
+    tickets = tickets_open s;
+    holders = tt;
+  };
+  list = λ goes. record { few = omega (arith, all_free (length s.machine.spots)); some = λ again. absurd (cc) };
   counted = omega arith;
-  callers = omega (arith, length-map s.scripts (λ script. beginning []));
-  booting = inl refl;
-  placed = scripts_open s;
-  tickets = tickets_open s;
-  holders = tt;
-  few = omega (arith, all_free (length s.machine.spots));
-  few_called = λ h. omega (arith, all_free (length s.machine.spots));
-  some_called = λ h again. absurd (cc);
 }
 
 pub opening_kept : (s : Setup) → MayRun s → Kept (opening s)

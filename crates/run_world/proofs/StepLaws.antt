@@ -79,4 +79,4 @@ called_live w s None anew kept calls goes called = framed_live w 0 s called.0 ke
 called_live w s (Some place) false kept calls goes called =
     rw called.5 (at_live w.live w.finalisers place (omega (arith, called.3, called.4)) (kept.sound.boot (not_ended w 0 goes)).finalisers)
 called_live w s (Some place) true kept calls goes called =
-    rw called.5 (at_live w.live w.finalisers 0 (kept.ranges.some_called goes called.6) (kept.sound.boot (not_ended w 0 goes)).finalisers)
+    rw called.5 (at_live w.live w.finalisers 0 ((kept.ranges.list goes).some called.6) (kept.sound.boot (not_ended w 0 goes)).finalisers)

@@ -193,7 +193,7 @@ module _ (w : World) (k : ℕ) (d : Deed) (kept : Kept w) (later : k ≢ 0) (e :
   none_left c = sym (command_is w k later) ∙ c.over
 
   all_over : IsClosing w k d → length script ≡ now.over
-  all_over c = omega (arith, get_none script now.over (none_left c), (kept.ranges.placed k).within)
+  all_over c = omega (arith, get_none script now.over (none_left c), (kept.ranges.callers.placed k).within)
 
   closing_rests : IsClosing w k d → is_amid now.doing ≡ false
   closing_rests c = cases (is_amid now.doing) refl
