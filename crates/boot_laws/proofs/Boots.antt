@@ -18,7 +18,7 @@ use Rattle.run_rules.specs.Next.{next}
 use Rattle.run_rules.specs.Run.{Boot, Run, Step}
 use Rattle.run_rules.specs.Search.{attach_at, driver_at, is_candidate, is_indirect, parent_ref, spot_of, turns, winner, winner_at}
 use Rattle.run_rules.specs.Sound.{IsSoundlyDeferred, IsUnbegun, is_scan_of, others}
-use Rattle.run_sound.specs.Coming.{IsEnd}
+use Rattle.run_sound.proofs.Coming.{IsEnd}
 use Rattle.run_sound.specs.Kept.{Kept, MayRun}
 use Rattle.run_sound.proofs.Callers.{caller_here, clash, doing_so, doing_there, not_ended}
 use Rattle.run_sound.proofs.OwnCaller.{IsBootDeed}

@@ -39,10 +39,10 @@ use Rattle.run_rules.proofs.Devices.{all_both, all_imp}
 use Rattle.run_rules.proofs.FormedNames.{device_known, root_known, written_device}
 use Rattle.run_rules.proofs.Free.{find_true}
 use Rattle.run_sound.specs.Calls.{CallsDevices}
-use Rattle.run_sound.specs.Coming.{IsCalled, IsTurn}
-use Rattle.run_sound.specs.Commands.{Begins, EndsPower, SendsToSleep, Wakes, power_command}
+use Rattle.run_sound.proofs.Coming.{IsCalled, IsTurn}
+use Rattle.run_sound.proofs.Commands.{Begins, EndsPower, SendsToSleep, Wakes}
 use Rattle.run_sound.specs.Kept.{Kept, MayRun}
-use Rattle.run_sound.specs.Scripts.{IsAmid}
+use Rattle.run_sound.specs.Scripts.{IsAmid, power_command}
 use Rattle.run_sound.proofs.Arrivals.{due_inside, finalise_comes, search_comes, shown_inside}
 use Rattle.run_sound.proofs.Callers.{all_filter, doing_so}
 use Rattle.run_sound.proofs.Members.{all_flat_of, contained_live, each_mapped, found_contained, found_from_end, found_of}

@@ -29,10 +29,10 @@ use Rattle.run_rules.specs.Next.{attr_named, command_deed, command_of, has_nothi
 use Rattle.run_rules.specs.References.{count_in}
 use Rattle.run_rules.specs.Sound.{Sound}
 use Rattle.run_sound.specs.Calls.{CallsDevices, IsOfDevice}
-use Rattle.run_sound.specs.Coming.{IsCalled, IsTurn}
-use Rattle.run_sound.specs.Commands.{Begins, EndsPower, SendsToSleep, Wakes, power_command}
+use Rattle.run_sound.proofs.Coming.{IsCalled, IsTurn}
+use Rattle.run_sound.proofs.Commands.{Begins, EndsPower, SendsToSleep, Wakes}
 use Rattle.run_sound.specs.Kept.{Kept}
-use Rattle.run_sound.specs.Scripts.{IsAmid}
+use Rattle.run_sound.specs.Scripts.{IsAmid, power_command}
 use Rattle.run_sound.proofs.Arrivals.{due_inside, shown_inside, top_known}
 use Rattle.run_sound.proofs.Callers.{all_or, doing_so, not_ended}
 use Rattle.run_sound.proofs.Members.{contained_live, found_contained, found_from_end}

@@ -20,7 +20,7 @@ use Rattle.run_rules.specs.declared.deed.Deed.TheVariants.{Drop, Refuse, Open, C
 use Rattle.run_rules.specs.declared.deed.Refusal.{Refusal}
 use Rattle.cf_types.specs.declared.machine.Ticket.{Ticket}
 use Rattle.run_rules.specs.declared.deed.Choice.TheVariants.{Does}
-use Rattle.run_sound.specs.Commands.{IsBetween}
+use Rattle.run_sound.proofs.Commands.{IsBetween}
 use Rattle.run_sound.specs.Kept.{Kept}
 use Rattle.run_sound.specs.Left.{free_spots, scan_left, spot_worth, whole_scan}
 use Rattle.run_sound.specs.Scripts.{script_of}

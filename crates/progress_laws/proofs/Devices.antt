@@ -19,7 +19,7 @@ use Rattle.run_rules.specs.Next.{next, next_free, next_sleep, next_wake}
 use Rattle.run_rules.specs.declared.deed.Deed.TheVariants.{Free, Sleep, Wake}
 use Rattle.run_rules.specs.declared.deed.Choice.TheVariants.{Does}
 use Rattle.run_rules.proofs.Free.{find_true}
-use Rattle.run_sound.specs.Commands.{FreesLast, Wakes, wakes_below}
+use Rattle.run_sound.proofs.Commands.{FreesLast, Wakes, wakes_below}
 use Rattle.run_sound.specs.Kept.{Kept}
 use Rattle.run_sound.specs.Left.{free_spots, scan_left, spot_worth}
 use Rattle.run_sound.specs.Scripts.{script_of}

@@ -16,7 +16,7 @@ use Rattle.run_rules.specs.declared.deed.Deed.{Deed}
 use Rattle.run_rules.specs.declared.deed.Deed.TheVariants.{Search, EndScan, BeginInterrupts, Finalise}
 use Rattle.run_rules.specs.declared.deed.Choice.TheVariants.{Does}
 use Rattle.run_rules.proofs.Setups.{after_setup}
-use Rattle.run_sound.specs.Coming.{IsCall, IsCalled, IsScanEnd, IsTurn}
+use Rattle.run_sound.proofs.Coming.{IsCall, IsCalled, IsScanEnd, IsTurn}
 use Rattle.run_sound.specs.Kept.{Kept, MayRun}
 use Rattle.run_sound.specs.Left.{boot_left, free_spots, scan_left, spot_worth, whole_scan}
 use Rattle.run_sound.specs.Scripts.{script_of}

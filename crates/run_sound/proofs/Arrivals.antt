@@ -29,7 +29,7 @@ use Rattle.run_rules.proofs.Devices.{all_imp, all_snoc}
 use Rattle.run_rules.proofs.Free.{due_free, due_seen, find_true, winner_below}
 use Rattle.run_rules.proofs.OwnNames.{there}
 use Rattle.run_rules.proofs.Units.{winner_free}
-use Rattle.run_sound.specs.Coming.{IsCall, IsCalled, IsTurn, MayCome}
+use Rattle.run_sound.proofs.Coming.{IsCall, IsCalled, IsTurn, MayCome}
 use Rattle.run_sound.specs.Kept.{Kept, MayRun}
 use Rattle.run_sound.proofs.Callers.{all_or, doing_so, all_filter, not_ended}
 use Rattle.run_sound.proofs.Members.{all_flat, all_map, found_of}

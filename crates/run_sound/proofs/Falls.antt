@@ -24,7 +24,7 @@ use Rattle.run_rules.specs.declared.deed.Deed.TheVariants.{Search, EndScan, Begi
 use Rattle.run_rules.specs.declared.deed.Choice.TheVariants.{Does}
 use Rattle.run_rules.specs.Next.{next}
 use Rattle.run_rules.proofs.Setups.{after_setup}
-use Rattle.run_sound.specs.Coming.{HasReason, IsCalled, IsTurn}
+use Rattle.run_sound.proofs.Coming.{HasReason, IsCalled, IsTurn}
 use Rattle.run_sound.specs.Kept.{Kept, MayRun}
 use Rattle.run_sound.proofs.Arrivals.{shown_inside, quiet_call}
 use Rattle.run_sound.proofs.Callers.{caller_here, callers_kept, clash, doing_so, doing_there, ended_is, unended_so}

@@ -24,7 +24,7 @@ use Rattle.run_rules.proofs.Devices.{all_imp, all_both, none_of, or_false}
 use Rattle.run_rules.proofs.Turns.{find_filter, find_same}
 use Rattle.run_sound.proofs.Callers.{all_set, all_filter, clash, pins_same, caller_each}
 use Rattle.run_sound.proofs.Members.{of_each, each_of, each_passed, any_passed, later_passed}
-use Rattle.run_sound.specs.Commands.{FreesLast}
+use Rattle.run_sound.proofs.Commands.{FreesLast}
 use Rattle.run_sound.proofs.Reasons.{has_command_reason}
 use Rattle.run_sound.proofs.Trees.{AreRising, rising, parent_cases, any_steps}
 use Rattle.run_sound.proofs.Lasts.{last_found}

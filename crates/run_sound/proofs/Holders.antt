@@ -13,7 +13,7 @@ use Rattle.run_rules.specs.References.{given_back, is_of}
 use Rattle.run_rules.proofs.References.{all_left}
 use Rattle.run_rules.proofs.Devices.{all_snoc}
 use Rattle.run_rules.proofs.Setups.{after_setup}
-use Rattle.run_sound.specs.Commands.{IsBetween}
+use Rattle.run_sound.proofs.Commands.{IsBetween}
 use Rattle.run_sound.specs.Kept.{InRange}
 use Rattle.run_sound.specs.Scripts.{IsOfScript}
 use Rattle.run_sound.proofs.Callers.{doing_there}

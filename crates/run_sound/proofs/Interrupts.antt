@@ -12,7 +12,7 @@ use Rattle.run_rules.specs.declared.deed.Choice.TheVariants.{Does}
 use Rattle.run_rules.specs.World.{World, caller_at, has_ended, is_ended, opening}
 use Rattle.run_rules.specs.Next.{next}
 use Rattle.run_rules.specs.After.{after, freed, freeing_target, listed, over, released, settled}
-use Rattle.run_sound.specs.Coming.{IsEnd}
+use Rattle.run_sound.proofs.Coming.{IsEnd}
 use Rattle.run_sound.specs.Kept.{Kept}
 use Rattle.run_sound.specs.InFull.{InterruptsWork}
 use Rattle.run_sound.proofs.Beside.{IsBeside, call_part, search_part}

@@ -1,5 +1,7 @@
 pub mod Callers
 pub mod Members
+pub mod Coming
+pub mod Commands
 pub mod Reasons
 pub mod Plain
 pub mod Candidates

@@ -21,7 +21,7 @@ use Rattle.run_rules.specs.After.{after, with_caller, over}
 use Rattle.run_rules.specs.Sound.{HasSoundRefs, IsSoundlyCondemned, IsSoundlyAsleep, is_scan_of, IsSoundlyDeferred, is_power, is_known, IsFreed, Sound}
 use Rattle.run_rules.proofs.Devices.{all_imp, all_both}
 use Rattle.run_sound.proofs.Callers.{all_set, clash, is_ended_so, pins_same, caller_there, caller_each, pins_kept, any_set_same, doing_so, doing_there}
-use Rattle.run_sound.specs.Commands.{IsBetween}
+use Rattle.run_sound.proofs.Commands.{IsBetween}
 use Rattle.run_sound.proofs.Reasons.{has_command_reason}
 use Rattle.run_rules.specs.declared.deed.Refusal.{Refusal}
 

@@ -12,7 +12,7 @@ use Rattle.run_rules.specs.declared.deed.Choice.TheVariants.{Does}
 use Rattle.run_rules.specs.Next.{next}
 use Rattle.run_rules.specs.After.{after, arrived, attached, finaliser_done, list_moved, moved_top, new_device, released, show_spot, with_stack}
 use Rattle.run_rules.proofs.Setups.{after_setup}
-use Rattle.run_sound.specs.Coming.{IsCall, IsCalled, MayCome}
+use Rattle.run_sound.proofs.Coming.{IsCall, IsCalled, MayCome}
 use Rattle.run_sound.specs.Kept.{HasBootList, InRange, Kept, MayRun}
 use Rattle.run_sound.specs.Left.{free_spots}
 use Rattle.run_sound.proofs.Arrivals.{finalise_comes, none_shown, search_comes}

@@ -26,8 +26,9 @@ use Rattle.run_rules.specs.References.{count_in}
 use Rattle.run_rules.specs.Search.{due}
 use Rattle.run_rules.proofs.Devices.{or_false}
 use Rattle.run_rules.proofs.Free.{find_true}
-use Rattle.run_sound.specs.Coming.{HasReason, IsCall, IsCalled, IsEnd, IsPhase, IsScanEnd, IsTurn}
-use Rattle.run_sound.specs.Commands.{Begins, HasCommandReason, IsBetween, IsNamed, IsOnly, wakes_below, power_command}
+use Rattle.run_sound.proofs.Coming.{HasReason, IsCall, IsCalled, IsEnd, IsPhase, IsScanEnd, IsTurn}
+use Rattle.run_sound.specs.Scripts.{power_command}
+use Rattle.run_sound.proofs.Commands.{Begins, HasCommandReason, IsBetween, IsNamed, IsOnly, wakes_below}
 use Rattle.run_sound.proofs.Members.{found_contained, found_from_end, contained_live}
 
 -- ---- the reasons of all deeds

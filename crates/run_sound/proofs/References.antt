@@ -19,7 +19,7 @@ use Rattle.run_rules.specs.Sound.{Sound}
 use Rattle.run_sound.specs.Kept.{InRange, Kept}
 use Rattle.run_rules.proofs.Devices.{all_snoc}
 use Rattle.run_sound.proofs.Callers.{clash}
-use Rattle.run_sound.specs.Commands.{IsBetween}
+use Rattle.run_sound.proofs.Commands.{IsBetween}
 use Rattle.run_sound.proofs.Reasons.{has_command_reason}
 use Rattle.run_sound.proofs.Plain.{AreHeld, IsLater, sound_held, later_held, sound_caller, sound_over, between_later, between_frees, between_power, later_one, no_turn, agrees_idle}
 

@@ -15,7 +15,7 @@ use Rattle.run_rules.specs.Next.{command_of, next}
 use Rattle.run_rules.specs.Run.{number_of}
 use Rattle.run_rules.specs.Sound.{IsSoundlyCondemned}
 use Rattle.run_rules.proofs.Devices.{all_imp}
-use Rattle.run_sound.specs.Commands.{Begins, IsBetween}
+use Rattle.run_sound.proofs.Commands.{Begins, IsBetween}
 use Rattle.run_sound.specs.Kept.{Kept, MayRun}
 use Rattle.run_sound.specs.Scripts.{IsAmid, IsOfScript, script_of}
 use Rattle.run_sound.proofs.Callers.{all_or, doing_there, unended_so, unended_there}

@@ -16,7 +16,7 @@ use Rattle.run_rules.specs.declared.deed.Choice.TheVariants.{Does}
 use Rattle.run_rules.specs.Next.{next}
 use Rattle.run_rules.specs.After.{show_spot}
 use Rattle.run_sound.specs.Calls.{CallsDevices, IsOfDevice}
-use Rattle.run_sound.specs.Coming.{MayCome, IsCalled}
+use Rattle.run_sound.proofs.Coming.{MayCome, IsCalled}
 use Rattle.run_sound.specs.Kept.{MayRun, Kept}
 use Rattle.run_sound.proofs.Arrivals.{search_comes, finalise_comes, none_shown, top_known}
 use Rattle.run_sound.proofs.Callers.{all_or, not_ended}

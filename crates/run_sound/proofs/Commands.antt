@@ -1,4 +1,4 @@
--- Why a deed of a command is done: what its choice tells of the world.
+-- What the choice of a command's deed tells of the world: `Next` read backwards, for proofs.
 use Rattle.std.specs.Prelude.{◌≡◌, ◌≢◌, ◌⊎◌, ⊤, ℕ, ◌+◌, Bool, true, false, List, [], Option, Some, None, map}
 use Rattle.std.specs.List.{Contains}
 use Rattle.cf_types.specs.Locators.{locators_at}
@@ -20,12 +20,6 @@ use Rattle.run_rules.specs.declared.deed.PowerEnd.TheVariants as ends
 use Rattle.run_rules.specs.declared.deed.Choice.TheVariants.{Does}
 use Rattle.run_rules.specs.References.{MayHold}
 use Rattle.run_rules.specs.Next.{attr_named, command_deed, command_of, first_held, has_nothing, hindered, is_power, next_free, next_sleep, next_wake, other_turn, powering, spot_named, ticket_of, wanted_of}
-
--- the power command of a kind: after drvctl(8)
-abbrev pub power_command : PowerKind → List ℕ → Command
-power_command kind.Suspend name = command.Suspend name
-power_command kind.Resume name = command.Resume name
-power_command kind.ResumeTree name = command.ResumeTree name
 
 -- ---- where a caller stands
 
