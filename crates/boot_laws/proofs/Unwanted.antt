@@ -16,7 +16,7 @@ use Rattle.run_rules.specs.declared.world.Setup.{Setup}
 use Rattle.run_rules.specs.World.{World, has, opening}
 use Rattle.run_rules.specs.Next.{arrival, place_of_spot}
 use Rattle.run_rules.specs.Run.{Boot}
-use Rattle.run_rules.specs.Search.{attach_at, is_candidate, is_indirect, is_occupied, is_open, parent_ref, style_of, winner_at}
+use Rattle.run_rules.specs.Search.{attach_at, is_candidate, is_indirect, is_occupied, is_open, parent_ref, is_bus_indirect, winner_at}
 use Rattle.run_sound.specs.Kept.{MayRun}
 use Rattle.run_sound.proofs.Callers.{clash}
 use Rattle.run_sound.proofs.Candidates.{no_candidate}
@@ -24,8 +24,8 @@ use Rattle.run_sound.proofs.Members.{all_reversed, found_of}
 use Rattle.boot_laws.specs.Settled.{HasDirectBuses, HasStarredRows, IsBare, IsPassedOver, IsSearched, IsUnwanted}
 use Rattle.boot_laws.proofs.Boots.{boot_settles}
 
-direct_bus : (m : Machine) (attach : Option ℕ) (place : Place) → AllByRecursion (λ line. line.indirect ≡ false) m.styles → style_of m attach place ≡ false
-unfolding style_of
+direct_bus : (m : Machine) (attach : Option ℕ) (place : Place) → AllByRecursion (λ line. line.indirect ≡ false) m.styles → is_bus_indirect m attach place ≡ false
+unfolding is_bus_indirect
 direct_bus m attach Root h = refl
 direct_bus m None (At a) h = refl
 direct_bus m (Some attach) (At a) h = cases (find (λ line. line.attach == attach && line.attr == a) (reverse m.styles)) refl

@@ -19,8 +19,8 @@ use Rattle.cf_types.specs.declared.stmt.ItemKind.TheVariants as of_kind
 use Rattle.cf_types.specs.declared.stmt.Stmt.{Stmt}
 use Rattle.cf_types.specs.declared.stmt.Stmt.TheVariants as stmt
 use Rattle.cf_types.specs.declared.tables.Locator.{Locator}
-use Rattle.cf_text.specs.Shapes.{ends_with_digit, is_written, is_decimal, base_len, unit_of, base_before}
-use Rattle.config_rules.specs.Form.{◌or◌, alone, at_place, attach_stmt, attached, by_row, cond_form, count_of, defining, device_stmt, each, fixed_of, form_by, form_of, free_form, given, inst_stmt, is_before_last, is_chunk, is_mark, is_word, locator_name, locator_of, locators_of, marked_of, make_item, name_of, names_of, option_item, path_of, needs_of, no_inst, no_stmt, pairs_of, parted, parted_at, place_of, prefix_stmt, pseudo_stmt, row_by, row_of, table, TableRow, unit_chunk, value_of, with_body, with_default, within}
+use Rattle.cf_text.specs.Shapes.{ends_with_digit, is_written, is_decimal, base_len, base_and_unit, base_before}
+use Rattle.config_rules.specs.Form.{◌or◌, alone, at_place, attach_stmt, attached, by_row, cond_form, count_of, defining, device_stmt, each, fixed_of, form_by, form_of, free_form, given, inst_stmt, is_before_last, is_chunk, is_mark, is_word, locator_name, locator_of, locators_of, marked_of, make_item, name_of, names_of, option_item, path_of, needs_of, no_inst, no_stmt, pairs_of, parted, parted_at, place_of, prefix_stmt, pseudo_stmt, row_by, row_of, table, TableRow, unit_chunk, value_of, with_body, with_default, fitted}
 use Rattle.config_rules.specs.Written.{AreLocators, IsName, IsUnit, IsWritten}
 use Rattle.config_rules.proofs.CutLaws.{both_left, both_right}
 
@@ -183,7 +183,7 @@ attach_written (d ∷ at ∷ ps) =
 abbrev IsUnitOf : List ℕ × UnitMark → Type 0
 IsUnitOf u = IsName u.0 × IsUnit u.1
 
-based : (chunk : List ℕ) → IfSome (unit_of chunk) (λ u. IsName u.0)
+based : (chunk : List ℕ) → IfSome (base_and_unit chunk) (λ u. IsName u.0)
 based chunk =
     let base = take (base_len chunk) chunk in
     let behind = drop (base_len chunk) chunk in
@@ -192,8 +192,8 @@ based chunk =
 fixed_shaped : (p : Piece) → IfSome (fixed_of true p) (λ u. IsName u.0 × (u.1 ≤ 65535))
 fixed_shaped p =
     if_both (λ u. IsName u.0 × (u.1 ≤ 65535)) (is_chunk p) _ None
-    (λ _. if_then (λ u. IsName u.0 × (u.1 ≤ 65535)) (λ u. within true (nat_le u.1 65535) u (u.0, 0)) (unit_of p.text)
-    (if_weaker (λ u. IsName u.0) _ (unit_of p.text) (λ u shaped.
+    (λ _. if_then (λ u. IsName u.0 × (u.1 ≤ 65535)) (λ u. fitted true (nat_le u.1 65535) u (u.0, 0)) (base_and_unit p.text)
+    (if_weaker (λ u. IsName u.0) _ (base_and_unit p.text) (λ u shaped.
     if_both (λ v. IsName v.0 × (v.1 ≤ 65535)) (nat_le u.1 65535) (Some u) None (λ few. (shaped, leb-true u.1 65535 few)) (λ _. tt))
     (based p.text)))
     (λ _. tt)

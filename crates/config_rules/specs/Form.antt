@@ -21,7 +21,7 @@ use Rattle.cf_types.specs.declared.stmt.Item.{Item}
 use Rattle.cf_types.specs.declared.stmt.Stmt.{Stmt}
 use Rattle.cf_types.specs.declared.stmt.Stmt.TheVariants as stmt
 use Rattle.cf_types.specs.declared.tables.Locator.{Locator}
-use Rattle.cf_text.specs.Shapes.{is_name, is_written, ends_with_digit, number, in_range, unit_of, base_before}
+use Rattle.cf_text.specs.Shapes.{is_name, is_written, ends_with_digit, number, in_range, base_and_unit, base_before}
 
 -- ---- single tokens
 
@@ -70,12 +70,12 @@ abbrev pub name_of : Piece → Option (List ℕ)
 name_of p = given (is_chunk p && is_written p.text) p.text
 
 -- a number in its range; where sizes don't count, one out of its range stands for 0
-abbrev pub within : {A : Type 0} → Bool → Bool → A → A → Option A
-within sized fits x zero_of = if fits then Some x else given (not sized) zero_of
+abbrev pub fitted : {A : Type 0} → Bool → Bool → A → A → Option A
+fitted sized fits x zero_of = if fits then Some x else given (not sized) zero_of
 
 -- `V`
 abbrev pub value_of : Bool → Piece → Option ℤ
-value_of sized p = if is_chunk p then option_and_then (λ v. within sized (in_range v) v (pos 0)) (number p.text) else None
+value_of sized p = if is_chunk p then option_and_then (λ v. fitted sized (in_range v) v (pos 0)) (number p.text) else None
 
 -- a chunk or a string
 abbrev pub bytes_of : Piece → Option (List ℕ)
@@ -87,7 +87,7 @@ path_of p = given ((is_chunk p || is_text p) && nat_lt 0 (length p.text)) p.text
 
 -- a base and a unit up to 65535
 abbrev pub fixed_of : Bool → Piece → Option (List ℕ × ℕ)
-fixed_of sized p = if is_chunk p then option_and_then (λ u. within sized (nat_le u.1 65535) u (u.0, 0)) (unit_of p.text) else None
+fixed_of sized p = if is_chunk p then option_and_then (λ u. fitted sized (nat_le u.1 65535) u (u.0, 0)) (base_and_unit p.text) else None
 
 -- a base before this mark
 abbrev pub marked_of : ℕ → Piece → Option (List ℕ)
@@ -284,7 +284,7 @@ make_item _ = None
 
 -- from 1 to 65535
 abbrev pub count_of : Bool → Piece → Option ℕ
-count_of sized p = option_and_then (λ v. within sized (int_le (pos 1) v && int_le v (pos 65535)) (nat_abs v) 0) (value_of sized p)
+count_of sized p = option_and_then (λ v. fitted sized (int_le (pos 1) v && int_le v (pos 65535)) (nat_abs v) 0) (value_of sized p)
 
 -- `N [V]`
 abbrev pub pseudo_stmt : Bool → List Piece → Option Stmt

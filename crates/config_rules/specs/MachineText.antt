@@ -120,13 +120,13 @@ abbrev pub in_match_range : ℤ → Bool
 in_match_range v = int_le (pos 0) v && int_le v (pos 65535)
 
 -- the match value that a word spells, and whether it is in its range
-abbrev pub match_value : List ℕ → Option (Option ℕ)
-match_value word = option_map (λ v. given (in_match_range v) (nat_abs v)) (number word)
+abbrev pub ranged_match : List ℕ → Option (Option ℕ)
+ranged_match word = option_map (λ v. given (in_match_range v) (nat_abs v)) (number word)
 
 -- `match ATTACHMENT SPOT V`, or `*` for every spot
 abbrev pub match_form : List ℕ → List ℕ → List ℕ → Option LineForm
 match_form attach spot value =
-    option_map (λ v. MatchOf attach (if bytes_eq spot (codes "*") then None else Some spot) v) (match_value value)
+    option_map (λ v. MatchOf attach (if bytes_eq spot (codes "*") then None else Some spot) v) (ranged_match value)
 
 -- `style ATTACHMENT ATTR direct` or `indirect`
 abbrev pub style_form : List ℕ → List ℕ → List ℕ → Option LineForm

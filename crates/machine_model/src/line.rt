@@ -14,7 +14,7 @@ use crate::locator::{FoundValue, count_located, given_values, names_differ};
 use crate::lookup::{attach_number, interface_number, spot_number};
 use crate::numbers::insert;
 use crate::spot::{fitting_site, make_spot};
-use crate::word::{are_marks, are_policies, differ, is_free_name, match_value, spells};
+use crate::word::{are_marks, are_policies, differ, is_free_name, ranged_match, spells};
 use cf_types::code::machine as code;
 use cf_types::{List, MatchLine, Memory, Spot, StyleLine};
 use machine_text::LineStop;
@@ -114,7 +114,7 @@ fn add_match(
     ensures left { Leaves (after_line index.now.tables.now draft.old.machine (match_form attach.now spot.now value.now)) result draft.new.machine }
     ensures draft { OnOk result (IsDraft draft.new) }
 {
-    let value = match match_value(value) {
+    let value = match ranged_match(value) {
         Some(value) => value,
         None => return Err(LineStop::Code(code::BAD_LINE)),
     };

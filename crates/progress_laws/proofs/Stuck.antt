@@ -24,7 +24,7 @@ use Rattle.run_rules.specs.declared.deed.Choice.TheVariants.{Ended, Waits, Does}
 use Rattle.run_rules.specs.World.{World, Caller, caller_at, has_ended, holds_in, is_held, is_number, is_pinned, is_referred, nobody, refers_to}
 use Rattle.run_rules.specs.Next.{by_activity, command_of, first_held, freeing, next, next_command, next_free, on_top, other_turn}
 use Rattle.run_rules.specs.Next as rules
-use Rattle.run_rules.specs.Sound.{IsFreed, IsSoundlyCondemned, IsSoundlyDeferred, is_power, is_scan_of}
+use Rattle.run_rules.specs.Sound.{IsFreed, IsSoundlyCondemned, IsSoundlyDeferred, is_powering, is_scan_of}
 use Rattle.run_rules.proofs.Devices.{none_of}
 use Rattle.run_rules.proofs.Free.{find_true}
 use Rattle.run_sound.specs.InFull.{IsUnheld, KeptInFull}
@@ -96,7 +96,7 @@ of_acts c h = subst Goes (sym h.1) tt
 command_goes : (w : World) (k : ℕ) → Goes (next_command w k)
 unfolding next_command
 command_goes w k =
-    option_both Goes _ (command_of w k) _ (λ c e. option_both Goes _ (cond (rules.is_power c) (other_turn w.power_owner k) None) _ (λ j t. tt) (λ t. tt))
+    option_both Goes _ (command_of w k) _ (λ c e. option_both Goes _ (cond (rules.is_powering c) (other_turn w.power_owner k) None) _ (λ j t. tt) (λ t. tt))
     (λ e. option_both Goes _ (first_held w k) _ (λ d h. tt) (λ h. tt))
 
 top_goes : (w : World) (k : ℕ) (fs : List Frame) → Goes (on_top w k fs)
@@ -179,7 +179,7 @@ module _ (w : World) (at : KeptInFull w) (stuck : NobodyDoes w) where
   no_turn : (j : ℕ) → w.power_owner ≢ Some j
   no_turn j owner = cases (caller_at w j).doing refl ((at.kept.sound.callers j).turn.0 (rw owner (eq-eqb j j refl)))
     where
-      cases : (a : Activity) → (caller_at w j).doing ≡ a → is_power a ≡ true → ⊥
+      cases : (a : Activity) → (caller_at w j).doing ≡ a → is_powering a ≡ true → ⊥
       cases (activity.Power what target) e h =
           never j (by_activity w j (activity.Power what target)) (next_is w j (rw e refl) (λ later. boot_over) ∙ ap (by_activity w j) e) (power_acts w j what target unpinned)
       cases activity.Idle e h = absurd cc

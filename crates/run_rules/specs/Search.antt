@@ -137,10 +137,10 @@ places_of t driver (Some a) = At a ∷ []
 places_of t driver None = option_map_or (λ d. map At (interfaces t.attrs t.devices d)) driver (Root ∷ [])
 
 -- whether a place is an indirect bus below this attachment: the last style line for both; direct without one, and at the root
-unfoldable pub style_of : Machine → Option ℕ → Place → Bool
-style_of m attach Root = false
-style_of m None (At a) = false
-style_of m (Some attach) (At a) =
+unfoldable pub is_bus_indirect : Machine → Option ℕ → Place → Bool
+is_bus_indirect m attach Root = false
+is_bus_indirect m None (At a) = false
+is_bus_indirect m (Some attach) (At a) =
     option_map_or (λ line. line.indirect) (find (λ line. line.attach == attach && line.attr == a) (reverse m.styles)) false
 
 -- the turns of one place below a spot: its child spots, or, where it is indirect, the pairs of one of so many rows and a child spot, rows first
@@ -153,14 +153,14 @@ bus_turns m rows true spot e =
 -- the turns of a scan below a device of this driver and attachment on this spot, place by place; without all three below the root
 unfoldable pub turns_of : Tables → Machine → Option ℕ → Option ℕ → Option ℕ → Option ℕ → List Turn
 turns_of t m driver attach spot only =
-    flat_map (λ e. bus_turns m (length t.rows) (style_of m attach e.1) spot e) (enumerate_from 0 (places_of t driver only))
+    flat_map (λ e. bus_turns m (length t.rows) (is_bus_indirect m attach e.1) spot e) (enumerate_from 0 (places_of t driver only))
 
 -- the same of the device of a serial
 abbrev pub scan_places : Setup → List Dev → ℕ → Option ℕ → List Place
 scan_places s live p only = places_of s.tables (driver_at s live p) only
 
 abbrev pub is_indirect : Setup → List Dev → ℕ → Place → Bool
-is_indirect s live p place = style_of s.machine (attach_at s live p) place
+is_indirect s live p place = is_bus_indirect s.machine (attach_at s live p) place
 
 abbrev pub turns_at : Setup → List Dev → ℕ → ℕ × Place → List Turn
 turns_at s live p e = bus_turns s.machine (length s.tables.rows) (is_indirect s live p e.1) (spot_of live p) e

@@ -4,7 +4,7 @@ ghost use Rattle.std.specs.List.{enumerate_from};
 ghost use Rattle.std.specs.Option.{option_map_or};
 ghost use Rattle.cf_types.specs.declared.tables.Place.TheVariants.{Root, At};
 ghost use Rattle.cf_types.specs.Offers as offer;
-ghost use Rattle.run_rules.specs.Search.{is_before, style_of, turns_of};
+ghost use Rattle.run_rules.specs.Search.{is_before, is_bus_indirect, turns_of};
 ghost use Rattle.attr_graph.specs.Graphs.{IsGraphOf, declared_by};
 ghost use Rattle.scan_engine.specs.Buses.{place_turns};
 ghost use Rattle.scan_engine.specs.Spans.{HoldsChildren};
@@ -53,10 +53,10 @@ fn is_indirect_by(machine: &Machine, attach: u32, attr: u32) -> bool
 }
 
 /// Whether a device of this attachment searches a place row by row.
-#[tactic(auto, unfolding(run_rules::specs::Search::style_of))]
+#[tactic(auto, unfolding(run_rules::specs::Search::is_bus_indirect))]
 #[inline(always)]
 fn is_indirect(machine: &Machine, attach: Option<u32>, place: Place) -> bool
-    ensures { result ≡ style_of machine.now attach place }
+    ensures { result ≡ is_bus_indirect machine.now attach place }
 {
     match (attach, place) {
         (_, Place::Root) => false,
