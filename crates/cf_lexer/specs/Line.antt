@@ -1,7 +1,8 @@
 -- What becomes of a line, and of a text.
 use Rattle.std.specs.Prelude.{◌≡◌, ℕ, ◌+◌, ◌-◌, ◌≤◌, length, take, drop, Bool, true, false, not, ◌&&◌, ◌==◌, List, [], ◌∷◌, ◌++◌, Option, Some, None, Result, Ok, Err}
 use Rattle.cf_types.specs.declared.stmt.Token.{Token}
-use Rattle.config_rules.specs.Cut.{Part, token, line_tokens, lines_of, parts_of, is_space, CutFault, ◌>>=◌}
+use Rattle.cf_types.specs.Lines.{lines_of}
+use Rattle.config_rules.specs.Cut.{Part, token, line_tokens, parts_of, is_space, CutFault, ◌>>=◌}
 use Rattle.cf_lexer.specs.declared.front.Span.{Span}
 use Rattle.cf_lexer.specs.declared.line.LexStop.{LexStop}
 use Rattle.cf_lexer.specs.declared.line.LexStop.TheVariants.{Fault, Memory}

@@ -11,7 +11,8 @@ use Rattle.cf_types.specs.declared.machine.Command.{Command}
 use Rattle.cf_types.specs.declared.machine.Command.TheVariants as command
 use Rattle.cf_types.specs.declared.machine.Given.{Given}
 use Rattle.cf_text.specs.Shapes.{in_range, number}
-use Rattle.config_rules.specs.Cut.{lines_of, ◌>>=◌}
+use Rattle.cf_types.specs.Lines.{lines_of}
+use Rattle.config_rules.specs.Cut.{◌>>=◌}
 use Rattle.config_rules.specs.Form.{given, ◌or◌}
 use Rattle.config_rules.specs.MachineText.{has_bad_byte, words_of}
 use Rattle.config_rules.specs.ScriptText.{CommandRow, FormedCommand, FormedScript, are_pairs, bad_sayings, code_after, command_of, commands, commands_in, commands_of, given_in, is_bounded, io_form, is_caller, spells_number, is_operand, is_turn, is_value, line_says, names_in, natural_within, number_within, value_within, on_any, on_one, one_operand, open_form, operand, order_of, pairs_of, rescan_form, rescan_on, row_of, sayings, sole_form, turns_code, turns_of, bad_turns, unless_bad, words_say}

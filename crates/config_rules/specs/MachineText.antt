@@ -16,7 +16,8 @@ use Rattle.cf_types.specs.declared.tables.Tables.{Tables}
 use Rattle.cf_types.specs.Locators.{locators_at}
 use Rattle.cf_types.specs.Offers.{is_interface}
 use Rattle.cf_text.specs.Shapes.{is_written, number, in_range}
-use Rattle.config_rules.specs.Cut.{lines_of, is_space, at_line, ◌>>=◌}
+use Rattle.cf_types.specs.Lines.{lines_of}
+use Rattle.config_rules.specs.Cut.{is_space, at_line, ◌>>=◌}
 use Rattle.config_rules.specs.Form.{given, each, ◌or◌}
 
 -- ---- lines and words

@@ -5,7 +5,8 @@ use Rattle.std.specs.Option.{option_map_or}
 use Rattle.cf_text.specs.Shapes.{is_written}
 use Rattle.cf_types.specs.declared.code.script.TheConstants.{NO_COMMAND, WRONG_WORDS, TOO_MANY_COMMANDS}
 use Rattle.cf_types.specs.declared.tables.Tables.{Tables}
-use Rattle.config_rules.specs.Cut.{at_line, lines_of, ◌>>=◌}
+use Rattle.cf_types.specs.Lines.{lines_of}
+use Rattle.config_rules.specs.Cut.{at_line, ◌>>=◌}
 use Rattle.config_rules.specs.MachineText.{has_bad_byte, words_of}
 use Rattle.run_rules.specs.World.{has}
 use Rattle.live_rules.specs.declared.code.TheConstants.{DEVICE_TWICE, GROUP_TWICE, NO_DEVICE, NO_GROUP}

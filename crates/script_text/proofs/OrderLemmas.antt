@@ -6,7 +6,8 @@ use Rattle.std.specs.Option.{option_map_or}
 use Rattle.std.proofs.lemmas.List.Elements.{filter_map-append}
 use Rattle.cf_text.specs.Shapes.{number}
 use Rattle.cf_types.specs.declared.code.script.TheConstants.{OUT_OF_RANGE, WRONG_WORDS}
-use Rattle.config_rules.specs.Cut.{lines_of, ◌>>=◌}
+use Rattle.cf_types.specs.Lines.{lines_of}
+use Rattle.config_rules.specs.Cut.{◌>>=◌}
 use Rattle.config_rules.specs.Form.{given, ◌or◌}
 use Rattle.config_rules.specs.MachineText.{has_bad_byte, words_of}
 use Rattle.config_rules.specs.ScriptText.{bad_turns, is_caller, spells_number, is_turn, natural_within, order_of, turns_code, turns_of, unless_bad, value_within}

@@ -4,7 +4,8 @@ use Rattle.std.specs.List.{enumerate_from, list_any}
 use Rattle.std.specs.Option.{option_map_or}
 use Rattle.std.specs.Result.{result_ok}
 use Rattle.cf_types.specs.declared.code.script.TheConstants.{NO_COMMAND, WRONG_WORDS}
-use Rattle.config_rules.specs.Cut.{lines_of, ◌>>=◌}
+use Rattle.cf_types.specs.Lines.{lines_of}
+use Rattle.config_rules.specs.Cut.{◌>>=◌}
 use Rattle.config_rules.specs.Form.{given, ◌or◌}
 use Rattle.config_rules.specs.MachineText.{has_bad_byte, words_of}
 use Rattle.config_rules.specs.ScriptText.{spells_number, natural_within, unless_bad}
