@@ -17,6 +17,7 @@ use Rattle.cf_types.specs.Locators.{locators_at}
 use Rattle.cf_types.specs.Offers.{is_interface}
 use Rattle.cf_text.specs.Shapes.{is_written, number, in_range}
 use Rattle.cf_types.specs.Lines.{lines_of}
+use Rattle.cf_types.specs.Lookups.{attach_number, attr_number, spot_number}
 use Rattle.config_rules.specs.Cut.{is_space, at_line, ◌>>=◌}
 use Rattle.config_rules.specs.Form.{given, each, ◌or◌}
 
@@ -176,22 +177,10 @@ line_form (word ∷ rest) =
 
 -- ---- what a line means after those before it
 
--- the number of an attribute of the tables
-abbrev pub attr_number : Tables → List ℕ → Option ℕ
-attr_number t name = position (λ a. bytes_eq a.name name) t.attrs
-
--- the number of an attachment of the tables
-abbrev pub attach_number : Tables → List ℕ → Option ℕ
-attach_number t name = position (λ a. bytes_eq a.name name) t.attaches
-
 -- the number of an interface attribute
 abbrev pub interface_number : Tables → List ℕ → Option ℕ
 interface_number t name =
-    option_and_then (λ a. given (is_interface t.attrs a) a) (attr_number t name)
-
--- the number of an earlier spot
-abbrev pub spot_number : List Spot → List ℕ → Option ℕ
-spot_number spots name = position (λ s. bytes_eq s.name name) spots
+    option_and_then (λ a. given (is_interface t.attrs a) a) (attr_number t.attrs name)
 
 -- the place of a spot, where its attribute is one and `root` stands on both sides or on none
 abbrev pub spot_place : Tables → List ℕ → List ℕ → Option Place
@@ -256,17 +245,17 @@ new_spot t spots name parent attr found marks =
 abbrev pub new_match : Tables → List Spot → List ℕ → Option (List ℕ) → Option ℕ → Result MatchLine ℕ
 new_match t spots attach spot value =
     option_map_or (λ code. Err code)
-    (given (is_none (attach_number t attach)) UNKNOWN_ATTACHMENT
+    (given (is_none (attach_number t.attaches attach)) UNKNOWN_ATTACHMENT
     or (given (option_map_or (λ name. is_none (spot_number spots name)) spot false) UNKNOWN_SPOT
     or given (is_none value) OUT_OF_RANGE))
-    (Ok (record { attach = unwrap_or (attach_number t attach) 0; spot = option_and_then (spot_number spots) spot; value = unwrap_or value 0 }))
+    (Ok (record { attach = unwrap_or (attach_number t.attaches attach) 0; spot = option_and_then (spot_number spots) spot; value = unwrap_or value 0 }))
 
 -- the style line, or its first code
 abbrev pub new_style : Tables → List ℕ → List ℕ → Bool → Result StyleLine ℕ
 new_style t attach attr indirect =
     option_map_or (λ code. Err code)
-    (given (is_none (attach_number t attach)) UNKNOWN_ATTACHMENT or given (is_none (interface_number t attr)) NO_INTERFACE)
-    (Ok (record { attach = unwrap_or (attach_number t attach) 0; attr = unwrap_or (interface_number t attr) 0; indirect = indirect }))
+    (given (is_none (attach_number t.attaches attach)) UNKNOWN_ATTACHMENT or given (is_none (interface_number t attr)) NO_INTERFACE)
+    (Ok (record { attach = unwrap_or (attach_number t.attaches attach) 0; attr = unwrap_or (interface_number t attr) 0; indirect = indirect }))
 
 -- a policy with those of the words added
 abbrev pub with_policies : List (List ℕ) → Policy → Policy
@@ -284,7 +273,7 @@ with_policies words p = record {
 abbrev pub new_policies : Tables → List ℕ → List (List ℕ) → List Policy → Result (List Policy) ℕ
 new_policies t attach words policies =
     option_map_or (λ a. Ok (map (λ e. if e.0 == a then with_policies words e.1 else e.1) (enumerate_from 0 policies)))
-    (attach_number t attach) (Err UNKNOWN_ATTACHMENT)
+    (attach_number t.attaches attach) (Err UNKNOWN_ATTACHMENT)
 
 -- the machine after a line of this form, or its first code
 abbrev pub after_line : Tables → Machine → Option LineForm → Result Machine ℕ

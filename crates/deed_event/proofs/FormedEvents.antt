@@ -11,6 +11,7 @@ use Rattle.cf_types.specs.declared.machine.Command.TheVariants as command
 use Rattle.cf_types.specs.declared.machine.Given.{Given}
 use Rattle.cf_types.specs.declared.machine.Spot.{Spot}
 use Rattle.cf_types.specs.declared.machine.Ticket.{Ticket}
+use Rattle.cf_types.specs.Lookups.{attr_number, spot_number}
 use Rattle.config_rules.specs.MachineText.{is_free_name}
 use Rattle.config_rules.specs.ScriptText.{FormedCommand, FormedScript}
 use Rattle.run_rules.specs.declared.event.Act.TheVariants as act
@@ -30,7 +31,7 @@ use Rattle.run_rules.specs.declared.deed.Deed.{Deed}
 use Rattle.run_rules.specs.declared.deed.Deed.TheVariants.{Search, EndScan, BeginInterrupts, Finalise, EndCaller, Drop, Refuse, Open, Close, Start, Done, Detach, Free, Rescan, BeginPower, Sleep, Wake, EndPower, Plug, Unplug, Tell}
 use Rattle.run_rules.specs.declared.deed.Choice.{Choice}
 use Rattle.run_rules.specs.declared.deed.Choice.TheVariants.{Does}
-use Rattle.run_rules.specs.Next.{attr_named, command_deed, command_of, has_nothing, hindered, is_hindrance, is_power, name_at, next, next_sleep, next_wake, on_device, on_held, powering, rescan_of, spot_named, suspending, telling, unless_hindered, waking, wanted_of}
+use Rattle.run_rules.specs.Next.{command_deed, command_of, has_nothing, hindered, is_hindrance, is_power, name_at, next, next_sleep, next_wake, on_device, on_held, powering, rescan_of, suspending, telling, unless_hindered, waking, wanted_of}
 use Rattle.run_rules.specs.References.{count_in}
 use Rattle.run_rules.specs.Run.{answer_of, answered, depth_name, end_of, event_of, got_of as named_of, list_names, number_of, power_name, printed, reply_of, shown_of, spot_name, told, tree_names}
 use Rattle.run_rules.specs.Tree.{tree_below}
@@ -218,7 +219,7 @@ rescan_fits : (w : World) (d : Dev) (said : Command) (attr : Option (List ℕ)) 
 unfolding rescan_of
 rescan_fits w d said None given fine locator attribute = fine
 rescan_fits w d said (Some name) given fine locator attribute =
-    by_option w said _ (attr_named w name) _
+    by_option w said _ (attr_number w.setup.tables.attrs name) _
     (λ a e. by_if w said (has (offered_by w.setup d.row) a) _ _ (by_option w said _ (wanted_of _ given) _ (λ wanted g. fine) locator) attribute) attribute
 
 command_fits : (w : World) (k n : ℕ) (said : Command) → AllNamed w → FitsDeed w said (command_deed w k n said)
@@ -263,10 +264,10 @@ command_fits w k n (command.ResumeTree name) named =
     device_fits w c name _ (λ d. tt) tt tt
 command_fits w k n (command.Plug name) named =
     let c : Command = command.Plug name in
-    by_option w c _ (spot_named w name) _ (λ x e. tt) tt
+    by_option w c _ (spot_number w.setup.machine.spots name) _ (λ x e. tt) tt
 command_fits w k n (command.Unplug name) named =
     let c : Command = command.Unplug name in
-    by_option w c _ (spot_named w name) _ (λ x e. by_option w c _ (device_on w.live x) _ (λ d f. hindered_fits w k c d.serial true _ named (λ n h. h) tt) tt) tt
+    by_option w c _ (spot_number w.setup.machine.spots name) _ (λ x e. by_option w c _ (device_on w.live x) _ (λ d f. hindered_fits w k c d.serial true _ named (λ n h. h) tt) tt) tt
 
 value_small : (value : ℕ) → nat_lt value (2 ^ 32) ≡ true → value < 2 ^ 32
 value_small value h = grind (arith, nat_tests, h)

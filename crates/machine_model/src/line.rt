@@ -1,6 +1,7 @@
 ghost use Rattle.std.specs.Prelude.{◌≡◌, ◌<◌, ◌≤◌, ◌&&◌, IfOk, IsTrue, OnOk, if◌then◌else◌, [], ◌∷◌, Some, None, bytes_eq, codes, length, map, nat_lt, option_map};
 ghost use Rattle.std.specs.List.{list_all};
-ghost use Rattle.config_rules.specs.MachineText.{after_line, driver_form, driver_line, is_spot, is_one, line_form, match_form, match_line, policy_words, spot_form, spot_line, spot_number, style_form, style_line};
+ghost use Rattle.cf_types.specs.Lookups.{spot_number};
+ghost use Rattle.config_rules.specs.MachineText.{after_line, driver_form, driver_line, is_spot, is_one, line_form, match_form, match_line, policy_words, spot_form, spot_line, style_form, style_line};
 ghost use Rattle.machine_model.specs.Found.{given_of};
 ghost use Rattle.machine_model.specs.Indexed.{IsDraft, IsIndex, with_spot};
 ghost use Rattle.machine_model.specs.Left.{Leaves, after_words};
