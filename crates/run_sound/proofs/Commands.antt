@@ -21,6 +21,7 @@ use Rattle.run_rules.specs.declared.deed.PowerEnd.TheVariants as ends
 use Rattle.run_rules.specs.declared.deed.Choice.TheVariants.{Does}
 use Rattle.run_rules.specs.References.{MayHold}
 use Rattle.run_rules.specs.Next.{command_deed, command_of, first_held, has_nothing, hindered, is_power, next_free, next_sleep, next_wake, other_turn, powering, ticket_of, wanted_of}
+use Rattle.run_sound.specs.Scripts.{power_command}
 
 -- ---- where a caller stands
 
