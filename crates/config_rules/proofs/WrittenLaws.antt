@@ -20,7 +20,7 @@ use Rattle.cf_types.specs.declared.stmt.Stmt.{Stmt}
 use Rattle.cf_types.specs.declared.stmt.Stmt.TheVariants as stmt
 use Rattle.cf_types.specs.declared.tables.Locator.{Locator}
 use Rattle.cf_text.specs.Shapes.{ends_with_digit, is_written, is_decimal, base_len, base_and_unit, base_before}
-use Rattle.config_rules.specs.Form.{◌or◌, alone, at_place, attach_stmt, attached, by_row, cond_form, count_of, defining, device_stmt, each, fixed_of, form_by, form_of, free_form, given, inst_stmt, is_before_last, is_chunk, is_mark, is_word, locator_name, locator_of, locators_of, marked_of, make_item, name_of, names_of, option_item, path_of, needs_of, no_inst, no_stmt, pairs_of, parted, parted_at, place_of, prefix_stmt, pseudo_stmt, row_by, row_of, table, TableRow, unit_chunk, value_of, with_body, with_default, fitted}
+use Rattle.config_rules.specs.Form.{◌or◌, alone, at_place, attach_stmt, attached, by_row, cond_form, count_of, defining, device_stmt, each, fixed_of, form_by, form_of, free_form, given, inst_stmt, is_chunk, is_mark, is_word, locator_name, locator_of, locators_of, marked_of, make_item, name_of, names_of, option_item, path_of, needs_of, no_inst, no_stmt, pairs_of, parted, parted_at, place_of, prefix_stmt, pseudo_stmt, row_by, row_of, table, TableRow, unit_chunk, value_of, with_body, with_default, fitted, places_and_name}
 use Rattle.config_rules.specs.Written.{AreLocators, IsName, IsUnit, IsWritten}
 use Rattle.config_rules.proofs.CutLaws.{both_left, both_right}
 
@@ -154,16 +154,29 @@ device_written (n ∷ ps) =
     if_both IsWritten (ends_with_digit n.text) None (defining true stmt.Device (n ∷ ps)) (λ _. tt)
     (λ plain. named_body stmt.Device n ps (λ locs needs shaped fit all. (shaped, plain, fit, all)))
 
+-- places and an attachment's name that may be written
+abbrev AreNamed : List (List ℕ) × Option (List ℕ) → Type 0
+AreNamed a = All IsName a.0 × IfSome a.1 IsName
+
+one_name : (name : List ℕ) → IsName name → All IsName (name ∷ [])
+one_name name own = All-cons IsName name [] own (All-nil IsName)
+
+places_named : (ps : List Piece) → IfSome (places_and_name ps) AreNamed
+places_named [] = tt
+places_named (n ∷ []) = if_map AreNamed _ (name_of n) (if_weaker IsName _ (name_of n) (λ place own. (one_name place own, tt)) (named n))
+places_named (n ∷ m ∷ ps) =
+    if_then AreNamed _ (name_of n)
+    (if_weaker IsName _ (name_of n) (λ place own.
+    if_both AreNamed (is_mark (codes ",") m) (option_map (λ rest. (place ∷ rest.0, rest.1)) (places_and_name ps)) _
+    (λ _. if_map AreNamed _ (places_and_name ps) (if_weaker AreNamed _ (places_and_name ps) (λ rest all. (All-cons IsName place rest.0 own all.0, all.1)) (places_named ps)))
+    (λ _. if_both AreNamed (is_word (codes "with") m) (option_map (λ name. (place ∷ [], Some name)) (alone name_of ps)) None
+    (λ _. if_map AreNamed _ (alone name_of ps) (if_weaker IsName _ (alone name_of ps) (λ name there. (one_name place own, there)) (if_alone IsName name_of named ps)))
+    (λ _. tt)))
+    (named n))
+
 attached_written : (device : List ℕ) (needs : List (List ℕ)) (ps : List Piece) → IsName device → All IsName needs → IfSome (attached device needs ps) IsWritten
 attached_written device needs ps shaped all =
-    if_both IsWritten (is_before_last (codes "with") ps) _ (option_map (λ places. stmt.Attach device places None needs) (names_of ps))
-    (λ _. if_then IsWritten _ (names_of (take (length ps - 2) ps))
-    (if_weaker (All IsName) _ (names_of (take (length ps - 2) ps)) (λ places here.
-    if_map IsWritten (λ name. stmt.Attach device places (Some name) needs) (alone name_of (drop (length ps - 1) ps))
-    (if_weaker IsName _ (alone name_of (drop (length ps - 1) ps)) (λ name own. (shaped, here, own, all)) (if_alone IsName name_of named (drop (length ps - 1) ps))))
-    (all_named (take (length ps - 2) ps))))
-    (λ _. if_map IsWritten (λ places. stmt.Attach device places None needs) (names_of ps)
-    (if_weaker (All IsName) _ (names_of ps) (λ places here. (shaped, here, tt, all)) (all_named ps)))
+    if_map IsWritten _ (places_and_name ps) (if_weaker AreNamed _ (places_and_name ps) (λ a are. (shaped, are.0, are.1, all)) (places_named ps))
 
 attach_written : (ps : List Piece) → IfSome (attach_stmt ps) IsWritten
 attach_written [] = tt
