@@ -99,35 +99,38 @@ long_enough ps h =
 
 -- ---- both ways
 
+-- places alone, and with a name
+abbrev pub plain : List (List ℕ) → List (List ℕ) × Option (List ℕ)
+plain places = (places, None)
+
+abbrev pub called : Option (List ℕ) → List (List ℕ) → Option (List (List ℕ) × Option (List ℕ))
+called a places = option_map (λ name. (places, Some name)) a
+
 -- a place before places with a name
 abbrev lift : List ℕ → List (List ℕ) × Option (List ℕ) → List (List ℕ) × Option (List ℕ)
 lift place rest = (place ∷ rest.0, rest.1)
 
-none_then : {A B : Type 0} (o : Option A) → option_and_then (λ (x : A). None {A = B}) o ≡ None
+none_then : {A B : Type 0} (o : Option A) → option_and_then {U = B} (λ x. None) o ≡ None
 none_then None = refl
 none_then (Some x) = refl
 
-one_plain : (o : Option (List ℕ)) → option_map (λ (places : List (List ℕ)). (places, None {A = List ℕ})) (option_map (λ place. place ∷ []) o) ≡ option_map (λ place. (place ∷ [], None)) o
+one_plain : (o : Option (List ℕ)) → option_map plain (option_map (λ place. place ∷ []) o) ≡ option_map (λ place. plain (place ∷ [])) o
 one_plain None = refl
 one_plain (Some x) = refl
 
-one_called : (o a : Option (List ℕ))
-    → option_and_then (λ (places : List (List ℕ)). option_map (λ (name : List ℕ). (places, Some name)) a) (option_map (λ place. place ∷ []) o)
-    ≡ option_and_then (λ place. option_map (λ (name : List ℕ). (place ∷ [], Some name)) a) o
+one_called : (o a : Option (List ℕ)) → option_and_then (called a) (option_map (λ place. place ∷ []) o) ≡ option_and_then (λ place. called a (place ∷ [])) o
 one_called None a = refl
 one_called (Some x) a = refl
 
 more_called : (o : Option (List ℕ)) (all : Option (List (List ℕ))) (a : Option (List ℕ))
-    → option_and_then (λ (places : List (List ℕ)). option_map (λ (name : List ℕ). (places, Some name)) a) (option_and_then (λ place. option_map (λ places. place ∷ places) all) o)
-    ≡ option_and_then (λ place. option_map (lift place) (option_and_then (λ (places : List (List ℕ)). option_map (λ (name : List ℕ). (places, Some name)) a) all)) o
+    → option_and_then (called a) (option_and_then (λ place. option_map (λ places. place ∷ places) all) o) ≡ option_and_then (λ place. option_map (lift place) (option_and_then (called a) all)) o
 more_called None all a = refl
 more_called (Some x) None a = refl
 more_called (Some x) (Some xs) None = refl
 more_called (Some x) (Some xs) (Some y) = refl
 
 more_plain : (o : Option (List ℕ)) (all : Option (List (List ℕ)))
-    → option_map (λ (places : List (List ℕ)). (places, None {A = List ℕ})) (option_and_then (λ place. option_map (λ places. place ∷ places) all) o)
-    ≡ option_and_then (λ place. option_map (lift place) (option_map (λ (places : List (List ℕ)). (places, None {A = List ℕ})) all)) o
+    → option_map plain (option_and_then (λ place. option_map (λ places. place ∷ places) all) o) ≡ option_and_then (λ place. option_map (lift place) (option_map plain all)) o
 more_plain None all = refl
 more_plain (Some x) None = refl
 more_plain (Some x) (Some xs) = refl
@@ -137,11 +140,10 @@ after_comma : (n m : Piece) (ps : List Piece) → is_mark (codes ",") m ≡ true
 after_comma n m ps comma = rw (before_more n m ps comma) (by (is_before_last (codes "with") ps) refl)
   where
     by : (b : Bool) → is_before_last (codes "with") ps ≡ b
-        → cond b (option_and_then (λ places. option_map (λ name. (places, Some name)) (alone name_of (drop (length (n ∷ m ∷ ps) - 1) (n ∷ m ∷ ps)))) (names_of (take (length (n ∷ m ∷ ps) - 2) (n ∷ m ∷ ps))))
-        (option_map (λ places. (places, None)) (names_of (n ∷ m ∷ ps)))
+        → cond b (option_and_then (called (alone name_of (drop (length (n ∷ m ∷ ps) - 1) (n ∷ m ∷ ps)))) (names_of (take (length (n ∷ m ∷ ps) - 2) (n ∷ m ∷ ps))))
+        (option_map plain (names_of (n ∷ m ∷ ps)))
         ≡ option_and_then (λ place. option_map (lift place)
-        (cond b (option_and_then (λ places. option_map (λ name. (places, Some name)) (alone name_of (drop (length ps - 1) ps))) (names_of (take (length ps - 2) ps)))
-        (option_map (λ places. (places, None)) (names_of ps)))) (name_of n)
+        (cond b (option_and_then (called (alone name_of (drop (length ps - 1) ps))) (names_of (take (length ps - 2) ps))) (option_map plain (names_of ps)))) (name_of n)
     by true e =
         let long : 2 < length ps = long_enough ps e in
         let last : length (n ∷ m ∷ ps) - 1 ≡ suc (suc (length ps - 1)) = omega (arith, long) in
@@ -157,21 +159,20 @@ too_many n m x y qs other = by (is_before_last (codes "with") (n ∷ m ∷ x ∷
     second = omega arith
 
     by : (b : Bool)
-        → cond b (option_and_then (λ places. option_map (λ name. (places, Some name)) (alone name_of (drop (length (n ∷ m ∷ x ∷ y ∷ qs) - 1) (n ∷ m ∷ x ∷ y ∷ qs))))
-        (names_of (take (length (n ∷ m ∷ x ∷ y ∷ qs) - 2) (n ∷ m ∷ x ∷ y ∷ qs))))
-        (option_map (λ places. (places, None)) (names_of (n ∷ m ∷ x ∷ y ∷ qs))) ≡ None
+        → cond b (option_and_then (called (alone name_of (drop (length (n ∷ m ∷ x ∷ y ∷ qs) - 1) (n ∷ m ∷ x ∷ y ∷ qs)))) (names_of (take (length (n ∷ m ∷ x ∷ y ∷ qs) - 2) (n ∷ m ∷ x ∷ y ∷ qs))))
+        (option_map plain (names_of (n ∷ m ∷ x ∷ y ∷ qs))) ≡ None
     by true = rw (second, names_two n m (take (length qs) (x ∷ y ∷ qs)) other) refl
     by false = rw (names_two n m (x ∷ y ∷ qs) other) refl
 
-called : (n m : Piece) (ps : List Piece) → is_mark (codes ",") m ≡ false → is_word (codes "with") m ≡ true
-    → by_end (n ∷ m ∷ ps) ≡ option_and_then (λ place. option_map (λ name. (place ∷ [], Some name)) (alone name_of ps)) (name_of n)
-called n m [] e f = rw (names_two n m [] e) (sym (none_then (name_of n)))
-called n m (x ∷ []) e f = by_place (is_mark (codes ",") n) refl
+with_name : (n m : Piece) (ps : List Piece) → is_mark (codes ",") m ≡ false → is_word (codes "with") m ≡ true
+    → by_end (n ∷ m ∷ ps) ≡ option_and_then (λ place. called (alone name_of ps) (place ∷ [])) (name_of n)
+with_name n m [] e f = rw (names_two n m [] e) (sym (none_then (name_of n)))
+with_name n m (x ∷ []) e f = by_place (is_mark (codes ",") n) refl
   where
-    by_place : (b : Bool) → is_mark (codes ",") n ≡ b → by_end (n ∷ m ∷ x ∷ []) ≡ option_and_then (λ place. option_map (λ name. (place ∷ [], Some name)) (alone name_of (x ∷ []))) (name_of n)
+    by_place : (b : Bool) → is_mark (codes ",") n ≡ b → by_end (n ∷ m ∷ x ∷ []) ≡ option_and_then (λ place. called (alone name_of (x ∷ [])) (place ∷ [])) (name_of n)
     by_place true g = rw (f, g, names_two n m (x ∷ []) e, comma_no_name n g) refl
     by_place false g = rw (f, g, names_one n) (one_called (name_of n) (name_of x))
-called n m (x ∷ y ∷ qs) e f = too_many n m x y qs e ∙ sym (none_then (name_of n))
+with_name n m (x ∷ y ∷ qs) e f = too_many n m x y qs e ∙ sym (none_then (name_of n))
 
 nothing : (n m : Piece) (ps : List Piece) → is_mark (codes ",") m ≡ false → is_word (codes "with") m ≡ false → by_end (n ∷ m ∷ ps) ≡ None
 nothing n m [] e f = rw (names_two n m [] e) refl
@@ -185,5 +186,5 @@ by_end_is (n ∷ m ∷ ps) = by (is_mark (codes ",") m) (is_word (codes "with") 
   where
     by : (c w : Bool) → is_mark (codes ",") m ≡ c → is_word (codes "with") m ≡ w → by_end ps ≡ places_and_name ps → by_end (n ∷ m ∷ ps) ≡ places_and_name (n ∷ m ∷ ps)
     by true w e f later = after_comma n m ps e ∙ rw (e, later) refl
-    by false true e f later = rw (e, f) (called n m ps e f)
+    by false true e f later = rw (e, f) (with_name n m ps e f)
     by false false e f later = rw (e, f) (nothing n m ps e f ∙ sym (none_then (name_of n)))
