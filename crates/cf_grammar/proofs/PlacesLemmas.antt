@@ -171,7 +171,10 @@ with_name n m (x ∷ []) e f = by_place (is_mark (codes ",") n) refl
   where
     by_place : (b : Bool) → is_mark (codes ",") n ≡ b → by_end (n ∷ m ∷ x ∷ []) ≡ option_and_then (λ place. called (alone name_of (x ∷ [])) (place ∷ [])) (name_of n)
     by_place true g = rw (f, g, names_two n m (x ∷ []) e, comma_no_name n g) refl
-    by_place false g = rw (f, g, names_one n) (one_called (name_of n) (name_of x))
+    by_place false g =
+        let ends : is_before_last (codes "with") (n ∷ m ∷ x ∷ []) ≡ true = rw (f, g) refl in
+        ap (λ b. cond b (option_and_then (called (name_of x)) (names_of (n ∷ []))) (option_map plain (names_of (n ∷ m ∷ x ∷ [])))) ends
+        ∙ ap (option_and_then (called (name_of x))) (names_one n) ∙ one_called (name_of n) (name_of x)
 with_name n m (x ∷ y ∷ qs) e f = too_many n m x y qs e ∙ sym (none_then (name_of n))
 
 nothing : (n m : Piece) (ps : List Piece) → is_mark (codes ",") m ≡ false → is_word (codes "with") m ≡ false → by_end (n ∷ m ∷ ps) ≡ None
@@ -186,5 +189,5 @@ by_end_is (n ∷ m ∷ ps) = by (is_mark (codes ",") m) (is_word (codes "with") 
   where
     by : (c w : Bool) → is_mark (codes ",") m ≡ c → is_word (codes "with") m ≡ w → by_end ps ≡ places_and_name ps → by_end (n ∷ m ∷ ps) ≡ places_and_name (n ∷ m ∷ ps)
     by true w e f later = after_comma n m ps e ∙ rw (e, later) refl
-    by false true e f later = rw (e, f) (with_name n m ps e f)
-    by false false e f later = rw (e, f) (nothing n m ps e f ∙ sym (none_then (name_of n)))
+    by false true e f later = with_name n m ps e f ∙ rw (e, f) refl
+    by false false e f later = nothing n m ps e f ∙ rw (e, f) (sym (none_then (name_of n)))
