@@ -170,7 +170,7 @@ with_name n m [] e f = rw (names_two n m [] e) (sym (none_then (name_of n)))
 with_name n m (x ∷ []) e f = by_place (is_mark (codes ",") n) refl
   where
     by_place : (b : Bool) → is_mark (codes ",") n ≡ b → by_end (n ∷ m ∷ x ∷ []) ≡ option_and_then (λ place. called (alone name_of (x ∷ [])) (place ∷ [])) (name_of n)
-    by_place true g = rw (f, g, names_two n m (x ∷ []) e, comma_no_name n g) refl
+    by_place true g = rw (f, g, comma_no_name n g) refl
     by_place false g =
         let ends : is_before_last (codes "with") (n ∷ m ∷ x ∷ []) ≡ true = rw (f, g) refl in
         ap (λ b. cond b (option_and_then (called (name_of x)) (names_of (n ∷ []))) (option_map plain (names_of (n ∷ m ∷ x ∷ [])))) ends
