@@ -1,6 +1,6 @@
 -- Tables that come and go: rows are added and taken away in groups while devices live, after config_cfdata_attach and
 -- config_cfdata_detach of autoconf(9). Winners, units and spots are those of a boot.
-use Rattle.std.specs.Prelude.{◌≡◌, ℕ, ◌+◌, Bool, true, false, not, ◌&&◌, ◌==◌, nat_le, if◌then◌else◌, List, [], ◌∷◌, ◌++◌, length, reverse, map, filter, find, fold, slice_get, Option, Some, None}
+use Rattle.std.specs.Prelude.{◌≡◌, ℕ, ◌+◌, Bool, true, false, not, ◌&&◌, ◌||◌, ◌==◌, nat_le, if◌then◌else◌, List, [], ◌∷◌, ◌++◌, length, reverse, map, filter, find, fold, slice_get, Option, Some, None}
 use Rattle.std.specs.List.{list_any, Contains}
 use Rattle.std.specs.Option.{option_map_or}
 use Rattle.cf_types.specs.Numbers.{below}
