@@ -96,7 +96,7 @@ of_acts c h = subst Goes (sym h.1) tt
 command_goes : (w : World) (k : ℕ) → Goes (next_command w k)
 unfolding next_command
 command_goes w k =
-    option_both Goes _ (command_of w k) _ (λ c e. option_both Goes _ (cond (rules.is_powering c) (other_turn w.power_owner k) None) _ (λ j t. tt) (λ t. tt))
+    option_both Goes _ (command_of w k) _ (λ c e. option_both Goes _ (cond (rules.is_power c) (other_turn w.power_owner k) None) _ (λ j t. tt) (λ t. tt))
     (λ e. option_both Goes _ (first_held w k) _ (λ d h. tt) (λ h. tt))
 
 top_goes : (w : World) (k : ℕ) (fs : List Frame) → Goes (on_top w k fs)
