@@ -1,8 +1,7 @@
 -- Where no bus is indirect, or no row has one unit alone, a boot leaves no hardware that some row would take.
-use Rattle.std.proofs.Common.{◌≡◌, ◌⊎◌, subst, ◌≤◌, ℕ, zero, suc, true, false, ◌&&◌, ◌==◌, List, [], ◌∷◌, find, reverse, length, Option, Some, None, refl, inl, inr, arith, slice_get}
+use Rattle.std.proofs.Common.{◌≡◌, ◌⊎◌, subst, ℕ, zero, suc, true, false, ◌&&◌, ◌==◌, List, [], ◌∷◌, find, reverse, Option, Some, None, refl, inl, inr, slice_get}
 use Rattle.std.specs.List.{AllByRecursion}
 use Rattle.std.specs.Option.{option_map_or}
-use Rattle.std.proofs.lemmas.Bool.{cases_lt}
 use Rattle.std.proofs.lemmas.Option.{same_Some}
 use Rattle.cf_types.specs.declared.tables.Row.{Row}
 use Rattle.cf_types.specs.declared.tables.Place.{Place}
@@ -11,12 +10,11 @@ use Rattle.cf_types.specs.declared.machine.Machine.{Machine}
 use Rattle.cf_types.specs.declared.machine.StyleLine.{StyleLine}
 use Rattle.run_rules.specs.declared.event.Event.{Event}
 use Rattle.run_rules.specs.declared.world.Dev.{Dev}
-use Rattle.run_rules.specs.declared.world.ParentRef.{ParentRef}
 use Rattle.run_rules.specs.declared.world.Setup.{Setup}
 use Rattle.run_rules.specs.World.{World, has, opening}
 use Rattle.run_rules.specs.Next.{arrival, place_of_spot}
 use Rattle.run_rules.specs.Run.{Boot}
-use Rattle.run_rules.specs.Search.{attach_at, is_candidate, is_indirect, is_occupied, is_open, parent_ref, is_bus_indirect, winner_at}
+use Rattle.run_rules.specs.Search.{attach_at, is_indirect, is_occupied, is_open, parent_ref, is_bus_indirect, winner_at}
 use Rattle.run_sound.specs.Kept.{MayRun}
 use Rattle.run_sound.proofs.Callers.{clash}
 use Rattle.run_sound.proofs.Candidates.{no_candidate}

@@ -7,7 +7,7 @@ use Rattle.std.proofs.lemmas.List.{get_or-map, length-map}
 use Rattle.cf_types.specs.declared.stmt.Piece.{Piece}
 use Rattle.cf_types.specs.declared.stmt.Stmt.{Stmt}
 use Rattle.cf_types.specs.declared.stmt.Stmt.TheVariants as stmt
-use Rattle.config_rules.specs.Form.{alone, attach_stmt, attached, is_mark, is_word, name_of, names_of, places_and_name}
+use Rattle.config_rules.specs.Form.{alone, attach_stmt, attached, is_mark, is_word, name_of, names_of}
 use Rattle.cf_words.proofs.ListLemmas.{list_any_one}
 use Rattle.cf_grammar.specs.Places.{by_end, is_before_last}
 use Rattle.cf_grammar.proofs.PlacesLemmas.{by_end_is, called, plain}

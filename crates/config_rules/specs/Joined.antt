@@ -1,6 +1,6 @@
 -- The attachment, the place, the parent and the locator values of an instance, or the first code that it has. Which
 -- attachment is taken, and what brackets and defaults of locators mean, is this project's profile after config(5).
-use Rattle.std.specs.Prelude.{ℕ, Bool, true, false, not, ◌&&◌, ◌==◌, if◌then◌else◌, List, [], ◌∷◌, ◌++◌, map, flat_map, find, bytes_eq, Option, Some, None, is_some, is_none, option_and_then, unwrap_or, ok_or, Result, Ok, Err, ℤ, pos}
+use Rattle.std.specs.Prelude.{ℕ, Bool, true, false, not, ◌&&◌, ◌==◌, if◌then◌else◌, List, [], ◌∷◌, ◌++◌, map, flat_map, find, Option, Some, None, is_some, is_none, option_and_then, unwrap_or, ok_or, Result, Ok, Err, ℤ, pos}
 use Rattle.std.specs.List.{list_any, enumerate_from}
 use Rattle.std.specs.Option.{option_map_or}
 use Rattle.cf_types.specs.declared.code.configuration.TheConstants.{UNKNOWN_ATTRIBUTE, NO_INTERFACE, UNKNOWN_DEVICE, NO_ATTACHMENT, NO_FITTING_ATTACHMENT, MISSING_LOCATOR, UNKNOWN_LOCATOR, LOCATOR_TWICE, NO_DEFAULT, UNIT_ON_ATTRIBUTE}

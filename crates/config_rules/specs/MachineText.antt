@@ -1,5 +1,5 @@
 -- What the lines of a machine file mean, or the first bad line and its code. The format is this project's own.
-use Rattle.std.specs.Prelude.{ℕ, zero, suc, Bool, true, false, not, ◌&&◌, ◌||◌, ◌==◌, nat_lt, nat_le, if◌then◌else◌, List, [], ◌∷◌, ◌++◌, length, drop, take_while, map, filter, find, position, slice_get, bytes_eq, codes, Option, Some, None, is_some, is_none, option_map, option_and_then, unwrap_or, Result, Ok, Err, ℤ, pos, negsuc, nat_abs, int_le}
+use Rattle.std.specs.Prelude.{ℕ, zero, suc, Bool, true, false, not, ◌&&◌, ◌||◌, ◌==◌, nat_lt, nat_le, if◌then◌else◌, List, [], ◌∷◌, ◌++◌, length, drop, take_while, map, filter, find, slice_get, bytes_eq, codes, Option, Some, None, is_some, is_none, option_map, option_and_then, unwrap_or, Result, Ok, Err, ℤ, pos, negsuc, nat_abs, int_le}
 use Rattle.std.specs.List.{list_all, list_any, slice_split, before_first, after_first, enumerate_from}
 use Rattle.std.specs.Option.{option_map_or}
 use Rattle.cf_types.specs.Policies.{no_policy}

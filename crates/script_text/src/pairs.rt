@@ -3,7 +3,7 @@ ghost use Rattle.config_rules.specs.ScriptText.{are_pairs, given_in, pairs_of};
 ghost use Rattle.machine_text.specs.Words.{seen};
 ghost use Rattle.script_text.specs.Left.{Leaves};
 
-use crate::operand::{spells_number, is_operand, operand, written_value};
+use crate::operand::{is_operand, operand, spells_number, written_value};
 use cf_types::code::script as code;
 use cf_types::{Given, List};
 use machine_text::LineStop;

@@ -4,7 +4,7 @@ ghost use Rattle.machine_text.specs.Words.{seen};
 ghost use Rattle.script_text.specs.Left.{Leaves, Says};
 ghost use Rattle.script_text.specs.WatchText.{FormedWatchLine, boot_line, subscriber_in, subscriber_of, turn_line, watch_by, watch_verb, watch_word, watch_words};
 
-use crate::operand::{spells_number, number_between};
+use crate::operand::{number_between, spells_number};
 use cf_types::code::script as code;
 use machine_text::LineStop;
 
