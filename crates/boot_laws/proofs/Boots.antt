@@ -114,7 +114,7 @@ passed_over w p place x r indirect won other = cases (winner w.setup [] (parent_
     was = was_candidate w.setup w.live ref place x r (winner_candidate w.setup w.live ref place x r won)
 
     cases : (o : Option ℕ) → winner w.setup [] ref place x ≡ o → IsPassedOver w p place x
-    cases None none = clash (is_candidate w.setup [] ref place x r) was (no_candidate w.setup [] ref place x none r (winner_below w.setup w.live ref place x r won))
+    cases None none = clash (is_candidate w.setup [] ref place x r) was (no_candidate w.setup [] ref place x none r)
     cases (Some q) first =
         let gone : is_candidate w.setup w.live ref place x q ≡ false =
         false_from_ne_true (is_candidate w.setup w.live ref place x q) (λ h. other (first ∙ sym (still_first w.setup w.live ref place x q first h) ∙ won)) in
