@@ -13,7 +13,7 @@ use Rattle.cf_types.proofs.ListLemmas.{found_passes, slice_get_some}
 use Rattle.run_rules.specs.declared.world.Dev.{Dev}
 use Rattle.run_rules.specs.declared.world.ParentRef.{ParentRef}
 use Rattle.run_rules.specs.declared.world.Setup.{Setup}
-use Rattle.run_rules.specs.Search.{fits, found_at, is_candidate, is_live_row, is_taken, is_winner, match_value, value_of, winner}
+use Rattle.run_rules.specs.Search.{fits, found_at, is_candidate, is_live_row, is_taken, match_value, value_of, winner}
 use Rattle.run_rules.specs.World.{attach_of, driver_of, row_at}
 use Rattle.run_rules.proofs.Below.{and_both, at_below, find_below, find-none}
 use Rattle.match_reasons.specs.declared.reason.Reason.{Reason}
@@ -21,7 +21,7 @@ use Rattle.match_reasons.specs.declared.reason.Reason.TheVariants.{Parent, Locat
 use Rattle.match_reasons.specs.Laws.{Applies, HasUnit, IsBetter, IsFirst, precedes}
 use Rattle.match_reasons.specs.Reasons.{beaten, first_of, fits_at, kept_off, missed_locator, no_match, other_parent, reason, reason_of, unit_taken}
 use Rattle.match_reasons.proofs.Finds.{before_found, clash, found_in, none_below, none_in, past_end}
-use Rattle.match_reasons.proofs.Bests.{no_candidate}
+use Rattle.match_reasons.proofs.Bests.{no_candidate, winner_best}
 
 -- ---- locators: submatch passes exactly where each locator fits
 
@@ -240,8 +240,7 @@ true_same : (r : ℕ) → (r == r) ≡ true
 true_same r = grind (arith, nat_tests)
 
 pub winner_candidate : (s : Setup) (live : List Dev) (p : ParentRef) (place : Place) (x q : ℕ) → winner s live p place x ≡ Some q → is_candidate s live p place x q ≡ true
-unfolding winner is_winner
-winner_candidate s live p place x q e = (and_both (is_candidate s live p place x q) _ (found_passes (is_winner s live p place x) (below (length s.tables.rows)) q e)).0
+winner_candidate s live p place x q e = (winner_best s live p place x q e).candidate
 
 wins : (s : Setup) (live : List Dev) (p : ParentRef) (place : Place) (x r : ℕ) (row : Row) → r < length s.tables.rows → row_at s r ≡ Some row
     → reason_of s live p place x r row ≡ None → winner s live p place x ≡ Some r
