@@ -1,7 +1,6 @@
 -- A reason that is told applies, and none before it does.
-use Rattle.std.proofs.Common.{◌≡◌, ◌⊎◌, ◌<◌, ◌≤◌, ◌∙◌, ℕ, zero, suc, Bool, true, false, not, ◌&&◌, ◌||◌, ◌==◌, nat_lt, nat_le, if◌then◌else◌, List, [], ◌∷◌, find, length, slice_get, Option, Some, None, option_map, option_and_then, refl, sym, ap, subst, inl, inr, arith, ℤ}
-use Rattle.std.specs.List.{list_all}
-use Rattle.std.specs.Option.{option_map_or, option_or}
+use Rattle.std.proofs.Common.{◌≡◌, ◌⊎◌, ◌<◌, ◌≤◌, ◌∙◌, ℕ, zero, suc, Bool, true, false, not, ◌&&◌, ◌==◌, nat_lt, if◌then◌else◌, List, [], ◌∷◌, find, length, slice_get, Option, Some, None, option_map, refl, ap, subst, inl, inr, arith, ℤ}
+use Rattle.std.specs.Option.{option_or}
 use Rattle.std.proofs.lemmas.Bool.{cases_lt}
 use Rattle.std.proofs.lemmas.Bool.Decides.{nat_tests}
 use Rattle.cf_types.specs.declared.tables.Locator.{Locator as Loc}
@@ -15,14 +14,14 @@ use Rattle.run_rules.specs.declared.world.ParentRef.{ParentRef}
 use Rattle.run_rules.specs.declared.world.Setup.{Setup}
 use Rattle.run_rules.specs.Search.{fits, found_at, is_candidate, match_value, value_of, winner}
 use Rattle.run_rules.specs.World.{driver_of, row_at}
-use Rattle.run_rules.proofs.Below.{and_both, at_below}
+use Rattle.run_rules.proofs.Below.{and_both}
 use Rattle.match_reasons.specs.declared.reason.Reason.{Reason}
 use Rattle.match_reasons.specs.declared.reason.Reason.TheVariants.{Parent, Locator as Missed, NoMatch, Taken, Beaten}
 use Rattle.match_reasons.specs.Laws.{Applies, HasUnit, IsBetter, IsFirst, precedes}
 use Rattle.match_reasons.specs.Reasons.{beaten, first_of, fits_at, kept_off, missed_locator, no_match, other_parent, reason, reason_of, unit_taken}
 use Rattle.match_reasons.proofs.Bests.{winner_best}
 use Rattle.match_reasons.proofs.Finds.{before_found, clash, found_in, none_in}
-use Rattle.match_reasons.proofs.ReasonLaws.{AreNone, are_none, candidate_of, is_zero, matched, no_parent, none_missed, not_false, not_true, passes_by, same_true, winner_candidate}
+use Rattle.match_reasons.proofs.ReasonLaws.{AreNone, are_none, candidate_of, is_zero, matched, no_parent, none_missed, not_false, not_true, passes_by, same_true}
 
 less_true : (j i : ℕ) → nat_lt j i ≡ true → j < i
 less_true j i h = grind (arith, nat_tests)

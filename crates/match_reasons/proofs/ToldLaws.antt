@@ -1,6 +1,6 @@
 -- What is told of the rows below a number, one row more; and each row is told or counted.
-use Rattle.std.proofs.Common.{◌≡◌, ◌≤◌, ◌<◌, ◌+◌, ◌∙◌, ℕ, zero, suc, Bool, true, false, not, ◌&&◌, ◌==◌, cond, List, [], ◌∷◌, ◌++◌, filter, map, length, slice_get, Option, Some, None, refl, sym, ap, subst, add-one, arith}
-use Rattle.std.specs.List.{All, Contains, count_by, list_any}
+use Rattle.std.proofs.Common.{◌≡◌, ◌≤◌, ◌+◌, ◌∙◌, ℕ, zero, suc, Bool, true, false, not, ◌&&◌, ◌==◌, cond, List, [], ◌∷◌, ◌++◌, filter, map, length, slice_get, Option, Some, None, refl, sym, ap, subst, add-one, arith}
+use Rattle.std.specs.List.{Contains, count_by, list_any}
 use Rattle.std.specs.Option.{IfSome, option_map_or}
 use Rattle.std.proofs.lemmas.Bool.Decides.{nat_tests}
 use Rattle.std.proofs.lemmas.List.{length-append, map-append}
@@ -17,13 +17,11 @@ use Rattle.run_rules.specs.declared.world.ParentRef.{ParentRef}
 use Rattle.run_rules.specs.declared.world.Setup.{Setup}
 use Rattle.run_rules.specs.Search.{fits, names_parent, parent_offers, parent_ref, winner}
 use Rattle.run_rules.specs.World.{device_at, row_at, same_place}
-use Rattle.run_rules.proofs.Below.{and_both}
 use Rattle.run_rules.proofs.Free.{winner_below}
 use Rattle.match_reasons.specs.declared.reason.RowReason.{RowReason}
-use Rattle.match_reasons.specs.declared.told.Told.{Told}
 use Rattle.match_reasons.specs.Searches.{parent_by}
 use Rattle.match_reasons.specs.Laws.{TellsAll}
-use Rattle.match_reasons.specs.Reasons.{could_stand, has_attachment, others, reasons, row_reason, spot_place, told_of}
+use Rattle.match_reasons.specs.Reasons.{could_stand, others, reasons, row_reason, spot_place, told_of}
 use Rattle.match_reasons.proofs.Finds.{any_at, any_in}
 use Rattle.match_reasons.proofs.ReasonLaws.{passes_of, winner_candidate}
 
