@@ -1,7 +1,7 @@
 use Rattle.std.proofs.Common.{ap, sym}
-use Rattle.cf_lexer.specs.Line.{head_line}
+use Rattle.cf_lexer.specs.Lines.{head_line}
 use Rattle.cf_lexer.proofs.TextLemmas.{line_at, line_whole}
-use Rattle.cf_lexer.proofs.line.first_line.Goals as goal
+use Rattle.cf_lexer.proofs.front.first_line.Goals as goal
 
 pub returns-in-Some : goal.returns-in-Some
 returns-in-Some c = sym (ap head_line (line_at c.args.text.now c.in-Some.place c.in-Some.ensures))
