@@ -1,9 +1,11 @@
 -- The reading of a file, statement by statement.
-use Rattle.std.specs.Prelude.{◌≡◌, ℕ, ◌-◌, ◌==◌, Bool, List, [], ◌∷◌, ◌++◌, if◌then◌else◌, Option, Some, None, IfOk, Result, ⊤}
+use Rattle.std.specs.Prelude.{◌≡◌, ℕ, ◌-◌, ◌==◌, Bool, List, [], ◌∷◌, ◌++◌, if◌then◌else◌, true, Option, Some, None, IfOk, Result, ⊤}
 use Rattle.cf_types.specs.declared.stmt.Expanded.{Expanded}
 use Rattle.cf_types.specs.declared.stmt.Stmt.TheVariants as stmt
 use Rattle.cf_grammar.specs.Statement.{AreWithin}
 use Rattle.config_rules.specs.Reading.{Files, Here, Level, Statement, Reader, Reading, include, statements_in, place, pop_prefix, read_statements, reader, refused, under_prefix}
+use Rattle.cf_lexer.specs.Rest.{MayRest, all_tokens, is_closed}
+use Rattle.cf_lexer.specs.declared.rest.Cutting.{Cutting}
 use Rattle.cf_expand.specs.declared.source.Include.{Include}
 use Rattle.cf_expand.specs.declared.source.Opened.{Opened}
 use Rattle.cf_expand.specs.declared.source.Source.{Source}
@@ -37,7 +39,7 @@ turned here s (Some path) r =
 abbrev pub entered : Files → ℕ → Option Opened → Reading → Reading
 entered files around None r = r
 entered files around (Some o) r =
-    read_statements files (reader o.source.levels files) (here_of around o.source) [] (statements_in o.source.text o.tokens) r
+    read_statements files (reader o.source.levels files) (here_of around o.source) [] (statements_in o.source.text (all_tokens o.source.text o.cutting)) r
 
 -- an include on this line whose file is absent
 abbrev pub when_absent : Source → ℕ → List ℕ → Bool → Reading → Reading
@@ -53,7 +55,13 @@ WhereTold told P = (files : Files) → told ≡ Some files → P files
 abbrev pub expanded : Reading → Expanded
 expanded r = record { placed = r.placed; files = r.files; fault = r.fault }
 
--- a file that was opened has so much room for conditions and so many levels below it, and its tokens lie within it
+-- a text was cut up to its rest, and all of its tokens lie within it
+pub record IsCutting (text : List ℕ) (c : Cutting) : Type 0 where
+  pub within : AreWithin text (all_tokens text c)
+  pub closed : is_closed c.tokens ≡ true
+  pub rest : MayRest text c.rest
+
+-- a file that was opened has so much room for conditions and so many levels below it, and its text was cut
 abbrev pub IsBelow : ℕ → ℕ → Option Opened → Type 0
 IsBelow room levels None = ⊤
-IsBelow room levels (Some o) = (o.source.room ≡ room) × (o.source.levels ≡ levels) × AreWithin o.source.text o.tokens
+IsBelow room levels (Some o) = (o.source.room ≡ room) × (o.source.levels ≡ levels) × IsCutting o.source.text o.cutting

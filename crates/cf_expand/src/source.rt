@@ -3,7 +3,8 @@ ghost use Rattle.cf_grammar.specs.Statement.{AreWithin};
 ghost use Rattle.cf_expand.specs.Lines.{statement_of};
 
 use crate::statement::Statement;
-use cf_types::{List, Text, Token};
+use cf_lexer::Cutting;
+use cf_types::{Text, Token};
 
 /// A file that is being read.
 #[derive(Drop)]
@@ -29,11 +30,11 @@ impl Source {
     }
 }
 
-/// A file that was opened, with the tokens of its text.
+/// A file that was opened, with its text cut into tokens.
 #[derive(Drop)]
 pub struct Opened {
     pub source: Source,
-    pub tokens: List<Token>,
+    pub cutting: Cutting,
 }
 
 /// The path of an `include`, or of a `cinclude`, whose file may be absent.

@@ -1,12 +1,13 @@
 -- What is wrong with a line, part by part and byte by byte.
-use Rattle.std.proofs.Common.{◌≡◌, ℕ, zero, suc, ◌+◌, ◌<◌, ◌≤◌, Bool, true, false, cond, Option, Some, None, Result, List, [], ◌∷◌, length, take, drop, refl, ap, sym, ◌∙◌, subst, arith, Ok, Err, one-add, add-one, inl, inr, ◌++◌, length-drop}
+use Rattle.std.proofs.Common.{◌≡◌, ℕ, zero, suc, ◌+◌, ◌<◌, ◌≤◌, Bool, true, false, cond, Option, Some, None, Result, List, [], ◌∷◌, length, take, drop, refl, ap, sym, ◌∙◌, subst, arith, Ok, Err, one-add, add-one, inl, inr, ◌⊎◌, ◌++◌, length-drop}
 use Rattle.std.specs.Prelude.{◌==◌, ◌||◌, IfSome}
 use Rattle.std.specs.List.{prefix_len}
 use Rattle.std.proofs.lemmas.Bool.{false_from_ne_true, or_cases}
 use Rattle.std.proofs.lemmas.List.{drop-drop}
 use Rattle.std.proofs.lemmas.List.Sums.{prefix_len-le-length}
 use Rattle.cf_types.specs.declared.stmt.Token.{Token}
-use Rattle.config_rules.specs.Cut.{Part, all_parts, at_line, is_chunk_byte, is_mark_byte, is_space, lines_of, parts_of, parts_within, ◌>>=◌}
+use Rattle.cf_types.specs.declared.stmt.TokenKind.TheVariants as kind
+use Rattle.config_rules.specs.Cut.{Part, all_parts, at_line, is_chunk_byte, is_mark_byte, is_space, lines_of, parts_of, token, ◌>>=◌}
 use Rattle.cf_lexer.specs.declared.front.Front.{Front}
 use Rattle.cf_lexer.specs.declared.line.LexStop.{LexStop}
 use Rattle.cf_lexer.specs.declared.line.LexStop.TheVariants.{Fault, Memory}
@@ -37,6 +38,12 @@ front_goes c cs f e fits =
 pub front_stops : (c code : ℕ) (cs : List ℕ) → Err code ≡ front_at c cs → GoesBy (c ∷ cs) (Err code)
 front_stops c code cs e = sym (with_code [] 0 0 (parts_of (c ∷ cs))) ∙ ap error_of (line_stops [] 0 0 code c cs e)
 
+chunk_code : (c : ℕ) (cs : List ℕ) → is_chunk_byte c ≡ true → code_of (drop (prefix_len is_chunk_byte cs + 1) (c ∷ cs)) ≡ code_of (c ∷ cs)
+chunk_code c cs h =
+    let n = prefix_len is_chunk_byte cs + 1 in
+    let after : List Token = token kind.Chunk 0 (0 + n) 0 ∷ [] in
+    goes_code [] after 0 0 n (c ∷ cs) (chunk_goes_on [] after 0 0 c cs n h refl refl)
+
 -- behind a run of bytes of a chunk
 chunk_behind : (cs : List ℕ) → code_of (drop (prefix_len is_chunk_byte cs) cs) ≡ code_of cs
 chunk_behind [] = refl
@@ -46,20 +53,22 @@ chunk_behind (d ∷ ds) = by_test (is_chunk_byte d) refl
     by_test true e =
         let n : prefix_len is_chunk_byte (d ∷ ds) ≡ prefix_len is_chunk_byte ds + 1 = ap (λ b. cond b (1 + prefix_len is_chunk_byte ds) 0) e ∙ omega arith in
         ap (λ m. code_of (drop m (d ∷ ds))) n
-        ∙ goes_code [] _ 0 0 (prefix_len is_chunk_byte ds + 1) (d ∷ ds) (chunk_goes_on [] _ 0 0 d ds (prefix_len is_chunk_byte ds + 1) e refl refl)
+        ∙ chunk_code d ds e
     by_test false e = ap (λ b. code_of (drop (cond b (1 + prefix_len is_chunk_byte ds) 0) (d ∷ ds))) e
 
 -- a byte that is allowed changes nothing
 pub plain_goes : (c : ℕ) (cs : List ℕ) → is_plain_byte c ≡ true → code_of cs ≡ code_of (c ∷ cs)
 plain_goes c cs h =
-    elim (or_cases (is_space c) (is_chunk_byte c || is_mark_byte c) h) [
-      | inl e ↦ goes_code [] [] 0 0 1 (c ∷ cs) (blank_goes_on [] 0 0 c cs e)
-      | inr more ↦ elim (or_cases (is_chunk_byte c) (is_mark_byte c) more) [
-          | inl e ↦ sym (chunk_behind cs) ∙ ap (λ m. code_of (drop m (c ∷ cs))) (sym add-one)
-              ∙ goes_code [] _ 0 0 (prefix_len is_chunk_byte cs + 1) (c ∷ cs) (chunk_goes_on [] _ 0 0 c cs (prefix_len is_chunk_byte cs + 1) e refl refl)
-          | inr e ↦ goes_code [] _ 0 0 1 (c ∷ cs) (mark_goes_on [] _ 0 0 c cs e refl)
-        ]
-    ]
+    by_kind (or_cases (is_space c || is_chunk_byte c) (is_mark_byte c) h)
+  where
+    mark : List Token
+    mark = token kind.Mark 0 (0 + 1) 0 ∷ []
+    by_two : (is_space c ≡ true) ⊎ (is_chunk_byte c ≡ true) → code_of cs ≡ code_of (c ∷ cs)
+    by_two (inl e) = goes_code [] [] 0 0 1 (c ∷ cs) (blank_goes_on [] 0 0 c cs e)
+    by_two (inr e) = sym (chunk_behind cs) ∙ ap (λ m. code_of (drop m (c ∷ cs))) (sym (add-one (prefix_len is_chunk_byte cs))) ∙ chunk_code c cs e
+    by_kind : ((is_space c || is_chunk_byte c) ≡ true) ⊎ (is_mark_byte c ≡ true) → code_of cs ≡ code_of (c ∷ cs)
+    by_kind (inl e) = by_two (or_cases (is_space c) (is_chunk_byte c) e)
+    by_kind (inr e) = goes_code [] mark 0 0 1 (c ∷ cs) (mark_goes_on [] mark 0 0 c cs e refl)
 
 -- nor does a run of them
 plain_run : (n : ℕ) (line : List ℕ) → n ≤ prefix_len is_plain_byte line → code_of (drop n line) ≡ code_of line
@@ -78,7 +87,7 @@ run_goes first n more h is =
     let fits : n ≤ length (first_of more) = omega (arith, run, prefix_len-le-length is_plain_byte (first_of more)) in (
       omega arith,
       omega (arith, fits),
-      ap (λ m. code_of (drop m (first ∷ first_of more))) add-one ∙ plain_run n (first_of more) (omega (arith, run)) ∙ plain_goes first (first_of more) h,
+      ap (λ m. code_of (drop m (first ∷ first_of more))) (add-one n) ∙ plain_run n (first_of more) (omega (arith, run)) ∙ plain_goes first (first_of more) h,
     )
 
 -- ---- the rest of a line

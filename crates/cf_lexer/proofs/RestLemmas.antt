@@ -1,5 +1,5 @@
 -- What is left of a text from a statement on.
-use Rattle.std.proofs.Common.{◌≡◌, ℕ, zero, suc, ◌+◌, ◌-◌, ◌<◌, ◌≤◌, ◌&&◌, Bool, true, false, cond, not, Option, Some, None, Result, List, [], ◌∷◌, ◌++◌, length, take, drop, refl, ap, sym, ◌∙◌, subst, arith, Ok, Err, append_assoc, append-nil, length-append}
+use Rattle.std.proofs.Common.{◌≡◌, ℕ, zero, suc, ◌+◌, ◌-◌, ◌<◌, ◌≤◌, ◌&&◌, ◌||◌, Bool, true, false, cond, not, Option, Some, None, Result, List, [], ◌∷◌, ◌++◌, length, take, drop, refl, ap, sym, ◌∙◌, subst, arith, Ok, Err, append_assoc, append-nil, length-append}
 use Rattle.std.specs.Prelude.{All, IfSome, ◌==◌, bytes_eq, find, slice_range, take_while}
 use Rattle.std.specs.List.{list_any, onto_first, prefix_len}
 use Rattle.std.proofs.lemmas.Bool.{false_from_ne_true}
@@ -10,17 +10,19 @@ use Rattle.cf_types.specs.declared.keyword.TheConstants.{CONDITION_WORDS}
 use Rattle.cf_types.specs.declared.stmt.CondWord.{CondWord}
 use Rattle.cf_types.specs.declared.stmt.Token.{Token}
 use Rattle.cf_types.specs.declared.stmt.TokenKind.TheVariants as kind
-use Rattle.config_rules.specs.Cut.{Part, Space, Comment, Quoted, Chunk, Mark, LineCut, all_parts, at_line, begins_statement, first_part, has_token, is_chunk_byte, is_over, is_space, is_stop, line_tokens, lines_of, lines_tokens, parts_of, piece, quoted_part, spelling, statements, stop_behind, token, ◌>>=◌}
+use Rattle.config_rules.specs.Cut.{Part, Space, Comment, Quoted, Chunk, Mark, LineCut, all_parts, at_line, begins_statement, cut_of, first_part, has_token, is_chunk_byte, is_over, is_space, is_stop, line_tokens, lines_of, lines_tokens, parts_of, piece, quoted_part, spelling, statements, stop_behind, token, ◌>>=◌}
 use Rattle.config_rules.specs.Form.{condition_spelling, is_word}
 use Rattle.config_rules.proofs.CutLaws.{both_left, both_right, parts_sound}
 use Rattle.config_rules.proofs.Parts.{cond_both, first_cases, parts_step}
 use Rattle.cf_lexer.specs.declared.rest.Rest.{Rest}
-use Rattle.cf_lexer.specs.Check.{code_of, error_of}
-use Rattle.cf_lexer.specs.Line.{with_line}
+use Rattle.cf_lexer.specs.declared.line.LexStop.{LexStop}
+use Rattle.cf_lexer.specs.declared.line.LexStop.TheVariants.{Fault, Memory}
+use Rattle.cf_lexer.specs.Check.{TellsFault, code_of, error_of, fault_from}
+use Rattle.cf_lexer.specs.Line.{Shows, with_line}
 use Rattle.cf_lexer.specs.Lines.{begins, first_of, lines_from, rest_of}
 use Rattle.cf_lexer.specs.Rest.{IsNext, IsRest, MayRest, Passes, condition_in, first_condition, is_closed, is_condition_word, names_condition, rest_tokens, tokens_from, value_or_none}
 use Rattle.cf_lexer.proofs.PlaceLemmas.{first_and_rest, next_place, next_within, place_of, run_in_line, so_far_at, text_further}
-use Rattle.cf_lexer.proofs.TextLemmas.{begins_cut, start_with, text_ends}
+use Rattle.cf_lexer.proofs.TextLemmas.{begins_cut, start_with, text_begins, text_ends}
 use Rattle.cf_lexer.proofs.TextWords.{finish, with_stop}
 
 -- ---- where tokens are given
@@ -101,11 +103,11 @@ IsPlain t = is_stop t ≡ false
 
 pub line_plain : (line at : ℕ) (ps : List Part) → All IsPlain (line_tokens line at ps)
 line_plain line at [] = All-nil IsPlain
-line_plain line at (Space c ∷ ps) = line_plain line _ ps
-line_plain line at (Comment b ∷ ps) = line_plain line _ ps
-line_plain line at (Quoted b ∷ ps) = All-cons IsPlain _ _ refl (line_plain line _ ps)
-line_plain line at (Chunk b ∷ ps) = All-cons IsPlain _ _ refl (line_plain line _ ps)
-line_plain line at (Mark b ∷ ps) = All-cons IsPlain _ _ refl (line_plain line _ ps)
+line_plain line at (Space c ∷ ps) = line_plain line (at + length (spelling (Space c))) ps
+line_plain line at (Comment b ∷ ps) = line_plain line (at + length (spelling (Comment b))) ps
+line_plain line at (Quoted b ∷ ps) = All-cons IsPlain _ _ refl (line_plain line (at + length (spelling (Quoted b))) ps)
+line_plain line at (Chunk b ∷ ps) = All-cons IsPlain _ _ refl (line_plain line (at + length (spelling (Chunk b))) ps)
+line_plain line at (Mark b ∷ ps) = All-cons IsPlain _ _ refl (line_plain line (at + length (spelling (Mark b))) ps)
 
 -- one stop stands behind some tokens
 pub one_stop : (t : Token) (ts : List Token) → (s : Token) × (stop_behind (t ∷ ts) ≡ s ∷ []) × (is_stop s ≡ true)
@@ -124,7 +126,7 @@ closed_statement (t ∷ ts) =
     let stop = one_stop t ts in
     ap (λ xs. is_closed ((t ∷ ts) ++ xs)) stop.1 ∙ closed_end (t ∷ ts) stop.0 stop.2
 
-split_at : (xs : List Token) (s : Token) (more : List Token) → All IsPlain xs → is_stop s ≡ true → statements (xs ++ s ∷ more) ≡ xs ∷ statements more
+pub split_at : (xs : List Token) (s : Token) (more : List Token) → All IsPlain xs → is_stop s ≡ true → statements (xs ++ s ∷ more) ≡ xs ∷ statements more
 split_at [] s more plain stop = ap (λ b. cond b ([] ∷ statements more) (onto_first s (statements more))) stop
 split_at (x ∷ xs) s more plain stop =
     ap (λ b. cond b ([] ∷ statements (xs ++ s ∷ more)) (onto_first x (statements (xs ++ s ∷ more)))) (All-head IsPlain x xs plain)
@@ -143,13 +145,11 @@ statement_first (t ∷ ts) more some plain =
 
 none_found : (P : CondWord → Bool) (words : List CondWord) → list_any P words ≡ false → find P words ≡ None
 none_found P [] h = refl
-none_found P (w ∷ ws) h = by_test (P w) refl
+none_found P (w ∷ ws) h = by_test (P w) (none_found P ws) h
   where
-    by_test : (b : Bool) → P w ≡ b → find P (w ∷ ws) ≡ None
-    by_test true e = absurd (let k : list_any P (w ∷ ws) ≡ true = ap (λ b. cond b true (list_any P ws)) e in cc)
-    by_test false e =
-        let rest : list_any P ws ≡ false = sym (ap (λ b. cond b true (list_any P ws)) e) ∙ h in
-        ap (λ b. cond b (Some w) (find P ws)) e ∙ none_found P ws rest
+    by_test : (b : Bool) → (list_any P ws ≡ false → find P ws ≡ None) → (b || list_any P ws) ≡ false → cond b (Some w) (find P ws) ≡ None
+    by_test true so k = absurd (cc)
+    by_test false so k = so k
 
 -- the tokens of a line, of which the first is no condition word unless the line names one
 pub record FirstIs (text : List ℕ) (place : ℕ) (tokens : List Token) : Type 0 where
@@ -210,9 +210,10 @@ first_by_part text line place c cs ps is begun h =
         (ap is_condition_word (chunk_there text place c cs is e) ∙ quiet)
     quoted_first : (bytes rest : List ℕ) → Q (quoted_part bytes rest)
     quoted_first bytes [] g = absurd (cc)
-    quoted_first bytes (d ∷ rest) = cond_both Q (d == 34) (Ok (Quoted bytes)) (Err BAD_BYTE)
-        (λ e g. let parts = behind_part (Quoted bytes) _ ps g in by_parts parts.0 ps parts.1 (record { some = omega arith; quiet = λ quiet. refl }))
-        (λ e g. absurd (cc))
+    quoted_first bytes (d ∷ rest) g = cond_both Q (d == 34) (Ok (Quoted bytes)) (Err BAD_BYTE)
+        (λ e k. let parts = behind_part (Quoted bytes) _ ps k in by_parts parts.0 ps parts.1 (record { some = omega arith; quiet = λ quiet. refl }))
+        (λ e k. absurd (cc))
+        g
 
 -- the first token of a line that begins a statement
 pub first_token : (text : List ℕ) (line place : ℕ) (ps : List Part) → begins (first_of (drop place text)) ≡ true → parts_of (first_of (drop place text)) ≡ Ok ps → FirstIs text place (line_tokens line place ps)
@@ -251,10 +252,14 @@ passing_first text r left is behind further =
       counted = omega (arith, is.counted, next_place text r.place left is.within (next_within left r.place (length text) further) behind);
     }
 
+further_on : (o : Option ℕ) (a b n : ℕ) → a < b → IfSome o (λ next. (b < next) × (next ≤ n)) → IfSome o (λ next. (a < next) × (next ≤ n))
+further_on None a b n lt h = tt
+further_on (Some next) a b n lt h = (omega (arith, lt, h.0), h.1)
+
 -- one more line that begins no statement
 pub passing_more : (text : List ℕ) (r : Rest) (line place : ℕ) (before left : Option ℕ) → IsRest text r → Passing text r line before → before ≡ Some place → begins (first_of (drop place text)) ≡ false
     → rest_of (drop place text) ≡ lines_from text left → IfSome left (λ next. (place < next) × (next ≤ length text)) → Passing text r (line + 1) left
-passing_more text r line place before left is p here no behind further =
+passing_more text r line place before left is p here other behind further =
     let within : (r.place < place) × (place ≤ length text) = subst (λ (o : Option ℕ). IfSome o (λ place. (r.place < place) × (place ≤ length text))) here p.within in
     let most = next_within left place (length text) further in
     let so_far : finish p.tokens (line + 1) place (first_of (drop place text) ∷ rest_of (drop place text)) ≡ tokens_from text r.line r.place = so_far_at text p.tokens (line + 1) place before _ here p.so_far in
@@ -266,14 +271,10 @@ passing_more text r line place before left is p here no behind further =
       first = more_first text r.place p.tokens more p.first;
       so_far =
           text_further text p.tokens p.tokens (p.tokens ++ more) (line + 1) place left _ within.1 most behind
-          (sym (ap (λ b. cond b (p.tokens ++ stop_behind p.tokens) p.tokens) no)) (ap (with_line p.tokens (line + 1) place) cut.1) so_far;
+          (sym (ap (λ b. cond b (p.tokens ++ stop_behind p.tokens) p.tokens) other)) (ap (with_line p.tokens (line + 1) place) cut.1) so_far;
       within = further_on left r.place place (length text) within.0 further;
       counted = omega (arith, p.counted, ap (place_of text) here, next_place text place left within.1 most behind);
     }
-  where
-    further_on : (o : Option ℕ) (a b n : ℕ) → a < b → IfSome o (λ next. (b < next) × (next ≤ n)) → IfSome o (λ next. (a < next) × (next ≤ n))
-    further_on None a b n lt h = tt
-    further_on (Some next) a b n lt h = (omega (arith, lt, h.0), h.1)
 
 -- behind its last line: the next statement begins there, or there is none
 pub passed_to : (text : List ℕ) (r : Rest) (line place : ℕ) (left : Option ℕ) → IsRest text r → Passing text r line left → left ≡ Some place → begins (first_of (drop place text)) ≡ true
@@ -286,9 +287,10 @@ passed_to text r line place left is p here begun =
     let stop = stopped_at p.tokens text (line + 1) place (rest_tokens text (Some r)) begun so_far in
     record {
       first = p.tokens;
+      front = p.tokens ++ stop_behind p.tokens;
+      whole = stop.1;
       splits = ap statements stop.1 ∙ statement_first p.tokens (rest_tokens text (Some next)) p.first.some p.plain;
       quiet = p.first.quiet;
-      shorter = omega (arith, ap length stop.1, length-append (p.tokens ++ stop_behind p.tokens) (rest_tokens text (Some next)));
       goes_on = within.0;
       rest = record { short = is.short; within = within.1; counted = omega (arith, p.counted, ap (place_of text) here); begun = begun; whole = stop.0 };
     }
@@ -300,24 +302,29 @@ passed_all text r line left is p none =
     let whole : rest_tokens text (Some r) ≡ p.tokens ++ stop_behind p.tokens = over_at p.tokens (line + 1) (length text + 1) (rest_tokens text (Some r)) so_far in
     record {
       first = p.tokens;
+      front = p.tokens ++ stop_behind p.tokens;
+      whole = whole ∙ sym (append-nil (p.tokens ++ stop_behind p.tokens));
       splits = ap statements (whole ∙ sym (append-nil (p.tokens ++ stop_behind p.tokens))) ∙ statement_first p.tokens [] p.first.some p.plain;
       quiet = p.first.quiet;
-      shorter = omega arith;
       goes_on = tt;
       rest = tt;
     }
 
 -- ---- statements that are passed over
 
+abbrev pub IsQuiet : List ℕ → List Token → Type 0
+IsQuiet text ts = first_condition text ts ≡ None
+
 pub passes_none : (text : List ℕ) (tokens : List Token) → Passes text tokens tokens
-passes_none text tokens = record { passed = []; splits = refl; quiet = All-nil _; shorter = omega arith }
+passes_none text tokens = record { front = []; whole = refl; passed = []; splits = refl; quiet = All-nil (IsQuiet text) }
 
 pub passes_more : (text : List ℕ) (old : List Token) (r : Rest) (next : Option Rest) → Passes text old (rest_tokens text (Some r)) → names_condition (drop r.place text) ≡ false → IsNext text r next → Passes text old (rest_tokens text next)
 passes_more text old r next p quiet n = record {
+  front = p.front ++ n.front;
+  whole = p.whole ∙ ap (λ ts. p.front ++ ts) n.whole ∙ sym (append_assoc p.front n.front (rest_tokens text next));
   passed = p.passed ++ n.first ∷ [];
   splits = p.splits ∙ ap (λ ss. p.passed ++ ss) n.splits ∙ sym (append_assoc p.passed (n.first ∷ []) (statements (rest_tokens text next)));
-  quiet = All-append _ p.passed (n.first ∷ []) p.quiet (All-cons _ n.first [] (n.quiet quiet) (All-nil _));
-  shorter = omega (arith, p.shorter, n.shorter);
+  quiet = All-append (IsQuiet text) p.passed (n.first ∷ []) p.quiet (All-cons (IsQuiet text) n.first [] (n.quiet quiet) (All-nil (IsQuiet text)));
 }
 
 -- where the rest begins, one past the end where there is none
@@ -335,3 +342,120 @@ next_further text r (Some next) n within = n.goes_on
 pub next_within_text : (text : List ℕ) (next : Option Rest) → MayRest text next → rest_place text next ≤ length text + 1
 next_within_text text None m = omega arith
 next_within_text text (Some next) m = omega (arith, m.within)
+
+-- ---- the first statement of the rest is cut
+
+line_grows : (before after : List Token) (line at : ℕ) (r : Result (List Part) ℕ) → with_line before line at r ≡ Ok after → length before ≤ length after
+line_grows before after line at (Ok ps) h = let is : before ++ line_tokens line at ps ≡ after = cc in omega (arith, length-append before (line_tokens line at ps), ap length is)
+line_grows before after line at (Err code) h = absurd (cc)
+
+-- the tokens of a statement whose lines up to here were cut
+pub record Cutting (text : List ℕ) (r : Rest) (tokens : List Token) (line : ℕ) (left : Option ℕ) : Type 0 where
+  pub some : 1 ≤ length tokens
+  pub so_far : finish tokens (line + 1) (place_of text left) (lines_from text left) ≡ tokens_from text r.line r.place
+  pub within : IfSome left (λ place. (r.place < place) × (place ≤ length text))
+  pub counted : line ≤ place_of text left
+
+pub cutting_first : (text : List ℕ) (r : Rest) (before tokens : List Token) (left : Option ℕ) → IsRest text r → before ≡ [] → with_line before r.line r.place (parts_of (first_of (drop r.place text))) ≡ Ok tokens
+    → rest_of (drop r.place text) ≡ lines_from text left → IfSome left (λ next. (r.place < next) × (next ≤ length text)) → Cutting text r tokens r.line left
+cutting_first text r before tokens left is none cut behind further =
+    let so_far = start_from text r.line r.place in
+    let given = parts_given (first_of (drop r.place text)) (first_good [] text r.line r.place (rest_tokens text (Some r)) (so_far ∙ is.whole)) in
+    let first : FirstIs text r.place (line_tokens r.line r.place given.0) = first_token text r.line r.place given.0 is.begun given.1 in
+    let cut' : with_line [] r.line r.place (parts_of (first_of (drop r.place text))) ≡ Ok tokens = ap (λ ts. with_line ts r.line r.place (parts_of (first_of (drop r.place text)))) (sym none) ∙ cut in
+    let same : Ok (line_tokens r.line r.place given.0) ≡ Ok tokens = sym (ap (with_line [] r.line r.place) given.1) ∙ cut' in
+    let tokens_are : line_tokens r.line r.place given.0 ≡ tokens = cc in
+    record {
+      some = omega (arith, first.some, ap length tokens_are);
+      so_far =
+          text_further text [] [] tokens r.line r.place left _ is.within (next_within left r.place (length text) further) behind
+          (sym (ap (λ b. cond b ([] ++ stop_behind []) []) is.begun)) cut'
+          (ap (finish [] r.line r.place) (sym (first_and_rest (drop r.place text))) ∙ so_far);
+      within = further;
+      counted = omega (arith, is.counted, next_place text r.place left is.within (next_within left r.place (length text) further) behind);
+    }
+
+pub cutting_more : (text : List ℕ) (r : Rest) (line place : ℕ) (tokens after : List Token) (before left : Option ℕ) → IsRest text r → Cutting text r tokens line before → before ≡ Some place → begins (first_of (drop place text)) ≡ false
+    → with_line tokens (line + 1) place (parts_of (first_of (drop place text))) ≡ Ok after
+    → rest_of (drop place text) ≡ lines_from text left → IfSome left (λ next. (place < next) × (next ≤ length text)) → Cutting text r after (line + 1) left
+cutting_more text r line place tokens after before left is p here other cut behind further =
+    let within : (r.place < place) × (place ≤ length text) = subst (λ (o : Option ℕ). IfSome o (λ place. (r.place < place) × (place ≤ length text))) here p.within in
+    let most = next_within left place (length text) further in
+    record {
+      some = omega (arith, p.some, line_grows tokens after (line + 1) place (parts_of (first_of (drop place text))) cut);
+      so_far =
+          text_further text tokens tokens after (line + 1) place left _ within.1 most behind
+          (sym (ap (λ b. cond b (tokens ++ stop_behind tokens) tokens) other)) cut (so_far_at text tokens (line + 1) place before _ here p.so_far);
+      within = further_on left r.place place (length text) within.0 further;
+      counted = omega (arith, p.counted, ap (place_of text) here, next_place text place left within.1 most behind);
+    }
+
+pub cutting_good : (text : List ℕ) (r : Rest) (line place : ℕ) (tokens : List Token) (left : Option ℕ) → IsRest text r → Cutting text r tokens line left → left ≡ Some place → code_of (first_of (drop place text)) ≡ None
+cutting_good text r line place tokens left is p here =
+    first_good tokens text (line + 1) place (rest_tokens text (Some r))
+    (ap (finish tokens (line + 1) place) (first_and_rest (drop place text)) ∙ so_far_at text tokens (line + 1) place left _ here p.so_far ∙ is.whole)
+
+pub rest_good : (text : List ℕ) (r : Rest) → IsRest text r → code_of (first_of (drop r.place text)) ≡ None
+rest_good text r is = first_good [] text r.line r.place (rest_tokens text (Some r)) (start_from text r.line r.place ∙ is.whole)
+
+pub cut_to : (text : List ℕ) (r : Rest) (line place : ℕ) (tokens : List Token) (left : Option ℕ) → IsRest text r → Cutting text r tokens line left → left ≡ Some place → begins (first_of (drop place text)) ≡ true
+    → ((tokens ++ stop_behind tokens) ++ rest_tokens text (Some (record { line = line + 1; place = place })) ≡ rest_tokens text (Some r)) × IsRest text (record { line = line + 1; place = place })
+cut_to text r line place tokens left is p here begun =
+    let within : (r.place < place) × (place ≤ length text) = subst (λ (o : Option ℕ). IfSome o (λ place. (r.place < place) × (place ≤ length text))) here p.within in
+    let so_far : finish tokens (line + 1) place (lines_of (drop place text)) ≡ Ok (rest_tokens text (Some r)) =
+    ap (finish tokens (line + 1) place) (first_and_rest (drop place text)) ∙ so_far_at text tokens (line + 1) place left _ here p.so_far ∙ is.whole in
+    let stop = stopped_at tokens text (line + 1) place (rest_tokens text (Some r)) begun so_far in
+    (sym stop.1, record { short = is.short; within = within.1; counted = omega (arith, p.counted, ap (place_of text) here); begun = begun; whole = stop.0 })
+
+pub cut_all : (text : List ℕ) (r : Rest) (line : ℕ) (tokens : List Token) (left : Option ℕ) → IsRest text r → Cutting text r tokens line left → left ≡ None → (tokens ++ stop_behind tokens) ++ [] ≡ rest_tokens text (Some r)
+cut_all text r line tokens left is p none =
+    let so_far : finish tokens (line + 1) (length text + 1) [] ≡ Ok (rest_tokens text (Some r)) =
+    ap (λ o. finish tokens (line + 1) (place_of text o) (lines_from text o)) (sym none) ∙ p.so_far ∙ is.whole in
+    append-nil (tokens ++ stop_behind tokens) ∙ sym (over_at tokens (line + 1) (length text + 1) (rest_tokens text (Some r)) so_far)
+
+pub stopped_some : (tokens new : List Token) → 1 ≤ length tokens → new ≡ tokens ++ stop_behind tokens → 1 ≤ length new
+stopped_some tokens new some is = omega (arith, some, ap length is, length-append tokens (stop_behind tokens))
+
+-- ---- a text that is checked from a statement on
+
+finish_error : (before : List Token) (line at : ℕ) (r : Parts) → error_of (r >>= λ parts. Ok (with_stop before parts ++ lines_tokens line at parts)) ≡ error_of r
+finish_error before line at (Ok parts) = refl
+finish_error before line at (Err e) = refl
+
+none_wrong : {E : Type 0} (r : Result (List Token) E) → error_of r ≡ None → r ≡ Ok (value_or_none r)
+none_wrong (Ok tokens) h = refl
+none_wrong (Err e) h = absurd (cc)
+
+some_wrong : {E : Type 0} (r : Result (List Token) E) (e : E) → error_of r ≡ Some e → r ≡ Err e
+some_wrong (Ok tokens) e h = absurd (cc)
+some_wrong (Err k) e h = let same : k ≡ e = cc in ap Err same
+
+from_place : (before : List Token) (text : List ℕ) (line place : ℕ) (whole : Result (List Token) (ℕ × ℕ)) → finish before line place (first_of (drop place text) ∷ rest_of (drop place text)) ≡ whole
+    → finish before line place (lines_of (drop place text)) ≡ whole
+from_place before text line place whole h = ap (finish before line place) (first_and_rest (drop place text)) ∙ h
+
+-- a fault there is that of the text
+pub check_fails : (text : List ℕ) (before : List Token) (line place : ℕ) (stop : LexStop) → TellsFault {A = Unit {0}} (fault_from text line place) (Err stop)
+    → finish before line place (first_of (drop place text) ∷ rest_of (drop place text)) ≡ finish [] 1 0 (lines_of text) → Shows (cut_of text) (Err stop)
+check_fails text before line place (Fault l code) told so_far =
+    let here = from_place before text line place (finish [] 1 0 (lines_of text)) so_far in
+    sym (text_begins text) ∙ sym here
+    ∙ some_wrong (finish before line place (lines_of (drop place text))) (l, code) (finish_error before line place (all_parts line (lines_of (drop place text))) ∙ told)
+check_fails text before line place Memory told so_far = tt
+
+-- without a fault the text is cut up to there
+pub cut_up_to : (text : List ℕ) (before tokens : List Token) (line place : ℕ) → length text ≤ 1048576 → place ≤ length text → line ≤ place + 1 → begins (first_of (drop place text)) ≡ true
+    → tokens ≡ cond (begins (first_of (drop place text))) (before ++ stop_behind before) before → fault_from text line place ≡ None
+    → finish before line place (first_of (drop place text) ∷ rest_of (drop place text)) ≡ finish [] 1 0 (lines_of text)
+    → (cut_of text ≡ Ok (tokens ++ rest_tokens text (Some (record { line = line; place = place })))) × IsRest text (record { line = line; place = place }) × (is_closed tokens ≡ true)
+cut_up_to text before tokens line place short within counted begun new told so_far =
+    let here = from_place before text line place (finish [] 1 0 (lines_of text)) so_far in
+    let lines = lines_of (drop place text) in
+    let good : finish before line place lines ≡ Ok (value_or_none (finish before line place lines)) =
+    none_wrong (finish before line place lines) (finish_error before line place (all_parts line lines) ∙ told) in
+    let stop = stopped_at before text line place (value_or_none (finish before line place lines)) begun good in
+    let tokens_are : tokens ≡ before ++ stop_behind before = new ∙ ap (λ b. cond b (before ++ stop_behind before) before) begun in (
+      sym (text_begins text) ∙ sym here ∙ good ∙ ap Ok (stop.1 ∙ ap (λ ts. ts ++ rest_tokens text (Some (record { line = line; place = place }))) (sym tokens_are)),
+      record { short = short; within = within; counted = counted; begun = begun; whole = stop.0 },
+      ap is_closed tokens_are ∙ closed_statement before,
+    )

@@ -71,15 +71,17 @@ names_condition line = is_condition_word (take (prefix_len is_chunk_byte line) l
 -- what stands behind the first statement of the rest, which begins with a condition word only where its line does
 pub record IsNext (text : List ℕ) (r : Rest) (next : Option Rest) : Type 0 where
   pub first : List Token
+  pub front : List Token
+  pub whole : rest_tokens text (Some r) ≡ front ++ rest_tokens text next
   pub splits : statements (rest_tokens text (Some r)) ≡ first ∷ statements (rest_tokens text next)
   pub quiet : names_condition (drop r.place text) ≡ false → first_condition text first ≡ None
-  pub shorter : length (rest_tokens text next) ≤ length (rest_tokens text (Some r))
   pub goes_on : IfSome next (λ n. r.place < n.place)
   pub rest : MayRest text next
 
 -- statements without a condition word were passed over
 pub record Passes (text : List ℕ) (old new : List Token) : Type 0 where
+  pub front : List Token
+  pub whole : old ≡ front ++ new
   pub passed : List (List Token)
   pub splits : statements old ≡ passed ++ statements new
   pub quiet : All (λ ts. first_condition text ts ≡ None) passed
-  pub shorter : length new ≤ length old

@@ -54,19 +54,22 @@ pub fn cut(alloc: Global, text: &[u8]) -> Result<Cutting, LexStop>
     ensures rest { IfOk result (λ cutting. MayRest text.now cutting.rest) }
 {
     let mut tokens = room_for(alloc, text.len())?;
-    let mut line = 1;
+    let mut number = 1;
     let mut left = Some(0);
-    while let Some(place) = left {
-        end_statement(&mut tokens, text, place)?;
-        if opens(text, place) {
-            check(text, line, place)?;
+    while let Some(start) = left {
+        end_statement(&mut tokens, text, start)?;
+        if opens(text, start) {
+            check(text, number, start)?;
             return Ok(Cutting {
                 tokens: List::from_vec(tokens),
-                rest: Some(Rest { line, place }),
+                rest: Some(Rest {
+                    line: number,
+                    place: start,
+                }),
             });
         }
-        left = cut_line(&mut tokens, line, text, place)?;
-        line += 1;
+        left = cut_line(&mut tokens, number, text, start)?;
+        number += 1;
     }
     push_stop(&mut tokens)?;
     Ok(Cutting {

@@ -8,7 +8,7 @@ use Rattle.cf_lexer.proofs.check.check.Given as goal
 
 abbrev pub invariant-loop-left : goal.invariant-loop-left
 invariant-loop-left l = record {
-  so_far : error_of (all_parts l.line (lines_from l.text l.left)) ≡ fault_from l.text l.number l.start;
+  so_far : error_of (all_parts l.line (lines_from l.text l.left)) ≡ fault_from l.text l.fn.number l.fn.start;
   within : IfSome l.left (λ place. place ≤ length l.text);
   count : l.line ≤ place_of l.text l.left + 1;
 }

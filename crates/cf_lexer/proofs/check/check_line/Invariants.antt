@@ -5,10 +5,10 @@ use Rattle.cf_lexer.proofs.check.check_line.Given as goal
 
 abbrev pub invariant-loop-place : goal.invariant-loop-place
 invariant-loop-place l = record {
-  from : l.start ≤ l.place;
+  from : l.fn.start ≤ l.place;
   within : l.place ≤ length l.text;
-  code : code_of (first_of (drop l.place l.text)) ≡ code_of (first_of (drop l.start l.text));
-  behind : rest_of (drop l.place l.text) ≡ rest_of (drop l.start l.text);
+  code : code_of (first_of (drop l.place l.text)) ≡ code_of (first_of (drop l.fn.start l.text));
+  behind : rest_of (drop l.place l.text) ≡ rest_of (drop l.fn.start l.text);
 }
 
 abbrev pub decreases-loop-place : goal.decreases-loop-place

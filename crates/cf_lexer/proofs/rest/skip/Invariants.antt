@@ -6,7 +6,7 @@ use Rattle.cf_lexer.proofs.rest.skip.Given as goal
 abbrev pub invariant-loop-left : goal.invariant-loop-left
 invariant-loop-left l = record {
   rest : MayRest l.text l.left;
-  passes : Passes l.text (rest_tokens l.text (Some l.rest)) (rest_tokens l.text l.left);
+  passes : Passes l.text (rest_tokens l.text (Some l.fn.rest)) (rest_tokens l.text l.left);
 }
 
 abbrev pub decreases-loop-left : goal.decreases-loop-left

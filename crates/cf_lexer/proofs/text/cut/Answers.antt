@@ -1,10 +1,12 @@
-use Rattle.std.proofs.Common.{◌≡◌, ◌≤◌, ◌+◌, ◌∙◌, ap, sym, arith, length, drop, Ok}
+use Rattle.std.proofs.Common.{◌≡◌, ◌≤◌, ◌+◌, ◌++◌, ◌∙◌, [], ap, sym, append-nil, arith, length, drop, Ok}
 use Rattle.std.proofs.lemmas.Result.{err_from_is_err_and}
 use Rattle.config_rules.specs.Cut.{cut_of}
 use Rattle.cf_lexer.specs.Line.{Shows}
 use Rattle.cf_lexer.specs.Lines.{first_of, lines_from, rest_of}
 use Rattle.cf_lexer.proofs.PlaceLemmas.{next_place, next_within, place_of, so_far_at, some_within, text_further}
 use Rattle.cf_lexer.proofs.TextWords.{finish}
+use Rattle.cf_lexer.specs.Rest.{is_closed}
+use Rattle.cf_lexer.proofs.RestLemmas.{check_fails, closed_statement, cut_up_to}
 use Rattle.cf_lexer.proofs.TextLemmas.{line_fails, lines_end, cut_is, fault_is}
 use Rattle.cf_lexer.proofs.text.cut.Goals as goal
 
@@ -67,7 +69,7 @@ returns-clause-cut c =
     let whole : cut_of text ≡ Ok c.push_stop.new.tokens.items =
     lines_end text c.loop-left.tokens.items c.push_stop.new.tokens.items c.loop-left.number (length text + 1) c.in_ok-push_stop.ensures
     (ap (λ o. finish c.loop-left.tokens.items c.loop-left.number (place_of text o) (lines_from text o)) (sym c.in_default.is) ∙ c.loop-left.invariant.so_far) in
-    cut_is text (Ok c.from_vec.result) (whole ∙ ap Ok (sym c.from_vec.ensures))
+    cut_is text (Ok (c.from_vec.result ++ [])) (whole ∙ ap Ok (sym (append-nil c.from_vec.result ∙ c.from_vec.ensures)))
 
 pub returns-clause-exact : goal.returns-clause-exact
 returns-clause-exact c =
@@ -75,4 +77,28 @@ returns-clause-exact c =
     let whole : cut_of text ≡ Ok c.push_stop.new.tokens.items =
     lines_end text c.loop-left.tokens.items c.push_stop.new.tokens.items c.loop-left.number (length text + 1) c.in_ok-push_stop.ensures
     (ap (λ o. finish c.loop-left.tokens.items c.loop-left.number (place_of text o) (lines_from text o)) (sym c.in_default.is) ∙ c.loop-left.invariant.so_far) in
-    whole ∙ ap Ok (sym c.from_vec.ensures)
+    whole ∙ ap Ok (sym (append-nil c.from_vec.result ∙ c.from_vec.ensures))
+
+pub returns-clause-closed : goal.returns-clause-closed
+returns-clause-closed c = ap is_closed (c.from_vec.ensures ∙ c.in_ok-push_stop.ensures) ∙ closed_statement c.loop-left.tokens.items
+
+pub check-requires-clause-number : goal.check-requires-clause-number
+check-requires-clause-number c = omega (arith, c.loop-left.invariant.count, ap (place_of c.args.text.now) c.in-Some.is)
+
+pub returns-in_err-check-clause-exact : goal.returns-in_err-check-clause-exact
+returns-in_err-check-clause-exact c = ?
+
+pub returns-in_err-check-clause-fault : goal.returns-in_err-check-clause-fault
+returns-in_err-check-clause-fault c = ?
+
+pub returns-then-opens-clause-cut : goal.returns-then-opens-clause-cut
+returns-then-opens-clause-cut c = ?
+
+pub returns-then-opens-clause-exact : goal.returns-then-opens-clause-exact
+returns-then-opens-clause-exact c = ?
+
+pub returns-then-opens-clause-closed : goal.returns-then-opens-clause-closed
+returns-then-opens-clause-closed c = ?
+
+pub returns-then-opens-clause-rest : goal.returns-then-opens-clause-rest
+returns-then-opens-clause-rest c = ?
