@@ -7,8 +7,8 @@ use Rattle.std.proofs.lemmas.List.{drop-drop, drop_at, get_or-append-add, get_or
 use Rattle.cf_types.specs.declared.stmt.Placed.{Placed}
 use Rattle.cf_types.specs.declared.stmt.Token.{Token}
 use Rattle.cf_grammar.specs.Statement.{AreWithin, IsWithin}
-use Rattle.cf_lexer.specs.Rest.{first_condition, is_closed}
-use Rattle.cf_lexer.proofs.RestLemmas.{IsPlain, split_at}
+use Rattle.cf_lexer.specs.Rest.{Passes, first_condition, is_closed}
+use Rattle.cf_lexer.proofs.RestLemmas.{IsPlain, passes_none, split_at}
 use Rattle.config_rules.specs.Cut.{is_stop, statements}
 use Rattle.config_rules.specs.Reading.{Files, Here, Level, Reader, Reading, Statement, condition_of, is_live, levels_behind, read_statement, read_statements, statements_in}
 use Rattle.cf_expand.specs.Lines.{Parts, statement_of}
@@ -203,3 +203,37 @@ split_within text kept more statement rest parts within =
     ap (λ xs. xs ++ more) (sym (take-append-drop (position_or_len is_stop kept + 1) kept)) ∙ append_assoc (take (position_or_len is_stop kept + 1) kept) (after_first is_stop kept) more
     ∙ ap (λ xs. take (position_or_len is_stop kept + 1) kept ++ (xs ++ more)) (sym parts.behind) in
     suffix_within text (take (position_or_len is_stop kept + 1) kept) (rest ++ more) (subst (AreWithin text) whole within)
+
+-- ---- how the next statement is cut
+
+pub passes_same : (live : Bool) (text : List ℕ) (tokens : List Token) → PassesTo live text tokens tokens
+passes_same live text tokens = record { passes = passes_none text tokens; none = λ h. refl }
+
+pub passes_out : (live : Bool) (text : List ℕ) (old new : List Token) → live ≡ false → Passes text old new → PassesTo live text old new
+passes_out live text old new out p = record { passes = p; none = λ h. absurd (cc) }
+
+pub passes_as : (live : Bool) (text : List ℕ) (old mid new : List Token) → PassesTo live text old mid → new ≡ mid → PassesTo live text old new
+passes_as live text old mid new to is = subst (PassesTo live text old) (sym is) to
+
+-- nothing is done
+pub refills_same : (live : Bool) (u : Uncut) → (u.kept ≡ [] → u.more ≡ []) → Refills live u u
+refills_same live u ready = record { text = refl; passes = passes_same live u.text (all_left u); closed = λ h. h; ready = ready }
+
+-- all that was cut is read
+pub refills_next : (live : Bool) (text : List ℕ) (kept more kept' more' : List Token) → kept ≡ [] → PassesTo live text more (kept' ++ more') → is_closed kept' ≡ true → (kept' ≡ [] → more' ≡ [])
+    → Refills live (record { text = text; kept = kept; more = more }) (record { text = text; kept = kept'; more = more' })
+refills_next live text kept more kept' more' none to closed ready = record {
+  text = refl;
+  passes = subst (λ (xs : List Token). PassesTo live text (xs ++ more) (kept' ++ more')) (sym none) to;
+  closed = λ h. closed;
+  ready = ready;
+}
+
+pub some_left : (tokens : List Token) (read : ℕ) (more : List Token) → read < length tokens → drop read tokens ≡ [] → more ≡ []
+some_left tokens read more lt none = absurd (omega (arith, lt, ap length none, length-drop read tokens))
+
+pub none_there : (xs : List Token) (read : ℕ) → length xs ≤ read → drop read xs ≡ []
+none_there [] zero h = refl
+none_there [] (suc read) h = refl
+none_there (x ∷ xs) zero h = absurd (omega arith)
+none_there (x ∷ xs) (suc read) h = none_there xs read (omega arith)

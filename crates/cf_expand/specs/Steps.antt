@@ -1,9 +1,12 @@
 -- The reading of a file, statement by statement.
-use Rattle.std.specs.Prelude.{◌≡◌, ℕ, ◌-◌, ◌==◌, Bool, List, [], ◌∷◌, ◌++◌, if◌then◌else◌, true, Option, Some, None, IfOk, Result, ⊤}
+use Rattle.std.specs.Prelude.{◌≡◌, ℕ, ◌-◌, ◌==◌, Bool, List, [], ◌∷◌, ◌++◌, if◌then◌else◌, true, Option, Some, None, IfOk, OnOk, Result, ⊤}
 use Rattle.cf_types.specs.declared.stmt.Expanded.{Expanded}
+use Rattle.cf_types.specs.declared.stmt.Stmt.{Stmt}
 use Rattle.cf_types.specs.declared.stmt.Stmt.TheVariants as stmt
+use Rattle.cf_expand.specs.declared.statement.Head.{Head}
+use Rattle.cf_expand.specs.Asked.{AsksIn}
 use Rattle.cf_grammar.specs.Statement.{AreWithin}
-use Rattle.config_rules.specs.Reading.{Files, Here, Level, Statement, Reader, Reading, include, statements_in, place, pop_prefix, read_statements, reader, refused, under_prefix}
+use Rattle.config_rules.specs.Reading.{Files, Here, Level, condition_of, Statement, Reader, Reading, include, statements_in, place, pop_prefix, read_statements, reader, refused, treat, under_prefix}
 use Rattle.cf_lexer.specs.Rest.{MayRest, all_tokens, is_closed}
 use Rattle.cf_lexer.specs.declared.rest.Cutting.{Cutting}
 use Rattle.cf_expand.specs.declared.source.Include.{Include}
@@ -65,3 +68,21 @@ pub record IsCutting (text : List ℕ) (c : Cutting) : Type 0 where
 abbrev pub IsBelow : ℕ → ℕ → Option Opened → Type 0
 IsBelow room levels None = ⊤
 IsBelow room levels (Some o) = (o.source.room ≡ room) × (o.source.levels ≡ levels) × IsCutting o.source.text o.cutting
+
+-- a statement begins so
+abbrev pub BeginsSo : Head → Statement → Type 0
+BeginsSo head s = (s.line ≡ head.line) × (condition_of s ≡ head.word)
+
+-- the language's rule for a statement of this form
+abbrev pub treated : Files → ℕ → Source → List Level → Statement → Stmt → Reading → Reading
+treated named around source levels s form r = treat named (reader source.levels named) (here_of around source) levels s form r
+
+-- a statement that begins so and has this form was read by that rule
+abbrev pub Treats : {E : Type 0} → Option Files → Source → List Level → Head → Stmt → Reading → Result (Unit {0}) E → Reading → Type 0
+Treats told source levels head form old result new = WhereTold told (λ named. OnOk result
+    ((around : ℕ) (s : Statement) → source.room ≡ 16 - around → BeginsSo head s → new ≡ treated named around source levels s form old))
+
+-- and what that rule asks for was asked for
+abbrev pub AsksTreating : {E : Type 0} → Option Files → Source → List Level → Head → Stmt → Reading → Result (Unit {0}) E → Option (List (List ℕ)) → Option (List (List ℕ)) → Type 0
+AsksTreating told source levels head form old result before after =
+    (s : Statement) → BeginsSo head s → AsksIn told source old (λ named around. treated named around source levels s form old) result before after

@@ -2,6 +2,7 @@ ghost use Rattle.std.specs.Prelude.{◌≡◌};
 ghost use Rattle.cf_grammar.specs.Statement.{AreWithin};
 ghost use Rattle.cf_expand.specs.Lines.{statement_of};
 
+use crate::conditions::Conditions;
 use crate::statement::Statement;
 use cf_lexer::Cutting;
 use cf_types::{Text, Token};
@@ -28,6 +29,13 @@ impl Source {
     {
         Statement::make(self.text.items(), tokens)
     }
+}
+
+/// Where a statement stands: its file, and the conditions that are open in it there.
+#[derive(Clone, Copy)]
+pub struct Place<'a> {
+    pub source: &'a Source,
+    pub conditions: &'a Conditions,
 }
 
 /// A file that was opened, with its text cut into tokens.

@@ -1,6 +1,6 @@
 -- What is left of a text from a statement on.
 use Rattle.std.proofs.Common.{◌≡◌, ℕ, zero, suc, ◌+◌, ◌-◌, ◌<◌, ◌≤◌, ◌&&◌, ◌||◌, Bool, true, false, cond, not, Option, Some, None, Result, List, [], ◌∷◌, ◌++◌, length, take, drop, refl, ap, sym, ◌∙◌, subst, arith, Ok, Err, append_assoc, append-nil, length-append}
-use Rattle.std.specs.Prelude.{All, IfSome, ◌==◌, bytes_eq, find, slice_range, take_while}
+use Rattle.std.specs.Prelude.{All, IfErr, IfSome, ◌==◌, bytes_eq, find, slice_range, take_while}
 use Rattle.std.specs.List.{list_any, onto_first, prefix_len}
 use Rattle.std.proofs.lemmas.Bool.{false_from_ne_true}
 use Rattle.std.proofs.lemmas.List.Elements.{All-append, All-cons, All-head, All-nil, All-tail}
@@ -14,15 +14,16 @@ use Rattle.config_rules.specs.Cut.{Part, Space, Comment, Quoted, Chunk, Mark, Li
 use Rattle.config_rules.specs.Form.{condition_spelling, is_word}
 use Rattle.config_rules.proofs.CutLaws.{both_left, both_right, parts_sound}
 use Rattle.config_rules.proofs.Parts.{cond_both, first_cases, parts_step}
+use Rattle.cf_lexer.specs.declared.rest.Cutting.{Cutting as Cut}
 use Rattle.cf_lexer.specs.declared.rest.Rest.{Rest}
 use Rattle.cf_lexer.specs.declared.line.LexStop.{LexStop}
 use Rattle.cf_lexer.specs.declared.line.LexStop.TheVariants.{Fault, Memory}
 use Rattle.cf_lexer.specs.Check.{TellsFault, code_of, error_of, fault_from}
-use Rattle.cf_lexer.specs.Line.{Shows, with_line}
+use Rattle.cf_lexer.specs.Line.{IsFaultOf, Shows, with_line}
 use Rattle.cf_lexer.specs.Lines.{begins, first_of, lines_from, rest_of}
-use Rattle.cf_lexer.specs.Rest.{IsNext, IsRest, MayRest, Passes, condition_in, first_condition, is_closed, is_condition_word, names_condition, rest_tokens, tokens_from, value_or_none}
+use Rattle.cf_lexer.specs.Rest.{IsNext, IsRest, MayRest, Passes, all_result, condition_in, first_condition, is_closed, is_condition_word, names_condition, rest_tokens, tokens_from, value_or_none}
 use Rattle.cf_lexer.proofs.PlaceLemmas.{first_and_rest, next_place, next_within, place_of, run_in_line, so_far_at, text_further}
-use Rattle.cf_lexer.proofs.TextLemmas.{begins_cut, start_with, text_begins, text_ends}
+use Rattle.cf_lexer.proofs.TextLemmas.{begins_cut, fault_is, start_with, text_begins, text_ends}
 use Rattle.cf_lexer.proofs.TextWords.{finish, with_stop}
 
 -- ---- where tokens are given
@@ -459,3 +460,7 @@ cut_up_to text before tokens line place short within counted begun new told so_f
       record { short = short; within = within; counted = counted; begun = begun; whole = stop.0 },
       ap is_closed tokens_are ∙ closed_statement before,
     )
+
+pub fault_shown : (text : List ℕ) (r : Result Cut LexStop) → Shows (cut_of text) (all_result text r) → IfErr r (λ stop. IsFaultOf text stop)
+fault_shown text (Ok c) h = tt
+fault_shown text (Err stop) h = fault_is text (Err stop) h

@@ -13,59 +13,59 @@ use Rattle.cf_expand.proofs.reading.+statements.Goals as goal
 
 pub read_directive-returns-clause-read : goal.read_directive-returns-clause-read
 read_directive-returns-clause-read g t c = λ named e.
-    let source = c.args.source.now in
+    let source = c.args.place.source.now in
     on_ok c.read_source.result (c.read_source.ensures.read named (c.in_ok-below.ensures.told ∙ e))
-    (λ h. λ around s room line word.
-    included named source c.in-Some-2.below around c.args.line c.args.conditions.now s c.in-Some.wanted c.in_ok-wanted.field-0 c.in_ok-below.field-0 c.treat.new.progress c.open_include.new.progress c.read_source.new.progress _
-    c.in-Some.is c.in-Some-2.is line room (c.in_ok-wanted.ensures.steps s line word named (reader source.levels named) around room) (c.in_ok-below.ensures.read named e) c.in_ok-below.ensures.below.1 h)
+    (λ h. λ around s room begins.
+    included named source c.in-Some-2.below around c.args.head.line c.args.place.conditions.now s c.in-Some.wanted c.in_ok-wanted.field-0 c.in_ok-below.field-0 c.treat.new.progress c.open_include.new.progress c.read_source.new.progress _
+    c.in-Some.is c.in-Some-2.is begins.0 room (c.in_ok-wanted.ensures.steps s begins.0 begins.1 named (reader source.levels named) around room) (c.in_ok-below.ensures.read named e) c.in_ok-below.ensures.below.1 h)
 
 pub read_directive-returns-in_err-wanted-clause-asked : goal.read_directive-returns-in_err-wanted-clause-asked
-read_directive-returns-in_err-wanted-clause-asked g t c = λ s line word named e start around room before.
-    let source = c.args.source.now in
-    let whole = treat named (reader source.levels named) (here_of around source) c.args.conditions.now s c.args.stmt c.args.progress.now in
-    stopped_all _ whole.asked _ _ _ c.from_residual.ensures.1 (all_grown c.args.progress.now whole _ _ (treat_grows named (reader source.levels named) (reader_grows source.levels named) (here_of around source) c.args.conditions.now s c.args.stmt c.args.progress.now) before)
+read_directive-returns-in_err-wanted-clause-asked g t c = λ s begins named e start around room before.
+    let source = c.args.place.source.now in
+    let whole = treat named (reader source.levels named) (here_of around source) c.args.place.conditions.now s c.args.stmt c.args.progress.now in
+    stopped_all _ whole.asked _ _ _ c.from_residual.ensures.1 (all_grown c.args.progress.now whole _ _ (treat_grows named (reader source.levels named) (reader_grows source.levels named) (here_of around source) c.args.place.conditions.now s c.args.stmt c.args.progress.now) before)
 
 pub read_directive-returns-in_default-clause-asked : goal.read_directive-returns-in_default-clause-asked
-read_directive-returns-in_default-clause-asked g t c = λ s line word named e start around room before.
-    let source = c.args.source.now in
-    let step = rw c.in_default.is at (c.in_ok-wanted.ensures.steps s line word named (reader source.levels named) around room) in
+read_directive-returns-in_default-clause-asked g t c = λ s begins named e start around room before.
+    let source = c.args.place.source.now in
+    let step = rw c.in_default.is at (c.in_ok-wanted.ensures.steps s begins.0 begins.1 named (reader source.levels named) around room) in
     asked_still c.args.progress.now.asked _ start _ (ap (λ (r : Reading). r.asked) (sym step) ∙ c.in_ok-wanted.ensures.asked) before
 
 pub read_directive-returns-in_err-below-clause-asked : goal.read_directive-returns-in_err-below-clause-asked
-read_directive-returns-in_err-below-clause-asked g t c = λ s line word named e start around room before.
-    let source = c.args.source.now in
-    let whole = treat named (reader source.levels named) (here_of around source) c.args.conditions.now s c.args.stmt c.args.progress.now in
+read_directive-returns-in_err-below-clause-asked g t c = λ s begins named e start around room before.
+    let source = c.args.place.source.now in
+    let whole = treat named (reader source.levels named) (here_of around source) c.args.place.conditions.now s c.args.stmt c.args.progress.now in
     let since = asked_still _ _ start _ c.in_ok-wanted.ensures.asked before in
     stopped_all _ whole.asked _ _ _ c.from_residual-in_err-below.ensures.1
-    (front_same _ whole _ _ (rw c.in-Some.is at (c.in_ok-wanted.ensures.steps s line word named (reader source.levels named) around room)) (c.in_err-below.ensures.asked named e start around s line since))
+    (front_same _ whole _ _ (rw c.in-Some.is at (c.in_ok-wanted.ensures.steps s begins.0 begins.1 named (reader source.levels named) around room)) (c.in_err-below.ensures.asked named e start around s begins.0 since))
 
 pub read_directive-returns-in_default-2-clause-asked : goal.read_directive-returns-in_default-2-clause-asked
-read_directive-returns-in_default-2-clause-asked g t c = λ s line word named e start around room before.
-    let source = c.args.source.now in
+read_directive-returns-in_default-2-clause-asked g t c = λ s begins named e start around room before.
+    let source = c.args.place.source.now in
     let inner = c.open_include.new.progress in
     let since = asked_still _ _ start _ c.in_ok-wanted.ensures.asked before in
-    let whole = rw c.in_default-2.is at (included_whole named source around c.args.line c.args.conditions.now s c.in-Some.wanted c.in_ok-wanted.field-0 c.in_ok-below.field-0 c.treat.new.progress inner _
-    c.in-Some.is line (c.in_ok-wanted.ensures.steps s line word named (reader source.levels named) around room) (c.in_ok-below.ensures.read named e)) in
-    asked_still inner.asked _ start _ (ap (λ (r : Reading). r.asked) (sym whole)) (c.in_ok-below.ensures.asked named e start around s line since)
+    let whole = rw c.in_default-2.is at (included_whole named source around c.args.head.line c.args.place.conditions.now s c.in-Some.wanted c.in_ok-wanted.field-0 c.in_ok-below.field-0 c.treat.new.progress inner _
+    c.in-Some.is begins.0 (c.in_ok-wanted.ensures.steps s begins.0 begins.1 named (reader source.levels named) around room) (c.in_ok-below.ensures.read named e)) in
+    asked_still inner.asked _ start _ (ap (λ (r : Reading). r.asked) (sym whole)) (c.in_ok-below.ensures.asked named e start around s begins.0 since)
 
 pub read_directive-returns-clause-asked : goal.read_directive-returns-clause-asked
-read_directive-returns-clause-asked g t c = λ s line word named e start around room before.
-    let source = c.args.source.now in
-    let levels = c.args.conditions.now in
+read_directive-returns-clause-asked g t c = λ s begins named e start around room before.
+    let source = c.args.place.source.now in
+    let levels = c.args.place.conditions.now in
     let inner = c.open_include.new.progress in
     let since = asked_still _ _ start _ c.in_ok-wanted.ensures.asked before in
     let room' = room_below source c.in-Some-2.below around levels c.in_ok-below.field-0 c.in-Some-2.is room c.in_ok-below.ensures.below.1 in
-    let whole = included_whole named source around c.args.line levels s c.in-Some.wanted c.in_ok-wanted.field-0 c.in_ok-below.field-0 c.treat.new.progress inner _
-    c.in-Some.is line (c.in_ok-wanted.ensures.steps s line word named (reader source.levels named) around room) (c.in_ok-below.ensures.read named e) in
+    let whole = included_whole named source around c.args.head.line levels s c.in-Some.wanted c.in_ok-wanted.field-0 c.in_ok-below.field-0 c.treat.new.progress inner _
+    c.in-Some.is begins.0 (c.in_ok-wanted.ensures.steps s begins.0 begins.1 named (reader source.levels named) around room) (c.in_ok-below.ensures.read named e) in
     asks_same (entered named (around + length levels) (Some c.in-Some-2.below) inner) _ _ _ _ (rw c.in-Some-2.is at whole)
-    (c.read_source.ensures.asked named (c.in_ok-below.ensures.told ∙ e) start (around + length levels) room' (c.in_ok-below.ensures.asked named e start around s line since))
+    (c.read_source.ensures.asked named (c.in_ok-below.ensures.told ∙ e) start (around + length levels) room' (c.in_ok-below.ensures.asked named e start around s begins.0 since))
 
 pub read_placed-returns-in-Ok-clause-read : goal.read_placed-returns-in-Ok-clause-read
 read_placed-returns-in-Ok-clause-read g t c = λ named e.
     let source = c.args.source.now in
     let few : length c.args.progress.now.placed < 65536 = omega arith in
     on_ok c.read_formed.result (c.read_formed.ensures.read named e)
-    (λ h. λ around room. h around c.args.statement.now room (sym c.line-line.ensures) (sym c.word.ensures)
+    (λ h. λ around room. h around c.args.statement.now room c.head.ensures
     ∙ placed_form named (reader source.levels named) (here_of around source) c.args.conditions.now c.args.statement.now c.in-Ok.stmt c.args.progress.now c.read.new.progress few c.in-Ok.ensures.form c.read.ensures.same)
 
 pub read_placed-returns-in-Err-Memory-clause-asked : goal.read_placed-returns-in-Err-Memory-clause-asked
