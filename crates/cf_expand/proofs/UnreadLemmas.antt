@@ -7,11 +7,13 @@ use Rattle.std.proofs.lemmas.List.{drop-drop, drop_at, get_or-append-add, get_or
 use Rattle.cf_types.specs.declared.stmt.Placed.{Placed}
 use Rattle.cf_types.specs.declared.stmt.Token.{Token}
 use Rattle.cf_grammar.specs.Statement.{AreWithin, IsWithin}
-use Rattle.cf_lexer.specs.Rest.{Passes, first_condition, is_closed}
-use Rattle.cf_lexer.proofs.RestLemmas.{IsPlain, passes_none, split_at}
+use Rattle.cf_lexer.specs.Rest.{Passes, all_tokens, first_condition, is_closed, rest_tokens}
+use Rattle.cf_lexer.specs.declared.rest.Cutting.{Cutting}
+use Rattle.cf_lexer.proofs.RestLemmas.{IsPlain, IsQuiet, split_at}
 use Rattle.config_rules.specs.Cut.{is_stop, statements}
 use Rattle.config_rules.specs.Reading.{Files, Here, Level, Reader, Reading, Statement, condition_of, is_live, levels_behind, read_statement, read_statements, statements_in}
 use Rattle.cf_expand.specs.Lines.{Parts, statement_of}
+use Rattle.cf_expand.specs.Steps.{IsCutting}
 use Rattle.cf_expand.specs.Unread.{PassesTo, Refills, Uncut, all_left}
 
 -- the last ones, as many as stand behind a place
@@ -86,13 +88,13 @@ closed_tail t (u ∷ us) h = h
 
 pub ends_closed : (tokens : List Token) → is_closed tokens ≡ true → 1 ≤ length tokens → Ends tokens
 ends_closed [] closed some = absurd (omega arith)
-ends_closed (t ∷ ts) closed some = by_kind (is_stop t) refl
+ends_closed (t ∷ ts) closed some = by_kind (is_stop t) refl (ends_closed ts (closed_tail t ts closed))
   where
     behind : (us : List Token) → is_closed (t ∷ us) ≡ true → is_stop t ≡ false → 1 ≤ length us
     behind [] h e = absurd (cc)
     behind (u ∷ us) h e = omega arith
-    by_kind : (b : Bool) → is_stop t ≡ b → Ends (t ∷ ts)
-    by_kind true e =
+    by_kind : (b : Bool) → is_stop t ≡ b → (1 ≤ length ts → Ends ts) → Ends (t ∷ ts)
+    by_kind true e later =
         let n : position_or_len is_stop (t ∷ ts) ≡ 0 = ap (λ b. cond (not b) (1 + position_or_len is_stop ts) 0) e in
         let front : before_first is_stop (t ∷ ts) ≡ [] = ap (λ m. take m (t ∷ ts)) n in
         let back : after_first is_stop (t ∷ ts) ≡ ts = ap (λ m. drop (m + 1) (t ∷ ts)) n in
@@ -103,11 +105,12 @@ ends_closed (t ∷ ts) closed some = by_kind (is_stop t) refl
           plain = subst (All IsPlain) (sym front) (All-nil IsPlain);
           closed = ap is_closed back ∙ closed_tail t ts closed;
         }
-    by_kind false e =
-        let more : Ends ts = ends_closed ts (closed_tail t ts closed) (behind ts closed e) in
+    by_kind false e later =
+        let more : Ends ts = later (behind ts closed e) in
         let n : position_or_len is_stop (t ∷ ts) ≡ suc (position_or_len is_stop ts) = ap (λ b. cond (not b) (1 + position_or_len is_stop ts) 0) e ∙ omega arith in
         let front : before_first is_stop (t ∷ ts) ≡ t ∷ before_first is_stop ts = ap (λ m. take m (t ∷ ts)) n in
-        let back : after_first is_stop (t ∷ ts) ≡ after_first is_stop ts = ap (λ m. drop (m + 1) (t ∷ ts)) n in
+        let one : suc (position_or_len is_stop ts) + 1 ≡ suc (position_or_len is_stop ts + 1) = omega arith in
+        let back : after_first is_stop (t ∷ ts) ≡ after_first is_stop ts = ap (λ m. drop (m + 1) (t ∷ ts)) n ∙ ap (λ m. drop m (t ∷ ts)) one in
         record {
           stop = more.stop;
           is = more.is;
@@ -158,13 +161,13 @@ left_out files below here [] text passed ss r out clear quiet = absurd (cc)
 left_out files below here (l ∷ levels) text [] ss r out clear quiet = refl
 left_out files below here (l ∷ levels) text (ts ∷ passed) ss r out clear quiet =
     let s = statement_of text ts in
-    let none : condition_of s ≡ None = condition_is text ts ∙ All-head _ ts passed quiet in
+    let none : condition_of s ≡ None = condition_is text ts ∙ All-head (IsQuiet text) ts passed quiet in
     let rest = map (statement_of text) passed ++ ss in
     let first : read_statement files below here (l ∷ levels) s r ≡ r = quiet_one files below here l levels s r out none in
     ap (λ (x : Reading). cond (is_some x.fault) x (read_statements files below here (levels_behind r.placed s (l ∷ levels)) rest x)) first
     ∙ ap (λ b. cond b r (read_statements files below here (levels_behind r.placed s (l ∷ levels)) rest r)) clear
     ∙ ap (λ ls. read_statements files below here ls rest r) (quiet_levels l levels r.placed s none)
-    ∙ left_out files below here (l ∷ levels) text passed ss r out clear (All-tail _ ts passed quiet)
+    ∙ left_out files below here (l ∷ levels) text passed ss r out clear (All-tail (IsQuiet text) ts passed quiet)
 
 map_append : (text : List ℕ) (xs ys : List (List Token)) → map (statement_of text) (xs ++ ys) ≡ map (statement_of text) xs ++ map (statement_of text) ys
 map_append text [] ys = refl
@@ -204,10 +207,57 @@ split_within text kept more statement rest parts within =
     ∙ ap (λ xs. take (position_or_len is_stop kept + 1) kept ++ (xs ++ more)) (sym parts.behind) in
     suffix_within text (take (position_or_len is_stop kept + 1) kept) (rest ++ more) (subst (AreWithin text) whole within)
 
+-- only the tokens that are cut are others
+pub kept_only : (old cut : Uncut) (kept : List Token) → cut ≡ record old { kept = kept } → cut ≡ record old { kept = cut.kept }
+kept_only old cut kept is = is ∙ ap (λ (ts : List Token). record old { kept = ts }) (sym (ap (λ (u : Uncut). u.kept) is))
+
+pub front_within : (text : List ℕ) (front left : List Token) → AreWithin text (front ++ left) → AreWithin text front
+front_within text [] left within = All-nil (IsWithin text)
+front_within text (t ∷ front) left within =
+    All-cons (IsWithin text) t front (All-head (IsWithin text) t (front ++ left) within) (front_within text front left (All-tail (IsWithin text) t (front ++ left) within))
+
+-- the first statement lies within the text
+pub first_within : (text : List ℕ) (kept more statement rest : List Token) → Parts kept statement rest → AreWithin text (kept ++ more) → AreWithin text statement
+first_within text kept more statement rest parts within =
+    let n = position_or_len is_stop kept in
+    let whole : kept ++ more ≡ take n kept ++ (drop n kept ++ more) = ap (λ xs. xs ++ more) (sym (take-append-drop n kept)) ∙ append_assoc (take n kept) (drop n kept) more in
+    subst (AreWithin text) (sym parts.front) (front_within text (take n kept) (drop n kept ++ more) (subst (AreWithin text) whole within))
+
+-- fewer tokens are left
+pub fewer_left : (kept more statement rest front left : List Token) → Parts kept statement rest → rest ++ more ≡ front ++ left → length left < length (kept ++ more)
+fewer_left kept more statement rest front left parts is =
+    omega (arith, parts.shorter, ap length is, length-append rest more, length-append front left, length-append kept more)
+
+-- before the first statement
+pub record Started (text : List ℕ) (tokens : List Token) (u : Uncut) : Type 0 where
+  pub text_is : u.text ≡ text
+  pub same : statements_in text (all_left u) ≡ statements_in text tokens
+  pub closed : is_closed u.kept ≡ true
+  pub ready : u.kept ≡ [] → u.more ≡ []
+  pub within : AreWithin text (all_left u)
+
+pub started : (text shown : List ℕ) (c : Cutting) (made left : Uncut) → shown ≡ text → made ≡ record { text = shown; kept = c.tokens; more = rest_tokens shown c.rest } → Refills true made left → IsCutting text c
+    → Started text (all_tokens text c) left
+started text shown c made left e is refills cutting =
+    let text_is : made.text ≡ text = ap (λ (u : Uncut). u.text) is ∙ e in
+    let all : all_left made ≡ all_tokens text c = ap all_left is ∙ ap (λ (x : List ℕ). c.tokens ++ rest_tokens x c.rest) e in
+    let to : PassesTo true text (all_tokens text c) (all_left left) =
+    subst (λ (xs : List Token). PassesTo true text xs (all_left left)) all (subst (λ (x : List ℕ). PassesTo true x (all_left made) (all_left left)) text_is refills.passes) in
+    record {
+      text_is = refills.text ∙ text_is;
+      same = sym (ap (map (statement_of text)) (to.passes.splits ∙ ap (λ (ps : List (List Token)). ps ++ statements (all_left left)) (to.none refl)));
+      closed = refills.closed (ap (λ (u : Uncut). is_closed u.kept) is ∙ cutting.closed);
+      ready = refills.ready;
+      within = suffix_within text to.passes.front (all_left left) (subst (AreWithin text) to.passes.whole cutting.within);
+    }
+
 -- ---- how the next statement is cut
 
 pub passes_same : (live : Bool) (text : List ℕ) (tokens : List Token) → PassesTo live text tokens tokens
-passes_same live text tokens = record { passes = passes_none text tokens; none = λ h. refl }
+passes_same live text tokens = record {
+  passes = record { front = []; whole = refl; passed = []; splits = refl; quiet = All-nil (IsQuiet text) };
+  none = λ h. refl;
+}
 
 pub passes_out : (live : Bool) (text : List ℕ) (old new : List Token) → live ≡ false → Passes text old new → PassesTo live text old new
 passes_out live text old new out p = record { passes = p; none = λ h. absurd (cc) }

@@ -56,8 +56,8 @@ fn read_directive<F: Files>(
     requires written { IsWritten stmt }
     ensures told { F.told files.new ≡ F.told files.old }
     ensures counted { Counted (F.faults files.old) (F.faults files.new) result }
-    ensures read { Treats (F.told files.old) place.source.now place.conditions.now head stmt progress.old result progress.new }
-    ensures asked { AsksTreating (F.told files.old) place.source.now place.conditions.now head stmt progress.old result (F.asked files.old) (F.asked files.new) }
+    ensures read { Treats (F.told files.old) place.entry.source.now place.entry.conditions.now head stmt progress.old result progress.new }
+    ensures asked { AsksTreating (F.told files.old) place.entry.source.now place.entry.conditions.now head stmt progress.old result (F.asked files.old) (F.asked files.new) }
 {
     let alloc = progress.alloc();
     let Place { source, conditions } = place;
@@ -89,8 +89,8 @@ fn read_formed<F: Files>(
     requires written { IsWritten stmt }
     ensures told { F.told files.new ≡ F.told files.old }
     ensures counted { Counted (F.faults files.old) (F.faults files.new) result }
-    ensures read { Treats (F.told files.old) place.source.now place.conditions.now head stmt progress.old result progress.new }
-    ensures asked { AsksTreating (F.told files.old) place.source.now place.conditions.now head stmt progress.old result (F.asked files.old) (F.asked files.new) }
+    ensures read { Treats (F.told files.old) place.entry.source.now place.entry.conditions.now head stmt progress.old result progress.new }
+    ensures asked { AsksTreating (F.told files.old) place.entry.source.now place.entry.conditions.now head stmt progress.old result (F.asked files.old) (F.asked files.new) }
 {
     match &stmt {
         Stmt::Include { .. } | Stmt::Prefix { .. } | Stmt::Cond { .. } => {

@@ -1,11 +1,11 @@
-use Rattle.std.proofs.Common.{◌≡◌, ◌+◌, ◌<◌, ◌∙◌, ◌++◌, arith, List, length, ap, refl, sym, subst, Some}
+use Rattle.std.proofs.Common.{◌≡◌, ◌+◌, ◌<◌, ◌∙◌, ◌++◌, arith, List, [], length, ap, refl, sym, subst, Some}
 use Rattle.cf_types.specs.declared.stmt.Token.{Token}
 use Rattle.cf_grammar.specs.Statement.{AreWithin}
-use Rattle.config_rules.specs.Reading.{Reading, Statement, holds, levels_behind, names_declared, read_placed, read_statement, reader, statements_in, treat}
-use Rattle.cf_expand.proofs.AskedLemmas.{all_grown, asked_still, at_end, at_fault, asks_same, beyond, follows, front_grown, front_same, reader_grows, rest_grows, placed_grows, stopped_all, treat_grows, whole_grows}
-use Rattle.cf_lexer.specs.Rest.{is_closed}
+use Rattle.config_rules.specs.Reading.{Level, Reading, Statement, holds, levels_behind, names_declared, read_placed, read_statement, read_statements, reader, statements_in, treat}
+use Rattle.cf_expand.proofs.AskedLemmas.{all_grown, asked_still, at_end, at_fault, asks_same, beyond, follows, front_grown, front_same, reader_grows, rest_grows, statements_grow, placed_grows, stopped_all, treat_grows, whole_grows}
+use Rattle.cf_lexer.specs.Rest.{all_tokens, is_closed}
 use Rattle.cf_expand.specs.Unread.{Uncut, all_left}
-use Rattle.cf_expand.proofs.UnreadLemmas.{last_kept, none_left, passed_left, passed_reads, rest_closed, split_within, suffix_within, whole_splits}
+use Rattle.cf_expand.proofs.UnreadLemmas.{fewer_left, first_within, kept_only, last_kept, none_left, passed_left, passed_reads, rest_closed, split_within, started, suffix_within, whole_splits}
 use Rattle.cf_expand.proofs.ReadLemmas.{included, included_whole, on_ok, placed_form, placed_here, room_below}
 use Rattle.cf_expand.specs.Lines.{statement_of}
 use Rattle.cf_expand.specs.Steps.{entered, here_of}
@@ -87,7 +87,7 @@ read_source-returns-in_err-read_with_include-clause-asked g t c = λ named e sta
     let source = c.args.source.now in
     let so_far = c.loop-first.invariant in
     let whole = entered named around (Some (record { source = source; cutting = c.args.cutting })) c.args.progress.now in
-    stopped_all _ whole.asked _ _ _ c.from_residual.ensures.1
+    stopped_all _ whole.asked _ _ _ c.from_residual-in_err-read_with_include.ensures.1
     (front_grown (read_statement named (reader source.levels named) (here_of around source) c.loop-first.conditions (statement_of source.text c.in-Some.first.now) c.loop-first.progress) whole _ _
     (rest_grows named (reader source.levels named) (reader_grows source.levels named) (here_of around source) c.loop-first.conditions source.text (all_left c.loop-first.left) c.in-Some.first.now (c.in-Some.rest.now ++ c.loop-first.left.more) c.loop-first.progress whole (whole_splits c.loop-first.left.kept c.loop-first.left.more c.in-Some.first.now c.in-Some.rest.now so_far.closed c.in-Some.ensures) (so_far.so_far named e around room))
     (rw c.statement-statement.ensures at (c.in_err-read_with_include.ensures.asked named (so_far.told ∙ e) start around room (so_far.asked named e start around room before))))
@@ -98,6 +98,53 @@ read_source-returns-in_err-follow-clause-asked g t c = λ named e start around r
     let so_far = c.loop-first.invariant in
     let whole = entered named around (Some (record { source = source; cutting = c.args.cutting })) c.args.progress.now in
     stopped_all _ whole.asked _ _ _ c.from_residual-in_err-follow.ensures.1
+    (all_grown (read_statement named (reader source.levels named) (here_of around source) c.loop-first.conditions (statement_of source.text c.in-Some.first.now) c.loop-first.progress) whole _ _
+    (rest_grows named (reader source.levels named) (reader_grows source.levels named) (here_of around source) c.loop-first.conditions source.text (all_left c.loop-first.left) c.in-Some.first.now (c.in-Some.rest.now ++ c.loop-first.left.more) c.loop-first.progress whole (whole_splits c.loop-first.left.kept c.loop-first.left.more c.in-Some.first.now c.in-Some.rest.now so_far.closed c.in-Some.ensures) (so_far.so_far named e around room))
+    (rw c.statement-statement.ensures at (c.in_ok-read_with_include.ensures.asked named (so_far.told ∙ e) start around room (so_far.asked named e start around room before))))
+
+pub read_source-returns-in_err-refill-clause-asked : goal.read_source-returns-in_err-refill-clause-asked
+read_source-returns-in_err-refill-clause-asked g t c = λ named e start around room before.
+    let source = c.args.source.now in
+    let whole = entered named around (Some (record { source = source; cutting = c.args.cutting })) c.args.progress.now in
+    stopped_all _ whole.asked _ _ _ c.from_residual.ensures.1
+    (all_grown c.args.progress.now whole _ _ (statements_grow named (reader source.levels named) (reader_grows source.levels named) (here_of around source) [] (statements_in source.text (all_tokens source.text c.args.cutting)) c.args.progress.now) before)
+
+pub read_source-loop-first-init : goal.read_source-loop-first-init
+read_source-loop-first-init g t c =
+    let source = c.args.source.now in
+    let begun = started source.text c.items.result.now c.args.cutting c.make-left.result c.refill.new.self c.items.ensures c.make-left.ensures c.in_ok-refill.ensures c.requires in
+    record {
+      told = refl;
+      counted = refl;
+      text = begun.text_is;
+      within = begun.within;
+      closed = begun.closed;
+      ready = begun.ready;
+      asked = λ named e start around room before. before;
+      so_far = λ named e around room.
+          ap (λ (ls : List Level). read_statements named (reader source.levels named) (here_of around source) ls (statements_in source.text (all_left c.refill.new.self)) c.args.progress.now) c.make-conditions.ensures
+          ∙ ap (λ ss. read_statements named (reader source.levels named) (here_of around source) [] ss c.args.progress.now) begun.same;
+    }
+
+pub read_source-statement-statement-requires : goal.read_source-statement-statement-requires
+read_source-statement-statement-requires g t c =
+    first_within c.args.source.now.text c.loop-first.left.kept c.loop-first.left.more c.in-Some.first.now c.in-Some.rest.now c.in-Some.ensures c.loop-first.invariant.within
+
+pub read_source-loop-first-smaller : goal.read_source-loop-first-smaller
+read_source-loop-first-smaller g t c =
+    let left = c.loop-first.left in
+    let rest : List Token = c.in-Some.rest.now in
+    let cut : Uncut = c.keep_last.new.self in
+    let kept : cut.kept ≡ rest = last_kept left.kept rest _ (length rest) refl c.in-Some.ensures.behind (ap (λ (u : Uncut). u.kept) c.keep_last.ensures.left) in
+    let passed = passed_left c.args.source.now.text left cut c.refill-in-Some.new.self rest c.is_live.result c.loop-first.invariant.text (kept_only left cut _ c.keep_last.ensures.left) kept c.in_ok-refill-2.ensures in
+    fewer_left left.kept left.more c.in-Some.first.now rest passed.1.passes.front (all_left c.refill-in-Some.new.self) c.in-Some.ensures passed.1.passes.whole
+
+pub read_source-returns-in_err-refill-2-clause-asked : goal.read_source-returns-in_err-refill-2-clause-asked
+read_source-returns-in_err-refill-2-clause-asked g t c = λ named e start around room before.
+    let source = c.args.source.now in
+    let so_far = c.loop-first.invariant in
+    let whole = entered named around (Some (record { source = source; cutting = c.args.cutting })) c.args.progress.now in
+    stopped_all _ whole.asked _ _ _ c.from_residual-in_err-refill-2.ensures.1
     (all_grown (read_statement named (reader source.levels named) (here_of around source) c.loop-first.conditions (statement_of source.text c.in-Some.first.now) c.loop-first.progress) whole _ _
     (rest_grows named (reader source.levels named) (reader_grows source.levels named) (here_of around source) c.loop-first.conditions source.text (all_left c.loop-first.left) c.in-Some.first.now (c.in-Some.rest.now ++ c.loop-first.left.more) c.loop-first.progress whole (whole_splits c.loop-first.left.kept c.loop-first.left.more c.in-Some.first.now c.in-Some.rest.now so_far.closed c.in-Some.ensures) (so_far.so_far named e around room))
     (rw c.statement-statement.ensures at (c.in_ok-read_with_include.ensures.asked named (so_far.told ∙ e) start around room (so_far.asked named e start around room before))))
@@ -143,19 +190,19 @@ read_source-loop-first-preserved g t c =
     let rest : List Token = c.in-Some.rest.now in
     let cut : Uncut = c.keep_last.new.self in
     let kept : cut.kept ≡ rest = last_kept left.kept rest _ (length rest) refl c.in-Some.ensures.behind (ap (λ (u : Uncut). u.kept) c.keep_last.ensures.left) in
-    let passed = passed_left source.text left cut c.refill.new.self rest c.is_live.result so_far.text c.keep_last.ensures.left kept c.in_ok-refill.ensures in
+    let passed = passed_left source.text left cut c.refill-in-Some.new.self rest c.is_live.result so_far.text (kept_only left cut _ c.keep_last.ensures.left) kept c.in_ok-refill-2.ensures in
     let behind : AreWithin source.text (rest ++ left.more) = split_within source.text left.kept left.more c.in-Some.first.now rest c.in-Some.ensures so_far.within in
     record {
       told = done.told ∙ so_far.told;
       counted = done.counted ∙ so_far.counted;
       text = passed.0;
-      within = suffix_within source.text passed.1.passes.front (all_left c.refill.new.self) (subst (AreWithin source.text) passed.1.passes.whole behind);
-      closed = c.in_ok-refill.ensures.closed (ap is_closed kept ∙ rest_closed left.kept c.in-Some.first.now rest so_far.closed c.in-Some.ensures);
-      ready = c.in_ok-refill.ensures.ready;
+      within = suffix_within source.text passed.1.passes.front (all_left c.refill-in-Some.new.self) (subst (AreWithin source.text) passed.1.passes.whole behind);
+      closed = c.in_ok-refill-2.ensures.closed (ap is_closed kept ∙ rest_closed left.kept c.in-Some.first.now rest so_far.closed c.in-Some.ensures);
+      ready = c.in_ok-refill-2.ensures.ready;
       asked = λ named e start around room before.
           asked_still _ _ start _ (ap (λ (r : Reading). r.asked) (done.read named (so_far.told ∙ e) around room)) (done.asked named (so_far.told ∙ e) start around room (so_far.asked named e start around room before));
       so_far = λ named e around room.
-          passed_reads named (reader source.levels named) (here_of around source) c.follow.new.self c.is_live.result source.text (rest ++ left.more) (all_left c.refill.new.self) c.read_with_include.new.progress _
+          passed_reads named (reader source.levels named) (here_of around source) c.follow.new.self c.is_live.result source.text (rest ++ left.more) (all_left c.refill-in-Some.new.self) c.read_with_include.new.progress _
           c.is_live.ensures (sym c.has_fault.ensures ∙ c.if-has_fault.false) passed.1
           (beyond named (reader source.levels named) (here_of around source) c.loop-first.conditions c.follow.new.self source.text (all_left left) c.in-Some.first.now (rest ++ left.more) c.loop-first.progress c.read_with_include.new.progress _
           (whole_splits left.kept left.more c.in-Some.first.now rest so_far.closed c.in-Some.ensures) (so_far.so_far named e around room) (rw c.statement-statement.ensures at (done.read named (so_far.told ∙ e) around room)) (sym c.has_fault.ensures ∙ c.if-has_fault.false)

@@ -8,10 +8,10 @@ use Rattle.cf_expand.specs.Unread.{all_left}
 use Rattle.cf_expand.proofs.reading.+statements.Given as goal
 
 abbrev pub decreases-read_directive : goal.decreases-read_directive
-decreases-read_directive g l = 5 * l.source.now.levels
+decreases-read_directive g l = 5 * l.place.source.now.levels
 
 abbrev pub decreases-read_formed : goal.decreases-read_formed
-decreases-read_formed g l = 5 * l.source.now.levels + 1
+decreases-read_formed g l = 5 * l.place.source.now.levels + 1
 
 abbrev pub decreases-read_placed : goal.decreases-read_placed
 decreases-read_placed g l = 5 * l.source.now.levels + 2
