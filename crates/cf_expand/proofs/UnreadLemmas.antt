@@ -93,6 +93,7 @@ ends_closed (t ∷ ts) closed some = by_kind (is_stop t) refl (ends_closed ts (c
     behind : (us : List Token) → is_closed (t ∷ us) ≡ true → is_stop t ≡ false → 1 ≤ length us
     behind [] h e = absurd (cc)
     behind (u ∷ us) h e = omega arith
+
     by_kind : (b : Bool) → is_stop t ≡ b → (1 ≤ length ts → Ends ts) → Ends (t ∷ ts)
     by_kind true e later =
         let n : position_or_len is_stop (t ∷ ts) ≡ 0 = ap (λ b. cond (not b) (1 + position_or_len is_stop ts) 0) e in

@@ -55,7 +55,11 @@ fn wanted(text: &[u8], rest: Rest, is_live: bool) -> Option<Rest>
     ensures rest { MayRest text.now result }
     ensures passes { PassesTo is_live text.now (rest_tokens text.now (Some rest)) (rest_tokens text.now result) }
 {
-    if is_live { Some(rest) } else { skip(text, rest) }
+    if is_live {
+        Some(rest)
+    } else {
+        skip(text, rest)
+    }
 }
 
 /// Replaces the tokens by those of the first statement that is wanted, and returns what is left after it.

@@ -63,9 +63,11 @@ plain_goes c cs h =
   where
     mark : List Token
     mark = token kind.Mark 0 (0 + 1) 0 ∷ []
+
     by_two : (is_space c ≡ true) ⊎ (is_chunk_byte c ≡ true) → code_of cs ≡ code_of (c ∷ cs)
     by_two (inl e) = goes_code [] [] 0 0 1 (c ∷ cs) (blank_goes_on [] 0 0 c cs e)
     by_two (inr e) = sym (chunk_behind cs) ∙ ap (λ m. code_of (drop m (c ∷ cs))) (sym (add-one (prefix_len is_chunk_byte cs))) ∙ chunk_code c cs e
+
     by_kind : ((is_space c || is_chunk_byte c) ≡ true) ⊎ (is_mark_byte c ≡ true) → code_of cs ≡ code_of (c ∷ cs)
     by_kind (inl e) = by_two (or_cases (is_space c) (is_chunk_byte c) e)
     by_kind (inr e) = goes_code [] mark 0 0 1 (c ∷ cs) (mark_goes_on [] mark 0 0 c cs e refl)

@@ -89,7 +89,7 @@ stopped_at before text line place whole begun h =
     let rest = rest_of (drop place text) in
     let lines : lines_of (drop place text) ≡ first ∷ rest = first_and_rest (drop place text) in
     let Goal : List (List ℕ) → Type 0 = λ ls. ((all_parts line ls >>= λ parts. Ok (lines_tokens line place parts)) ≡ Ok (value_or_none (all_parts line ls >>= λ parts. Ok (lines_tokens line place parts))))
-        × (whole ≡ (before ++ stop_behind before) ++ value_or_none (all_parts line ls >>= λ parts. Ok (lines_tokens line place parts))) in
+    × (whole ≡ (before ++ stop_behind before) ++ value_or_none (all_parts line ls >>= λ parts. Ok (lines_tokens line place parts))) in
     subst Goal (sym lines) (stopped_with before line place first whole (parts_of first) (all_parts (line + 1) rest) refl begun (ap (finish before line place) (sym lines) ∙ h))
 
 -- nothing is left
@@ -200,15 +200,19 @@ first_by_part text line place c cs ps is begun h =
   where
     K : Part → Result (List Part) ℕ
     K part = parts_of (drop (length (spelling part)) (c ∷ cs)) >>= λ parts. Ok (part ∷ parts)
+
     Q : Result Part ℕ → Type 0
     Q r = (r >>= K) ≡ Ok ps → FirstIs text place (line_tokens line place ps)
+
     by_parts : {part : Part} (rest qs : List Part) → qs ≡ part ∷ rest → FirstIs text place (line_tokens line place (part ∷ rest)) → FirstIs text place (line_tokens line place qs)
     by_parts rest qs e f = subst (λ (xs : List Part). FirstIs text place (line_tokens line place xs)) (sym e) f
+
     chunk_quiet : is_chunk_byte c ≡ true → names_condition (drop place text) ≡ false
         → condition_in (piece text (token kind.Chunk place (place + length (c ∷ take_while is_chunk_byte cs)) line)) ≡ None
     chunk_quiet e quiet =
         none_found (λ word. is_word (condition_spelling word) (piece text (token kind.Chunk place (place + length (c ∷ take_while is_chunk_byte cs)) line))) CONDITION_WORDS
         (ap is_condition_word (chunk_there text place c cs is e) ∙ quiet)
+
     quoted_first : (bytes rest : List ℕ) → Q (quoted_part bytes rest)
     quoted_first bytes [] g = absurd (cc)
     quoted_first bytes (d ∷ rest) g = cond_both Q (d == 34) (Ok (Quoted bytes)) (Err BAD_BYTE)

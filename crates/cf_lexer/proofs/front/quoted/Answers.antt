@@ -15,7 +15,7 @@ returns-in-Some-eq34-clause-within c =
     let text = c.args.text.now in
     let n = c.text_len-len.result in
     let lt : n < length text = grind (arith, nat_tests) in
-        let more = byte_within text n 34 _ c.text_len-len.ensures lt (sym c.in-Some-eq34.field-0-test ∙ c.in-Some-eq34.ensures.lookup.1) refl in
+    let more = byte_within text n 34 _ c.text_len-len.ensures lt (sym c.in-Some-eq34.field-0-test ∙ c.in-Some-eq34.ensures.lookup.1) refl in
     record { some = omega arith; fits = omega (arith, more); token = (omega arith, omega arith) }
 
 pub returns-in-Some-clause-front : goal.returns-in-Some-clause-front
