@@ -6,4 +6,4 @@ use Rattle.scan_engine.proofs.scan.place_turn.Goals as goal
 pub returns : goal.returns
 returns c =
     bus_from c.args.machine.now (length c.args.tables.now.rows) (style_of c.args.machine.now c.args.attach c.args.place) c.args.spot (c.args.attr, c.args.place) c.args.from c.requires.late
-    ∙ (rw (c.begin.ensures, c.is_indirect.ensures, c.len.ensures) at c.bus_turn.ensures)
+    ∙ (rw (c.begin.ensures, c.is_indirect.ensures c.args.machine.now c.requires.styles, c.len.ensures) at c.bus_turn.ensures)
