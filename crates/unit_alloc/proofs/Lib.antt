@@ -1,2 +1,2 @@
-pub mod FreeLaws
+pub mod BitmapLaws
 pub mod TakenLaws
