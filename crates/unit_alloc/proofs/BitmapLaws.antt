@@ -213,23 +213,3 @@ picked words taken full first result kept view least = record {
 
     told : (n : ℕ) → is_in n taken ≡ is_set words n
     told n = ap (is_in n) (sym view) ∙ set_is words n
-
--- ---- how far the least free unit is from the first one
-
-abbrev one_if : Bool → ℕ
-one_if b = cond b 1 0
-
-counts_one : (b : Bool) → b ≡ true → one_if b ≡ 1
-counts_one true e = refl
-counts_one false e = absurd cc
-
--- where all numbers from the first one on up to a bound pass, so many do
-pub all_pass : (test : ℕ → Bool) (first n : ℕ) → ((k : ℕ) → first ≤ k → k < n → test k ≡ true) → n ≤ count_by test (below n) + first
-all_pass test first zero h = omega arith
-all_pass test first (suc n) h =
-    let more : count_by test (below (suc n)) ≡ count_by test (below n) + count_by test (n ∷ []) = sum_by-append (λ k. cond (test k) 1 0) (below n) (n ∷ []) in
-    elim (cases_lt n first) [
-      | inl less ↦ omega (arith, less)
-      | inr from ↦
-          omega (arith, more, counts_one (test n) (h n from (omega arith)), all_pass test first n (λ k low high. h k low (omega arith)))
-    ]

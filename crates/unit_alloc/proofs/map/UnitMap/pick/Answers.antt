@@ -1,7 +1,8 @@
 use Rattle.std.proofs.Common.{◌≡◌, ◌≤◌, ◌*◌, ◌+◌, ◌∙◌, ℕ, max, ap, subst, arith}
 use Rattle.cf_types.specs.Gather.{is_in}
 use Rattle.unit_alloc.specs.Taken.{IsLeastFree, is_set}
-use Rattle.unit_alloc.proofs.BitmapLaws.{all_pass, picked}
+use Rattle.unit_alloc.proofs.BitmapLaws.{picked}
+use Rattle.unit_alloc.proofs.FreeLaws.{all_pass}
 use Rattle.unit_alloc.proofs.map.UnitMap.pick.Goals as goal
 
 least_of : (c : goal.After-first_clear) → IsLeastFree (λ n. is_in n c.args.self.now) c.args.first c.first_clear.result
