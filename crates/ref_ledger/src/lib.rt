@@ -2,6 +2,7 @@
 #![tactic(auto)]
 
 mod buried;
+mod masks;
 mod plain;
 mod refs;
 mod slots;
