@@ -2,6 +2,8 @@
 #![tactic(auto)]
 
 mod buried;
+#[cfg(test)]
+mod listed;
 mod masks;
 mod plain;
 mod refs;

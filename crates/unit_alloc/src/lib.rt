@@ -3,6 +3,8 @@
 
 mod clear;
 mod map;
+#[cfg(test)]
+mod marks;
 mod units;
 
 pub use units::Units;
