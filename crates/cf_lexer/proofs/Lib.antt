@@ -1,4 +1,5 @@
 pub mod FrontLemmas
+pub mod QuoteLemmas
 pub mod LineLemmas
 pub mod PlaceLemmas
 pub mod TextLemmas

@@ -1,6 +1,7 @@
 ghost use Rattle.std.specs.Prelude.{◌≡◌, [], ◌++◌, ◌≤◌, cond, drop, length, IfOk, IfErr, OnOk};
 ghost use Rattle.config_rules.specs.Cut.{Cut, cut_of, stop_behind};
-ghost use Rattle.cf_lexer.specs.Line.{begins, first_of, IsFaultOf, Shows};
+ghost use Rattle.cf_lexer.specs.Line.{IsFaultOf, Shows};
+ghost use Rattle.cf_lexer.specs.Lines.{begins, first_of};
 
 use crate::front::is_blank_byte;
 use crate::line::{LexStop, cut_line, push_token};

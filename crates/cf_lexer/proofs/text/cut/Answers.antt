@@ -1,7 +1,8 @@
 use Rattle.std.proofs.Common.{◌≡◌, ◌≤◌, ◌+◌, ◌∙◌, ap, sym, arith, length, drop, Ok}
 use Rattle.std.proofs.lemmas.Result.{err_from_is_err_and}
 use Rattle.config_rules.specs.Cut.{cut_of}
-use Rattle.cf_lexer.specs.Line.{Shows, first_of, lines_from, rest_of}
+use Rattle.cf_lexer.specs.Line.{Shows}
+use Rattle.cf_lexer.specs.Lines.{first_of, lines_from, rest_of}
 use Rattle.cf_lexer.proofs.PlaceLemmas.{next_place, next_within, place_of, so_far_at, some_within, text_further}
 use Rattle.cf_lexer.proofs.TextWords.{finish}
 use Rattle.cf_lexer.proofs.TextLemmas.{line_fails, lines_end, cut_is, fault_is}

@@ -14,6 +14,9 @@ loop-line-init c = record { same = refl; passed = none_passed (world_of (setup_b
 pub read_behind_head-requires-clause-going : goal.read_behind_head-requires-clause-going
 read_behind_head-requires-clause-going c = subst (IsGoing (setup_by c.args.rules.now)) (sym c.loop-line.invariant.same) c.requires.going
 
+pub read_behind_head-requires-clause-none : goal.read_behind_head-requires-clause-none
+read_behind_head-requires-clause-none c = ap (λ (p : Plain). p.live.devices) c.loop-line.invariant.same ∙ c.requires.none
+
 pub read_behind_head-requires-clause-next : goal.read_behind_head-requires-clause-next
 read_behind_head-requires-clause-next c = omega (arith, c.requires.next, c.loop-line.invariant.passed.counted, ap (λ (p : Plain). p.live.next) c.loop-line.invariant.same)
 
