@@ -99,7 +99,7 @@ fn masks_tell_what_the_references_tell(rt: HostRuntime) -> Result<(), Fail> {
     let mut ledger = Refs::make(rt.alloc());
     let mut refs = Vec::new(rt.alloc());
     let mut state: u64 = 1;
-    for _turn in 0..3_000u64 {
+    for _turn in 0..600u64 {
         state = state
             .wrapping_mul(6_364_136_223_846_793_005)
             .wrapping_add(1_442_695_040_888_963_407);
