@@ -3,7 +3,7 @@
 use crate::devices::{
     Deep, Device, device_at, device_on, is_occupied, name_of, part_of, tree_of, unit_by,
 };
-use crate::refs::{Held, count_of, give_back, is_held};
+use crate::refs::{Held, give_back, is_held};
 use crate::replies::{
     Answer, closing, detaching, is_reply, opening, powering, rescanning, starting, unplugging,
 };
@@ -225,12 +225,7 @@ impl<'a> Follower<'a> {
 
     /// Whether a caller that has no command left returns the first device that it holds, and this is its name.
     fn drops(&mut self, caller: u8, name: &Name) -> Result<bool, Memory> {
-        let refs = &self.world.refs;
-        let mut devices = self.world.devices.iter();
-        let held = devices
-            .find(|device| count_of(refs, device.serial, caller) != 0)
-            .copied();
-        let Some(device) = held else {
+        let Some(device) = self.world.first_held(caller) else {
             return Ok(false);
         };
         let is_returned = self.returns(caller, device);

@@ -121,6 +121,16 @@ impl<'a> World<'a> {
         None
     }
 
+    /// The first device that a caller holds.
+    pub fn first_held(&self, caller: u8) -> Option<Device> {
+        for device in &self.devices {
+            if count_of(&self.refs, device.serial, caller) != 0 {
+                return Some(*device);
+            }
+        }
+        None
+    }
+
     /// The last device that a caller is about to free.
     pub fn next_free(&self, caller: u8) -> Option<Device> {
         let mut devices = self.devices.iter().rev();
