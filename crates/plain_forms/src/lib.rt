@@ -5,8 +5,6 @@
 mod devices;
 mod follower;
 mod refs;
-mod replies;
 mod search;
-mod world;
 
 pub use follower::{Followed, follow};
