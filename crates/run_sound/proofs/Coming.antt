@@ -1,4 +1,4 @@
--- What comes may come, and why a frame's deed is done.
+-- What comes may come, and what the choice of a frame's deed tells of the world: `Next` read backwards, for proofs.
 use Rattle.std.specs.Prelude.{◌≡◌, ◌≢◌, ◌⊎◌, ◌<◌, ◌≤◌, ◌^◌, ◌||◌, ◌==◌, ⊤, ℕ, Bool, true, false, IsTrue, List, [], ◌∷◌, Option, Some, None, length, option_and_then, slice_index_or}
 use Rattle.run_rules.specs.declared.world.Setup.{Setup}
 use Rattle.run_rules.specs.declared.world.Dev.{Dev}

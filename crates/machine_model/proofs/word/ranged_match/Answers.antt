@@ -1,6 +1,6 @@
 use Rattle.std.proofs.Common.{◌∙◌, ap, sym, Some}
 use Rattle.machine_model.proofs.WordLemmas.{match_is}
-use Rattle.machine_model.proofs.word.match_value.Goals as goal
+use Rattle.machine_model.proofs.word.ranged_match.Goals as goal
 
 pub returns-in-Some : goal.returns-in-Some
 returns-in-Some c = ap Some c.within_match.ensures ∙ match_is _ c.args.word.now (sym c.in-Some.is ∙ c.ranged.ensures)

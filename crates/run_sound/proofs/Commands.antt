@@ -1,4 +1,4 @@
--- Why a deed of a command is done: what its choice tells of the world.
+-- What the choice of a command's deed tells of the world: `Next` read backwards, for proofs.
 use Rattle.std.specs.Prelude.{◌≡◌, ◌≢◌, ◌⊎◌, ⊤, ℕ, ◌+◌, Bool, true, false, List, [], Option, Some, None, map}
 use Rattle.std.specs.List.{Contains}
 use Rattle.cf_types.specs.Locators.{locators_at}
@@ -7,6 +7,7 @@ use Rattle.cf_types.specs.declared.machine.Command.{Command}
 use Rattle.cf_types.specs.declared.machine.Command.TheVariants as command
 use Rattle.cf_types.specs.declared.machine.Given.{Given}
 use Rattle.cf_types.specs.declared.machine.Ticket.{Ticket}
+use Rattle.cf_types.specs.Lookups.{attr_number, spot_number}
 use Rattle.run_rules.specs.declared.event.PowerKind.{PowerKind}
 use Rattle.run_rules.specs.declared.event.PowerKind.TheVariants as kind
 use Rattle.run_rules.specs.declared.world.Dev.{Dev}
@@ -19,13 +20,8 @@ use Rattle.run_rules.specs.declared.deed.PowerEnd.{PowerEnd}
 use Rattle.run_rules.specs.declared.deed.PowerEnd.TheVariants as ends
 use Rattle.run_rules.specs.declared.deed.Choice.TheVariants.{Does}
 use Rattle.run_rules.specs.References.{MayHold}
-use Rattle.run_rules.specs.Next.{attr_named, command_deed, command_of, first_held, has_nothing, hindered, is_power, next_free, next_sleep, next_wake, other_turn, powering, spot_named, ticket_of, wanted_of}
-
--- the power command of a kind: after drvctl(8)
-abbrev pub power_command : PowerKind → List ℕ → Command
-power_command kind.Suspend name = command.Suspend name
-power_command kind.Resume name = command.Resume name
-power_command kind.ResumeTree name = command.ResumeTree name
+use Rattle.run_rules.specs.Next.{command_deed, command_of, first_held, has_nothing, hindered, is_power, next_free, next_sleep, next_wake, other_turn, powering, ticket_of, wanted_of}
+use Rattle.run_sound.specs.Scripts.{power_command}
 
 -- ---- where a caller stands
 
@@ -120,7 +116,7 @@ pub record FreesLast (w : World) (k s : ℕ) : Type 0 where
 abbrev pub IsOnly : World → Dev → Option (List ℕ) → List Given → Option ℕ → Type 0
 IsOnly w d None given only = only ≡ None
 IsOnly w d (Some name) given only =
-    (a : ℕ) × (wanted : List Wanted) × (attr_named w name ≡ Some a) × (has (offered_by w.setup d.row) a ≡ true)
+    (a : ℕ) × (wanted : List Wanted) × (attr_number w.setup.tables.attrs name ≡ Some a) × (has (offered_by w.setup d.row) a ≡ true)
     × (wanted_of (map (λ l. l.name) (locators_at w.setup.tables.attrs (At a))) given ≡ Some wanted) × (only ≡ Some a)
 
 -- a device that is neither condemned nor pinned nor asleep, whose driver offers something and does not refuse
@@ -201,14 +197,14 @@ pub record Plugs (w : World) (k x : ℕ) : Type 0 where
   pub begins : Begins w k (Plug x)
   pub name : List ℕ
   pub words : begins.said ≡ command.Plug name
-  pub spot : spot_named w name ≡ Some x
+  pub spot : spot_number w.setup.machine.spots name ≡ Some x
 
 -- no device stands on the spot
 pub record UnplugsBare (w : World) (k x : ℕ) : Type 0 where
   pub begins : Begins w k (Unplug x None)
   pub name : List ℕ
   pub words : begins.said ≡ command.Unplug name
-  pub spot : spot_named w name ≡ Some x
+  pub spot : spot_number w.setup.machine.spots name ≡ Some x
   pub bare : device_on w.live x ≡ None
 
 -- a device stands on the spot, with nothing in the way below it
@@ -216,7 +212,7 @@ pub record UnplugsFree (w : World) (k x s : ℕ) : Type 0 where
   pub begins : Begins w k (Unplug x (Some s))
   pub name : List ℕ
   pub words : begins.said ≡ command.Unplug name
-  pub spot : spot_named w name ≡ Some x
+  pub spot : spot_number w.setup.machine.spots name ≡ Some x
   pub dev : Dev
   pub stands : device_on w.live x ≡ Some dev
   pub serial : dev.serial ≡ s

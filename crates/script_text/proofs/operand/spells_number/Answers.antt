@@ -1,5 +1,5 @@
 use Rattle.script_text.proofs.OperandLemmas.{number_is}
-use Rattle.script_text.proofs.operand.is_number.Goals as goal
+use Rattle.script_text.proofs.operand.spells_number.Goals as goal
 
 pub returns-in-Not : goal.returns-in-Not
 returns-in-Not c = number_is _ c.args.word.now c.in-Not.ensures

@@ -2,7 +2,7 @@ use Rattle.std.proofs.Common.{◌<◌, ◌++◌, ◌∙◌, List, length, sym, a
 use Rattle.cf_types.specs.declared.stmt.Token.{Token}
 use Rattle.config_rules.specs.Cut.{stop_behind}
 use Rattle.cf_lexer.proofs.TextLemmas.{stop_of}
-use Rattle.cf_lexer.proofs.text.push_stop.Goals as goal
+use Rattle.cf_lexer.proofs.rest.push_stop.Goals as goal
 
 pub returns-in_ok-push_token : goal.returns-in_ok-push_token
 returns-in_ok-push_token c =
