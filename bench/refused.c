@@ -1,5 +1,6 @@
 /* Refuses one call of a program that runs with this library before it: the allocation of number REFUSE_ALLOCATION, or the thread of
-   number REFUSE_THREAD, counted from 1. Where that call comes it makes the file REFUSED. See bench/refused.sh. */
+   number REFUSE_THREAD, counted from 1. Where that call comes it makes the file REFUSED. With INTERRUPT, a signal interrupts every second call that
+   reads or writes, the first one included. See bench/refused.sh. */
 #define _GNU_SOURCE
 #include <dlfcn.h>
 #include <errno.h>
@@ -7,6 +8,7 @@
 #include <pthread.h>
 #include <stdatomic.h>
 #include <stdlib.h>
+#include <sys/syscall.h>
 #include <unistd.h>
 
 void *__libc_malloc(size_t size);
@@ -14,14 +16,16 @@ void *__libc_calloc(size_t count, size_t size);
 void *__libc_realloc(void *block, size_t size);
 void *__libc_memalign(size_t alignment, size_t size);
 
-static atomic_long allocations, threads;
+static atomic_long allocations, threads, transfers;
 static long refused_allocation, refused_thread;
+static int interrupts;
 
 __attribute__((constructor)) static void begin(void) {
     const char *number = getenv("REFUSE_ALLOCATION");
     if (number) refused_allocation = atol(number);
     number = getenv("REFUSE_THREAD");
     if (number) refused_thread = atol(number);
+    interrupts = getenv("INTERRUPT") != NULL;
     atomic_store(&allocations, 0);
 }
 
@@ -58,4 +62,18 @@ int pthread_create(pthread_t *thread, const pthread_attr_t *how, void *(*work)(v
     if (is_refused(&threads, refused_thread)) return EAGAIN;
     if (!create) create = (int (*)(pthread_t *, const pthread_attr_t *, void *(*)(void *), void *))dlsym(RTLD_NEXT, "pthread_create");
     return create(thread, how, work, with);
+}
+
+static int is_interrupted(void) {
+    if (!interrupts || atomic_fetch_add(&transfers, 1) % 2 == 1) return 0;
+    errno = EINTR;
+    return 1;
+}
+
+ssize_t write(int file, const void *bytes, size_t size) {
+    return is_interrupted() ? -1 : syscall(SYS_write, file, bytes, size);
+}
+
+ssize_t read(int file, void *bytes, size_t size) {
+    return is_interrupted() ? -1 : syscall(SYS_read, file, bytes, size);
 }

@@ -2,7 +2,7 @@
 # Refuses each allocation of a call once, and each thread, in a run of its own: of a listing, a boot, a play, a reading of
 # its history and one that is refused, of `files`, `upgrade`, `watch`, a plan, and two pairs of scripts side by side. The answer has to be that of a call
 # which is refused nothing, or `out of memory`, status 10, with a prefix of its output. A thread that cannot be started changes
-# no answer. A line for each call, and one for each answer that is wrong; status 1 then. It takes a C compiler.
+# no answer, nor does a signal that interrupts every second reading and writing. A line for each call, and one for each answer that is wrong; status 1 then. It takes a C compiler.
 # Usage: bench/refused.sh [DEVCONF [DRVRUN]]
 LC_ALL=C
 export LC_ALL
@@ -139,6 +139,9 @@ try() {
         thread=$((thread + 1))
         is_right && [ "$answer" = row ] || tell_wrong "thread $thread"
     done
+    (cd "$folder" && INTERRUPT=1 LD_PRELOAD="$work/refused.so" "$program" $words) >"$work/out" 2>"$work/errors" </dev/null
+    got=$?
+    is_right && [ "$answer" = row ] || tell_wrong 'interrupted'
     line="$what: $((number - missed)) allocations refused, $memory out of memory, $as_row as if nothing was refused"
     [ "$thread" = 0 ] || line="$line; $thread threads refused"
     echo "$line; $((wrong - before)) wrong"

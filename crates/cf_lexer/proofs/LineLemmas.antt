@@ -60,7 +60,7 @@ pub line_goes_on : (before after : List Token) (line at c : ℕ) (cs : List ℕ)
 line_goes_on before after line at c cs f e new =
     ok_step before after line at (c ∷ cs) (first_part c cs) f e new ∙ sym (ap (with_line before line at) (parts_step c cs))
 
-chunk_first : (c : ℕ) (cs : List ℕ) → is_chunk_byte c ≡ true → first_part c cs ≡ Ok (Chunk (c ∷ take_while is_chunk_byte cs))
+pub chunk_first : (c : ℕ) (cs : List ℕ) → is_chunk_byte c ≡ true → first_part c cs ≡ Ok (Chunk (c ∷ take_while is_chunk_byte cs))
 chunk_first c cs h = rw (chunk_no_space c h, chunk_is_not c 35 refl h, chunk_is_not c 34 refl h, h) refl
 
 mark_first : (c : ℕ) (cs : List ℕ) → is_mark_byte c ≡ true → first_part c cs ≡ Ok (Mark (c ∷ []))

@@ -3,7 +3,8 @@ use Rattle.std.proofs.Common.{◌≡◌, ℕ, suc, ◌+◌, ◌<◌, ◌≤◌, 
 use Rattle.std.specs.Prelude.{if◌then◌else◌, ◌==◌}
 use Rattle.cf_types.specs.declared.stmt.Token.{Token}
 use Rattle.cf_types.specs.declared.stmt.TokenKind.TheVariants as kind
-use Rattle.config_rules.specs.Cut.{token, Part, Space, Comment, Quoted, Chunk, Mark, spellings, is_part, is_mark_byte, is_space, is_chunk_byte, are_parts, parts_of, at_line, all_parts, cut_of, lines_of, line_tokens, lines_tokens, has_token, begins_statement, is_over, stop_behind, LineCut, ◌>>=◌}
+use Rattle.cf_types.specs.Lines.{lines_of}
+use Rattle.config_rules.specs.Cut.{token, Part, Space, Comment, Quoted, Chunk, Mark, spellings, is_part, is_mark_byte, is_space, is_chunk_byte, are_parts, parts_of, at_line, all_parts, cut_of, line_tokens, lines_tokens, has_token, begins_statement, is_over, stop_behind, LineCut, ◌>>=◌}
 use Rattle.config_rules.proofs.CutLaws.{both_left, chunk_no_space, chunk_is_not, mark_is, parts_sound}
 use Rattle.std.proofs.lemmas.Bool.{eqb-true}
 use Rattle.std.proofs.lemmas.Bool.{false_from_ne_true}
@@ -16,7 +17,8 @@ use Rattle.cf_lexer.specs.declared.line.LexStop.{LexStop}
 use Rattle.cf_lexer.specs.declared.line.LexStop.TheVariants.{Fault, Memory}
 use Rattle.config_rules.specs.Cut.{Cut}
 use Rattle.config_rules.proofs.CutText.{cut_sound, cut_fault_sound}
-use Rattle.cf_lexer.specs.Line.{Leaves, Shows, IsFaultOf, with_line, begins}
+use Rattle.cf_lexer.specs.Line.{Leaves, Shows, IsFaultOf, with_line}
+use Rattle.cf_lexer.specs.Lines.{begins}
 use Rattle.cf_lexer.proofs.TextWords.{with_stop, finish, total}
 
 -- ---- how a line begins
@@ -25,7 +27,7 @@ and_false : (a : Bool) → false ≡ (a && false)
 and_false true = refl
 and_false false = refl
 
-begins_cut : (ps : List Part) → are_parts ps ≡ true → begins (spellings ps) ≡ (has_token ps && begins_statement ps)
+pub begins_cut : (ps : List Part) → are_parts ps ≡ true → begins (spellings ps) ≡ (has_token ps && begins_statement ps)
 begins_cut [] h = refl
 begins_cut (Space c ∷ ps) h =
     let part : is_space c ≡ true = both_left (is_space c) _ (both_left _ (are_parts ps) h) in
@@ -132,13 +134,13 @@ pub text_ends : (before after : List Token) (n at : ℕ) (lines : List (List ℕ
 text_ends before after n at [] h e = ap Ok (append-nil (before ++ stop_behind before) ∙ sym e)
 text_ends before after n at (line ∷ lines) h e = absurd (omega arith)
 
-start_with : (r : Result (List (List Part)) (ℕ × ℕ)) → (r >>= λ parts. Ok (with_stop [] parts ++ lines_tokens 1 0 parts)) ≡ (r >>= λ parts. Ok (lines_tokens 1 0 parts))
-start_with (Ok parts) = ap (λ xs. Ok (xs ++ lines_tokens 1 0 parts)) (no_stop (is_over parts) [])
-start_with (Err e) = refl
+pub start_with : (n at : ℕ) (r : Result (List (List Part)) (ℕ × ℕ)) → (r >>= λ parts. Ok (with_stop [] parts ++ lines_tokens n at parts)) ≡ (r >>= λ parts. Ok (lines_tokens n at parts))
+start_with n at (Ok parts) = ap (λ xs. Ok (xs ++ lines_tokens n at parts)) (no_stop (is_over parts) [])
+start_with n at (Err e) = refl
 
 -- a text from its beginning
 pub text_begins : (text : List ℕ) → finish [] 1 0 (lines_of text) ≡ cut_of text
-text_begins text = start_with (all_parts 1 (lines_of text))
+text_begins text = start_with 1 0 (all_parts 1 (lines_of text))
 
 -- the stop is that of the last token
 pub stop_of : (ts : List Token) (t d : Token) → 0 < length ts → t ≡ get_or ts (length ts - 1) d → stop_behind ts ≡ token kind.Stop t.end t.end t.line ∷ []

@@ -1,10 +1,11 @@
 -- What becomes of a line, and of a text.
-use Rattle.std.specs.Prelude.{◌≡◌, ℕ, ◌+◌, ◌-◌, ◌≤◌, length, take, drop, Bool, true, false, not, ◌&&◌, ◌==◌, List, [], ◌∷◌, ◌++◌, Option, Some, None, Result, Ok, Err}
+use Rattle.std.specs.Prelude.{◌≡◌, ℕ, ◌+◌, ◌≤◌, length, drop, true, false, ◌==◌, List, [], ◌∷◌, ◌++◌, Option, Some, None, Result, Ok, Err}
 use Rattle.cf_types.specs.declared.stmt.Token.{Token}
-use Rattle.config_rules.specs.Cut.{Part, token, line_tokens, lines_of, parts_of, is_space, CutFault, ◌>>=◌}
+use Rattle.config_rules.specs.Cut.{Part, token, line_tokens, parts_of, CutFault, ◌>>=◌}
 use Rattle.cf_lexer.specs.declared.front.Span.{Span}
 use Rattle.cf_lexer.specs.declared.line.LexStop.{LexStop}
 use Rattle.cf_lexer.specs.declared.line.LexStop.TheVariants.{Fault, Memory}
+use Rattle.cf_lexer.specs.Lines.{first_of}
 
 -- the token of a part that begins at this place
 abbrev pub span_tokens : ℕ → ℕ → Option Span → List Token
@@ -21,41 +22,12 @@ Leaves whole line (Ok done) tokens = whole ≡ Ok tokens
 Leaves whole line (Err (Fault l code)) tokens = (l ≡ line) × (whole ≡ Err code)
 Leaves whole line (Err Memory) tokens = Unit {0}
 
--- a line begins with something else than a space, a tab or a comment
-abbrev pub begins : List ℕ → Bool
-begins [] = false
-begins (c ∷ cs) = not (is_space c) && not (c == 35)
-
--- the first line of a text, and the lines behind it
-abbrev pub head_line : List (List ℕ) → List ℕ
-head_line [] = []
-head_line (line ∷ lines) = line
-
-abbrev pub lines_behind : List (List ℕ) → List (List ℕ)
-lines_behind [] = []
-lines_behind (line ∷ lines) = lines
-
-abbrev pub first_of : List ℕ → List ℕ
-first_of text = head_line (lines_of text)
-
-abbrev pub rest_of : List ℕ → List (List ℕ)
-rest_of text = lines_behind (lines_of text)
-
--- the lines of a text from this place on, where one begins there
-abbrev pub lines_from : List ℕ → Option ℕ → List (List ℕ)
-lines_from text None = []
-lines_from text (Some place) = lines_of (drop place text)
-
 -- a part at the front of what is left of a line was taken, or no part begins it, or memory ran out
 abbrev pub GoesOn : List Token → ℕ → ℕ → List ℕ → Result ℕ LexStop → List Token → Type 0
 GoesOn before line at rest (Ok len) after =
     (1 ≤ len) × (len ≤ length rest) × (with_line after line (at + len) (parts_of (drop len rest)) ≡ with_line before line at (parts_of rest))
 GoesOn before line at rest (Err (Fault l code)) after = (l ≡ line) × (with_line before line at (parts_of rest) ≡ Err code)
 GoesOn before line at rest (Err Memory) after = Unit {0}
-
--- the bytes of a text behind the one at a place
-abbrev pub bytes_behind : List ℕ → ℕ → List ℕ
-bytes_behind text place = take (length text - (place + 1)) (drop (place + 1) text)
 
 -- what becomes of a part by its first byte and the bytes of the text behind it; a newline is none
 abbrev pub PartGoes : List Token → ℕ → ℕ → ℕ → List ℕ → Result (Option ℕ) LexStop → List Token → Type 0

@@ -1,10 +1,12 @@
 ghost use Rattle.std.specs.Prelude.{◌≡◌, ◌+◌, ◌==◌, ◌&&◌, slice_index, ◌≤◌, length, drop, take_while, Some, IfOk};
 ghost use Rattle.std.specs.List.{prefix_len};
 ghost use Rattle.config_rules.specs.Cut.{is_chunk_byte, is_space, is_text_byte, is_mark_byte, quoted_part};
-ghost use Rattle.cf_lexer.specs.Front.{IsWithin, front, front_at, front_result, span};
+ghost use Rattle.cf_lexer.specs.Front.{IsWithin, front, front_at, front_result, is_plain_byte, span};
+ghost use Rattle.cf_lexer.specs.Lines.{first_of};
 
 use cf_types::TokenKind;
 use cf_types::code::configuration as code;
+use memchr::memchr;
 
 /// A token by its place in its part of the line.
 #[derive(Clone, Copy)]
@@ -56,6 +58,14 @@ pub fn is_mark_byte(byte: u8) -> bool
     CLASSES[byte as usize] == b'M'
 }
 
+/// Whether a byte outside strings and comments is allowed, whatever is next to it: a blank, a mark or a byte of a chunk.
+#[inline(always)]
+pub fn is_plain_byte(byte: u8) -> bool
+    ensures { result ≡ is_plain_byte byte }
+{
+    CLASSES[byte as usize] != b'~'
+}
+
 #[inline(always)]
 fn is_text_byte(byte: u8) -> bool
     ensures { result ≡ is_text_byte byte }
@@ -83,15 +93,26 @@ fn text_len(bytes: &[u8]) -> usize
     bytes.iter().take_while(|&&byte| is_text_byte(byte)).count()
 }
 
-/// The string after its first quote, or the code of the byte that is there instead of the second quote.
-#[inline(always)]
-fn quoted(bytes: &[u8]) -> Result<Front, u8>
-    ensures front { result ≡ front_result (quoted_part (take_while is_text_byte bytes.now) (drop (prefix_len is_text_byte bytes.now) bytes.now)) }
-    ensures within { IfOk result (λ f. IsWithin f (length bytes.now + 1)) }
+/// The first line of a text, without its newline.
+fn first_line(text: &[u8]) -> &[u8]
+    ensures { result.now ≡ first_of text.now }
 {
-    let len = text_len(bytes);
-    match bytes.get(len) {
-        None => Err(code::OPEN_STRING),
+    match memchr(b'\n', text) {
+        Some(place) => &text[..place],
+        None => text,
+    }
+}
+
+/// The string after its first quote, up to its second quote on the same line, or the code of what is there instead of
+/// that.
+#[inline(always)]
+fn quoted(text: &[u8]) -> Result<Front, u8>
+    ensures front { result ≡ front_result (quoted_part (take_while is_text_byte (first_of text.now)) (drop (prefix_len is_text_byte (first_of text.now)) (first_of text.now))) }
+    ensures within { IfOk result (λ f. IsWithin f (length (first_of text.now) + 1)) }
+{
+    let len = text_len(text);
+    match text.get(len) {
+        None | Some(b'\n') => Err(code::OPEN_STRING),
         Some(b'"') => Ok(Front {
             len: len + 2,
             token: Some(Span {
@@ -122,17 +143,18 @@ fn token(kind: TokenKind, len: usize) -> Front
 /// Whether these begin with `+=`.
 #[inline(always)]
 fn is_plus_equals(first: u8, more: &[u8]) -> bool
-    ensures { result ≡ (first == 43 && slice_index more.now 0 == 61) }
+    ensures { result ≡ (first == 43 && slice_index (first_of more.now) 0 == 61) }
 {
     first == b'+' && !more.is_empty() && more[0] == b'='
 }
 
-/// The first part of the rest of a line, from its first byte and the bytes after it, or the code of that byte.
+/// The first part of the rest of a line, from its first byte and the bytes of the text after it, or the code of that
+/// byte.
 #[tactic(auto, using(crate::proofs::FrontLemmas::length_chunk))]
 #[inline(always)]
 pub fn front_part(first: u8, more: &[u8]) -> Result<Front, u8>
-    ensures front { result ≡ front_at first more.now }
-    ensures within { IfOk result (λ f. IsWithin f (length more.now + 1)) }
+    ensures front { result ≡ front_at first (first_of more.now) }
+    ensures within { IfOk result (λ f. IsWithin f (length (first_of more.now) + 1)) }
 {
     if is_blank_byte(first) {
         return Ok(Front {
@@ -142,7 +164,7 @@ pub fn front_part(first: u8, more: &[u8]) -> Result<Front, u8>
     }
     if first == b'#' {
         return Ok(Front {
-            len: more.len() + 1,
+            len: first_line(more).len() + 1,
             token: None,
         });
     }

@@ -1,10 +1,10 @@
 ghost use Rattle.std.specs.Prelude.{◌≡◌, ◌+◌, ◌<◌, ◌≤◌, ◌∷◌, [], ◌++◌, ◌^◌, true, drop, length, slice_index, IfOk, IfSome, OnOk};
 ghost use Rattle.config_rules.specs.Cut.{is_chunk_byte, parts_of};
-ghost use Rattle.cf_lexer.specs.Line.{GoesOn, Leaves, PartGoes, bytes_behind, first_of, lines_from, rest_of, span_tokens, with_line};
+ghost use Rattle.cf_lexer.specs.Line.{GoesOn, Leaves, PartGoes, span_tokens, with_line};
+ghost use Rattle.cf_lexer.specs.Lines.{bytes_behind, first_of, lines_from, rest_of};
 
 use crate::front::{Span, chunk_len, front_part, is_blank_byte, is_chunk_byte, is_mark_byte};
 use cf_types::{Memory as NoMemory, Token, TokenKind};
-use memchr::memchr;
 use thiserror::Error;
 
 /// Why a text could not be cut into tokens.
@@ -65,16 +65,6 @@ fn push_span(
     Ok(())
 }
 
-/// The first line of a text, without its newline.
-fn first_line(text: &[u8]) -> &[u8]
-    ensures { result.now ≡ first_of text.now }
-{
-    match memchr(b'\n', text) {
-        Some(place) => &text[..place],
-        None => text,
-    }
-}
-
 /// Appends the chunk that begins with this byte at this place of the text, and returns how long it is.
 #[inline(always)]
 fn push_chunk(
@@ -111,7 +101,7 @@ fn push_rare(
     more: &[u8],
 ) -> Result<usize, LexStop>
     requires { at + length more.now + 1 < 2 ^ 32 }
-    ensures { GoesOn tokens.old.items line at (first ∷ more.now) result tokens.new.items }
+    ensures { GoesOn tokens.old.items line at (first ∷ first_of more.now) result tokens.new.items }
 {
     let front = match front_part(first, more) {
         Ok(front) => front,
@@ -134,7 +124,7 @@ fn push_other(
     ensures { GoesOn tokens.old.items line at (first ∷ first_of more.now) result tokens.new.items }
 {
     if !is_mark_byte(first) {
-        return push_rare(tokens, line, at, first, first_line(more));
+        return push_rare(tokens, line, at, first, more);
     }
     push_token(
         tokens,

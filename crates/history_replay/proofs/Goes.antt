@@ -1,5 +1,5 @@
 -- A plain world goes on from the opening world, with each step.
-use Rattle.std.proofs.Common.{◌≡◌, ◌≤◌, ◌<◌, ◌+◌, ◌-◌, ◌^◌, ℕ, length, refl, sym, ap, subst, arith}
+use Rattle.std.proofs.Common.{◌≡◌, ◌≤◌, ◌<◌, ◌+◌, ◌-◌, ◌^◌, ◌∙◌, ℕ, [], length, refl, sym, ap, subst, arith}
 use Rattle.run_rules.specs.declared.deed.Deed.{Deed}
 use Rattle.run_rules.specs.declared.deed.Choice.TheVariants.{Does}
 use Rattle.run_rules.specs.declared.world.Setup.{Setup}
@@ -38,6 +38,13 @@ opening_next s = refl
 
 pub next_first : (s : Setup) (p : Plain) → world_of s p ≡ opening s → p.live.next ≤ 1
 next_first s p same = omega (arith, ap (λ (w : World). w.next) same, opening_next s)
+
+opening_live : (s : Setup) → (opening s).live ≡ []
+unfolding opening
+opening_live s = refl
+
+pub none_first : (s : Setup) (p : Plain) → world_of s p ≡ opening s → p.live.devices ≡ []
+none_first s p same = ap (λ (w : World). w.live) same ∙ opening_live s
 
 pub no_more : (n : ℕ) → n ≤ n + 1
 no_more n = omega arith

@@ -1,4 +1,4 @@
-ghost use Rattle.std.specs.Prelude.{◌≤◌, All, IfOk, length};
+ghost use Rattle.std.specs.Prelude.{◌≡◌, ◌≤◌, [], All, IfOk, length};
 ghost use Rattle.config_rules.specs.Formed.{FittingMachine, FormedTables};
 ghost use Rattle.config_rules.specs.ScriptText.{FormedScript};
 ghost use Rattle.run_rules.specs.Laws.{Lawful};
@@ -113,6 +113,7 @@ fn reread_by(
 ) -> Result<Replayed, ReplayStop>
     requires fit { AreFit rules.now }
     requires going { IsGoing (setup_by rules.now) plain }
+    requires none { plain.live.devices ≡ [] }
     requires next { plain.live.next ≤ 1 }
     ensures { IsReplay (rule.reread (world_of (setup_by rules.now) plain) text.now) result }
 {

@@ -4,6 +4,7 @@ ghost use Rattle.run_rules.specs.Next as rules;
 ghost use Rattle.run_rules.specs.Reread as rule;
 ghost use Rattle.run_rules.specs.declared.event.Format.TheVariants.{Second};
 ghost use Rattle.run_rules.specs.declared.world.Setup.{Setup};
+ghost use Rattle.plain_search.specs.Open.{Follows};
 ghost use Rattle.plain_world.specs.Plain.{HasCaller, IsReady, world_of};
 ghost use Rattle.plain_world.specs.Rules.{AreFit, setup_by};
 ghost use Rattle.history_replay.specs.Going.{GoesOn, IsDue, IsGoing};
@@ -18,8 +19,7 @@ use cf_types::{List, Memory};
 use dev_event::{put_event, put_event_1, read_caller};
 use plain_choice::next;
 use plain_effect::apply;
-use plain_event::{Again, Kept, Key, Teller, event_of, number_of, told_before};
-use plain_search::Seeker;
+use plain_event::{Kept, event_of, number_of, told_before};
 use plain_world::{Plain, Rules};
 use run_rules::{Choice, Deed, Event, Format};
 use std::alloc::Global;
@@ -85,6 +85,7 @@ fn event_anew(
     requires due { IsDue (setup_in reader.old) plain.now caller deed.now }
     ensures told { IfOk result (λ e. event_in reader.old.format (world_in reader.old plain.now) caller deed.now line.now ≡ e) }
     ensures same { IsSame reader.old reader.new }
+    ensures seeker { reader.new.seeker ≡ reader.old.seeker }
 {
     match event_of(&mut reader.teller, plain, caller, deed) {
         Ok(event) => event_if(&mut reader.due, reader.format, event, line),
@@ -115,18 +116,6 @@ fn event_again(
     }))
 }
 
-/// Notes what is known of a spot that was searched again in vain.
-fn learn(seeker: &mut Seeker, alloc: Global, key: Key)
-    requires { AreFit seeker.old.rules.now }
-    ensures { seeker.new.rules.now ≡ seeker.old.rules.now }
-{
-    match key.again {
-        Again::Nothing => seeker.learn(alloc, key.row, key.unit, key.spot),
-        Again::Asleep => {}
-        Again::Awake => {}
-    }
-}
-
 /// The event of what a caller does next, if a line of format 2 is that of it.
 fn event_by_text(
     reader: &mut Reader,
@@ -141,13 +130,10 @@ fn event_by_text(
     requires format { reader.old.format ≡ Second }
     ensures told { IfOk result (λ e. event_in reader.old.format (world_in reader.old plain.now) caller deed.now line.now ≡ e) }
     ensures same { IsSame reader.old reader.new }
+    ensures seeker { reader.new.seeker ≡ reader.old.seeker }
 {
-    let alloc = reader.teller.alloc;
     match told_before(&reader.teller, plain, deed) {
-        Some(kept) => {
-            learn(&mut reader.seeker, alloc, kept.key);
-            event_again(&mut reader.heads, plain, caller, kept, line)
-        }
+        Some(kept) => event_again(&mut reader.heads, plain, caller, kept, line),
         None => event_anew(reader, plain, caller, deed, line),
     }
 }
@@ -165,6 +151,7 @@ fn event_told(
     requires due { IsDue (setup_in reader.old) plain.now caller deed.now }
     ensures told { IfOk result (λ e. event_in reader.old.format (world_in reader.old plain.now) caller deed.now line.now ≡ e) }
     ensures same { IsSame reader.old reader.new }
+    ensures seeker { reader.new.seeker ≡ reader.old.seeker }
 {
     match reader.format {
         Format::First => event_anew(reader, plain, caller, deed, line),
@@ -172,15 +159,25 @@ fn event_told(
     }
 }
 
-/// Does what a caller does next.
-fn perform(teller: &Teller, plain: &mut Plain, caller: u8, deed: &Deed) -> Result<(), Memory>
-    requires fit { AreFit teller.now.rules.now }
-    requires going { IsGoing (setup_by teller.now.rules.now) plain.old }
+/// Does what a caller does next, and counts the devices as they are then.
+fn perform(reader: &mut Reader, plain: &mut Plain, caller: u8, deed: &Deed) -> Result<(), Memory>
+    requires fit { AreFit reader.old.teller.rules.now }
+    requires going { IsGoing (setup_in reader.old) plain.old }
     requires next { plain.old.live.next < 2 ^ 64 - 1 }
-    requires due { IsDue (setup_by teller.now.rules.now) plain.old caller deed.now }
-    ensures { OnOk result (GoesOn (setup_by teller.now.rules.now) plain.old caller deed.now plain.new) }
+    requires due { IsDue (setup_in reader.old) plain.old caller deed.now }
+    requires follows { Follows reader.old.seeker plain.old.live.devices }
+    ensures goes { OnOk result (GoesOn (setup_in reader.old) plain.old caller deed.now plain.new) }
+    ensures same { IsSame reader.old reader.new }
+    ensures follows { OnOk result (Follows reader.new.seeker plain.new.live.devices) }
 {
-    apply(teller.alloc, teller.rules, plain, caller, deed)
+    reader.seeker.heed(&plain.live, deed);
+    apply(
+        reader.teller.alloc,
+        reader.teller.rules,
+        plain,
+        caller,
+        deed,
+    )
 }
 
 /// Does what a caller does next, if a line is that of its event.
@@ -193,13 +190,15 @@ fn take(
 ) -> Result<Option<Event>, Memory>
     requires fit { AreFit reader.old.teller.rules.now }
     requires going { IsGoing (setup_in reader.old) plain.old }
+    requires follows { Follows reader.old.seeker plain.old.live.devices }
     requires next { plain.old.live.next < 2 ^ 64 - 1 }
     requires due { IsDue (setup_in reader.old) plain.old caller deed.now }
     ensures told { IfOk result (TellsDeed (setup_in reader.old) reader.old.format plain.old caller line.now deed.now plain.new) }
     ensures same { IsSame reader.old reader.new }
+    ensures follows { OnOk result (Follows reader.new.seeker plain.new.live.devices) }
 {
     match event_told(reader, plain, caller, deed, line) {
-        Ok(Some(event)) => match perform(&reader.teller, plain, caller, deed) {
+        Ok(Some(event)) => match perform(reader, plain, caller, deed) {
             Ok(()) => Ok(Some(event)),
             Err(memory) => {
                 drop(event);
@@ -215,6 +214,7 @@ fn take(
 fn next_by(reader: &Reader, plain: &Plain, caller: u8) -> Result<Choice, Memory>
     requires fit { AreFit reader.now.teller.rules.now }
     requires ready { IsReady plain.now }
+    requires follows { Follows reader.now.seeker plain.now.live.devices }
     ensures { IfOk result (λ does. rules.next (world_in reader.now plain.now) caller ≡ does) }
 {
     next(reader.teller.alloc, &reader.seeker, plain, caller)
@@ -229,9 +229,11 @@ fn told_by(
 ) -> Result<Option<Event>, Memory>
     requires fit { AreFit reader.old.teller.rules.now }
     requires going { IsGoing (setup_in reader.old) plain.old }
+    requires follows { Follows reader.old.seeker plain.old.live.devices }
     requires next { plain.old.live.next < 2 ^ 64 - 1 }
     ensures told { IfOk result (TellsNext (setup_in reader.old) reader.old.format plain.old caller line.now plain.new) }
     ensures same { IsSame reader.old reader.new }
+    ensures follows { OnOk result (Follows reader.new.seeker plain.new.live.devices) }
 {
     match next_by(reader, plain, caller) {
         Ok(Choice::Does(deed)) => take(reader, plain, caller, &deed, line),
@@ -244,9 +246,11 @@ fn told_by(
 fn step(reader: &mut Reader, plain: &mut Plain, line: &[u8]) -> Result<Option<Event>, Memory>
     requires fit { AreFit reader.old.teller.rules.now }
     requires going { IsGoing (setup_in reader.old) plain.old }
+    requires follows { Follows reader.old.seeker plain.old.live.devices }
     requires next { plain.old.live.next < 2 ^ 64 - 1 }
     ensures told { IfOk result (TellsStep (setup_in reader.old) reader.old.format plain.old line.now plain.new) }
     ensures same { IsSame reader.old reader.new }
+    ensures follows { OnOk result (Follows reader.new.seeker plain.new.live.devices) }
 {
     match read_caller(line) {
         Some(caller) => told_by(reader, plain, caller, line),
@@ -276,6 +280,7 @@ fn read_lines(
 ) -> Result<List<Event>, ReplayStop>
     requires fit { AreFit reader.old.teller.rules.now }
     requires going { IsGoing (setup_in reader.old) plain.old }
+    requires follows { Follows reader.old.seeker plain.old.live.devices }
     requires next { plain.old.live.next ≤ first }
     requires few { first + length text.now < 2 ^ 64 - 1 }
     ensures read { ReadsLines (setup_in reader.old) reader.old.format plain.old first text.now result plain.new }
@@ -316,6 +321,7 @@ fn read_behind_head(
 ) -> Result<List<Event>, ReplayStop>
     requires fit { AreFit rules.now }
     requires going { IsGoing (setup_by rules.now) plain.old }
+    requires none { plain.old.live.devices ≡ [] }
     requires next { plain.old.live.next ≤ first }
     requires few { first + length text.now < 2 ^ 64 - 1 }
     ensures read { ReadsLines (setup_by rules.now) format plain.old first text.now result plain.new }
@@ -336,6 +342,7 @@ pub fn read_history(
 ) -> Result<List<Event>, ReplayStop>
     requires fit { AreFit rules.now }
     requires going { IsGoing (setup_by rules.now) plain.old }
+    requires none { plain.old.live.devices ≡ [] }
     requires next { plain.old.live.next ≤ 1 }
     ensures read { ReadsHistory (setup_by rules.now) plain.old text.now result plain.new }
     ensures going { OnOk result (IsGoing (setup_by rules.now) plain.new) }

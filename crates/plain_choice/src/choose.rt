@@ -3,6 +3,7 @@ ghost use Rattle.std.specs.Prelude.{◌≡◌, ◌≤◌, ◌<◌, ◌-◌, ℕ,
 ghost use Rattle.run_rules.specs.Next as next;
 ghost use Rattle.run_rules.specs.declared.deed.Choice.TheVariants.{Does};
 ghost use Rattle.run_rules.specs.declared.world.Frame as frames;
+ghost use Rattle.plain_search.specs.Open.{Follows};
 ghost use Rattle.plain_world.specs.Plain.{world_of, state_at, IsReady};
 ghost use Rattle.plain_world.specs.Rules.{AreFit, setup_by};
 
@@ -18,10 +19,11 @@ use std::alloc::Global;
 /// What the boot does without a frame: interrupts first, then the finalizers, in passes until none answers 1. See
 /// autoconf(9).
 #[tactic(auto, unfolding(run_rules::specs::Next::next_boot))]
-fn next_boot(rules: &Rules, plain: &Plain) -> Choice
-    requires fit { AreFit rules.now }
+fn next_boot(seeker: &Seeker, plain: &Plain) -> Choice
+    requires fit { AreFit seeker.now.rules.now }
     requires few { length plain.now.live.devices ≤ 1024 }
-    ensures { next.next_boot (world_of (setup_by rules.now) plain.now) ≡ result }
+    requires follows { Follows seeker.now plain.now.live.devices }
+    ensures { next.next_boot (world_of (setup_by seeker.now.rules.now) plain.now) ≡ result }
 {
     if !plain.interrupts_on {
         return Choice::Does(Deed::BeginInterrupts);
@@ -29,11 +31,11 @@ fn next_boot(rules: &Rules, plain: &Plain) -> Choice
     let place = plain.next_finaliser;
     if place < plain.finalisers.len() as u64 {
         let serial = finaliser_at(&plain.finalisers, place);
-        return Choice::Does(finalise(rules, plain, serial, Some(place), false));
+        return Choice::Does(finalise(seeker, plain, serial, Some(place), false));
     }
     if plain.pass_repeats {
         let serial = finaliser_at(&plain.finalisers, 0);
-        return Choice::Does(finalise(rules, plain, serial, Some(0), true));
+        return Choice::Does(finalise(seeker, plain, serial, Some(0), true));
     }
     Choice::Does(Deed::EndCaller)
 }
@@ -127,6 +129,7 @@ fn next_command(
 fn next_frame(seeker: &Seeker, plain: &Plain, frame: &Frame) -> Deed
     requires fit { AreFit seeker.now.rules.now }
     requires few { length plain.now.live.devices ≤ 1024 }
+    requires follows { Follows seeker.now plain.now.live.devices }
     ensures { (k : ℕ) (rest : List frames.Frame) → next.on_top (world_of (setup_by seeker.now.rules.now) plain.now) k (frame.now ∷ rest) ≡ Does result }
 {
     match frame {
@@ -136,7 +139,7 @@ fn next_frame(seeker: &Seeker, plain: &Plain, frame: &Frame) -> Deed
             filter,
             position,
         } => next_scan(seeker, plain, *serial, *only, filter.items(), *position),
-        Frame::Finaliser { serial } => finalise(seeker.rules, plain, *serial, None, false),
+        Frame::Finaliser { serial } => finalise(seeker, plain, *serial, None, false),
     }
 }
 
@@ -151,6 +154,7 @@ fn on_top(
 ) -> Result<Choice, Memory>
     requires fit { AreFit seeker.now.rules.now }
     requires ready { IsReady plain.now }
+    requires follows { Follows seeker.now plain.now.live.devices }
     requires state { state.now ≡ state_at plain.now.callers.items caller }
     ensures { IfOk result (λ does. next.on_top (world_of (setup_by seeker.now.rules.now) plain.now) caller state.now.stack ≡ does) }
 {
@@ -158,7 +162,7 @@ fn on_top(
         [frame, ..] => Ok(Choice::Does(next_frame(seeker, plain, frame))),
         [] => {
             if caller == 0 {
-                Ok(next_boot(seeker.rules, plain))
+                Ok(next_boot(seeker, plain))
             } else {
                 next_command(alloc, seeker.rules, plain, caller, state.over())
             }
@@ -177,6 +181,7 @@ fn by_activity(
 ) -> Result<Choice, Memory>
     requires fit { AreFit seeker.now.rules.now }
     requires ready { IsReady plain.now }
+    requires follows { Follows seeker.now plain.now.live.devices }
     requires state { state.now ≡ state_at plain.now.callers.items caller }
     ensures { IfOk result (λ does. next.by_activity (world_of (setup_by seeker.now.rules.now) plain.now) caller state.now.doing ≡ does) }
 {
@@ -196,6 +201,7 @@ fn by_activity(
 pub fn next(alloc: Global, seeker: &Seeker, plain: &Plain, caller: u8) -> Result<Choice, Memory>
     requires fit { AreFit seeker.now.rules.now }
     requires ready { IsReady plain.now }
+    requires follows { Follows seeker.now plain.now.live.devices }
     ensures { IfOk result (λ does. next.next (world_of (setup_by seeker.now.rules.now) plain.now) caller ≡ does) }
 {
     if has_ended(&plain.callers, caller) {

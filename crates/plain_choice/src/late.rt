@@ -3,11 +3,12 @@ ghost use Rattle.std.specs.Prelude.{◌≡◌, ◌≤◌, false, length, slice_g
 ghost use Rattle.std.specs.Option.{option_map_or};
 ghost use Rattle.run_rules.specs.Next as next;
 ghost use Rattle.plain_choice.specs.Late.{is_late_below, shown_by};
+ghost use Rattle.plain_search.specs.Open.{Follows};
 ghost use Rattle.plain_world.specs.Plain.{world_of};
 ghost use Rattle.plain_world.specs.Rules.{AreFit, setup_by};
 
 use cf_types::Place;
-use plain_search::arrival;
+use plain_search::{Seeker, arrival};
 use plain_world::{
     Plain, Rules, device_at, driver_of, has, has_spot, is_number, offered, place_of,
 };
@@ -74,12 +75,19 @@ fn shown_by(rules: &Rules, plain: &Plain, serial: u64) -> Option<u16>
 
 /// What the finalizer of a device does. See config_finalize_register(9).
 #[tactic(auto, unfolding(run_rules::specs::Next::finalise))]
-pub fn finalise(rules: &Rules, plain: &Plain, serial: u64, listed: Option<u64>, anew: bool) -> Deed
-    requires fit { AreFit rules.now }
+pub fn finalise(
+    seeker: &Seeker,
+    plain: &Plain,
+    serial: u64,
+    listed: Option<u64>,
+    anew: bool,
+) -> Deed
+    requires fit { AreFit seeker.now.rules.now }
     requires few { length plain.now.live.devices ≤ 1024 }
-    ensures { next.finalise (world_of (setup_by rules.now) plain.now) serial listed anew ≡ result }
+    requires follows { Follows seeker.now plain.now.live.devices }
+    ensures { next.finalise (world_of (setup_by seeker.now.rules.now) plain.now) serial listed anew ≡ result }
 {
-    match shown_by(rules, plain, serial) {
+    match shown_by(seeker.rules, plain, serial) {
         None => Deed::Finalise {
             of: serial,
             shown: None,
@@ -90,7 +98,13 @@ pub fn finalise(rules: &Rules, plain: &Plain, serial: u64, listed: Option<u64>, 
         Some(spot) => Deed::Finalise {
             of: serial,
             shown: Some(spot),
-            got: arrival(rules, &plain.live, serial, place_of(rules, spot), spot),
+            got: arrival(
+                seeker,
+                &plain.live,
+                serial,
+                place_of(seeker.rules, spot),
+                spot,
+            ),
             listed,
             anew,
         },

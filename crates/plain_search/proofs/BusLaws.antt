@@ -1,6 +1,6 @@
 -- The turns of a bus, and those of later places.
 use Rattle.std.proofs.Common.{◌≡◌, ◌+◌, ◌<◌, ◌∙◌, ℕ, Bool, true, false, List, [], ◌∷◌, length, map, drop, Option, Some, None, get_or, refl, sym, ap, drop-cons, add-one, ◌&&◌, ◌||◌, ◌==◌, eq-eqb, arith}
-use Rattle.std.specs.Prelude.{find, flat_map, nat_lt}
+use Rattle.std.specs.Prelude.{find, flat_map, nat_lt, option_map}
 use Rattle.std.proofs.lemmas.Bool.Decides.{nat_tests}
 use Rattle.std.specs.List.{enumerate_from}
 use Rattle.cf_types.specs.declared.tables.Place.{Place}
@@ -11,8 +11,11 @@ use Rattle.run_rules.specs.declared.world.Dev.{Dev}
 use Rattle.run_rules.specs.declared.world.Setup.{Setup}
 use Rattle.run_rules.specs.declared.world.Turn.{Turn}
 use Rattle.run_rules.specs.declared.world.Position.{Position}
-use Rattle.run_rules.specs.Search.{is_before, attach_at, bus_turns, child_spots, driver_at, places_of, spot_of, turns, turns_at, turns_of}
-use Rattle.run_rules.proofs.Turns.{find_first, find_later}
+use Rattle.run_rules.specs.Search.{is_before, is_child, attach_at, bus_turns, child_spots, driver_at, places_of, spot_of, is_bus_indirect, turns, turns_at, turns_of}
+use Rattle.run_rules.proofs.Below.{find-none}
+use Rattle.run_rules.proofs.Turns.{find_children, find_first, find_later}
+use Rattle.plain_world.specs.Rules.{setup_by}
+use Rattle.plain_search.proofs.IndirectLaws.{pairs_none}
 use Rattle.plain_world.specs.declared.rules.Rules.{Rules}
 use Rattle.plain_world.specs.declared.world.Plain.{Plain}
 use Rattle.plain_search.specs.declared.turns.Going.{Going}
@@ -46,6 +49,21 @@ pub spot_before : (b : Bus) (row x : ℕ) (from : Position) → b.attr ≡ from.
 unfolding is_before
 spot_before b row x from attr same lt = rw (attr, same) (earlier from.attr from.row x from.spot lt)
 
+-- and one at an earlier row, whatever the spot
+earlier_row : (a q r x y : ℕ) → q < r → (nat_lt a a || (a == a && (nat_lt q r || (q == r && nat_lt x y)))) ≡ true
+earlier_row a q r x y lt =
+    let attr : (a == a) ≡ true = eq-eqb a a refl in
+    let row : nat_lt q r ≡ true = grind (arith, nat_tests) in
+    rw (attr, row) (or_same (nat_lt a a))
+  where
+    or_same : (b : Bool) → (b || (true && (true || (q == r && nat_lt x y)))) ≡ true
+    or_same true = refl
+    or_same false = refl
+
+pub row_before : (b : Bus) (row x : ℕ) (from : Position) → b.attr ≡ from.attr → row < from.row → is_before (turn_on b row x).at from ≡ true
+unfolding is_before
+row_before b row x from attr lt = rw attr (earlier_row from.attr row from.row x from.spot lt)
+
 -- what is before the position is not taken
 pub passed_by : (r : Rules) (p : Plain) (g : Going) (t : Turn) (child : Bool) → is_before t.at g.from ≡ true → (child && takes r p g t) ≡ false
 passed_by r p g t child before = rw before (and_false child)
@@ -55,6 +73,27 @@ passed_by r p g t child before = rw before (and_false child)
     and_false false = refl
 
 -- ---- places
+
+earlier_attr : (a b : ℕ) (rest : Bool) → a < b → (nat_lt a b || rest) ≡ true
+earlier_attr a b rest lt = let less : nat_lt a b ≡ true = grind (arith, nat_tests) in rw less refl
+
+-- at a place before that of the position no turn is taken
+attr_before : (r : Rules) (p : Plain) (g : Going) (t : Turn) (child : Bool) → t.at.attr < g.from.attr → (child && takes r p g t) ≡ false
+unfolding is_before
+attr_before r p g t child lt = passed_by r p g t child (earlier_attr t.at.attr g.from.attr _ lt)
+
+pub place_behind : (r : Rules) (p : Plain) (g : Going) (live : List Dev) (serial attr : ℕ) (place : Place) → attr < g.from.attr → find (takes r p g) (turns_at (setup_by r) live serial (attr, place)) ≡ None
+unfolding bus_turns
+place_behind r p g live serial attr place lt = cases (is_bus_indirect r.machine.now (attach_at (setup_by r) live serial) place)
+  where
+    cases : (indirect : Bool) → find (takes r p g) (bus_turns r.machine.now (length r.tables.now.rows) indirect (spot_of live serial) (attr, place)) ≡ None
+    cases false =
+        find_children (takes r p g) (λ x. record { at = record { attr = attr; row = 0; spot = x }; place = place; indirect = false }) r.machine.now (spot_of live serial) place
+        ∙ ap (option_map (λ (x : ℕ). record { at = record { attr = attr; row = 0; spot = x }; place = place; indirect = false }))
+        (find-none _ (length r.machine.now.spots) (λ x less. attr_before r p g (record { at = record { attr = attr; row = 0; spot = x }; place = place; indirect = false }) (is_child r.machine.now (spot_of live serial) place x) lt))
+    cases true =
+        pairs_none (takes r p g) (λ row x. record { at = record { attr = attr; row = row; spot = x }; place = place; indirect = true }) r.machine.now (spot_of live serial) place (length r.tables.now.rows)
+        (λ row x. attr_before r p g (record { at = record { attr = attr; row = row; spot = x }; place = place; indirect = true }) (is_child r.machine.now (spot_of live serial) place x) lt)
 
 -- the places from one on
 places_from : (attrs : List ℕ) (i : ℕ) → i < length attrs → enumerate_from i (map At (drop i attrs)) ≡ (i, At (get_or attrs i 0)) ∷ enumerate_from (i + 1) (map At (drop (i + 1) attrs))

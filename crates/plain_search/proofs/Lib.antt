@@ -1,3 +1,6 @@
 pub mod Both
-pub mod BareLaws
+pub mod OpenLaws
+pub mod IndirectLaws
 pub mod BusLaws
+pub mod TurnLaws
+pub mod DeedLaws

@@ -1,2 +1,3 @@
-pub mod Bare
+pub mod Open
+pub mod Deeds
 pub mod Buses

@@ -1,5 +1,6 @@
-//! The due turn of a scan, by a search through all turns. See autoconf(9).
-ghost use Rattle.std.specs.Prelude.{◌≡◌, ◌≤◌, ◌<◌, ◌==◌, ◌&&◌, ℕ, false, true, find, map, option_map, reverse, length, slice_get};
+//! The due turn of a scan: on a direct bus by a look at each spot, on an indirect one by the row that takes each spot. See
+//! autoconf(9).
+ghost use Rattle.std.specs.Prelude.{◌≡◌, ◌≤◌, ◌<◌, ◌==◌, ◌&&◌, ℕ, false, true, find, map, option_map, reverse, length, slice_get, MatchOption, nat_le};
 ghost use Rattle.cf_types.specs.declared.tables.Place.TheVariants.{At};
 ghost use Rattle.std.specs.Option.{option_map_or};
 ghost use Rattle.std.specs.Ordering.{int_eq};
@@ -7,16 +8,17 @@ ghost use Rattle.run_rules.specs.Next as next;
 ghost use Rattle.run_rules.specs.Search as rule;
 ghost use Rattle.run_rules.specs.World as world;
 ghost use Rattle.plain_world.specs.Rules.{AreFit, setup_by};
-ghost use Rattle.plain_search.specs.Buses.{IsOfDevice, row_turns, takes, turn_on, turns_among, turns_on};
+ghost use Rattle.plain_search.specs.Buses.{IsOffered, IsOnlyAt, IsTurnAt, MaySearch, better, row_turns, takes, takes_below, turn_on, turns_among, turns_on};
+ghost use Rattle.plain_search.specs.Open.{Follows, hangs_at};
 
-use crate::matches::winner_at;
+use crate::matches::{arrival, parent_offers, parent_ref, winner};
 use crate::seeker::Seeker;
 use cf_types::{Place, StyleLine};
 use plain_world::{
     Plain, Rules, attach_of, device_at, driver_of, found_at, has_spot, is_occupied, offered,
     same_place, stretch_at,
 };
-use run_rules::{Deed, Dev, Position, Turn, Wanted};
+use run_rules::{Deed, Dev, ParentRef, Position, Turn, Wanted};
 
 /// Whether a spot has the locator value that is wanted.
 fn has_value(found: &[i64], wanted: Wanted) -> bool
@@ -50,37 +52,6 @@ fn is_open(rules: &Rules, plain: &Plain, filter: &[Wanted], spot: u16) -> bool
     !absent && !hidden && !occupied && passes
 }
 
-fn is_row(winner: Option<u32>, row: u32) -> bool
-    ensures { result ≡ world.is_number winner row }
-{
-    match winner {
-        Some(number) => number == row,
-        None => false,
-    }
-}
-
-/// Whether a turn's row is the winner at its spot.
-fn wins(rules: &Rules, plain: &Plain, serial: u64, turn: Turn) -> bool
-    requires { AreFit rules.now }
-    ensures { result ≡ world.is_number (rule.winner_at (setup_by rules.now) plain.now.live.devices serial turn.place turn.at.spot) turn.at.row }
-{
-    is_row(
-        winner_at(rules, &plain.live, serial, turn.place, turn.at.spot),
-        turn.at.row,
-    )
-}
-
-/// Whether a turn is due: its spot is open, and on an indirect bus its row is the winner there.
-#[inline(always)]
-#[tactic(auto, unfolding(run_rules::specs::Search::is_due))]
-fn is_due(rules: &Rules, plain: &Plain, serial: u64, filter: &[Wanted], turn: Turn) -> bool
-    requires { AreFit rules.now }
-    ensures { result ≡ rule.is_due (setup_by rules.now) plain.now.live.devices plain.now.absent.items plain.now.hidden.items serial filter.now turn }
-{
-    is_open(rules, plain, filter, turn.at.spot)
-        && (!turn.indirect || wins(rules, plain, serial, turn))
-}
-
 /// Whether a position is before another: by attribute, then row, then spot.
 #[tactic(auto, unfolding(run_rules::specs::Search::is_before))]
 fn is_before(a: Position, b: Position) -> bool
@@ -89,23 +60,15 @@ fn is_before(a: Position, b: Position) -> bool
     a.attr < b.attr || (a.attr == b.attr && (a.row < b.row || (a.row == b.row && a.spot < b.spot)))
 }
 
-/// A scan that goes on: of which serial, the live device of that one, the locator values that its spots have to have, and from
-/// where.
+/// A scan that goes on: of which serial, the live device of that one, how rows name it, the locator values that its spots
+/// have to have, and from where.
 #[derive(Drop)]
 struct Going<'a> {
     serial: u64,
     device: Option<Dev>,
+    parent: ParentRef,
     filter: &'a [Wanted],
     from: Position,
-}
-
-/// Whether a turn is the one that a scan takes, if none before it is.
-#[inline(always)]
-fn is_next(rules: &Rules, plain: &Plain, scan: &Going, turn: Turn) -> bool
-    requires { AreFit rules.now }
-    ensures { result ≡ takes rules.now plain.now scan.now turn }
-{
-    !is_before(turn.at, scan.from) && is_due(rules, plain, scan.serial, scan.filter, turn)
 }
 
 /// Whether a spot is below another one, or below the root, at a place.
@@ -118,12 +81,14 @@ fn is_child(rules: &Rules, parent: Option<u16>, place: Place, spot: u16) -> bool
     }
 }
 
-/// A place that a scan goes through: its number among those places, the place, and whether it is searched row by row.
+/// A place that a scan goes through: its number among those places, the place, whether it is searched row by row, and
+/// whether the device offers it.
 #[derive(Clone, Copy)]
 struct Bus {
     attr: u16,
     place: Place,
     indirect: bool,
+    offered: bool,
 }
 
 /// The turn of a bus at a row and a spot.
@@ -156,23 +121,33 @@ fn first_spot(scan: &Going, bus: Bus, row: u32) -> u16
     }
 }
 
-/// The turn that a scan takes among those of a row.
+/// Whether a spot of a direct bus is the one that a scan takes, if none before it is.
 #[inline(always)]
-fn row_turn(
+#[tactic(auto, unfolding(run_rules::specs::Search::is_due))]
+fn is_next(rules: &Rules, plain: &Plain, scan: &Going, turn: Turn) -> bool
+    requires { turn.indirect ≡ false }
+    ensures { result ≡ takes rules.now plain.now scan.now turn }
+{
+    !is_before(turn.at, scan.from) && is_open(rules, plain, scan.filter, turn.at.spot)
+}
+
+/// The turn that a scan takes on a direct bus: spot by spot.
+#[inline(always)]
+fn direct_turn(
     rules: &Rules,
     plain: &Plain,
     scan: &Going,
     parent: Option<u16>,
     bus: Bus,
-    row: u32,
 ) -> Option<Turn>
-    requires { AreFit rules.now }
-    ensures { find (takes rules.now plain.now scan.now) (map (turn_on bus row) (rule.child_spots rules.now.machine.now parent bus.place)) ≡ result }
+    requires fit { AreFit rules.now }
+    requires direct { bus.indirect ≡ false }
+    ensures { find (takes rules.now plain.now scan.now) (map (turn_on bus 0) (rule.child_spots rules.now.machine.now parent bus.place)) ≡ result }
 {
     let below = stretch_at(rules.stretches, parent);
     let end = below.end.min(rules.machine.spots.len() as u16);
-    for spot in first_spot(scan, bus, row).max(below.first)..end {
-        let turn = turn_on(bus, row, spot);
+    for spot in first_spot(scan, bus, 0).max(below.first)..end {
+        let turn = turn_on(bus, 0, spot);
         if is_child(rules, parent, bus.place, spot) && is_next(rules, plain, scan, turn) {
             return Some(turn);
         }
@@ -180,41 +155,129 @@ fn row_turn(
     None
 }
 
-/// The turn that a scan takes on an indirect bus: row by row, and in each row spot by spot.
+/// The first row whose turns on a bus may not all be before the scan's position.
+#[tactic(auto, using(crate::proofs::BusLaws::row_before))]
+fn first_row(scan: &Going, bus: Bus) -> u32
+    ensures { (r x : ℕ) → r < result → rule.is_before (turn_on bus r x).at scan.now.from ≡ true }
+{
+    if bus.attr == scan.from.attr {
+        scan.from.row
+    } else {
+        0
+    }
+}
+
+/// The turn that a scan takes at a spot of an indirect bus: that of the row that takes the spot.
+#[inline(always)]
+#[tactic(auto, unfolding(run_rules::specs::Search::is_due))]
+fn spot_turn(seeker: &Seeker, plain: &Plain, scan: &Going, bus: Bus, spot: u16) -> Option<Turn>
+    requires may { MaySearch seeker.now plain.now scan.now }
+    requires offered { IsOffered seeker.now.rules.now scan.now bus }
+    requires indirect { bus.indirect ≡ true }
+    requires at { hangs_at seeker.now.rules.now.machine.now spot bus.place ≡ true }
+    ensures { MatchOption result ((r : ℕ) → takes seeker.now.rules.now plain.now scan.now (turn_on bus r spot) ≡ false) (IsTurnAt seeker.now.rules.now plain.now scan.now bus spot) }
+{
+    if !is_open(seeker.rules, plain, scan.filter, spot) {
+        return None;
+    }
+    let Some(row) = winner(seeker, bus.offered, scan.parent, bus.place, spot) else {
+        return None;
+    };
+    let turn = turn_on(bus, row, spot);
+    if is_before(turn.at, scan.from) {
+        return None;
+    }
+    Some(turn)
+}
+
+/// The same, if the spot is below a parent at the place of the bus.
+#[inline(always)]
+fn child_turn(
+    seeker: &Seeker,
+    plain: &Plain,
+    scan: &Going,
+    parent: Option<u16>,
+    bus: Bus,
+    spot: u16,
+) -> Option<Turn>
+    requires may { MaySearch seeker.now plain.now scan.now }
+    requires offered { IsOffered seeker.now.rules.now scan.now bus }
+    requires indirect { bus.indirect ≡ true }
+    ensures { IsOnlyAt (takes_below seeker.now.rules.now plain.now scan.now parent bus) (turn_on bus) (length seeker.now.rules.now.tables.now.rows) spot result }
+{
+    if !is_child(seeker.rules, parent, bus.place, spot) {
+        return None;
+    }
+    spot_turn(seeker, plain, scan, bus, spot)
+}
+
+/// Whether a turn is of a row up to the least one.
+fn is_of_least(turn: Option<Turn>, least: u32) -> bool
+    ensures { result ≡ option_map_or (λ t. nat_le t.at.row least) turn false }
+{
+    match turn {
+        Some(turn) => turn.at.row <= least,
+        None => false,
+    }
+}
+
+/// Of the best turn so far and that of a later spot the one of the earlier row.
+fn better(best: Option<Turn>, turn: Option<Turn>) -> Option<Turn>
+    ensures { result ≡ better best turn }
+{
+    match (best, turn) {
+        (None, _) => turn,
+        (Some(_), None) => best,
+        (Some(b), Some(t)) => { if t.at.row < b.at.row { turn } else { best } }
+    }
+}
+
+/// The turn that a scan takes on an indirect bus: row by row, and in each row spot by spot. One row takes each spot, so the
+/// spot whose row is the earliest is looked for; a row before which none is left ends the search.
 fn indirect_turn(
-    rules: &Rules,
+    seeker: &Seeker,
     plain: &Plain,
     scan: &Going,
     parent: Option<u16>,
     bus: Bus,
 ) -> Option<Turn>
-    requires { AreFit rules.now }
-    ensures { find (takes rules.now plain.now scan.now) (row_turns rules.now parent bus) ≡ result }
+    requires may { MaySearch seeker.now plain.now scan.now }
+    requires offered { IsOffered seeker.now.rules.now scan.now bus }
+    requires indirect { bus.indirect ≡ true }
+    ensures { find (takes seeker.now.rules.now plain.now scan.now) (row_turns seeker.now.rules.now parent bus) ≡ result }
 {
-    for row in 0..rules.tables.rows.len() as u32 {
-        if let Some(turn) = row_turn(rules, plain, scan, parent, bus, row) {
-            return Some(turn);
+    let rules = seeker.rules;
+    let least = first_row(scan, bus);
+    let below = stretch_at(rules.stretches, parent);
+    let end = below.end.min(rules.machine.spots.len() as u16);
+    let mut best = None;
+    for spot in below.first..end {
+        let turn = child_turn(seeker, plain, scan, parent, bus, spot);
+        if is_of_least(turn, least) {
+            return turn;
         }
+        best = better(best, turn);
     }
-    None
+    best
 }
 
 /// The turn that a scan takes on a bus.
 #[inline(always)]
 fn bus_turn(
-    rules: &Rules,
+    seeker: &Seeker,
     plain: &Plain,
     scan: &Going,
     parent: Option<u16>,
     bus: Bus,
 ) -> Option<Turn>
-    requires { AreFit rules.now }
-    ensures { find (takes rules.now plain.now scan.now) (turns_on rules.now parent bus) ≡ result }
+    requires may { MaySearch seeker.now plain.now scan.now }
+    requires offered { IsOffered seeker.now.rules.now scan.now bus }
+    ensures { find (takes seeker.now.rules.now plain.now scan.now) (turns_on seeker.now.rules.now parent bus) ≡ result }
 {
     if bus.indirect {
-        indirect_turn(rules, plain, scan, parent, bus)
+        indirect_turn(seeker, plain, scan, parent, bus)
     } else {
-        row_turn(rules, plain, scan, parent, bus, 0)
+        direct_turn(seeker.rules, plain, scan, parent, bus)
     }
 }
 
@@ -239,9 +302,9 @@ fn is_indirect_by(rules: &Rules, attach: u32, attr: u32) -> bool
 }
 
 /// Whether a device of this attachment searches a place row by row.
-#[tactic(auto, unfolding(run_rules::specs::Search::style_of))]
+#[tactic(auto, unfolding(run_rules::specs::Search::is_bus_indirect))]
 fn is_indirect(rules: &Rules, attach: Option<u32>, place: Place) -> bool
-    ensures { result ≡ rule.style_of rules.now.machine.now attach place }
+    ensures { result ≡ rule.is_bus_indirect rules.now.machine.now attach place }
 {
     match (attach, place) {
         (_, Place::Root) => false,
@@ -272,31 +335,33 @@ fn spot_of_device(device: Option<Dev>) -> Option<u16>
 
 /// The turn that a scan takes at a place of this number.
 #[inline(always)]
-fn place_turn(rules: &Rules, plain: &Plain, scan: &Going, attr: u16, place: Place) -> Option<Turn>
-    requires fit { AreFit rules.now }
-    requires device { IsOfDevice plain.now scan.now }
-    ensures { find (takes rules.now plain.now scan.now) (rule.turns_at (setup_by rules.now) plain.now.live.devices scan.now.serial (attr, place)) ≡ result }
+fn place_turn(seeker: &Seeker, plain: &Plain, scan: &Going, attr: u16, place: Place) -> Option<Turn>
+    requires { MaySearch seeker.now plain.now scan.now }
+    ensures { find (takes seeker.now.rules.now plain.now scan.now) (rule.turns_at (setup_by seeker.now.rules.now) plain.now.live.devices scan.now.serial (attr, place)) ≡ result }
 {
-    let attach = attach_of_device(rules, scan.device);
+    if attr < scan.from.attr {
+        return None;
+    }
+    let attach = attach_of_device(seeker.rules, scan.device);
     let bus = Bus {
         attr,
         place,
-        indirect: is_indirect(rules, attach, place),
+        indirect: is_indirect(seeker.rules, attach, place),
+        offered: parent_offers(seeker.rules, scan.parent, place),
     };
-    bus_turn(rules, plain, scan, spot_of_device(scan.device), bus)
+    bus_turn(seeker, plain, scan, spot_of_device(scan.device), bus)
 }
 
 /// The turn that a scan takes at these attributes.
 #[inline(always)]
-fn turn_among(rules: &Rules, plain: &Plain, scan: &Going, attrs: &[u32]) -> Option<Turn>
-    requires fit { AreFit rules.now }
-    requires device { IsOfDevice plain.now scan.now }
+fn turn_among(seeker: &Seeker, plain: &Plain, scan: &Going, attrs: &[u32]) -> Option<Turn>
+    requires may { MaySearch seeker.now plain.now scan.now }
     requires few { length attrs.now ≤ 64 }
-    ensures { find (takes rules.now plain.now scan.now) (turns_among rules.now plain.now scan.now.serial 0 attrs.now) ≡ result }
+    ensures { find (takes seeker.now.rules.now plain.now scan.now) (turns_among seeker.now.rules.now plain.now scan.now.serial 0 attrs.now) ≡ result }
 {
     for number in 0..attrs.len() as u16 {
         let place = Place::At(attrs[number as usize]);
-        match place_turn(rules, plain, scan, number, place) {
+        match place_turn(seeker, plain, scan, number, place) {
             Some(turn) => return Some(turn),
             None => {}
         }
@@ -306,31 +371,29 @@ fn turn_among(rules: &Rules, plain: &Plain, scan: &Going, attrs: &[u32]) -> Opti
 
 /// The turn that a scan takes at all places that its device offers, or at the root.
 #[inline(always)]
-fn turn_of_all(rules: &Rules, plain: &Plain, scan: &Going) -> Option<Turn>
-    requires fit { AreFit rules.now }
-    requires device { IsOfDevice plain.now scan.now }
-    ensures { find (takes rules.now plain.now scan.now) (rule.turns (setup_by rules.now) plain.now.live.devices scan.now.serial None) ≡ result }
+fn turn_of_all(seeker: &Seeker, plain: &Plain, scan: &Going) -> Option<Turn>
+    requires may { MaySearch seeker.now plain.now scan.now }
+    ensures { find (takes seeker.now.rules.now plain.now scan.now) (rule.turns (setup_by seeker.now.rules.now) plain.now.live.devices scan.now.serial None) ≡ result }
 {
     match scan.device {
         Some(device) => {
-            let offered = offered(rules, driver_of(rules, device.row));
-            turn_among(rules, plain, scan, offered)
+            let offered = offered(seeker.rules, driver_of(seeker.rules, device.row));
+            turn_among(seeker, plain, scan, offered)
         }
-        None => place_turn(rules, plain, scan, 0, Place::Root),
+        None => place_turn(seeker, plain, scan, 0, Place::Root),
     }
 }
 
 /// The first due turn of a scan from a position on. See autoconf(9).
 #[inline(always)]
 #[tactic(auto, unfolding(run_rules::specs::Search::due))]
-fn due_turn(rules: &Rules, plain: &Plain, scan: &Going, only: Option<u32>) -> Option<Turn>
-    requires fit { AreFit rules.now }
-    requires device { IsOfDevice plain.now scan.now }
-    ensures { rule.due (setup_by rules.now) plain.now.live.devices plain.now.absent.items plain.now.hidden.items scan.now.serial only scan.now.filter.now scan.now.from ≡ result }
+fn due_turn(seeker: &Seeker, plain: &Plain, scan: &Going, only: Option<u32>) -> Option<Turn>
+    requires may { MaySearch seeker.now plain.now scan.now }
+    ensures { rule.due (setup_by seeker.now.rules.now) plain.now.live.devices plain.now.absent.items plain.now.hidden.items scan.now.serial only scan.now.filter.now scan.now.from ≡ result }
 {
     match only {
-        Some(attr) => turn_among(rules, plain, scan, &[attr]),
-        None => turn_of_all(rules, plain, scan),
+        Some(attr) => turn_among(seeker, plain, scan, &[attr]),
+        None => turn_of_all(seeker, plain, scan),
     }
 }
 
@@ -368,20 +431,22 @@ pub fn next_scan(
 ) -> Deed
     requires fit { AreFit seeker.now.rules.now }
     requires few { length plain.now.live.devices ≤ 1024 }
+    requires follows { Follows seeker.now plain.now.live.devices }
     ensures { next.next_scan (setup_by seeker.now.rules.now) plain.now.live.devices plain.now.absent.items plain.now.hidden.items serial only filter.now from ≡ result }
 {
     let scan = Going {
         serial,
         device: device_at(&plain.live, serial),
+        parent: parent_ref(seeker.rules, &plain.live, serial),
         filter,
         from,
     };
-    match due_turn(seeker.rules, plain, &scan, only) {
+    match due_turn(seeker, plain, &scan, only) {
         Some(turn) => Deed::Search {
             parent: serial,
             spot: turn.at.spot,
             moved: after_turn(turn),
-            got: seeker.arrival(&plain.live, serial, turn.place, turn.at.spot),
+            got: arrival(seeker, &plain.live, serial, turn.place, turn.at.spot),
         },
         None => Deed::EndScan { of: serial },
     }

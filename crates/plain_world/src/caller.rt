@@ -81,6 +81,37 @@ fn released(alloc: Global, deferred: &[Deferred], which: Key) -> Result<Vec<Fram
     Ok(frames)
 }
 
+/// A copy of a frame.
+fn copied_frame(alloc: Global, frame: &Frame) -> Result<Frame, Memory>
+    ensures { IfOk result (λ copy. copy ≡ frame.now) }
+{
+    match frame {
+        Frame::Scan {
+            serial,
+            only,
+            filter,
+            position,
+        } => Ok(Frame::Scan {
+            serial: *serial,
+            only: *only,
+            filter: List::from_vec(Vec::from_slice(alloc, filter.items())?),
+            position: *position,
+        }),
+        Frame::Finaliser { serial } => Ok(Frame::Finaliser { serial: *serial }),
+    }
+}
+
+/// A copy of a list of frames.
+fn copied_frames(alloc: Global, frames: &[Frame]) -> Result<Vec<Frame>, Memory>
+    ensures { IfOk result (λ copy. copy.items ≡ frames.now) }
+{
+    let mut copy = Vec::new(alloc);
+    for frame in frames {
+        copy.push(copied_frame(alloc, frame)?)?;
+    }
+    Ok(copy)
+}
+
 impl Caller {
     /// A caller before its first command.
     pub fn beginning(alloc: Global) -> Caller
@@ -103,6 +134,17 @@ impl Caller {
             over: 0,
             doing: Activity::Idle,
             stack,
+        })
+    }
+
+    /// A copy.
+    pub fn copied(&self, alloc: Global) -> Result<Caller, Memory>
+        ensures { IfOk result (λ copy. copy ≡ self.now) }
+    {
+        Ok(Caller {
+            over: self.over,
+            doing: self.doing,
+            stack: copied_frames(alloc, &self.stack)?,
         })
     }
 

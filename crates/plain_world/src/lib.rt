@@ -24,4 +24,4 @@ pub use rules::{
 pub use script::{command_at, command_of, has_ended, over_of};
 pub use stretch::{Stretch, stretch_at, stretches_of};
 pub use wanted::{wanted_by, wanted_of};
-pub use world::{Plain, opening};
+pub use world::{Plain, copied, opening};

@@ -150,6 +150,19 @@ impl Live {
         }
     }
 
+    /// A copy.
+    pub fn copied(&self, alloc: Global) -> Result<Live, Memory>
+        ensures { IfOk result (λ copy. copy ≡ self.now) }
+    {
+        let devices = Vec::from_slice(alloc, &self.devices)?;
+        let on_spots = Vec::from_slice(alloc, &self.on_spots)?;
+        Ok(Live {
+            devices,
+            next: self.next,
+            on_spots,
+        })
+    }
+
     /// The devices in order of attachment.
     pub fn devices(&self) -> &[Dev]
         ensures { result.now ≡ self.now.devices }

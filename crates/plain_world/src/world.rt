@@ -2,6 +2,7 @@
 ghost use Rattle.std.specs.Prelude.{◌≡◌, false, IfOk, slice_get};
 ghost use Rattle.std.specs.Option.{option_map_or};
 ghost use Rattle.run_rules.specs.World as world;
+ghost use Rattle.run_rules.specs.declared.world.Setup.{Setup};
 ghost use Rattle.plain_world.specs.Plain.{world_of};
 ghost use Rattle.plain_world.specs.Rules.{setup_by, AreFit};
 
@@ -119,6 +120,45 @@ pub fn opening(alloc: Global, rules: &Rules) -> Result<Plain, Memory>
         finalisers: Vec::new(alloc),
         next_finaliser: 0,
         pass_repeats: false,
+        callers,
+    })
+}
+
+/// Copies of callers.
+fn copied_callers(alloc: Global, callers: &[Caller]) -> Result<Vec<Caller>, Memory>
+    ensures { IfOk result (λ copy. copy.items ≡ callers.now) }
+{
+    let mut copy = Vec::new(alloc);
+    for caller in callers {
+        copy.push(caller.copied(alloc)?)?;
+    }
+    Ok(copy)
+}
+
+/// A copy of a world.
+pub fn copied(alloc: Global, plain: &Plain) -> Result<Plain, Memory>
+    ensures { IfOk result (λ copy. (s : Setup) → world_of s copy ≡ world_of s plain.now) }
+{
+    let live = plain.live.copied(alloc)?;
+    let refs = Vec::from_slice(alloc, &plain.refs)?;
+    let sole = Vec::from_slice(alloc, &plain.sole)?;
+    let absent = Vec::from_slice(alloc, &plain.absent)?;
+    let hidden = Vec::from_slice(alloc, &plain.hidden)?;
+    let deferred = Vec::from_slice(alloc, &plain.deferred)?;
+    let finalisers = Vec::from_slice(alloc, &plain.finalisers)?;
+    let callers = copied_callers(alloc, &plain.callers)?;
+    Ok(Plain {
+        live,
+        refs,
+        sole,
+        absent,
+        hidden,
+        interrupts_on: plain.interrupts_on,
+        power_owner: plain.power_owner,
+        deferred,
+        finalisers,
+        next_finaliser: plain.next_finaliser,
+        pass_repeats: plain.pass_repeats,
         callers,
     })
 }

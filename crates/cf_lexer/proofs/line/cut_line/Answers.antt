@@ -1,5 +1,5 @@
 use Rattle.std.proofs.Common.{◌<◌, ◌+◌, ◌-◌, ◌∙◌, length, get_or, take, drop, ap, sym, arith, Some, None, Ok}
-use Rattle.cf_lexer.specs.Line.{head_line}
+use Rattle.cf_lexer.specs.Lines.{head_line}
 use Rattle.cf_lexer.proofs.PlaceLemmas.{Further, at_here, goes_further, line_done, newline_here, part_is, text_done}
 use Rattle.cf_lexer.proofs.line.cut_line.Goals as goal
 

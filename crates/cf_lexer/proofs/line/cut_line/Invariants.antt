@@ -1,6 +1,7 @@
 use Rattle.std.proofs.Common.{◌≡◌, ◌-◌, ◌≤◌, drop, length}
 use Rattle.config_rules.specs.Cut.{parts_of}
-use Rattle.cf_lexer.specs.Line.{first_of, rest_of, with_line}
+use Rattle.cf_lexer.specs.Line.{with_line}
+use Rattle.cf_lexer.specs.Lines.{first_of, rest_of}
 use Rattle.cf_lexer.proofs.line.cut_line.Given as goal
 
 abbrev pub invariant-loop-place : goal.invariant-loop-place

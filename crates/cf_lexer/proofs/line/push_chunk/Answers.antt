@@ -1,6 +1,6 @@
 use Rattle.std.proofs.Common.{◌+◌, refl, arith}
 use Rattle.config_rules.specs.Cut.{is_chunk_byte}
-use Rattle.cf_lexer.specs.Line.{first_of}
+use Rattle.cf_lexer.specs.Lines.{first_of}
 use Rattle.cf_lexer.proofs.LineLemmas.{chunk_goes_on}
 use Rattle.cf_lexer.proofs.PlaceLemmas.{run_in_line}
 use Rattle.cf_lexer.proofs.line.push_chunk.Goals as goal

@@ -1,7 +1,7 @@
 use Rattle.std.specs.Prelude.{slice_index}
 use Rattle.std.proofs.Common.{refl, sym}
 use Rattle.config_rules.specs.Cut.{is_space}
-use Rattle.cf_lexer.specs.Line.{bytes_behind, first_of}
+use Rattle.cf_lexer.specs.Lines.{bytes_behind, first_of}
 use Rattle.cf_lexer.proofs.LineLemmas.{blank_goes_on}
 use Rattle.cf_lexer.proofs.PlaceLemmas.{no_newline}
 use Rattle.cf_lexer.proofs.line.push_part.Goals as goal

@@ -1,7 +1,7 @@
 use Rattle.std.proofs.Common.{◌≡◌, ◌+◌, ◌-◌, ◌≤◌, [], length}
 use Rattle.std.specs.Prelude.{IfSome}
-use Rattle.config_rules.specs.Cut.{lines_of}
-use Rattle.cf_lexer.specs.Line.{lines_from}
+use Rattle.cf_types.specs.Lines.{lines_of}
+use Rattle.cf_lexer.specs.Lines.{lines_from}
 use Rattle.cf_lexer.proofs.PlaceLemmas.{place_of}
 use Rattle.cf_lexer.proofs.TextWords.{finish}
 use Rattle.cf_lexer.proofs.text.cut.Given as goal

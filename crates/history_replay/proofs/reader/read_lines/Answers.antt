@@ -15,6 +15,7 @@ loop-line-init c =
           subst (λ (es : List Event). HasRead s f (world_in c.args.reader.now p) c.args.first c.args.text.now es p c.args.first c.args.text.now) (sym c.in-Ok.ensures)
           (none_read s f p c.args.first c.args.text.now c.requires.going c.requires.next c.requires.few);
       same = same_first c.args.reader.now;
+      follows = c.requires.follows;
     }
 
 pub step-requires-clause-fit : goal.step-requires-clause-fit
@@ -46,6 +47,7 @@ loop-line-preserved c =
           (some_taken (setup_in c.args.reader.now) c.step.new.plain c.in-Ok-step.told _ c.in-Some-told.event c.in-Some-told.is told.told)
           told.going told.next pushed;
       same = same_later c.args.reader.now c.loop-line.reader c.step.new.reader c.loop-line.invariant.same c.step.ensures.same;
+      follows = c.in-Ok-step.ensures.follows;
     }
 
 pub returns-clause-read : goal.returns-clause-read

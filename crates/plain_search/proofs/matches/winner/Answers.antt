@@ -1,15 +1,16 @@
-use Rattle.std.proofs.Common.{◌≡◌, length, subst, arith}
-use Rattle.run_rules.proofs.Winner.{IsBest, winner_is}
-use Rattle.run_rules.specs.Search.{is_candidate, value_of}
+use Rattle.std.proofs.Common.{◌∙◌, ap, sym}
+use Rattle.std.specs.Prelude.{find}
 use Rattle.plain_world.specs.Rules.{setup_by}
+use Rattle.plain_search.specs.Open.{open_by}
+use Rattle.plain_search.proofs.OpenLaws.{none_wins, open_wins}
 use Rattle.plain_search.proofs.matches.winner.Goals as goal
 
-pub returns-clause-row : goal.returns-clause-row
-returns-clause-row c =
-    let end : c.loop-row.row ≡ length c.args.rules.now.tables.now.rows = omega arith in
-    winner_is (setup_by c.args.rules.now) c.args.live.now.devices c.args.parent c.args.place c.args.spot c.loop-row.best (rw end at c.loop-row.invariant)
+pub returns-then-offers : goal.returns-then-offers
+returns-then-offers c = λ live follows.
+    let k = c.args.seeker.now in
+    open_wins (setup_by k.rules.now) live k.taken c.args.parent c.args.place c.args.spot k.suited k.listed follows c.requires.at (sym c.requires.offers ∙ c.if-offers.true)
+    ∙ ap (find (open_by (setup_by k.rules.now) k.taken c.args.parent)) (sym c.rows.ensures) ∙ sym c.first_open.ensures
 
-pub returns-clause-none : goal.returns-clause-none
-returns-clause-none c = λ none r lt.
-    let s = setup_by c.args.rules.now in
-    subst (λ best. IsBest (is_candidate s c.args.live.now.devices c.args.parent c.args.place c.args.spot) (λ q. value_of s q c.args.spot) c.loop-row.row best) none c.loop-row.invariant r (omega arith)
+pub returns-else-offers : goal.returns-else-offers
+returns-else-offers c = λ live follows.
+    none_wins (setup_by c.args.seeker.now.rules.now) live c.args.parent c.args.place c.args.spot (sym c.requires.offers ∙ c.if-offers.false)

@@ -9,6 +9,6 @@ use Rattle.plain_search.proofs.turns.due_turn.Goals as goal
 pub returns-in-Some : goal.returns-in-Some
 unfolding due
 returns-in-Some c =
-    let q = takes c.args.rules.now c.args.plain.now c.args.scan.now in
-    ap (λ only. find q (turns (setup_by c.args.rules.now) c.args.plain.now.live.devices c.args.scan.now.serial only)) c.in-Some.is
-    ∙ ap (find q) (one_turns q (setup_by c.args.rules.now) c.args.plain.now.live.devices c.args.scan.now.serial c.in-Some.attr) ∙ c.turn_among.ensures
+    let q = takes c.args.seeker.now.rules.now c.args.plain.now c.args.scan.now in
+    ap (λ only. find q (turns (setup_by c.args.seeker.now.rules.now) c.args.plain.now.live.devices c.args.scan.now.serial only)) c.in-Some.is
+    ∙ ap (find q) (one_turns q (setup_by c.args.seeker.now.rules.now) c.args.plain.now.live.devices c.args.scan.now.serial c.in-Some.attr) ∙ c.turn_among.ensures

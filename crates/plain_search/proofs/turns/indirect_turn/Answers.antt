@@ -1,15 +1,41 @@
-use Rattle.std.proofs.Common.{arith, length, map}
-use Rattle.run_rules.specs.Search.{child_spots}
-use Rattle.run_rules.proofs.Turns.{flat_is, flat_none}
-use Rattle.plain_search.specs.Buses.{takes, turn_on}
+use Rattle.std.proofs.Common.{◌≡◌, ◌∙◌, ◌+◌, ap, arith, inl, inr, length, refl, subst, sym}
+use Rattle.std.proofs.lemmas.Bool.{cases_lt}
+use Rattle.plain_world.specs.declared.stretch.Stretch.{Stretch}
+use Rattle.plain_world.specs.Stretches.{stretch_at}
+use Rattle.plain_world.proofs.StretchLaws.{no_child}
+use Rattle.plain_search.specs.Buses.{takes, takes_below, turn_on}
+use Rattle.plain_search.proofs.BusLaws.{passed_by}
+use Rattle.plain_search.proofs.IndirectLaws.{IsBestTo, best_more, found_best, found_early, no_spot}
 use Rattle.plain_search.proofs.turns.indirect_turn.Goals as goal
 
-pub returns-in-Some : goal.returns-in-Some
-returns-in-Some c =
-    flat_is (takes c.args.rules.now c.args.plain.now c.args.scan.now) (λ r. map (turn_on c.args.bus r) (child_spots c.args.rules.now.machine.now c.args.parent c.args.bus.place))
-    (length c.args.rules.now.tables.now.rows) c.loop-row.row c.in-Some.turn (omega arith) c.in-Some.ensures c.loop-row.invariant
+pub loop-spot-init : goal.loop-spot-init
+loop-spot-init c =
+    let r = c.args.seeker.now.rules.now in
+    let first : c.stretch_at-below.result.first ≡ (stretch_at r.stretches.now c.args.parent).first = ap (λ (s : Stretch). s.first) c.stretch_at-below.ensures in
+    λ row x lt. no_child r.machine.now r.stretches.now c.args.parent c.args.bus.place x _ c.requires.may.fit.stretches (λ inside. omega (arith, inside.0, lt, first))
+
+pub loop-spot-preserved : goal.loop-spot-preserved
+loop-spot-preserved c =
+    let r = c.args.seeker.now.rules.now in
+    let T = takes_below r c.args.plain.now c.args.scan.now c.args.parent c.args.bus in
+    subst (IsBestTo T (turn_on c.args.bus) (length r.tables.now.rows) c.first_row-least.result (c.loop-spot.spot + 1)) (sym c.better-best.ensures)
+    (best_more T (turn_on c.args.bus) (length r.tables.now.rows) c.first_row-least.result c.loop-spot.spot c.loop-spot.best c.child_turn-turn.result (λ row x. refl) c.loop-spot.invariant
+    c.child_turn-turn.ensures (sym c.is_of_least.ensures ∙ c.if-is_of_least.false))
+
+pub returns-then-is_of_least : goal.returns-then-is_of_least
+returns-then-is_of_least c =
+    let r = c.args.seeker.now.rules.now in
+    found_early (takes r c.args.plain.now c.args.scan.now) (turn_on c.args.bus) r.machine.now c.args.parent c.args.bus.place (length r.tables.now.rows) c.first_row-least.result c.loop-spot.spot
+    c.loop-spot.best c.child_turn-turn.result c.loop-spot.invariant c.child_turn-turn.ensures (sym c.is_of_least.ensures ∙ c.if-is_of_least.true) (omega arith)
+    (λ row x lt. passed_by r c.args.plain.now c.args.scan.now (turn_on c.args.bus row x) _ (c.first_row-least.ensures row x lt))
 
 pub returns : goal.returns
 returns c =
-    flat_none (takes c.args.rules.now c.args.plain.now c.args.scan.now) (λ r. map (turn_on c.args.bus r) (child_spots c.args.rules.now.machine.now c.args.parent c.args.bus.place))
-    (length c.args.rules.now.tables.now.rows) (λ r lt. c.loop-row.invariant r (omega arith))
+    let r = c.args.seeker.now.rules.now in
+    let end : c.stretch_at-below.result.end ≡ (stretch_at r.stretches.now c.args.parent).end = ap (λ (s : Stretch). s.end) c.stretch_at-below.ensures in
+    found_best (takes r c.args.plain.now c.args.scan.now) (turn_on c.args.bus) r.machine.now c.args.parent c.args.bus.place (length r.tables.now.rows) c.first_row-least.result c.loop-spot.spot
+    c.loop-spot.best c.loop-spot.invariant
+    (λ row x past. elim (cases_lt x (length r.machine.now.spots)) [
+      | inl less ↦ no_child r.machine.now r.stretches.now c.args.parent c.args.bus.place x _ c.requires.may.fit.stretches (λ inside. omega (arith, inside.1, past, less, end))
+      | inr beyond ↦ no_spot r.machine.now c.args.parent c.args.bus.place x _ beyond
+    ])

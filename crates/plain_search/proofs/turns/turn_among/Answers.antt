@@ -10,16 +10,16 @@ use Rattle.plain_search.proofs.turns.turn_among.Goals as goal
 pub returns-in-Some : goal.returns-in-Some
 returns-in-Some c =
     sym c.loop-number.invariant
-    ∙ place_found (takes c.args.rules.now c.args.plain.now c.args.scan.now) (turns_at (setup_by c.args.rules.now) c.args.plain.now.live.devices c.args.scan.now.serial) c.args.attrs.now c.loop-number.number c.in-Some.turn
+    ∙ place_found (takes c.args.seeker.now.rules.now c.args.plain.now c.args.scan.now) (turns_at (setup_by c.args.seeker.now.rules.now) c.args.plain.now.live.devices c.args.scan.now.serial) c.args.attrs.now c.loop-number.number c.in-Some.turn
     (omega arith) c.in-Some.ensures
 
 pub loop-number-preserved : goal.loop-number-preserved
 loop-number-preserved c =
-    place_passed (takes c.args.rules.now c.args.plain.now c.args.scan.now) (turns_at (setup_by c.args.rules.now) c.args.plain.now.live.devices c.args.scan.now.serial) c.args.attrs.now c.loop-number.number
+    place_passed (takes c.args.seeker.now.rules.now c.args.plain.now c.args.scan.now) (turns_at (setup_by c.args.seeker.now.rules.now) c.args.plain.now.live.devices c.args.scan.now.serial) c.args.attrs.now c.loop-number.number
     (omega arith) c.in-None.ensures ∙ c.loop-number.invariant
 
 pub returns : goal.returns
 returns c =
     sym c.loop-number.invariant
-    ∙ ap (λ attrs. find (takes c.args.rules.now c.args.plain.now c.args.scan.now) (turns_among c.args.rules.now c.args.plain.now c.args.scan.now.serial c.loop-number.number attrs))
+    ∙ ap (λ attrs. find (takes c.args.seeker.now.rules.now c.args.plain.now c.args.scan.now) (turns_among c.args.seeker.now.rules.now c.args.plain.now c.args.scan.now.serial c.loop-number.number attrs))
     (drop_all c.loop-number.number c.args.attrs.now (omega arith))

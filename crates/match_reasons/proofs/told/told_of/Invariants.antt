@@ -1,0 +1,11 @@
+use Rattle.std.proofs.Common.{◌≡◌, ◌≤◌, not, filter, map}
+use Rattle.std.specs.List.{count_by}
+use Rattle.cf_types.specs.Numbers.{below}
+use Rattle.plain_world.specs.Rules.{setup_by}
+use Rattle.match_reasons.specs.Reasons.{could_stand, row_reason}
+use Rattle.match_reasons.specs.Searches.{parent_by}
+use Rattle.match_reasons.proofs.ToldLaws.{HasTold}
+use Rattle.match_reasons.proofs.told.told_of.Given as goal
+
+abbrev pub invariant-loop-row : goal.invariant-loop-row
+invariant-loop-row l = HasTold (setup_by l.rules) l.live.devices (parent_by (setup_by l.rules) l.search.parent) l.search.place l.search.spot l.row l.rows l.others

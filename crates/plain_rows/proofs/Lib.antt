@@ -1,0 +1,3 @@
+pub mod OwnLaws
+pub mod IndexLaws
+pub mod CandidateLaws

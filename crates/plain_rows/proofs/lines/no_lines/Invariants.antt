@@ -1,0 +1,6 @@
+use Rattle.std.proofs.Common.{[]}
+use Rattle.plain_rows.specs.Own.{AreOwnLines, lines_in}
+use Rattle.plain_rows.proofs.lines.no_lines.Given as goal
+
+abbrev pub invariant-loop-spot : goal.invariant-loop-spot
+invariant-loop-spot l = AreOwnLines l._spot-index [] (lines_in l.lists.items)

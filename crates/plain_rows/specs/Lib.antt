@@ -1,0 +1,4 @@
+pub mod Values
+pub mod Own
+pub mod Suited
+pub mod Taken

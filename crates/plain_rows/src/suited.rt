@@ -1,0 +1,164 @@
+//! The rows that suit each spot, the best first.
+ghost use Rattle.std.specs.Prelude.{◌≡◌, ◌≤◌, ◌&&◌, nat_lt, [], length, map, IfOk};
+ghost use Rattle.std.specs.List.{slice_index_or};
+ghost use Rattle.cf_types.specs.Locators.{locators_at, submatch};
+ghost use Rattle.run_rules.specs.Search.{found_at};
+ghost use Rattle.run_rules.specs.World as world;
+ghost use Rattle.plain_rows.specs.Suited.{AreBestFirst, AreSuited, candidates};
+ghost use Rattle.plain_rows.specs.Values.{AreValuesAt};
+
+use crate::lines::own_lines;
+use crate::values::{set_values, value_of, values_at};
+use cf_types::{Locs, Machine, Memory, Place, Row, Tables};
+use locator_rules::submatch;
+use std::alloc::Global;
+use std::cmp::Reverse;
+use std::marker::Model;
+
+/// For each spot the rows that suit it at its own place: those of a match value above 0 whose locator values fit what is
+/// found there, the best first. Contracts see a list of rows for each spot.
+#[derive(Drop)]
+pub struct Suited {
+    lists: Vec<Vec<u32>>,
+}
+
+impl Model for Suited {
+    ghost use Rattle.std.specs.Prelude.{ℕ, List, map};
+
+    ghost Value = { List (List ℕ) };
+
+    ghost view = { λ suited. map (λ list. list.items) suited.lists.items };
+}
+
+/// A row with its match value. The better one is less.
+#[derive(Clone, Copy, PartialEq, Eq, PartialOrd, Ord)]
+struct Candidate {
+    value: Reverse<u32>,
+    row: u32,
+}
+
+/// Whether two places are the same.
+fn is_at(place: Place, other: Place) -> bool
+    ensures { result ≡ world.same_place place other }
+{
+    match (place, other) {
+        (Place::Root, Place::Root) => true,
+        (Place::At(a), Place::At(b)) => a == b,
+        _ => false,
+    }
+}
+
+/// Whether the locator values of a row at a place fit those that are found at a spot. See submatch in autoconf(9).
+#[tactic(auto, unfolding(cf_types::specs::Locators::submatch))]
+pub fn passes(tables: &Tables, machine: &Machine, place: Place, row: &Row, spot: u16) -> bool
+    ensures { result ≡ submatch (locators_at tables.now.attrs place) row.now.locs (found_at machine.now spot) }
+{
+    let Place::At(attr) = place else {
+        return true;
+    };
+    let Some(attr) = tables.attrs.items().get(attr as usize) else {
+        return true;
+    };
+    match machine.spots.items().get(spot as usize) {
+        Some(spot) => submatch(attr, &row.locs, &spot.found),
+        None => submatch(attr, &row.locs, &Locs::make()),
+    }
+}
+
+/// Whether a row of this match value suits a spot at a place.
+fn is_suited(
+    tables: &Tables,
+    machine: &Machine,
+    place: Place,
+    row: &Row,
+    spot: u16,
+    value: u32,
+) -> bool
+    ensures { result ≡ (world.same_place row.now.place place && nat_lt 0 value && submatch (locators_at tables.now.attrs place) row.now.locs (found_at machine.now spot)) }
+{
+    is_at(row.place, place) && value > 0 && passes(tables, machine, place, row, spot)
+}
+
+/// The rows that suit a spot at a place, in their order.
+fn suiting_rows(
+    tables: &Tables,
+    machine: &Machine,
+    values: &Vec<u32>,
+    place: Place,
+    spot: u16,
+) -> Result<Vec<Candidate>, Memory>
+    requires few { length tables.now.rows ≤ 8192 }
+    requires values { AreValuesAt machine.now spot values.now.items }
+    ensures { IfOk result (λ list. list.items ≡ candidates tables.now machine.now place spot (length tables.now.rows)) }
+{
+    let mut list = Vec::new(*values.allocator());
+    for (number, row) in tables.rows.items().iter().enumerate() {
+        let value = value_of(values, row.attach);
+        if is_suited(tables, machine, place, row, spot, value) {
+            list.push(Candidate {
+                value: Reverse(value),
+                row: number as u32,
+            })?;
+        }
+    }
+    Ok(list)
+}
+
+/// The rows of candidates.
+fn rows_of(list: &Vec<Candidate>) -> Result<Vec<u32>, Memory>
+    ensures { IfOk result (λ rows. rows.items ≡ map (λ c. c.row) list.now.items) }
+{
+    let mut rows = Vec::with_capacity(*list.allocator(), list.len())?;
+    for candidate in list {
+        rows.push(candidate.row)?;
+    }
+    Ok(rows)
+}
+
+/// The rows that suit a spot at a place, the best first.
+fn best_first(
+    tables: &Tables,
+    machine: &Machine,
+    values: &Vec<u32>,
+    place: Place,
+    spot: u16,
+) -> Result<Vec<u32>, Memory>
+    requires few { length tables.now.rows ≤ 8192 }
+    requires values { AreValuesAt machine.now spot values.now.items }
+    ensures { IfOk result (λ rows. AreBestFirst tables.now machine.now place spot rows.items) }
+{
+    let mut list = suiting_rows(tables, machine, values, place, spot)?;
+    list.sort()?;
+    rows_of(&list)
+}
+
+impl Suited {
+    /// The rows of these tables that suit the spots of this machine.
+    pub fn make(alloc: Global, tables: &Tables, machine: &Machine) -> Result<Suited, Memory>
+        requires few_rows { length tables.now.rows ≤ 8192 }
+        requires few_spots { length machine.now.spots ≤ 1024 }
+        ensures { IfOk result (AreSuited tables.now machine.now) }
+    {
+        let mut everywhere = Vec::new(alloc);
+        set_values(&mut everywhere, machine.matches.items(), None)?;
+        let own = own_lines(alloc, machine.spots.items(), machine.matches.items())?;
+        let mut lists = Vec::with_capacity(alloc, machine.spots.len())?;
+        for (number, spot) in machine.spots.items().iter().enumerate() {
+            let values = values_at(&everywhere, machine, &own[number], number as u16)?;
+            let rows = best_first(tables, machine, &values, spot.place, number as u16)?;
+            lists.push(rows)?;
+        }
+        Ok(Suited { lists })
+    }
+
+    /// The rows that suit a spot at its own place, the best first.
+    #[inline(always)]
+    pub fn rows(&self, spot: u16) -> &[u32]
+        ensures { result.now ≡ slice_index_or self.now spot [] }
+    {
+        match self.lists.get(spot as usize) {
+            Some(rows) => rows,
+            None => &[],
+        }
+    }
+}

@@ -1,0 +1,72 @@
+//! The match values of all attachments at one spot.
+ghost use Rattle.std.specs.Prelude.{◌≡◌, ◌==◌, ℕ, if◌then◌else◌, OnOk, IfOk, None, Some, filter};
+ghost use Rattle.std.specs.List.{slice_index_or};
+ghost use Rattle.plain_rows.specs.Values.{AreValuesAt, is_for, last_value};
+
+use cf_types::{Machine, MatchLine, Memory};
+
+/// Sets the value of an attachment; values beyond the end are 0.
+fn set_value(values: &mut Vec<u32>, attach: u32, value: u32) -> Result<(), Memory>
+    ensures { OnOk result ((a : ℕ) → slice_index_or values.new.items a 0 ≡ (if attach == a then value else slice_index_or values.old.items a 0)) }
+{
+    let place = attach as usize;
+    if values.len() <= place {
+        values.resize(place + 1, 0)?;
+    }
+    values[place] = value;
+    Ok(())
+}
+
+/// The value of an attachment; values beyond the end are 0.
+pub fn value_of(values: &[u32], attach: u32) -> u32
+    ensures { result ≡ slice_index_or values.now attach 0 }
+{
+    match values.get(attach as usize) {
+        Some(value) => *value,
+        None => 0,
+    }
+}
+
+/// Whether a match line is for all spots, or for this one.
+fn is_meant(spot: Option<u16>, line: &MatchLine) -> bool
+    ensures { result ≡ is_for spot line.now }
+{
+    match (spot, line.spot) {
+        (None, found) => found.is_none(),
+        (Some(spot), Some(found)) => found == spot,
+        (Some(_), None) => false,
+    }
+}
+
+/// Sets the values that the lines for all spots, or for one of them, give. The last line for an attachment counts.
+pub fn set_values(
+    values: &mut Vec<u32>,
+    lines: &[MatchLine],
+    spot: Option<u16>,
+) -> Result<(), Memory>
+    ensures { OnOk result ((a : ℕ) → slice_index_or values.new.items a 0 ≡ last_value spot lines.now a (slice_index_or values.old.items a 0)) }
+{
+    for line in lines {
+        if is_meant(spot, line) {
+            set_value(values, line.attach, line.value)?;
+        }
+    }
+    Ok(())
+}
+
+/// The match values of attachments at a spot: those of the lines for all spots, changed by its own lines.
+#[tactic(auto, unfolding(run_rules::specs::Search::match_value))]
+pub fn values_at(
+    everywhere: &Vec<u32>,
+    machine: &Machine,
+    own: &[MatchLine],
+    spot: u16,
+) -> Result<Vec<u32>, Memory>
+    requires everywhere { (a : ℕ) → slice_index_or everywhere.now.items a 0 ≡ last_value None machine.now.matches a 0 }
+    requires own { own.now ≡ filter (is_for (Some spot)) machine.now.matches }
+    ensures { IfOk result (λ values. AreValuesAt machine.now spot values.items) }
+{
+    let mut values = Vec::from_slice(*everywhere.allocator(), everywhere)?;
+    set_values(&mut values, own, Some(spot))?;
+    Ok(values)
+}
