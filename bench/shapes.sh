@@ -75,6 +75,12 @@ left_out_comments() {
     each "$1" 'include "part"' >conf
 }
 
+left_out_words() {
+    { echo 'ifdef nothing'; each 60000 'endpoint0 at isa?'; } | head -c 1048000 | sed '$d' >part
+    echo endif >>part
+    each "$1" 'include "part"' >conf
+}
+
 long_free() {
     one_line 524000 'file a' ' ,' >part
     each "$1" 'include "part"' >conf
@@ -92,6 +98,52 @@ same_options() {
 
 needed() {
     { echo 'define a'; one_line "$1" 'device d: a' ',a'; echo 'attach d at root'; each 8192 'dN at root'; } >conf
+}
+
+# ---- the compiler: many of a kind
+
+# So many prefixes, each below the one before.
+prefixes() {
+    awk -v n="$1" 'BEGIN { for (i = 0; i < n; i++) print "prefix a" }' >conf
+}
+
+# So many negations over 8,192 instances in one place, most of which take back nothing.
+negations() {
+    awk -v n="$1" 'BEGIN {
+        print "device p {[s = -1]}\nattach p at root\ndevice q\nattach q at p\np* at root"
+        for (i = 0; i < 8191; i++) print "q" i " at p" i % 90
+        for (i = 0; i < n; i++) print i % 2 ? "no q" i * 7919 % 20000 : "no device at p" 200 + i % 50
+    }' >conf
+}
+
+# So many statements of one name, of which every eighth takes back those before it.
+one_name() {
+    awk -v n="$1" 'BEGIN { for (i = 0; i < n; i++) print i % 8 ? "options SAME=" i : "no options SAME" }' >conf
+}
+
+# So many includes of one file of 16 KiB, which adds nothing.
+includes() {
+    awk 'BEGIN { for (i = 0; i < 512; i++) print "# a comment of one file, read again" }' >part
+    awk -v n="$1" 'BEGIN { for (i = 0; i < n; i++) print "include \"part\"" }' >conf
+}
+
+# A chain of so many instances, of which the first hangs below nothing.
+orphans() {
+    awk -v n="$1" 'BEGIN {
+        print "define top {}\ndevice d0_ {}\nattach d0_ at top"
+        for (i = 1; i <= n; i++) print "device d" i "_ {}\nattach d" i "_ at d" i - 1 "_"
+        for (i = n; i > 0; i--) print "d" i "_* at d" i - 1 "_?"
+    }' >conf
+}
+
+# One device with so many attachments, of which the last suits each of as many instances.
+last_suits() {
+    awk -v n="$1" 'BEGIN {
+        print "device bus {}\nattach bus at root\nbus0 at root\ndevice disk"
+        for (i = 1; i < n; i++) print "attach disk at root with e" i
+        print "attach disk at bus"
+        for (i = 0; i < n; i++) print "disk" i " at bus0"
+    }' >conf
 }
 
 # ---- boots and plays
@@ -369,11 +421,18 @@ row values ioconf 200000 1
 row appends ioconf 200000 1
 row left_out ioconf 1000 2
 row left_out_comments ioconf 1000 2
+row left_out_words ioconf 1000 2
 row long_free ioconf 100 1
 row long_free files 40 1
 row short_free files 2000 1
 row same_options ioconf 20 2
 row needed files 400000 1
+row prefixes ioconf 60000 1
+row negations ioconf 56000 1
+row one_name ioconf 48000 1
+row includes ioconf 2000 1
+row orphans ioconf 8000 1
+row last_suits ioconf 4000 1
 row self_late boot 1000 1
 row finals_and_late boot 1000 1
 row hubs_and_late boot 1000 1
