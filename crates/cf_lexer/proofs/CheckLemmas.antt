@@ -7,7 +7,8 @@ use Rattle.std.proofs.lemmas.List.{drop-drop}
 use Rattle.std.proofs.lemmas.List.Sums.{prefix_len-le-length}
 use Rattle.cf_types.specs.declared.stmt.Token.{Token}
 use Rattle.cf_types.specs.declared.stmt.TokenKind.TheVariants as kind
-use Rattle.config_rules.specs.Cut.{Part, all_parts, at_line, is_chunk_byte, is_mark_byte, is_space, lines_of, parts_of, token, ◌>>=◌}
+use Rattle.cf_types.specs.Lines.{lines_of}
+use Rattle.config_rules.specs.Cut.{Part, all_parts, at_line, is_chunk_byte, is_mark_byte, is_space, parts_of, token, ◌>>=◌}
 use Rattle.cf_lexer.specs.declared.front.Front.{Front}
 use Rattle.cf_lexer.specs.Check.{ByteGoes, GoesBy, code_of, error_of}
 use Rattle.cf_lexer.specs.Front.{IsWithin, front_at, is_plain_byte}

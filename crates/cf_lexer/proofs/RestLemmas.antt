@@ -9,7 +9,8 @@ use Rattle.cf_types.specs.declared.keyword.TheConstants.{CONDITION_WORDS}
 use Rattle.cf_types.specs.declared.stmt.CondWord.{CondWord}
 use Rattle.cf_types.specs.declared.stmt.Token.{Token}
 use Rattle.cf_types.specs.declared.stmt.TokenKind.TheVariants as kind
-use Rattle.config_rules.specs.Cut.{Part, Space, Comment, Quoted, Chunk, Mark, LineCut, all_parts, at_line, begins_statement, cut_of, first_part, has_token, is_chunk_byte, is_over, is_space, is_stop, line_tokens, lines_of, lines_tokens, parts_of, piece, quoted_part, spelling, statements, stop_behind, token, ◌>>=◌}
+use Rattle.cf_types.specs.Lines.{lines_of}
+use Rattle.config_rules.specs.Cut.{Part, Space, Comment, Quoted, Chunk, Mark, LineCut, all_parts, at_line, begins_statement, cut_of, first_part, has_token, is_chunk_byte, is_over, is_space, is_stop, line_tokens, lines_tokens, parts_of, piece, quoted_part, spelling, statements, stop_behind, token, ◌>>=◌}
 use Rattle.config_rules.specs.Form.{condition_spelling, is_word}
 use Rattle.config_rules.proofs.CutLaws.{both_left, both_right, parts_sound}
 use Rattle.config_rules.proofs.Parts.{cond_both, first_cases, parts_step}

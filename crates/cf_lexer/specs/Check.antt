@@ -1,6 +1,7 @@
 -- Whether lines can be cut, whatever their tokens are.
 use Rattle.std.specs.Prelude.{◌≡◌, ℕ, ◌≤◌, ◌==◌, true, false, List, ◌∷◌, length, drop, Option, Some, None, Result, Ok, Err}
-use Rattle.config_rules.specs.Cut.{all_parts, lines_of, parts_of}
+use Rattle.cf_types.specs.Lines.{lines_of}
+use Rattle.config_rules.specs.Cut.{all_parts, parts_of}
 use Rattle.cf_lexer.specs.Lines.{first_of}
 use Rattle.cf_lexer.specs.declared.line.LexStop.{LexStop}
 use Rattle.cf_lexer.specs.declared.line.LexStop.TheVariants.{Fault, Memory}

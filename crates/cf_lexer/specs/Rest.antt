@@ -5,7 +5,8 @@ use Rattle.cf_types.specs.declared.keyword.TheConstants.{CONDITION_WORDS}
 use Rattle.cf_types.specs.declared.stmt.CondWord.{CondWord}
 use Rattle.cf_types.specs.declared.stmt.Piece.{Piece}
 use Rattle.cf_types.specs.declared.stmt.Token.{Token}
-use Rattle.config_rules.specs.Cut.{all_parts, is_chunk_byte, is_stop, lines_of, lines_tokens, piece, statements, ◌>>=◌}
+use Rattle.cf_types.specs.Lines.{lines_of}
+use Rattle.config_rules.specs.Cut.{all_parts, is_chunk_byte, is_stop, lines_tokens, piece, statements, ◌>>=◌}
 use Rattle.config_rules.specs.Form.{condition_spelling, is_word}
 use Rattle.cf_lexer.specs.Lines.{begins, first_of}
 use Rattle.cf_lexer.specs.declared.line.LexStop.{LexStop}

@@ -26,8 +26,8 @@ use Rattle.run_rules.specs.World.{World, Caller, caller_at, frame_serial, has_en
 use Rattle.run_rules.specs.After.{after, doing, marked, moved_top, over, pushed, rescan_frame, with_caller, with_sleep, with_stack}
 use Rattle.run_rules.specs.Next.{command_of, next, next_free}
 use Rattle.run_rules.specs.Run.{answered, printed, told}
-use Rattle.run_rules.specs.Sound.{is_power}
-use Rattle.run_sound.specs.Commands.{power_command}
+use Rattle.run_rules.specs.Sound.{is_powering}
+use Rattle.run_sound.specs.Scripts.{power_command}
 use Rattle.run_sound.specs.Kept.{Kept}
 use Rattle.run_sound.proofs.Callers.{any_set_more, caller_each, caller_here, caller_there, callers_kept, clash, doing_so, doing_there, ended_is, entries_pin, frames_pin, pins_same, stack_pins}
 use Rattle.run_sound.proofs.Reasons.{has_command_reason}
@@ -209,14 +209,14 @@ same_last s asleep k (d ∷ ds) =
         ∙ sym (picked (is_number d.condemned k) d)
 
 -- only who has the power turn puts to sleep or wakes
-one_turn : (w : World) (k j : ℕ) → Kept w → is_power (caller_at w k).doing ≡ true → is_power (caller_at w j).doing ≡ true → k ≡ j
+one_turn : (w : World) (k j : ℕ) → Kept w → is_powering (caller_at w k).doing ≡ true → is_powering (caller_at w j).doing ≡ true → k ≡ j
 one_turn w k j at one two = same w.power_owner ((at.sound.callers k).turn.1 one) ((at.sound.callers j).turn.1 two)
   where
     same : (o : Option ℕ) → is_number o k ≡ true → is_number o j ≡ true → k ≡ j
     same None h i = absurd cc
     same (Some m) h i = sym (eqb-true m k h) ∙ eqb-true m j i
 
-marks : (w : World) (j s : ℕ) (asleep : Bool) → Kept w → is_power (caller_at w j).doing ≡ true → Leaves w j (marked w s asleep)
+marks : (w : World) (j s : ℕ) (asleep : Bool) → Kept w → is_powering (caller_at w j).doing ≡ true → Leaves w j (marked w s asleep)
 marks w j s asleep at amid = record {
   setup = refl;
   others = λ k other. refl;
@@ -226,7 +226,7 @@ marks w j s asleep at amid = record {
   holds = λ k x h. h;
   referred = λ x h. h;
   pinned = λ x h. pins_same (marked w s asleep) w x refl refl ∙ h;
-  powers = λ k what target other doing. absurd (other (one_turn w k j at (ap is_power doing) amid));
+  powers = λ k what target other doing. absurd (other (one_turn w k j at (ap is_powering doing) amid));
 }
 
 -- ---- each deed of which a quiet event tells
@@ -267,8 +267,8 @@ leaves w j (BeginPower what s) at e quiet =
     of_power kind.Suspend name = refl
     of_power kind.Resume name = refl
     of_power kind.ResumeTree name = refl
-leaves w j (Sleep s) at e quiet = marks w j s true at (ap is_power (has_command_reason w j (Sleep s) e).amid)
-leaves w j (Wake s) at e quiet = marks w j s false at (ap is_power (has_command_reason w j (Wake s) e).amid)
+leaves w j (Sleep s) at e quiet = marks w j s true at (ap is_powering (has_command_reason w j (Sleep s) e).amid)
+leaves w j (Wake s) at e quiet = marks w j s false at (ap is_powering (has_command_reason w j (Wake s) e).amid)
 leaves w j (EndPower end) at e quiet = absurd cc
 leaves w j (Plug x) at e quiet = is_over w j w.refs w.sole _ (doer w j _ e) (as_many w.refs)
 leaves w j (Unplug x None) at e quiet =

@@ -4,7 +4,7 @@ ghost use Rattle.std.specs.List.{enumerate_from};
 ghost use Rattle.std.specs.Option.{option_map_or};
 ghost use Rattle.cf_types.specs.declared.tables.Place.TheVariants.{Root, At};
 ghost use Rattle.cf_types.specs.Offers as offer;
-ghost use Rattle.run_rules.specs.Search.{is_before, style_of, turns_of};
+ghost use Rattle.run_rules.specs.Search.{is_before, turns_of};
 ghost use Rattle.attr_graph.specs.Graphs.{IsGraphOf, declared_by};
 ghost use Rattle.scan_engine.specs.Buses.{place_turns};
 ghost use Rattle.scan_engine.specs.Spans.{HoldsChildren};

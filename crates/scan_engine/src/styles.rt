@@ -2,7 +2,7 @@
 ghost use Rattle.std.specs.Prelude.{◌≡◌, ◌<◌, ◌==◌, ◌&&◌, ℕ, List, [], ◌∷◌, ◌++◌, false, if◌then◌else◌, length, IfOk, OnOk};
 ghost use Rattle.cf_types.specs.declared.machine.Machine.{Machine};
 ghost use Rattle.cf_types.specs.declared.machine.StyleLine.{StyleLine as Line};
-ghost use Rattle.run_rules.specs.Search.{style_of};
+ghost use Rattle.run_rules.specs.Search.{is_bus_indirect};
 ghost use Rattle.scan_engine.specs.Styled.{AreStylesBy, AreStylesOf, style_in, styled};
 
 use cf_types::{Machine, Memory, Place, StyleLine};
@@ -72,10 +72,10 @@ impl Styles {
         }
     }
     /// Whether a device of this attachment searches a place row by row.
-    #[tactic(auto, unfolding(run_rules::specs::Search::style_of))]
+    #[tactic(auto, unfolding(run_rules::specs::Search::is_bus_indirect))]
     #[inline(always)]
     pub fn is_indirect(&self, attach: Option<u32>, place: Place) -> bool
-        ensures { (m : Machine) → AreStylesOf m self.now → result ≡ style_of m attach place }
+        ensures { (m : Machine) → AreStylesOf m self.now → result ≡ is_bus_indirect m attach place }
     {
         match (attach, place) {
             (_, Place::Root) => false,

@@ -1,7 +1,7 @@
 use Rattle.std.proofs.Common.{◌≡◌, ℕ, ◌+◌, ◌∙◌, List, Some, None, ap, subst, arith, drop}
 use Rattle.std.proofs.lemmas.List.{drop-drop, take_rest}
 use Rattle.memchr.specs.Find.{IsFirstByte, is_byte}
-use Rattle.config_rules.specs.Cut.{lines_of}
+use Rattle.cf_types.specs.Lines.{lines_of}
 use Rattle.cf_lexer.specs.Lines.{lines_behind}
 use Rattle.cf_lexer.proofs.TextLemmas.{line_at, line_whole}
 use Rattle.cf_lexer.proofs.rest.next_line.Goals as goal
