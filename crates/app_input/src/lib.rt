@@ -9,5 +9,6 @@ mod plans;
 mod scripts;
 mod stop;
 
+pub use app_words::{Program, Status};
 pub use inputs::{Inputs, read_inputs};
 pub use stop::status_of_stop;

@@ -6,7 +6,9 @@ use Rattle.std.specs.declared.result.Result.{Result}
 use Rattle.std.specs.declared.result.Result.TheVariants.{Ok, Err}
 use Rattle.run_rules.specs.declared.event.Event.{Event}
 use Rattle.run_rules.specs.declared.event.Format.{Format}
-use Rattle.run_rules.specs.Reread.{format_of, lines_of, onto_first, pieces_of, reread, reread_from, reread_lines, step_by, with_event, without_empty_last}
+use Rattle.std.specs.List.{onto_first}
+use Rattle.cf_types.specs.Lines.{lines_of}
+use Rattle.run_rules.specs.Reread.{format_of, history_lines, reread, reread_from, reread_lines, step_by, with_event, without_empty_last}
 use Rattle.run_rules.specs.World.{World}
 
 -- ---- how many lines a text has
@@ -15,13 +17,13 @@ onto_one_more : (b : ℕ) (pieces : List (List ℕ)) → length (onto_first b pi
 onto_one_more b [] = omega arith
 onto_one_more b (piece ∷ pieces) = omega arith
 
-pieces_few : (text : List ℕ) → length (pieces_of text) ≤ length text + 1
+pieces_few : (text : List ℕ) → length (lines_of text) ≤ length text + 1
 pieces_few [] = omega arith
 pieces_few (b ∷ bs) = by_newline (b == 10) (pieces_few bs)
   where
-    by_newline : (newline : Bool) → length (pieces_of bs) ≤ length bs + 1 → length (if newline then [] ∷ pieces_of bs else onto_first b (pieces_of bs)) ≤ length (b ∷ bs) + 1
+    by_newline : (newline : Bool) → length (lines_of bs) ≤ length bs + 1 → length (if newline then [] ∷ lines_of bs else onto_first b (lines_of bs)) ≤ length (b ∷ bs) + 1
     by_newline true few = omega (arith, few)
-    by_newline false few = let more = onto_one_more b (pieces_of bs) in omega (arith, few, more)
+    by_newline false few = let more = onto_one_more b (lines_of bs) in omega (arith, few, more)
 
 no_more : (pieces : List (List ℕ)) → length (without_empty_last pieces) ≤ length pieces
 no_more [] = omega arith
@@ -30,10 +32,10 @@ no_more ((b ∷ bs) ∷ []) = omega arith
 no_more ([] ∷ piece ∷ pieces) = let fewer = no_more (piece ∷ pieces) in omega (arith, fewer)
 no_more ((b ∷ bs) ∷ piece ∷ pieces) = let fewer = no_more (piece ∷ pieces) in omega (arith, fewer)
 
-lines_few : (text : List ℕ) → length (lines_of text) ≤ length text + 1
+lines_few : (text : List ℕ) → length (history_lines text) ≤ length text + 1
 lines_few text =
     let few = pieces_few text in
-    let fewer = no_more (pieces_of text) in
+    let fewer = no_more (lines_of text) in
     omega (arith, few, fewer)
 
 -- ---- the bad one
@@ -76,6 +78,6 @@ text_bad w n (line ∷ rest) bad is =
 pub bad_within : (w : World) (text : List ℕ) (bad : ℕ) → reread w text ≡ Err bad → bad ≤ length text + 2
 unfolding reread
 bad_within w text bad is =
-    let within = text_bad w 1 (lines_of text) bad is in
+    let within = text_bad w 1 (history_lines text) bad is in
     let few = lines_few text in
     omega (arith, within, few)

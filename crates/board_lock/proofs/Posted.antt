@@ -16,7 +16,6 @@ use Rattle.dev_board.specs.Stepping.{DoesNext}
 use Rattle.dev_board.specs.Witness.{Witness, lease_step}
 use Rattle.dev_board.specs.declared.answer.LeaseStep.TheVariants.{Keep}
 use Rattle.dev_board.proofs.LeaseLaws.{lease_keeps}
-use Rattle.board_lock.specs.Boards.{one_end}
 use Rattle.board_lock.specs.Seats.{SeatShown}
 use Rattle.board_lock.specs.Turning.{EndsTransfer, counted, posted}
 use Rattle.board_lock.proofs.Books.{Booked}

@@ -1,5 +1,6 @@
 -- What a call of the lock does to a seat, by its answer.
-use Rattle.std.specs.Prelude.{◌≡◌, ◌≢◌, ⊤, ℕ, ◌+◌, List, [], ◌∷◌, Option, Some, None, option_map}
+use Rattle.std.specs.Prelude.{◌≡◌, ◌≢◌, ◌<◌, ⊤, ℕ, ◌+◌, List, [], ◌∷◌, ◌++◌, length, slice_get, Option, Some, None, option_map}
+use Rattle.std.specs.List.{AllByRecursion}
 use Rattle.cf_types.specs.declared.machine.Ticket.{Ticket}
 use Rattle.run_rules.specs.World.{World}
 use Rattle.run_rules.specs.Next.{next}
@@ -7,8 +8,9 @@ use Rattle.run_rules.specs.Run.{event_of}
 use Rattle.run_rules.specs.declared.event.Event.{Event}
 use Rattle.run_rules.specs.declared.deed.Deed.TheVariants.{Done}
 use Rattle.run_rules.specs.declared.deed.Choice.TheVariants.{Does}
-use Rattle.lease_table.specs.declared.table.Word.{Word}
+use Rattle.lease_table.specs.declared.view.Word.{Word}
 use Rattle.lease_table.specs.declared.view.View.{View}
+use Rattle.dev_board.specs.Shown.{Shown}
 use Rattle.dev_board.specs.Witness.{Witness}
 use Rattle.dev_board.specs.declared.answer.Answer.TheVariants as answer
 use Rattle.dev_board.specs.declared.answer.LeaseStep.TheVariants.{Keep}
@@ -17,6 +19,7 @@ use Rattle.board_lock.specs.declared.turn.Turn.TheVariants as turn
 use Rattle.board_lock.specs.Boards.{one_end}
 use Rattle.board_lock.specs.Holding.{Settles}
 use Rattle.board_lock.specs.Seats.{SeatShown, Shows}
+use Rattle.quiet_events.specs.Quiet.{EndsNoWait}
 
 -- the seat after an event of its caller, after the end of its transfer, after its stop, after a look at a slot, and with other leases
 abbrev pub counted : SeatShown → Event → SeatShown
@@ -77,16 +80,40 @@ abbrev pub IsEvent : Turn → Type 0
 IsEvent (turn.Did p told) = ⊤
 IsEvent _ = ⊥
 
--- the seat after these turns, the last one first, each of which is an event
-abbrev pub AfterEvents : World → SeatShown → List Turn → SeatShown → Type 0
-AfterEvents w s [] t = t ≡ s
-AfterEvents w s (turn ∷ earlier) t = (middle : SeatShown) × AfterEvents w s earlier middle × IsEvent turn × TurnIs w middle turn t
+-- these turns, in order, each as `step` answers it
+abbrev pub TurnsAre : World → SeatShown → List Turn → SeatShown → Type 0
+TurnsAre w s [] t = t ≡ s
+TurnsAre w s (turn ∷ more) t = (middle : SeatShown) × TurnIs w s turn middle × TurnsAre w middle more t
 
--- some takings of the lock, in which the caller did some events and then this turn, or none where the board waits
-pub record TriesAre (w : World) (s : SeatShown) (answer : Option Turn) (t : SeatShown) : Type 0 where
-  pub earlier : List Turn
+-- fewer than n turns, in order, each of them an event
+pub record EventsAre (w : World) (s : SeatShown) (n : ℕ) (t : SeatShown) : Type 0 where
+  pub events : List Turn
+  pub few : length events < n
+  pub each : AllByRecursion IsEvent events
+  pub turns : TurnsAre w s events t
+
+-- the turns of one call: fewer than 32 events, and then one more turn, which is the answer
+pub record StepsAre (w : World) (s : SeatShown) (answer : Turn) (t : SeatShown) : Type 0 where
+  pub events : List Turn
+  pub few : length events < 32
+  pub each : AllByRecursion IsEvent events
+  pub turns : TurnsAre w s (events ++ answer ∷ []) t
+
+-- the turns of one taking of the lock: those of a call, or events alone, where the board waits then
+abbrev pub TriesAre : World → SeatShown → Option Turn → SeatShown → Type 0
+TriesAre w s None t = EventsAre w s 32 t
+TriesAre w s (Some turn) t = StepsAre w s turn t
+
+-- the last turn of a call, from a seat of the same caller, which stopped the board as often
+pub record LastIs (w : World) (s : SeatShown) (answer : Turn) (t : SeatShown) : Type 0 where
   pub middle : SeatShown
-  pub events : AfterEvents w s earlier middle
   pub caller : middle.caller ≡ s.caller
   pub stops : middle.stops ≡ s.stops
-  pub last : TryIs w middle answer t
+  pub last : TurnIs w middle answer t
+
+-- ---- who waits
+
+-- the event of a turn, which the history has at its place, ends no wait; other turns have none
+abbrev pub EndsNone : Shown → Turn → Type 0
+EndsNone b (turn.Did p told) = (e : Event) × (slice_get b.events p ≡ Some e) × EndsNoWait e.act
+EndsNone b _ = ⊤

@@ -14,7 +14,6 @@ mod seat;
 mod shared;
 mod tally;
 mod turn;
-mod waits;
 
 pub use lease_slots::LeaseSlots;
 pub use names::{Closings, Dids, Naming, Stops};

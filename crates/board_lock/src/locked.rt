@@ -1,5 +1,5 @@
 //! What is behind the lock.
-ghost use Rattle.std.specs.Prelude.{◌≡◌, ◌≢◌, ◌<◌, ◌≤◌, ◌+◌, true, Some};
+ghost use Rattle.std.specs.Prelude.{◌≡◌, ◌≢◌, ◌<◌, ◌≤◌, ◌+◌, true, false, Some};
 ghost use Rattle.std.specs.Option.{option_or};
 ghost use Rattle.dev_board.specs.Shown.{Shown};
 ghost use Rattle.board_lock.specs.Boards.{spots_of, LeaseFits};
@@ -7,7 +7,7 @@ ghost use Rattle.board_lock.specs.Carried.{CarriedRun};
 ghost use Rattle.board_lock.specs.Holding.{Settles};
 ghost use Rattle.board_lock.specs.Kept.{LockedKept};
 ghost use Rattle.board_lock.specs.Tallies.{more_in_all};
-ghost use Rattle.board_lock.specs.Turning.{IsEvent, TriesAre, TryIs, PostIs, counted, halted, settled};
+ghost use Rattle.board_lock.specs.Turning.{EndsNone, IsEvent, PostIs, TriesAre, TryIs, counted, halted, settled};
 
 #[cfg(test)]
 mod tests;
@@ -17,9 +17,9 @@ use crate::names::Naming;
 use crate::seat::Seat;
 use crate::tally::{Books, ends_caller};
 use crate::turn::Turn;
-use crate::waits::may_end_wait;
 use dev_board::{Board, IoResult, LeaseStep, Posted, Stepped};
 use lease_table::LeaseTable;
+use quiet_events::may_end_wait;
 use run_rules::Event;
 use std::marker::Model;
 
@@ -132,7 +132,7 @@ impl<N: Naming> Locked<N> {
         requires { table.now ≡ N.table }
         ensures { TriesAre N.opening seat.old result seat.new }
     {
-        for _ in 1..MANY {
+        for _many in 1..MANY {
             let turn = self.turn(table, seat)?;
             if !self.is_quiet(&turn) {
                 return Some(turn);
@@ -180,9 +180,11 @@ impl<N: Naming> Locked<N> {
         board.stop(seat.caller);
     }
 
-    /// Whether an answer may end the wait of another caller.
+    /// Whether an answer may end the wait of another caller. If not, no other caller's wait ends with it.
     #[inline(always)]
-    pub fn may_end_waits(&self, turn: &Turn) -> bool {
+    pub fn may_end_waits(&self, turn: &Turn) -> bool
+        ensures { result ≡ false → EndsNone self.now turn.now }
+    {
         let Turn::Did(place, _) = turn else {
             return false;
         };

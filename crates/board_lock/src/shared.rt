@@ -13,7 +13,7 @@ ghost use Rattle.board_lock.specs.Carried.{CarriedRun};
 ghost use Rattle.board_lock.specs.Kept.{LockedKept};
 ghost use Rattle.board_lock.specs.Names.{AreNames};
 ghost use Rattle.board_lock.specs.Seats.{PartsFit, seats_below};
-ghost use Rattle.board_lock.specs.Turning.{PostIs, TriesAre, TurnIs, halted, looking};
+ghost use Rattle.board_lock.specs.Turning.{LastIs, PostIs, StepsAre, TurnIs, halted, looking};
 
 use crate::deal::deal_seats;
 use crate::finish::gather_all;
@@ -157,9 +157,11 @@ impl<N: Naming> SharedBoard<N> {
     }
 
     /// Steps of the seat's caller while it has the lock once, as long as each is an event that ends no other caller's
-    /// wait, at most 32 of them; the answer is that of the last. If the caller has to wait, it goes on as `step` does.
+    /// wait, at most 32 of them; the answer is that of the last. If the caller has to wait, it goes on as `step` does. The
+    /// contract has them as a list of turns, each as `step` answers it.
     pub fn steps<R: Wait>(&self, rt: &R, seat: &mut Seat<N>) -> Turn
-        ensures { TriesAre N.opening seat.old (Some result) seat.new }
+        ensures turns { StepsAre N.opening seat.old result seat.new }
+        ensures last { LastIs N.opening seat.old result seat.new }
     {
         let mut guard = self.lock.lock(rt);
         match guard.turns(&self.table, seat) {

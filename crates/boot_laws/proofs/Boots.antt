@@ -18,7 +18,7 @@ use Rattle.run_rules.specs.Next.{next}
 use Rattle.run_rules.specs.Run.{Boot, Run, Step}
 use Rattle.run_rules.specs.Search.{attach_at, driver_at, is_candidate, is_indirect, parent_ref, spot_of, turns, winner, winner_at}
 use Rattle.run_rules.specs.Sound.{IsSoundlyDeferred, IsUnbegun, is_scan_of, others}
-use Rattle.run_sound.specs.Coming.{IsEnd}
+use Rattle.run_sound.proofs.Coming.{IsEnd}
 use Rattle.run_sound.specs.Kept.{Kept, MayRun}
 use Rattle.run_sound.proofs.Callers.{caller_here, clash, doing_so, doing_there, not_ended}
 use Rattle.run_sound.proofs.OwnCaller.{IsBootDeed}
@@ -30,7 +30,8 @@ use Rattle.boot_laws.specs.Settled.{IsPassedOver, IsSettled}
 use Rattle.run_rules.proofs.Free.{winner_below}
 use Rattle.run_rules.specs.declared.world.ParentRef.{ParentRef}
 use Rattle.std.proofs.lemmas.Bool.{false_from_ne_true}
-use Rattle.boot_laws.proofs.Candidates.{no_candidate, still_first, taken_row, was_candidate, winner_candidate}
+use Rattle.run_sound.proofs.Candidates.{no_candidate}
+use Rattle.boot_laws.proofs.Candidates.{still_first, taken_row, was_candidate, winner_candidate}
 use Rattle.boot_laws.proofs.Scans.{HasTurn, among, has_turn}
 use Rattle.boot_laws.proofs.Watched.{Covers, IsPast, IsToCome, IsWatched, covers_whole}
 use Rattle.boot_laws.proofs.Deeds.{end_watched, phase_watched, search_watched}
@@ -113,7 +114,7 @@ passed_over w p place x r indirect won other = cases (winner w.setup [] (parent_
     was = was_candidate w.setup w.live ref place x r (winner_candidate w.setup w.live ref place x r won)
 
     cases : (o : Option ℕ) → winner w.setup [] ref place x ≡ o → IsPassedOver w p place x
-    cases None none = clash (is_candidate w.setup [] ref place x r) was (no_candidate w.setup [] ref place x none r (winner_below w.setup w.live ref place x r won))
+    cases None none = clash (is_candidate w.setup [] ref place x r) was (no_candidate w.setup [] ref place x none r)
     cases (Some q) first =
         let gone : is_candidate w.setup w.live ref place x q ≡ false =
         false_from_ne_true (is_candidate w.setup w.live ref place x q) (λ h. other (first ∙ sym (still_first w.setup w.live ref place x q first h) ∙ won)) in
@@ -184,7 +185,7 @@ boot_run g w (e ∷ h) v at alone run goes over watched =
     let d : Deed = step.deed in
     let on : has_ended (after w 0 d) 0 ≡ false → d ≢ EndCaller → IsSettled v =
     λ still not_end. boot_run (g ++ e ∷ []) run.0 h v (stands_on g w e.caller e run.0 at run.1) alone.1 run.2 (ap (λ (x : World). has_ended x 0) step.world ∙ still) over
-    (subst IsWatched (sym step.world) (watched_after w d at.kept step.chosen not_end (boot_deed w d at.kept.ranges.booting step.chosen) watched)) in
+    (subst IsWatched (sym step.world) (watched_after w d at.kept step.chosen not_end (boot_deed w d at.kept.ranges.callers.booting step.chosen) watched)) in
     elim (kind_of w 0 at.kept d step.chosen) [
       | inl answers ↦ on answers.on.goes (λ is. clash (has_ended (after w 0 d) 0) (ends step is) answers.on.goes)
       | inr other ↦ elim other [

@@ -19,7 +19,7 @@ use Rattle.run_rules.specs.declared.deed.Deed.TheVariants.{Search, EndScan, Begi
 use Rattle.run_rules.specs.declared.deed.Choice.TheVariants.{Does}
 use Rattle.run_rules.proofs.Devices.{below_next}
 use Rattle.run_rules.proofs.Order.{device_missed}
-use Rattle.run_sound.specs.Coming.{IsScanEnd, IsTurn}
+use Rattle.run_sound.proofs.Coming.{IsScanEnd, IsTurn}
 use Rattle.run_sound.specs.Kept.{Kept}
 use Rattle.run_sound.proofs.Arrivals.{brings}
 use Rattle.run_sound.proofs.Callers.{callers_kept, clash, doing_there}

@@ -21,7 +21,7 @@ use Rattle.run_rules.specs.declared.deed.Deed.TheVariants.{Finalise}
 use Rattle.run_rules.specs.declared.deed.Choice.TheVariants.{Does}
 use Rattle.run_rules.proofs.Below.{and_both}
 use Rattle.run_rules.proofs.Free.{find_true}
-use Rattle.run_sound.specs.Coming.{IsCall, IsCalled}
+use Rattle.run_sound.proofs.Coming.{IsCall, IsCalled}
 use Rattle.run_sound.specs.Kept.{Kept}
 use Rattle.run_sound.proofs.Arrivals.{quiet_call, shown_spot}
 use Rattle.run_sound.proofs.Callers.{clash, doing_there}

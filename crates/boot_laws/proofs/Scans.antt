@@ -10,7 +10,7 @@ use Rattle.cf_types.specs.declared.tables.Place.{Place}
 use Rattle.cf_types.specs.declared.tables.Tables.{Tables}
 use Rattle.run_rules.specs.declared.world.Position.{Position}
 use Rattle.run_rules.specs.declared.world.Turn.{Turn}
-use Rattle.run_rules.specs.Search.{after_turn, bus_turns, child_spots, is_before, is_child, places_of, style_of, turns_of}
+use Rattle.run_rules.specs.Search.{after_turn, bus_turns, child_spots, is_before, is_child, places_of, is_bus_indirect, turns_of}
 use Rattle.run_rules.specs.Sound.{EachLater}
 use Rattle.run_rules.proofs.Devices.{all_imp, later_snoc}
 use Rattle.run_rules.proofs.Each.{all_append, all_below, all_map, later_filter}
@@ -233,7 +233,7 @@ bus_of_place m rows true spot e =
 
 module _ (m : Machine) (rows : ℕ) (attach spot : Option ℕ) where
   abbrev at_place : ℕ × Place → List Turn
-  at_place e = bus_turns m rows (style_of m attach e.1) spot e
+  at_place e = bus_turns m rows (is_bus_indirect m attach e.1) spot e
 
   abbrev Follows : ℕ → Turn → Type 0
   Follows n t = (n ≤ t.at.attr) × (is_child m spot t.place t.at.spot ≡ true)
@@ -242,16 +242,16 @@ module _ (m : Machine) (rows : ℕ) (attach spot : Option ℕ) where
   followed n [] = tt
   followed n (place ∷ places) =
       all_append (Follows n) (at_place (n, place)) (flat_map at_place (enumerate_from (n + 1) places))
-      (all_imp (IsOfPlace m spot (n, place)) (Follows n) (λ t h. (omega (arith, h.number), h.child)) (at_place (n, place)) (bus_of_place m rows (style_of m attach place) spot (n, place)))
+      (all_imp (IsOfPlace m spot (n, place)) (Follows n) (λ t h. (omega (arith, h.number), h.child)) (at_place (n, place)) (bus_of_place m rows (is_bus_indirect m attach place) spot (n, place)))
       (all_imp (Follows (n + 1)) (Follows n) (λ t h. (omega (arith, h.0), h.1)) (flat_map at_place (enumerate_from (n + 1) places)) (followed (n + 1) places))
 
   in_order : (n : ℕ) (places : List Place) → EachLater Later (flat_map at_place (enumerate_from n places))
   in_order n [] = tt
   in_order n (place ∷ places) =
-      later_append Later (at_place (n, place)) (flat_map at_place (enumerate_from (n + 1) places)) (bus_later m rows (style_of m attach place) spot (n, place)) (in_order (n + 1) places)
+      later_append Later (at_place (n, place)) (flat_map at_place (enumerate_from (n + 1) places)) (bus_later m rows (is_bus_indirect m attach place) spot (n, place)) (in_order (n + 1) places)
       (all_imp (IsOfPlace m spot (n, place)) (λ t. AllByRecursion (Later t) (flat_map at_place (enumerate_from (n + 1) places)))
       (λ t h. all_imp (Follows (n + 1)) (Later t) (λ u k. later_place t u (omega (arith, h.number, k.0))) (flat_map at_place (enumerate_from (n + 1) places)) (followed (n + 1) places))
-      (at_place (n, place)) (bus_of_place m rows (style_of m attach place) spot (n, place)))
+      (at_place (n, place)) (bus_of_place m rows (is_bus_indirect m attach place) spot (n, place)))
 
 pub turns_in_order : (t : Tables) (m : Machine) (driver attach spot only : Option ℕ) → EachLater Later (turns_of t m driver attach spot only)
 unfolding turns_of
@@ -290,7 +290,7 @@ inside m spot place x h = among_filter (is_child m spot place) (below (length m.
     there (y ∷ xs) zero f k = omega arith
     there (y ∷ xs) (suc i) f k = omega (arith, there xs i f k)
 
-pub has_turn : (t : Tables) (m : Machine) (driver attach spot : Option ℕ) (place : Place) (x r : ℕ) (indirect : Bool) → Among place (places_of t driver None) → style_of m attach place ≡ indirect → is_child m spot place x ≡ true
+pub has_turn : (t : Tables) (m : Machine) (driver attach spot : Option ℕ) (place : Place) (x r : ℕ) (indirect : Bool) → Among place (places_of t driver None) → is_bus_indirect m attach place ≡ indirect → is_child m spot place x ≡ true
     → (indirect ≡ true → r < length t.rows) → HasTurn (turns_of t m driver attach spot None) place x indirect r
 unfolding turns_of bus_turns
 has_turn t m driver attach spot place x r false offered style child low =
@@ -298,7 +298,7 @@ has_turn t m driver attach spot place x r false offered style child low =
     record {
       turn = direct_turn (at.number, place) x;
       among =
-          among_flat (λ (e : ℕ × Place). bus_turns m (length t.rows) (style_of m attach e.1) spot e) (enumerate_from 0 (places_of t driver None)) (at.number, place) (direct_turn (at.number, place) x) at.among
+          among_flat (λ (e : ℕ × Place). bus_turns m (length t.rows) (is_bus_indirect m attach e.1) spot e) (enumerate_from 0 (places_of t driver None)) (at.number, place) (direct_turn (at.number, place) x) at.among
           (rw style (among_map (direct_turn (at.number, place)) (child_spots m spot place) x (inside m spot place x child)));
       at = refl;
       of = refl;
@@ -310,7 +310,7 @@ has_turn t m driver attach spot place x r true offered style child low =
     record {
       turn = pair_turn (at.number, place) r x;
       among =
-          among_flat (λ (e : ℕ × Place). bus_turns m (length t.rows) (style_of m attach e.1) spot e) (enumerate_from 0 (places_of t driver None)) (at.number, place) (pair_turn (at.number, place) r x) at.among
+          among_flat (λ (e : ℕ × Place). bus_turns m (length t.rows) (is_bus_indirect m attach e.1) spot e) (enumerate_from 0 (places_of t driver None)) (at.number, place) (pair_turn (at.number, place) r x) at.among
           (rw style (among_flat (λ q. map (pair_turn (at.number, place) q) (child_spots m spot place)) (below (length t.rows)) r (pair_turn (at.number, place) r x) (among_below (length t.rows) r (low refl))
           (among_map (pair_turn (at.number, place) r) (child_spots m spot place) x (inside m spot place x child))));
       at = refl;

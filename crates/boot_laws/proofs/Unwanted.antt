@@ -1,8 +1,7 @@
 -- Where no bus is indirect, or no row has one unit alone, a boot leaves no hardware that some row would take.
-use Rattle.std.proofs.Common.{◌≡◌, ◌⊎◌, subst, ◌≤◌, ℕ, zero, suc, true, false, ◌&&◌, ◌==◌, List, [], ◌∷◌, find, reverse, length, Option, Some, None, refl, inl, inr, arith, slice_get}
+use Rattle.std.proofs.Common.{◌≡◌, ◌⊎◌, subst, ℕ, zero, suc, true, false, ◌&&◌, ◌==◌, List, [], ◌∷◌, find, reverse, Option, Some, None, refl, inl, inr, slice_get}
 use Rattle.std.specs.List.{AllByRecursion}
 use Rattle.std.specs.Option.{option_map_or}
-use Rattle.std.proofs.lemmas.Bool.{cases_lt}
 use Rattle.std.proofs.lemmas.Option.{same_Some}
 use Rattle.cf_types.specs.declared.tables.Row.{Row}
 use Rattle.cf_types.specs.declared.tables.Place.{Place}
@@ -11,21 +10,20 @@ use Rattle.cf_types.specs.declared.machine.Machine.{Machine}
 use Rattle.cf_types.specs.declared.machine.StyleLine.{StyleLine}
 use Rattle.run_rules.specs.declared.event.Event.{Event}
 use Rattle.run_rules.specs.declared.world.Dev.{Dev}
-use Rattle.run_rules.specs.declared.world.ParentRef.{ParentRef}
 use Rattle.run_rules.specs.declared.world.Setup.{Setup}
 use Rattle.run_rules.specs.World.{World, has, opening}
 use Rattle.run_rules.specs.Next.{arrival, place_of_spot}
 use Rattle.run_rules.specs.Run.{Boot}
-use Rattle.run_rules.specs.Search.{attach_at, is_candidate, is_indirect, is_occupied, is_open, parent_ref, style_of, winner_at}
+use Rattle.run_rules.specs.Search.{attach_at, is_indirect, is_occupied, is_open, parent_ref, is_bus_indirect, winner_at}
 use Rattle.run_sound.specs.Kept.{MayRun}
 use Rattle.run_sound.proofs.Callers.{clash}
+use Rattle.run_sound.proofs.Candidates.{no_candidate}
 use Rattle.run_sound.proofs.Members.{all_reversed, found_of}
 use Rattle.boot_laws.specs.Settled.{HasDirectBuses, HasStarredRows, IsBare, IsPassedOver, IsSearched, IsUnwanted}
-use Rattle.boot_laws.proofs.Candidates.{no_candidate}
 use Rattle.boot_laws.proofs.Boots.{boot_settles}
 
-direct_bus : (m : Machine) (attach : Option ℕ) (place : Place) → AllByRecursion (λ line. line.indirect ≡ false) m.styles → style_of m attach place ≡ false
-unfolding style_of
+direct_bus : (m : Machine) (attach : Option ℕ) (place : Place) → AllByRecursion (λ line. line.indirect ≡ false) m.styles → is_bus_indirect m attach place ≡ false
+unfolding is_bus_indirect
 direct_bus m attach Root h = refl
 direct_bus m None (At a) h = refl
 direct_bus m (Some attach) (At a) h = cases (find (λ line. line.attach == attach && line.attr == a) (reverse m.styles)) refl
@@ -38,23 +36,6 @@ direct_bus m (Some attach) (At a) h = cases (find (λ line. line.attach == attac
 open_so : (w : World) (x : ℕ) → has w.absent x ≡ false → has w.hidden x ≡ false → is_occupied w.live x ≡ false → is_open w.setup.machine w.live w.absent w.hidden [] x ≡ true
 unfolding is_open
 open_so w x present seen free = rw (present, seen, free) refl
-
--- a row past the last one takes nothing
-row_past : (s : Setup) (live : List Dev) (p : ParentRef) (place : Place) (x r : ℕ) → length s.tables.rows ≤ r → is_candidate s live p place x r ≡ false
-unfolding is_candidate
-row_past s live p place x r past = rw (past_end s.tables.rows r past) refl
-  where
-    past_end : {A : Type 0} (xs : List A) (i : ℕ) → length xs ≤ i → slice_get xs i ≡ None
-    past_end [] i le = refl
-    past_end (y ∷ xs) zero le = absurd (omega arith)
-    past_end (y ∷ xs) (suc i) le = past_end xs i (omega arith)
-
-pub none_taken : (s : Setup) (live : List Dev) (p : ℕ) (place : Place) (x : ℕ) → winner_at s live p place x ≡ None → (r : ℕ) → is_candidate s live (parent_ref s live p) place x r ≡ false
-none_taken s live p place x none r =
-    elim (cases_lt r (length s.tables.rows)) [
-      | inl less ↦ no_candidate s live (parent_ref s live p) place x none r less
-      | inr past ↦ row_past s live (parent_ref s live p) place x r past
-    ]
 
 none_comes : (s : Setup) (live : List Dev) (p : ℕ) (place : Place) (x : ℕ) → winner_at s live p place x ≡ None → arrival s live p place x ≡ None
 unfolding arrival
@@ -78,4 +59,4 @@ leaves_unwanted s h v may boot all p x bare =
       | inl no_row ↦ no_row
       | inr over ↦ absurd (never_over v p place x all over)
     ] in
-    record { none_comes = none_comes v.setup v.live p place x none; no_row = none_taken v.setup v.live p place x none }
+    record { none_comes = none_comes v.setup v.live p place x none; no_row = no_candidate v.setup v.live (parent_ref v.setup v.live p) place x none }

@@ -9,7 +9,7 @@ use Rattle.std.proofs.lemmas.Map.Views.{any-filter_same}
 use Rattle.cf_declare.proofs.ListFacts.{found_within}
 use Rattle.cf_types.specs.declared.declared.Declared.{Declared}
 use Rattle.cf_types.specs.Offers.{firsts}
-use Rattle.config_rules.specs.Declared.{attr_number}
+use Rattle.cf_types.specs.Lookups.{attr_number}
 use Rattle.config_rules.specs.Fault.{attr_numbers, has_attr, lacks_attr}
 
 differs_if : (q : ℕ → Bool) (x k : ℕ) (b : Bool) → (k == x) ≡ b → q x ≡ false → q k ≡ true → not b ≡ true
@@ -73,7 +73,7 @@ pub some_class : (p : ℕ → Bool) (f : ℕ) (xs : List ℕ) → find p xs ≡ 
 some_class p f [] e = cc
 some_class p f (x ∷ xs) e = some_if p x f xs (p x) e (λ h. some_class p f xs h)
 
-number_within : (d : Declared) (name : List ℕ) (o : Option ℕ) → attr_number d name ≡ o → not (is_some o) ≡ false → unwrap_or o 0 < length d.attrs
+number_within : (d : Declared) (name : List ℕ) (o : Option ℕ) → attr_number d.attrs name ≡ o → not (is_some o) ≡ false → unwrap_or o 0 < length d.attrs
 number_within d name None e h = absurd (false≢true (sym h))
 number_within d name (Some n) e h = found_within (λ a. bytes_eq a.name name) d.attrs n e
 
@@ -85,6 +85,6 @@ right_false false b e = e
 pub numbers_within : (d : Declared) (names : List (List ℕ)) → lacks_attr d names ≡ false → All (λ a. a < length d.attrs) (attr_numbers d names)
 numbers_within d [] e = All-nil (λ a. a < length d.attrs)
 numbers_within d (name ∷ names) e =
-    All-cons (λ a. a < length d.attrs) (unwrap_or (attr_number d name) 0) (attr_numbers d names)
-    (number_within d name (attr_number d name) refl (or_parts (not (has_attr d name)) (lacks_attr d names) e).0)
+    All-cons (λ a. a < length d.attrs) (unwrap_or (attr_number d.attrs name) 0) (attr_numbers d names)
+    (number_within d name (attr_number d.attrs name) refl (or_parts (not (has_attr d name)) (lacks_attr d names) e).0)
     (numbers_within d names (right_false (not (has_attr d name)) (lacks_attr d names) e))

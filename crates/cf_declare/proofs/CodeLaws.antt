@@ -9,8 +9,9 @@ use Rattle.config_rules.proofs.GivenLaws.{no_code, no_last, no_first}
 use Rattle.cf_types.specs.declared.stmt.Stmt.{Stmt}
 use Rattle.cf_types.specs.declared.stmt.Stmt.TheVariants as stmt
 use Rattle.cf_types.specs.declared.tables.Attr.{Attr}
+use Rattle.cf_types.specs.Lookups.{attr_named}
 use Rattle.config_rules.specs.Form.{given, ◌or◌}
-use Rattle.config_rules.specs.Declared.{Declared, is_root, attr_named, attr_name}
+use Rattle.config_rules.specs.Declared.{Declared, is_root, attr_name}
 use Rattle.config_rules.specs.Fault.{has_attr, has_device, lacks_attr, places_fault, code_of}
 use Rattle.cf_declare.proofs.ListFacts.{position_found, find_found, all_from_none}
 
@@ -30,14 +31,14 @@ place_if false None rest h = absurd (cc)
 place_if false (Some x) rest h = (refl, (no_code (not x.iface) NO_INTERFACE rest h).1)
 
 -- an attribute of this name is found by its number or as it is
-pub found_either : (d : Declared) (name : List ℕ) → is_some (attr_named d name) ≡ has_attr d name
+pub found_either : (d : Declared) (name : List ℕ) → is_some (attr_named d.attrs name) ≡ has_attr d name
 found_either d name = find_found (λ a. bytes_eq a.name name) d.attrs ∙ sym (position_found (λ a. bytes_eq a.name name) d.attrs)
 
 -- so with all places
 places_known : (d : Declared) (places : List (List ℕ)) → places_fault d places ≡ None → list_all (λ place. is_root place || has_attr d place) places ≡ true
 places_known d [] h = refl
 places_known d (place ∷ places) h =
-    let parts = place_if (is_root place) (attr_named d place) (places_fault d places) h in
+    let parts = place_if (is_root place) (attr_named d.attrs place) (places_fault d places) h in
     and_from (is_root place || has_attr d place) _ (ap (λ b. is_root place || b) (sym (found_either d place)) ∙ parts.0) (places_known d places parts.1)
 
 -- a statement without a code names what is declared

@@ -10,7 +10,8 @@ use Rattle.cf_types.specs.declared.tables.Attr.{Attr}
 use Rattle.cf_types.specs.declared.tables.Device.{Device}
 use Rattle.cf_types.specs.declared.tables.Attach.{Attach}
 use Rattle.cf_types.specs.declared.tables.Place.TheVariants.{Root, At}
-use Rattle.config_rules.specs.Declared.{Declared, is_root, place_in, numbers_in, attr, attr_name, device_name, attr_of, device_of, attach_of, place_of, declared, device_number}
+use Rattle.cf_types.specs.Lookups.{device_number, place_of_name}
+use Rattle.config_rules.specs.Declared.{Declared, is_root, numbers_in, attr, attr_name, device_name, attr_of, device_of, attach_of, place_of, declared}
 use Rattle.config_rules.specs.Fault.{has_attr, attr_numbers, is_instance, fault_of}
 use Rattle.cf_declare.specs.Declare.{new_attr, new_device, new_attach, place_named, declare, declares}
 use Rattle.cf_declare.specs.Settled.{names_among, Settled}
@@ -24,7 +25,7 @@ attr_numbers_are : (stmts : List Stmt) (wanted : List (List ℕ)) → attr_numbe
 attr_numbers_are stmts [] = refl
 attr_numbers_are stmts (name ∷ wanted) =
     ap (λ o. unwrap_or o 0 ∷ attr_numbers (declared stmts) wanted) (attr_number_is stmts name)
-    ∙ ap (λ ns. unwrap_or (place_in (filter_map attr_name stmts) name) 0 ∷ ns) (attr_numbers_are stmts wanted)
+    ∙ ap (λ ns. unwrap_or (place_of_name (filter_map attr_name stmts) name) 0 ∷ ns) (attr_numbers_are stmts wanted)
 
 -- the attribute of one more statement
 attr_added : (stmts : List Stmt) (s : Stmt) → attr_of (filter_map attr_name stmts) s ≡ new_attr (declared stmts) s
@@ -47,12 +48,12 @@ attach_added stmts (stmt.Attach device places name needs) =
     let attrs = filter_map attr_name stmts in
     let d = declared stmts in
     ap (λ o. attach_with (unwrap_or name device) (unwrap_or o 0) (map (place_of attrs) places) (numbers_in attrs needs)) (sym (device_number_is stmts device))
-    ∙ ap (λ ps. attach_with (unwrap_or name device) (unwrap_or (device_number d device) 0) ps (numbers_in attrs needs)) (sym (places_are stmts places))
-    ∙ ap (attach_with (unwrap_or name device) (unwrap_or (device_number d device) 0) (map (place_named d) places)) (sym (attr_numbers_are stmts needs))
+    ∙ ap (λ ps. attach_with (unwrap_or name device) (unwrap_or (device_number d.devices device) 0) ps (numbers_in attrs needs)) (sym (places_are stmts places))
+    ∙ ap (attach_with (unwrap_or name device) (unwrap_or (device_number d.devices device) 0) (map (place_named d) places)) (sym (attr_numbers_are stmts needs))
 attach_added stmts _ = refl
 
 -- the attribute of a new name gets the next number
-own_number : (stmts : List Stmt) (name : List ℕ) → has_attr (declared stmts) name ≡ false → place_in (filter_map attr_name stmts ++ name ∷ []) name ≡ Some (length (declared stmts).attrs)
+own_number : (stmts : List Stmt) (name : List ℕ) → has_attr (declared stmts) name ≡ false → place_of_name (filter_map attr_name stmts ++ name ∷ []) name ≡ Some (length (declared stmts).attrs)
 own_number stmts name h =
     let attrs = filter_map attr_name stmts in
     position_new (λ n. bytes_eq n name) attrs name (sym (attr_known stmts name) ∙ h) ((bytes_eq-Decides name name).1 refl)

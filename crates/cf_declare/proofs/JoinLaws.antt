@@ -22,9 +22,10 @@ use Rattle.cf_types.specs.declared.tables.Place.TheVariants.{Root, At}
 use Rattle.cf_types.specs.Locators.{locators_at}
 use Rattle.cf_types.specs.Offers.{is_interface}
 use Rattle.cf_types.proofs.ListLemmas.{slice_get-append_front, all_at}
-use Rattle.config_rules.specs.Declared.{Declared, attr_number, device_number}
+use Rattle.config_rules.specs.Declared.{Declared}
 use Rattle.cf_types.specs.declared.instance.AttachPlace.{AttachPlace}
 use Rattle.cf_types.specs.declared.instance.Target.TheVariants.{Below, On}
+use Rattle.cf_types.specs.Lookups.{attr_number, device_number}
 use Rattle.config_rules.specs.Joined.{spots_of, suits, attr_target, target_of, parent_of, device_or, attached, fill_fault, filled, fill, join}
 use Rattle.config_rules.proofs.CutLaws.{if_bind}
 use Rattle.config_rules.proofs.Parts.{ok_is}
@@ -71,15 +72,15 @@ on_attr d unit (Some a) = by_tests (is_interface d.attrs a) (is_some unit)
     by_tests false with_unit = tt
 
 -- a parent is a device that is declared
-by_device : (d : Declared) (base : List ℕ) (unit : Option ℕ) (o : Option ℕ) → device_number d base ≡ o
-    → IfOk (option_map_or (λ device. Ok (Below (record { device = device; unit = unit }))) o (attr_target d unit (attr_number d base))) (λ t. IfSome (parent_of t) (λ p. p.device < length d.devices))
-by_device d base unit None e = on_attr d unit (attr_number d base)
+by_device : (d : Declared) (base : List ℕ) (unit : Option ℕ) (o : Option ℕ) → device_number d.devices base ≡ o
+    → IfOk (option_map_or (λ device. Ok (Below (record { device = device; unit = unit }))) o (attr_target d unit (attr_number d.attrs base))) (λ t. IfSome (parent_of t) (λ p. p.device < length d.devices))
+by_device d base unit None e = on_attr d unit (attr_number d.attrs base)
 by_device d base unit (Some device) e = found_within (λ x. bytes_eq x.name base) d.devices device e
 
 -- so is that of what an instance joins
 parent_known : (d : Declared) (at : AtSpec) → IfOk (target_of d at) (λ t. IfSome (parent_of t) (λ p. p.device < length d.devices))
 parent_known d written.Root = tt
-parent_known d (written.Named base unit) = by_device d base unit (device_number d base) refl
+parent_known d (written.Named base unit) = by_device d base unit (device_number d.devices base) refl
 
 -- one value for each locator, or a code
 values_or : (locs : List Locator) (pairs : List GivenLoc) (o : Option ℕ) → IfOk (option_map_or (λ code. Err code) o (Ok (map (filled pairs) locs))) (λ vs. length vs ≡ length locs)
@@ -107,7 +108,7 @@ joined_sound d sound base at pairs =
     if_bind (SoundJoined d) (fill (locators_at d.attrs s.place) pairs) _ (λ locs e5.
     let spot : IsSpotOf d.attaches device s.attach s.place = all_found (IsSpot d.attaches device) (λ x. suits d target x.place) (spots_of d device) s (spots_known d device) (some_of _ 12 s e4) in
     record {
-      has_device = found_within (λ x. bytes_eq x.name base) d.devices device (some_of (device_number d base) 10 device e1);
+      has_device = found_within (λ x. bytes_eq x.name base) d.devices device (some_of (device_number d.devices base) 10 device e1);
       has_attach = spot;
       place_is_open = spot_open d sound device s.attach s.place spot;
       has_parent = ok_is (λ t. IfSome (parent_of t) (λ p. p.device < length d.devices)) (target_of d at) target (parent_known d at) e3;

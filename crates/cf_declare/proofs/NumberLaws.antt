@@ -9,7 +9,8 @@ use Rattle.cf_types.specs.declared.tables.Device.{Device}
 use Rattle.cf_types.specs.declared.tables.Attach.{Attach}
 use Rattle.cf_types.specs.declared.tables.Place.{Place}
 use Rattle.cf_types.specs.declared.tables.Place.TheVariants.{Root, At}
-use Rattle.config_rules.specs.Declared.{is_root, place_in, numbers_in, attr, attr_name, device_name, attr_of, device_of, attach_of, place_of, declared, attr_number, device_number}
+use Rattle.cf_types.specs.Lookups.{attr_number, device_number, place_of_name}
+use Rattle.config_rules.specs.Declared.{is_root, numbers_in, attr, attr_name, device_name, attr_of, device_of, attach_of, place_of, declared}
 use Rattle.config_rules.specs.Fault.{has_attr, has_device}
 use Rattle.cf_declare.specs.Settled.{is_among, are_among, names_among}
 use Rattle.cf_declare.proofs.ListFacts.{position-map, position_kept, filter_map_same, map-filter_map, map_agree, all_weaker}
@@ -22,7 +23,7 @@ pub among_more : (names more : List (List ℕ)) (name : List ℕ) → is_among n
 among_more names more name h = ap is_some (position_kept (λ n. bytes_eq n name) names more h) ∙ h
 
 -- its place stays
-pub same_place : (names more : List (List ℕ)) (name : List ℕ) → is_among names name ≡ true → place_in (names ++ more) name ≡ place_in names name
+pub same_place : (names more : List (List ℕ)) (name : List ℕ) → is_among names name ≡ true → place_of_name (names ++ more) name ≡ place_of_name names name
 same_place names more name h = position_kept (λ n. bytes_eq n name) names more h
 
 -- so do the places of several
@@ -70,7 +71,7 @@ pub same_device : (attrs more devices : List (List ℕ)) (s : Stmt) → names_am
 same_device attrs more devices (stmt.Device name None needs) h own = ap (device_with name None) (same_numbers attrs more needs h)
 same_device attrs more devices (stmt.Device name (Some locs) needs) h own =
     ap (λ o. device_with name o (numbers_in (attrs ++ more) needs)) (same_place attrs more name (own name refl))
-    ∙ ap (device_with name (place_in attrs name)) (same_numbers attrs more needs h)
+    ∙ ap (device_with name (place_of_name attrs name)) (same_numbers attrs more needs h)
 same_device attrs more devices _ h own = refl
 
 -- a place of an attachment
@@ -78,7 +79,7 @@ at_same_place : (attrs more : List (List ℕ)) (place : List ℕ) → (is_root p
 at_same_place attrs more place h = by_root (is_root place) h
   where
     by_root : (root : Bool) → (root || is_among attrs place) ≡ true
-        → (if root then Root else At (unwrap_or (place_in (attrs ++ more) place) 0)) ≡ (if root then Root else At (unwrap_or (place_in attrs place) 0))
+        → (if root then Root else At (unwrap_or (place_of_name (attrs ++ more) place) 0)) ≡ (if root then Root else At (unwrap_or (place_of_name attrs place) 0))
     by_root true k = refl
     by_root false k = ap (λ o. At (unwrap_or o 0)) (same_place attrs more place k)
 
@@ -92,9 +93,9 @@ same_attach attrs more devices others (stmt.Attach device places name needs) h =
     let one = and_parts (is_among devices device) _ h in
     let two = and_parts (list_all (λ place. is_root place || is_among attrs place) places) (are_among attrs needs) one.1 in
     ap (λ o. attach_with (unwrap_or name device) (unwrap_or o 0) (map (place_of (attrs ++ more)) places) (numbers_in (attrs ++ more) needs)) (same_place devices others device one.0)
-    ∙ ap (λ ps. attach_with (unwrap_or name device) (unwrap_or (place_in devices device) 0) ps (numbers_in (attrs ++ more) needs))
+    ∙ ap (λ ps. attach_with (unwrap_or name device) (unwrap_or (place_of_name devices device) 0) ps (numbers_in (attrs ++ more) needs))
     (map_agree (λ place. is_root place || is_among attrs place) (place_of (attrs ++ more)) (place_of attrs) (at_same_place attrs more) places two.0)
-    ∙ ap (attach_with (unwrap_or name device) (unwrap_or (place_in devices device) 0) (map (place_of attrs) places)) (same_numbers attrs more needs two.1)
+    ∙ ap (attach_with (unwrap_or name device) (unwrap_or (place_of_name devices device) 0) (map (place_of attrs) places)) (same_numbers attrs more needs two.1)
 same_attach attrs more devices others _ h = refl
 
 -- ---- numbers of what is declared
@@ -124,12 +125,12 @@ unfolding declared
 names_of_devices stmts = map-filter_map (λ d. d.name) (device_of (filter_map attr_name stmts)) stmts ∙ filter_map_same _ device_name stmts (λ i s h. name_of_device (filter_map attr_name stmts) s)
 
 -- the number of an attribute is the place of its name
-pub attr_number_is : (stmts : List Stmt) (name : List ℕ) → attr_number (declared stmts) name ≡ place_in (filter_map attr_name stmts) name
-attr_number_is stmts name = sym (position-map (λ n. bytes_eq n name) (λ a. a.name) (declared stmts).attrs) ∙ ap (λ ns. place_in ns name) (names_of_attrs stmts)
+pub attr_number_is : (stmts : List Stmt) (name : List ℕ) → attr_number (declared stmts).attrs name ≡ place_of_name (filter_map attr_name stmts) name
+attr_number_is stmts name = sym (position-map (λ n. bytes_eq n name) (λ a. a.name) (declared stmts).attrs) ∙ ap (λ ns. place_of_name ns name) (names_of_attrs stmts)
 
 -- and that of a device
-pub device_number_is : (stmts : List Stmt) (name : List ℕ) → device_number (declared stmts) name ≡ place_in (filter_map device_name stmts) name
-device_number_is stmts name = sym (position-map (λ n. bytes_eq n name) (λ d. d.name) (declared stmts).devices) ∙ ap (λ ns. place_in ns name) (names_of_devices stmts)
+pub device_number_is : (stmts : List Stmt) (name : List ℕ) → device_number (declared stmts).devices name ≡ place_of_name (filter_map device_name stmts) name
+device_number_is stmts name = sym (position-map (λ n. bytes_eq n name) (λ d. d.name) (declared stmts).devices) ∙ ap (λ ns. place_of_name ns name) (names_of_devices stmts)
 
 -- an attribute is declared exactly where its name is among those of the attributes
 pub attr_known : (stmts : List Stmt) (name : List ℕ) → has_attr (declared stmts) name ≡ is_among (filter_map attr_name stmts) name

@@ -12,7 +12,8 @@ use Rattle.cf_types.specs.declared.tables.Place.{Place}
 use Rattle.cf_types.specs.declared.tables.Place.TheVariants.{Root, At}
 use Rattle.cf_types.specs.Offers.{Node, AreEarlier, node_of, nodes_of, interfaces_of, is_interface, named_by}
 use Rattle.cf_types.proofs.OfferLemmas.{interfaces_kept, earlier_more}
-use Rattle.config_rules.specs.Declared.{Declared, has_attach}
+use Rattle.cf_types.specs.Lookups.{has_attach}
+use Rattle.config_rules.specs.Declared.{Declared}
 use Rattle.config_rules.specs.Fault.{has_attr, has_device}
 use Rattle.cf_declare.specs.Sound.{AreAttrs, IsOpen, NamesDiffer, SoundDevice, SoundAttach, SoundDeclared}
 use Rattle.cf_declare.proofs.ListFacts.{position_found}
@@ -158,7 +159,7 @@ sound_device d x s sound new = record {
 }
 
 -- one more attachment
-pub sound_attach : (d : Declared) (x : Attach) → SoundDeclared d → SoundAttach d.attrs d.devices x → has_attach d x.name ≡ false
+pub sound_attach : (d : Declared) (x : Attach) → SoundDeclared d → SoundAttach d.attrs d.devices x → has_attach d.attaches x.name ≡ false
     → SoundDeclared (record { attrs = d.attrs; devices = d.devices; attaches = d.attaches ++ x ∷ [] })
 sound_attach d x s sound new = record {
   needs_are_earlier = s.needs_are_earlier;

@@ -17,8 +17,9 @@ use Rattle.cf_types.specs.declared.tables.Device.{Device}
 use Rattle.cf_types.specs.declared.tables.Attach.{Attach}
 use Rattle.cf_types.specs.declared.tables.Place.TheVariants.{Root, At}
 use Rattle.cf_types.specs.Offers.{Node, AreEarlier, node_of, nodes_of, firsts, interfaces_of}
+use Rattle.cf_types.specs.Lookups.{attr_named, attr_number, device_number, has_attach}
 use Rattle.config_rules.specs.Form.{given, ◌or◌}
-use Rattle.config_rules.specs.Declared.{Declared, attr, is_root, attr_number, device_number, attr_named, has_attach, declared}
+use Rattle.config_rules.specs.Declared.{Declared, attr, is_root, declared}
 use Rattle.config_rules.specs.Fault.{is_instance, has_attr, has_device, attr_numbers, lacks_attr, repeats_locator, offers_too_much, has_classes, define_fault, device_fault, attach_fault, places_fault, code_of, fault_of, stmts_of}
 use Rattle.cf_declare.specs.Declare.{place_named, declare}
 use Rattle.cf_declare.specs.Settled.{Settled}
@@ -37,7 +38,7 @@ numbers_known : (d : Declared) (needs : List (List ℕ)) → list_all (has_attr 
 numbers_known d [] h = λ k x q. absurd (omega arith)
 numbers_known d (name ∷ needs) h =
     let parts = and_parts (has_attr d name) (list_all (has_attr d) needs) h in
-    All-cons (λ a. a < length d.attrs) (unwrap_or (attr_number d name) 0) (attr_numbers d needs)
+    All-cons (λ a. a < length d.attrs) (unwrap_or (attr_number d.attrs name) 0) (attr_numbers d needs)
     (position_within (λ a. bytes_eq a.name name) d.attrs parts.0) (numbers_known d needs parts.1)
 
 -- the numbers that a statement names, where it lacks no attribute
@@ -59,7 +60,7 @@ place_open attrs false (Some x) rest number h at =
 places_open : (d : Declared) (places : List (List ℕ)) → places_fault d places ≡ None → All (IsOpen d.attrs) (map (place_named d) places)
 places_open d [] h = λ k x q. absurd (omega arith)
 places_open d (place ∷ places) h =
-    let parts = place_open d.attrs (is_root place) (attr_named d place) (places_fault d places) (unwrap_or (attr_number d place) 0) h (find_place (λ a. bytes_eq a.name place) d.attrs) in
+    let parts = place_open d.attrs (is_root place) (attr_named d.attrs place) (places_fault d places) (unwrap_or (attr_number d.attrs place) 0) h (find_place (λ a. bytes_eq a.name place) d.attrs) in
     All-cons (IsOpen d.attrs) (place_named d place) (map (place_named d) places) parts.0 (places_open d places parts.1)
 
 -- an attribute with braces counts as one
@@ -163,8 +164,8 @@ attach_sound d device places name needs s h =
     let own = unwrap_or name device in
     let first = no_code (not (has_device d device)) UNKNOWN_DEVICE _ h in
     let second = no_first (places_fault d places) _ first.1 in
-    let third = no_code (is_root own || has_attach d own) NAME_TAKEN _ second.1 in
-    let x : Attach = record { name = own; device = unwrap_or (device_number d device) 0; places = map (place_named d) places; needs = attr_numbers d needs } in
+    let third = no_code (is_root own || has_attach d.attaches own) NAME_TAKEN _ second.1 in
+    let x : Attach = record { name = own; device = unwrap_or (device_number d.devices device) 0; places = map (place_named d) places; needs = attr_numbers d needs } in
     unchanged d.attrs (d.attrs ++ []) d.devices (d.devices ++ []) (d.attaches ++ x ∷ []) (d.attaches ++ x ∷ []) (with_nothing d.attrs) (with_nothing d.devices) refl
     (sound_attach d x s
     (record {
@@ -172,7 +173,7 @@ attach_sound d device places name needs s h =
       places_are_open = places_open d places second.0;
       names_attrs = needs_known d needs (no_last (lacks_attr d needs) UNKNOWN_ATTRIBUTE third.1);
     })
-    (or_parts (is_root own) (has_attach d own) third.0).1)
+    (or_parts (is_root own) (has_attach d.attaches own) third.0).1)
 
 -- declarations stay sound with a statement that has no code
 pub sound_more : (d : Declared) (n : ℕ) (s : Stmt) → SoundDeclared d → code_of d n s ≡ None → SoundDeclared (declare d s)

@@ -7,12 +7,13 @@ use Rattle.cf_types.specs.declared.tables.Attr.{Attr}
 use Rattle.cf_types.specs.declared.tables.Device.{Device}
 use Rattle.cf_types.specs.declared.tables.Attach.{Attach}
 use Rattle.cf_types.specs.declared.tables.Place.{Place}
-use Rattle.config_rules.specs.Declared.{Declared, attach_by, attr_by, attr_number, device_number, place_by}
+use Rattle.cf_types.specs.Lookups.{attr_number, device_number}
+use Rattle.config_rules.specs.Declared.{Declared, attach_by, attr_by, place_by}
 use Rattle.config_rules.specs.Fault.{attr_numbers}
 
 -- the attribute that a statement adds
 abbrev pub new_attr : Declared → Stmt → Option Attr
-new_attr d = attr_by (attr_number d)
+new_attr d = attr_by (attr_number d.attrs)
 
 -- the device that a statement adds; its own attribute is the one that the statement adds too
 abbrev pub new_device : Declared → Stmt → Option Device
@@ -22,15 +23,15 @@ new_device d _ = None
 
 -- the place of this name
 abbrev pub place_named : Declared → List ℕ → Place
-place_named d = place_by (attr_number d)
+place_named d = place_by (attr_number d.attrs)
 
 -- the attachment of a device under a name
 abbrev pub attach_named : Declared → List ℕ → List (List ℕ) → List ℕ → List (List ℕ) → Attach
-attach_named d device places name needs = record { name = name; device = unwrap_or (device_number d device) 0; places = map (place_named d) places; needs = attr_numbers d needs }
+attach_named d device places name needs = record { name = name; device = unwrap_or (device_number d.devices device) 0; places = map (place_named d) places; needs = attr_numbers d needs }
 
 -- the attachment that a statement adds
 abbrev pub new_attach : Declared → Stmt → Option Attach
-new_attach d = attach_by (attr_number d) (device_number d)
+new_attach d = attach_by (attr_number d.attrs) (device_number d.devices)
 
 -- what is declared with one more statement
 abbrev pub declare : Declared → Stmt → Declared

@@ -3,11 +3,12 @@ use Rattle.std.specs.Prelude.{◌≡◌, ℕ, Bool, true, ◌&&◌, ◌||◌, Li
 use Rattle.std.specs.List.{list_all}
 use Rattle.cf_types.specs.declared.stmt.Stmt.{Stmt}
 use Rattle.cf_types.specs.declared.stmt.Stmt.TheVariants as stmt
-use Rattle.config_rules.specs.Declared.{is_root, place_in, attr_name, device_name}
+use Rattle.cf_types.specs.Lookups.{place_of_name}
+use Rattle.config_rules.specs.Declared.{is_root, attr_name, device_name}
 
 -- a name is among these
 abbrev pub is_among : List (List ℕ) → List ℕ → Bool
-is_among names name = is_some (place_in names name)
+is_among names name = is_some (place_of_name names name)
 
 -- all of these are
 abbrev pub are_among : List (List ℕ) → List (List ℕ) → Bool

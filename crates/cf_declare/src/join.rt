@@ -2,7 +2,7 @@ ghost use Rattle.std.specs.Prelude.{◌≡◌, ◌==◌, ◌<◌, ◌≤◌, [],
 ghost use Rattle.std.specs.List.{list_any};
 ghost use Rattle.cf_types.specs.Locators.{locators_at};
 ghost use Rattle.cf_types.specs.Offers.{offers};
-ghost use Rattle.config_rules.specs.Declared.{attr_number};
+ghost use Rattle.cf_types.specs.Lookups.{attr_number};
 ghost use Rattle.config_rules.specs.Joined.{attr_target, target_of, suits, spots_of, fill, join, parent_of};
 ghost use Rattle.attr_graph.specs.Graphs.{IsGraphOf};
 ghost use Rattle.cf_names.specs.Attaches.{attaches_of};
@@ -18,7 +18,7 @@ use locator_rules::fill;
 /// An attribute that an instance attaches to: unknown, no interface attribute, or written with a unit.
 fn attr_target(declared: &Catalog, name: &Name, unit: Option<u32>) -> Result<Target, u8>
     requires { length declared.now.attrs ≤ 65536 }
-    ensures { result ≡ attr_target declared.now unit (attr_number declared.now name.now) }
+    ensures { result ≡ attr_target declared.now unit (attr_number declared.now.attrs name.now) }
 {
     let Some(number) = declared.attr_number(name) else {
         return Err(code::UNKNOWN_ATTRIBUTE);

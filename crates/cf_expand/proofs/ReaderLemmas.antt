@@ -1,15 +1,12 @@
 -- A file that is read, from its text on.
-use Rattle.std.proofs.Common.{◌≡◌, ℕ, ◌+◌, ◌==◌, List, [], ◌∷◌, ◌++◌, length, refl, ap, sym, ◌∙◌, subst, add-one}
+use Rattle.std.proofs.Common.{◌≡◌, ℕ, ◌+◌, ◌==◌, List, [], ◌∷◌, ◌++◌, length, true, refl, ap, sym, ◌∙◌, subst, add-one}
 use Rattle.std.specs.Prelude.{Ok, Err}
-use Rattle.cf_types.specs.declared.stmt.Token.{Token}
 use Rattle.config_rules.specs.Cut.{Cut, cut_of}
 use Rattle.config_rules.specs.Reading.{Files, Here, Reading, statements_in, read_cut, read_statements, reader, refused}
-use Rattle.cf_grammar.specs.Statement.{AreWithin}
 use Rattle.cf_grammar.proofs.CutWithin.{within_cut}
-
--- the tokens that `cut` gives lie within the text
-pub within_text : (a b : List ℕ) (tokens : List Token) → a ≡ b → Cut a tokens → AreWithin b tokens
-within_text a b tokens e k = subst (λ (x : List ℕ). AreWithin x tokens) e (within_cut a tokens k)
+use Rattle.cf_lexer.specs.Rest.{MayRest, all_tokens, is_closed}
+use Rattle.cf_lexer.specs.declared.rest.Cutting.{Cutting}
+use Rattle.cf_expand.specs.Steps.{IsCutting}
 
 abbrev pub first_here : ℕ → ℕ → List ℕ → Reading → Here
 first_here n around name r = record { file = name; number = length r.files; around = around; deepest = n == 0 }
@@ -21,13 +18,18 @@ pub reader_more : (n : ℕ) (files : Files) (around : ℕ) (name text : List ℕ
 unfolding reader
 reader_more n files around name text r = rw add-one refl
 
+-- a text that was cut, also by another name
+pub cutting_is : (a b : List ℕ) (c : Cutting) → a ≡ b → Cut a (all_tokens a c) → is_closed c.tokens ≡ true → MayRest a c.rest → IsCutting b c
+cutting_is a b c e cut closed rest =
+    subst (λ (x : List ℕ). IsCutting x c) e (record { within = within_cut a (all_tokens a c) cut; closed = closed; rest = rest })
+
 -- a file that was cut
-pub opened_reads : (n : ℕ) (files : Files) (around : ℕ) (name text shown lent listed : List ℕ) (tokens : List Token) (number : ℕ) (old new : Reading) → number ≡ length old.files → shown ≡ text → lent ≡ text → listed ≡ name
-    → new ≡ with_file listed old → cut_of lent ≡ Ok tokens
-    → read_statements files (reader n files) (record { file = name; number = number; around = around; deepest = n == 0 }) [] (statements_in shown tokens) new ≡ reader (n + 1) files around name text old
-opened_reads n files around name text shown lent listed tokens number old new ek es el en ew ec =
-    let whole : reader (n + 1) files around name text old ≡ read_statements files (reader n files) (first_here n around name old) [] (statements_in text tokens) (with_file name old) =
-    reader_more n files around name text old ∙ ap (λ c. read_cut files (reader n files) (first_here n around name old) text c (with_file name old)) (ap cut_of (sym el) ∙ ec) in
+pub opened_reads : (n : ℕ) (files : Files) (around : ℕ) (name text shown lent listed : List ℕ) (c : Cutting) (number : ℕ) (old new : Reading) → number ≡ length old.files → shown ≡ text → lent ≡ text → listed ≡ name
+    → new ≡ with_file listed old → cut_of lent ≡ Ok (all_tokens lent c)
+    → read_statements files (reader n files) (record { file = name; number = number; around = around; deepest = n == 0 }) [] (statements_in shown (all_tokens shown c)) new ≡ reader (n + 1) files around name text old
+opened_reads n files around name text shown lent listed c number old new ek es el en ew ec =
+    let whole : reader (n + 1) files around name text old ≡ read_statements files (reader n files) (first_here n around name old) [] (statements_in text (all_tokens text c)) (with_file name old) =
+    reader_more n files around name text old ∙ ap (λ made. read_cut files (reader n files) (first_here n around name old) text made (with_file name old)) (ap cut_of (sym el) ∙ ec ∙ ap (λ (x : List ℕ). Ok (all_tokens x c)) el) in
     rw (ek, es, ew, en) (sym whole)
 
 -- a file that can't be cut

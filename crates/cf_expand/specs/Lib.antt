@@ -7,6 +7,7 @@ pub mod Paths
 pub mod Prefixes
 pub mod Stop
 pub mod Steps
+pub mod Unread
 pub use Rattle.cf_io.specs.Faults
 pub use Rattle.config_rules.specs.Reading
 pub use Rattle.config_rules.specs.Written

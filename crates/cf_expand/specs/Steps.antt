@@ -1,9 +1,14 @@
 -- The reading of a file, statement by statement.
-use Rattle.std.specs.Prelude.{◌≡◌, ℕ, ◌-◌, ◌==◌, Bool, List, [], ◌∷◌, ◌++◌, if◌then◌else◌, Option, Some, None, IfOk, Result, ⊤}
+use Rattle.std.specs.Prelude.{◌≡◌, ℕ, ◌-◌, ◌==◌, Bool, List, [], ◌∷◌, ◌++◌, if◌then◌else◌, true, Option, Some, None, IfOk, OnOk, Result, ⊤}
 use Rattle.cf_types.specs.declared.stmt.Expanded.{Expanded}
+use Rattle.cf_types.specs.declared.stmt.Stmt.{Stmt}
 use Rattle.cf_types.specs.declared.stmt.Stmt.TheVariants as stmt
+use Rattle.cf_expand.specs.declared.statement.Head.{Head}
+use Rattle.cf_expand.specs.Asked.{AsksIn}
 use Rattle.cf_grammar.specs.Statement.{AreWithin}
-use Rattle.config_rules.specs.Reading.{Files, Here, Level, Statement, Reader, Reading, include, statements_in, place, pop_prefix, read_statements, reader, refused, under_prefix}
+use Rattle.config_rules.specs.Reading.{Files, Here, Level, condition_of, Statement, Reader, Reading, include, statements_in, place, pop_prefix, read_statements, reader, refused, treat, under_prefix}
+use Rattle.cf_lexer.specs.Rest.{MayRest, all_tokens, is_closed}
+use Rattle.cf_lexer.specs.declared.rest.Cutting.{Cutting}
 use Rattle.cf_expand.specs.declared.source.Include.{Include}
 use Rattle.cf_expand.specs.declared.source.Opened.{Opened}
 use Rattle.cf_expand.specs.declared.source.Source.{Source}
@@ -37,7 +42,7 @@ turned here s (Some path) r =
 abbrev pub entered : Files → ℕ → Option Opened → Reading → Reading
 entered files around None r = r
 entered files around (Some o) r =
-    read_statements files (reader o.source.levels files) (here_of around o.source) [] (statements_in o.source.text o.tokens) r
+    read_statements files (reader o.source.levels files) (here_of around o.source) [] (statements_in o.source.text (all_tokens o.source.text o.cutting)) r
 
 -- an include on this line whose file is absent
 abbrev pub when_absent : Source → ℕ → List ℕ → Bool → Reading → Reading
@@ -53,7 +58,31 @@ WhereTold told P = (files : Files) → told ≡ Some files → P files
 abbrev pub expanded : Reading → Expanded
 expanded r = record { placed = r.placed; files = r.files; fault = r.fault }
 
--- a file that was opened has so much room for conditions and so many levels below it, and its tokens lie within it
+-- a text was cut up to its rest, and all of its tokens lie within it
+pub record IsCutting (text : List ℕ) (c : Cutting) : Type 0 where
+  pub within : AreWithin text (all_tokens text c)
+  pub closed : is_closed c.tokens ≡ true
+  pub rest : MayRest text c.rest
+
+-- a file that was opened has so much room for conditions and so many levels below it, and its text was cut
 abbrev pub IsBelow : ℕ → ℕ → Option Opened → Type 0
 IsBelow room levels None = ⊤
-IsBelow room levels (Some o) = (o.source.room ≡ room) × (o.source.levels ≡ levels) × AreWithin o.source.text o.tokens
+IsBelow room levels (Some o) = (o.source.room ≡ room) × (o.source.levels ≡ levels) × IsCutting o.source.text o.cutting
+
+-- a statement begins so
+abbrev pub BeginsSo : Head → Statement → Type 0
+BeginsSo head s = (s.line ≡ head.line) × (condition_of s ≡ head.word)
+
+-- the language's rule for a statement of this form
+abbrev pub treated : Files → ℕ → Source → List Level → Statement → Stmt → Reading → Reading
+treated named around source levels s form r = treat named (reader source.levels named) (here_of around source) levels s form r
+
+-- a statement that begins so and has this form was read by that rule
+abbrev pub Treats : {E : Type 0} → Option Files → Source → List Level → Head → Stmt → Reading → Result (Unit {0}) E → Reading → Type 0
+Treats told source levels head form old result new = WhereTold told (λ named. OnOk result
+    ((around : ℕ) (s : Statement) → source.room ≡ 16 - around → BeginsSo head s → new ≡ treated named around source levels s form old))
+
+-- and what that rule asks for was asked for
+abbrev pub AsksTreating : {E : Type 0} → Option Files → Source → List Level → Head → Stmt → Reading → Result (Unit {0}) E → Option (List (List ℕ)) → Option (List (List ℕ)) → Type 0
+AsksTreating told source levels head form old result before after =
+    (s : Statement) → BeginsSo head s → AsksIn told source old (λ named around. treated named around source levels s form old) result before after

@@ -123,8 +123,9 @@ impl Conditions {
         }
     }
 
+    /// Whether the part that begins here is not left out.
     #[inline(always)]
-    fn is_live(&self) -> bool
+    pub fn is_live(&self) -> bool
         ensures { result ≡ is_live self.now }
     {
         match self.open.front() {

@@ -87,7 +87,7 @@ fn open(
     let number = progress.files_len() as u32;
     progress.push_file(alloc, name.items())?;
     match cut(alloc, &text) {
-        Ok(tokens) => Ok(Some(Opened {
+        Ok(cutting) => Ok(Some(Opened {
             source: Source {
                 name,
                 number,
@@ -95,7 +95,7 @@ fn open(
                 room,
                 levels,
             },
-            tokens,
+            cutting,
         })),
         Err(LexStop::Fault { line, code }) => {
             progress.refuse(alloc, name.items(), line, code)?;

@@ -51,6 +51,12 @@ impl Progress {
         }
     }
 
+    /// The allocator that gives memory to what is read.
+    #[inline(always)]
+    pub fn alloc(&self) -> Global {
+        self.known.alloc()
+    }
+
     /// Reads the tokens of one statement, without its `Stop`, as `statement` does.
     #[inline(always)]
     pub fn read<'a>(

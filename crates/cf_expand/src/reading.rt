@@ -1,24 +1,24 @@
 ghost use Rattle.std.specs.Prelude.{◌≡◌, ℕ, ◌-◌, ◌<◌, IfOk, IfSome, OnOk, Some, length};
-ghost use Rattle.cf_grammar.specs.Statement.{AreWithin};
 ghost use Rattle.cf_io.specs.Asked.{Asks};
 ghost use Rattle.config_rules.specs.Written.{AreWritten, IsWritten};
-ghost use Rattle.config_rules.specs.Reading.{Statement as Spoken, condition_of, nothing_read, read_end, read_placed, read_statement, reader, reading, treat};
+ghost use Rattle.config_rules.specs.Reading.{nothing_read, read_end, read_placed, read_statement, reader, reading};
 ghost use Rattle.cf_expand.specs.Asked.{AsksIn};
 ghost use Rattle.cf_expand.specs.Stop.{Counted};
-ghost use Rattle.cf_expand.specs.Steps.{WhereTold, entered, expanded, here_of};
+ghost use Rattle.cf_expand.specs.Steps.{AsksTreating, IsCutting, Treats, WhereTold, entered, expanded, here_of};
 
 use crate::conditions::Conditions;
 use crate::open::{open_first, open_include};
 use crate::progress::Progress;
-use crate::source::{Opened, Source};
-use crate::statement::Statement;
+use crate::source::{Opened, Place, Source};
+use crate::statement::{Head, Statement};
 use crate::steps::{pass_over, treat};
 use crate::stop::ExpandStop;
 use crate::unread::Unread;
 use cf_grammar::GrammarStop;
 use cf_io::Files;
+use cf_lexer::Cutting;
 use cf_types::code::configuration as code;
-use cf_types::{CondWord, Expanded, List, Memory, Stmt, Token};
+use cf_types::{Expanded, Memory, Stmt};
 use cf_words::Word;
 use std::alloc::Global;
 
@@ -46,25 +46,22 @@ fn read_end(
 #[cycle(statements)]
 #[inline(never)]
 fn read_directive<F: Files>(
-    alloc: Global,
     files: &mut F,
     progress: &mut Progress,
-    source: &Source,
-    conditions: &Conditions,
-    word: Option<CondWord>,
-    line: u32,
+    place: Place<'_>,
+    head: Head,
     stmt: Stmt,
 ) -> Result<(), ExpandStop>
     requires few { length progress.old.placed < 65536 }
     requires written { IsWritten stmt }
     ensures told { F.told files.new ≡ F.told files.old }
     ensures counted { Counted (F.faults files.old) (F.faults files.new) result }
-    ensures read { WhereTold (F.told files.old) (λ named. OnOk result ((around : ℕ) (s : Spoken) → source.now.room ≡ 16 - around → s.line ≡ line → condition_of s ≡ word
-        → progress.new ≡ treat named (reader source.now.levels named) (here_of around source.now) conditions.now s stmt progress.old)) }
-    ensures asked { (s : Spoken) → s.line ≡ line → condition_of s ≡ word → AsksIn (F.told files.old) source.now progress.old
-        (λ named around. treat named (reader source.now.levels named) (here_of around source.now) conditions.now s stmt progress.old)
-        result (F.asked files.old) (F.asked files.new) }
+    ensures read { Treats (F.told files.old) place.entry.source.now place.entry.conditions.now head stmt progress.old result progress.new }
+    ensures asked { AsksTreating (F.told files.old) place.entry.source.now place.entry.conditions.now head stmt progress.old result (F.asked files.old) (F.asked files.new) }
 {
+    let alloc = progress.alloc();
+    let Place { source, conditions } = place;
+    let Head { word, line } = head;
     let Some(wanted) = treat(alloc, progress, source, conditions, word, line, stmt)? else {
         return Ok(());
     };
@@ -73,40 +70,34 @@ fn read_directive<F: Files>(
     };
     let Opened {
         source: inner,
-        tokens: unread,
+        cutting,
     } = below;
-    read_source(alloc, files, progress, &inner, unread)
+    read_source(alloc, files, progress, &inner, cutting)
 }
 
 /// Reads a statement that has this form. A few say how to read on; all others are placed.
 #[cycle(statements)]
 #[inline(always)]
 fn read_formed<F: Files>(
-    alloc: Global,
     files: &mut F,
     progress: &mut Progress,
-    source: &Source,
-    conditions: &Conditions,
-    word: Option<CondWord>,
-    line: u32,
+    place: Place<'_>,
+    head: Head,
     stmt: Stmt,
 ) -> Result<(), ExpandStop>
     requires few { length progress.old.placed < 65536 }
     requires written { IsWritten stmt }
     ensures told { F.told files.new ≡ F.told files.old }
     ensures counted { Counted (F.faults files.old) (F.faults files.new) result }
-    ensures read { WhereTold (F.told files.old) (λ named. OnOk result ((around : ℕ) (s : Spoken) → source.now.room ≡ 16 - around → s.line ≡ line → condition_of s ≡ word
-        → progress.new ≡ treat named (reader source.now.levels named) (here_of around source.now) conditions.now s stmt progress.old)) }
-    ensures asked { (s : Spoken) → s.line ≡ line → condition_of s ≡ word → AsksIn (F.told files.old) source.now progress.old
-        (λ named around. treat named (reader source.now.levels named) (here_of around source.now) conditions.now s stmt progress.old)
-        result (F.asked files.old) (F.asked files.new) }
+    ensures read { Treats (F.told files.old) place.entry.source.now place.entry.conditions.now head stmt progress.old result progress.new }
+    ensures asked { AsksTreating (F.told files.old) place.entry.source.now place.entry.conditions.now head stmt progress.old result (F.asked files.old) (F.asked files.new) }
 {
     match &stmt {
-        Stmt::Include { .. } | Stmt::Prefix { .. } | Stmt::Cond { .. } => read_directive(
-            alloc, files, progress, source, conditions, word, line, stmt,
-        ),
+        Stmt::Include { .. } | Stmt::Prefix { .. } | Stmt::Cond { .. } => {
+            read_directive(files, progress, place, head, stmt)
+        }
         _ => {
-            progress.place(source.number, line, stmt)?;
+            progress.place(place.source.number, head.line, stmt)?;
             Ok(())
         }
     }
@@ -139,13 +130,10 @@ fn read_placed<'a, F: Files>(
     }
     match statement.read(progress, words) {
         Ok(stmt) => read_formed(
-            alloc,
             files,
             progress,
-            source,
-            conditions,
-            statement.word(),
-            line,
+            Place { source, conditions },
+            statement.head(),
             stmt,
         ),
         Err(GrammarStop::Fault { code }) => {
@@ -184,27 +172,28 @@ fn read_with_include<'a, F: Files>(
     Ok(())
 }
 
-/// Reads the statements of these tokens of a file, up to the first fault.
+/// Reads the statements of a file whose text was cut, up to the first fault.
 #[cycle(statements)]
 fn read_source<F: Files>(
     alloc: Global,
     files: &mut F,
     progress: &mut Progress,
     source: &Source,
-    tokens: List<Token>,
+    cutting: Cutting,
 ) -> Result<(), ExpandStop>
-    requires { AreWithin source.now.text tokens }
+    requires { IsCutting source.now.text cutting }
     ensures told { F.told files.new ≡ F.told files.old }
     ensures counted { Counted (F.faults files.old) (F.faults files.new) result }
     ensures read { WhereTold (F.told files.old) (λ named. OnOk result ((around : ℕ) → source.now.room ≡ 16 - around
-        → progress.new ≡ entered named around (Some (record { source = source.now; tokens = tokens })) progress.old)) }
+        → progress.new ≡ entered named around (Some (record { source = source.now; cutting = cutting })) progress.old)) }
     ensures asked { AsksIn (F.told files.old) source.now progress.old
-        (λ named around. entered named around (Some (record { source = source.now; tokens = tokens })) progress.old)
+        (λ named around. entered named around (Some (record { source = source.now; cutting = cutting })) progress.old)
         result (F.asked files.old) (F.asked files.new) }
 {
     let mut conditions = Conditions::make(alloc);
     let mut words = Vec::new(alloc);
-    let mut left = Unread::make(tokens);
+    let mut left = Unread::make(source.text.items(), cutting);
+    left.refill(true)?;
     while let Some((first, rest)) = left.first() {
         let statement = source.statement(first);
         let condition_holds = statement.holds(progress);
@@ -223,6 +212,7 @@ fn read_source<F: Files>(
         conditions.follow(statement.word(), statement.line(), condition_holds)?;
         let count = rest.len();
         left.keep_last(count);
+        left.refill(conditions.is_live())?;
     }
     read_end(alloc, progress, source, &conditions)?;
     Ok(())
@@ -243,8 +233,8 @@ fn read_named<F: Files>(
     let Some(opened) = open_first(alloc, files, progress, name)? else {
         return Ok(());
     };
-    let Opened { source, tokens } = opened;
-    read_source(alloc, files, progress, &source, tokens)
+    let Opened { source, cutting } = opened;
+    read_source(alloc, files, progress, &source, cutting)
 }
 
 /// Reads the named configuration file with all that it includes, as config(5) has it: the statements outside the parts

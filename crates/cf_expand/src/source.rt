@@ -2,8 +2,10 @@ ghost use Rattle.std.specs.Prelude.{◌≡◌};
 ghost use Rattle.cf_grammar.specs.Statement.{AreWithin};
 ghost use Rattle.cf_expand.specs.Lines.{statement_of};
 
+use crate::conditions::Conditions;
 use crate::statement::Statement;
-use cf_types::{List, Text, Token};
+use cf_lexer::Cutting;
+use cf_types::{Text, Token};
 
 /// A file that is being read.
 #[derive(Drop)]
@@ -29,11 +31,18 @@ impl Source {
     }
 }
 
-/// A file that was opened, with the tokens of its text.
+/// Where a statement stands: its file, and the conditions that are open in it there.
+#[derive(Clone, Copy)]
+pub struct Place<'a> {
+    pub source: &'a Source,
+    pub conditions: &'a Conditions,
+}
+
+/// A file that was opened, with its text cut into tokens.
 #[derive(Drop)]
 pub struct Opened {
     pub source: Source,
-    pub tokens: List<Token>,
+    pub cutting: Cutting,
 }
 
 /// The path of an `include`, or of a `cinclude`, whose file may be absent.

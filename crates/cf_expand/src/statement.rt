@@ -6,6 +6,7 @@ ghost use Rattle.config_rules.specs.Form.{Form, condition_spelling, is_word};
 ghost use Rattle.config_rules.specs.Reading.{condition_of, holds, names_declared};
 ghost use Rattle.config_rules.specs.Written.{IsWritten};
 ghost use Rattle.cf_expand.specs.Lines.{condition_in, statement_of};
+ghost use Rattle.cf_expand.specs.Steps.{BeginsSo};
 
 use crate::progress::Progress;
 use cf_grammar::{GrammarStop, condition_spelling, word_of};
@@ -50,6 +51,13 @@ fn condition_word(text: &[u8], tokens: &[Token]) -> Option<CondWord>
         [first, ..] => condition_of(word_of(text, *first)),
         [] => None,
     }
+}
+
+/// How a statement begins: its condition word, if it begins with one, and its line.
+#[derive(Clone, Copy)]
+pub struct Head {
+    pub word: Option<CondWord>,
+    pub line: u32,
 }
 
 /// A statement of a file by its tokens, with its condition word, if it begins with one. Contracts see its line and its
@@ -105,6 +113,17 @@ impl<'a, 't> Statement<'a, 't> {
         match self.tokens {
             [first, ..] => first.line,
             [] => 0,
+        }
+    }
+
+    /// How it begins.
+    #[inline(always)]
+    pub fn head(&self) -> Head
+        ensures { BeginsSo result self.now }
+    {
+        Head {
+            word: self.word(),
+            line: self.line(),
         }
     }
 

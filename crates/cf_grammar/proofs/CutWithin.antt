@@ -4,7 +4,8 @@ use Rattle.std.specs.Prelude.{All, ◌==◌}
 use Rattle.std.specs.List.{AllZip, onto_first}
 use Rattle.std.proofs.lemmas.List.Elements.{All-append, All-cons, All-head, All-nil, All-tail}
 use Rattle.cf_types.specs.declared.stmt.Token.{Token}
-use Rattle.config_rules.specs.Cut.{Part, Space, Comment, Quoted, Chunk, Mark, Cut, LineCut, is_over, is_stop, line_tokens, lines_of, lines_tokens, part_tokens, spelling, spellings, statements, stop_behind}
+use Rattle.cf_types.specs.Lines.{lines_of}
+use Rattle.config_rules.specs.Cut.{Part, Space, Comment, Quoted, Chunk, Mark, Cut, LineCut, is_over, is_stop, line_tokens, lines_tokens, part_tokens, spelling, spellings, statements, stop_behind}
 use Rattle.cf_grammar.specs.Statement.{AreWithin}
 
 -- a token ends at this place or before it

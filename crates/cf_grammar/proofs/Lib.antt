@@ -1,5 +1,6 @@
 pub mod PairLemmas
 pub mod SizedLemmas
+pub mod PlacesLemmas
 pub mod AttachLemmas
 pub mod InstanceLemmas
 pub mod KeywordLemmas

@@ -13,8 +13,8 @@ use Rattle.cf_types.specs.declared.stmt.Stmt.TheVariants as stmt
 use Rattle.cf_types.specs.declared.stmt.UnitMark.{UnitMark}
 use Rattle.cf_types.specs.declared.stmt.UnitMark.TheVariants.{Fixed, Star}
 use Rattle.cf_types.specs.declared.tables.Locator.{Locator}
-use Rattle.cf_text.specs.Shapes.{ends_with_digit, in_range, number, unit_of}
-use Rattle.config_rules.specs.Form.{◌or◌, are_values, at_place, by_row, count_of, defining, device_stmt, each, fixed_of, form_by, form_of, given, given_value, inst_stmt, is_chunk, is_mark, is_word, locator, locator_name, locator_of, locators_of, marked_of, name_of, needs_of, no_inst, no_stmt, pair_of, pairs_of, parted, parted_at, place_of, pseudo_stmt, row_by, row_of, table, unit_chunk, value_of, with_body, with_default, within}
+use Rattle.cf_text.specs.Shapes.{ends_with_digit, in_range, number, base_and_unit}
+use Rattle.config_rules.specs.Form.{◌or◌, are_values, at_place, by_row, count_of, defining, device_stmt, each, fixed_of, form_by, form_of, given, given_value, inst_stmt, is_chunk, is_mark, is_word, locator, locator_name, locator_of, locators_of, marked_of, name_of, needs_of, no_inst, no_stmt, pair_of, pairs_of, parted, parted_at, place_of, pseudo_stmt, row_by, row_of, table, unit_chunk, value_of, with_body, with_default, fitted}
 use Rattle.cf_grammar.specs.Keywords.{keyword_in}
 use Rattle.cf_grammar.proofs.FormLemmas.{row_is}
 
@@ -43,17 +43,17 @@ each_same f g k (x ∷ xs) ys e =
     then_same (λ y. option_map (λ zs. y ∷ zs) (each f xs)) (λ y. option_map (λ zs. y ∷ zs) (each g xs)) (f x) (g x) (k x)
     (λ y zs. map_same (λ zs. y ∷ zs) (each f xs) (each g xs) (each_same f g k xs) zs) ys e
 
-within_same : {A : Type 0} (fits : Bool) (x z y : A) → within true fits x z ≡ Some y → within false fits x z ≡ Some y
-within_same true x z y e = e
-within_same false x z y e = cc
+fitted_same : {A : Type 0} (fits : Bool) (x z y : A) → fitted true fits x z ≡ Some y → fitted false fits x z ≡ Some y
+fitted_same true x z y e = e
+fitted_same false x z y e = cc
 
 -- a chunk's value that has to fit
 chunk_same : {A : Type 0} (chunk : Bool) (fits : A → Bool) (zero_of : A → A) (o : Option A) (y : A)
-    → cond chunk (option_and_then (λ x. within true (fits x) x (zero_of x)) o) None ≡ Some y
-    → cond chunk (option_and_then (λ x. within false (fits x) x (zero_of x)) o) None ≡ Some y
+    → cond chunk (option_and_then (λ x. fitted true (fits x) x (zero_of x)) o) None ≡ Some y
+    → cond chunk (option_and_then (λ x. fitted false (fits x) x (zero_of x)) o) None ≡ Some y
 chunk_same false fits zero_of o y e = e
 chunk_same true fits zero_of None y e = e
-chunk_same true fits zero_of (Some x) y e = within_same (fits x) x (zero_of x) y e
+chunk_same true fits zero_of (Some x) y e = fitted_same (fits x) x (zero_of x) y e
 
 value_same : (p : Piece) (v : ℤ) → value_of true p ≡ Some v → value_of false p ≡ Some v
 value_same p v e = chunk_same (is_chunk p) in_range (λ _. pos 0) (number p.text) v e
@@ -137,9 +137,9 @@ and_there : (a b c : Bool) → (true ≡ b → true ≡ c) → true ≡ (a && b)
 and_there true b c h e = h e
 and_there false b c h e = e
 
-within_there : {A : Type 0} (fits : Bool) (x z : A) → true ≡ is_some (within false fits x z)
-within_there true x z = refl
-within_there false x z = refl
+fitted_there : {A : Type 0} (fits : Bool) (x z : A) → true ≡ is_some (fitted false fits x z)
+fitted_there true x z = refl
+fitted_there false x z = refl
 
 value_there : (p : Piece) → true ≡ is_some (value_of true p) → true ≡ is_some (value_of false p)
 value_there p = there (value_of true p) (value_of false p) (value_same p)
@@ -156,8 +156,8 @@ values_there (p ∷ ps) e =
 
 count_there : (p : Piece) → true ≡ is_some (count_of true p) → true ≡ is_some (count_of false p)
 count_there p e =
-    then_there (λ v. within true (int_le (pos 1) v && int_le v (pos 65535)) (nat_abs v) 0) (λ v. within false (int_le (pos 1) v && int_le v (pos 65535)) (nat_abs v) 0)
-    (value_of true p) (value_of false p) (value_there p) (λ x y e. within_there (int_le (pos 1) y && int_le y (pos 65535)) (nat_abs y) 0) e
+    then_there (λ v. fitted true (int_le (pos 1) v && int_le v (pos 65535)) (nat_abs v) 0) (λ v. fitted false (int_le (pos 1) v && int_le v (pos 65535)) (nat_abs v) 0)
+    (value_of true p) (value_of false p) (value_there p) (λ x y e. fitted_there (int_le (pos 1) y && int_le y (pos 65535)) (nat_abs y) 0) e
 
 pseudo_there : (ps : List Piece) → true ≡ is_some (pseudo_stmt true ps) → true ≡ is_some (pseudo_stmt false ps)
 pseudo_there [] e = e
@@ -192,7 +192,7 @@ device_there [] e = e
 device_there (n ∷ ps) e = if_there (ends_with_digit n.text) None None (defining true stmt.Device (n ∷ ps)) (defining false stmt.Device (n ∷ ps)) (λ e. e) (defining_there stmt.Device (n ∷ ps)) e
 
 fixed_there : (p : Piece) → true ≡ is_some (fixed_of true p) → true ≡ is_some (fixed_of false p)
-fixed_there p = there (fixed_of true p) (fixed_of false p) (λ x e. chunk_same (is_chunk p) (λ u. nat_le u.1 65535) (λ u. (u.0, 0)) (unit_of p.text) x e)
+fixed_there p = there (fixed_of true p) (fixed_of false p) (λ x e. chunk_same (is_chunk p) (λ u. nat_le u.1 65535) (λ u. (u.0, 0)) (base_and_unit p.text) x e)
 
 unit_there : (p : Piece) → true ≡ is_some (unit_chunk true p) → true ≡ is_some (unit_chunk false p)
 unit_there p e =

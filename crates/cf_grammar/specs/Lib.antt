@@ -4,4 +4,5 @@ pub mod Keywords
 pub mod LeftOut
 pub mod Negation
 pub mod Pairs
+pub mod Places
 pub mod Statement

@@ -1,6 +1,7 @@
 ghost use Rattle.std.specs.Prelude.{◌≡◌, IfOk, codes, map};
-ghost use Rattle.config_rules.specs.Form.{attach_stmt, attached, is_before_last};
+ghost use Rattle.config_rules.specs.Form.{attach_stmt, attached};
 ghost use Rattle.cf_words.specs.Words.{piece_of};
+ghost use Rattle.cf_grammar.specs.Places.{is_before_last};
 
 use crate::define::needs_of;
 use cf_types::{List, Memory, Name, Stmt};

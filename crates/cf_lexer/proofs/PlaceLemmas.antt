@@ -5,7 +5,8 @@ use Rattle.std.specs.List.{onto_first, prefix_len}
 use Rattle.std.proofs.lemmas.Bool.{eqb-true, false_from_ne_true}
 use Rattle.std.proofs.lemmas.List.{take_all, drop_more, drop-drop}
 use Rattle.cf_types.specs.declared.stmt.Token.{Token}
-use Rattle.config_rules.specs.Cut.{lines_of, parts_of, stop_behind}
+use Rattle.cf_types.specs.Lines.{lines_of}
+use Rattle.config_rules.specs.Cut.{parts_of, stop_behind}
 use Rattle.cf_lexer.specs.Line.{GoesOn, Leaves, PartGoes, with_line}
 use Rattle.cf_lexer.specs.Lines.{begins, first_of, rest_of, head_line, lines_behind, lines_from}
 use Rattle.cf_lexer.specs.declared.line.LexStop.{LexStop}

@@ -3,7 +3,8 @@ use Rattle.std.proofs.Common.{◌≡◌, ℕ, suc, ◌+◌, ◌<◌, ◌≤◌, 
 use Rattle.std.specs.Prelude.{if◌then◌else◌, ◌==◌}
 use Rattle.cf_types.specs.declared.stmt.Token.{Token}
 use Rattle.cf_types.specs.declared.stmt.TokenKind.TheVariants as kind
-use Rattle.config_rules.specs.Cut.{token, Part, Space, Comment, Quoted, Chunk, Mark, spellings, is_part, is_mark_byte, is_space, is_chunk_byte, are_parts, parts_of, at_line, all_parts, cut_of, lines_of, line_tokens, lines_tokens, has_token, begins_statement, is_over, stop_behind, LineCut, ◌>>=◌}
+use Rattle.cf_types.specs.Lines.{lines_of}
+use Rattle.config_rules.specs.Cut.{token, Part, Space, Comment, Quoted, Chunk, Mark, spellings, is_part, is_mark_byte, is_space, is_chunk_byte, are_parts, parts_of, at_line, all_parts, cut_of, line_tokens, lines_tokens, has_token, begins_statement, is_over, stop_behind, LineCut, ◌>>=◌}
 use Rattle.config_rules.proofs.CutLaws.{both_left, chunk_no_space, chunk_is_not, mark_is, parts_sound}
 use Rattle.std.proofs.lemmas.Bool.{eqb-true}
 use Rattle.std.proofs.lemmas.Bool.{false_from_ne_true}

@@ -1,6 +1,7 @@
 -- The lines of a text from a place on.
 use Rattle.std.specs.Prelude.{ℕ, ◌+◌, ◌-◌, Bool, false, not, ◌&&◌, ◌==◌, List, [], ◌∷◌, length, take, drop, Option, Some, None}
-use Rattle.config_rules.specs.Cut.{is_space, lines_of}
+use Rattle.cf_types.specs.Lines.{lines_of}
+use Rattle.config_rules.specs.Cut.{is_space}
 
 -- a line begins with something else than a space, a tab or a comment
 abbrev pub begins : List ℕ → Bool

@@ -1,43 +1,14 @@
-ghost use Rattle.std.specs.Prelude.{◌≡◌, [], ◌++◌, ◌≤◌, cond, drop, length, IfOk, IfErr, OnOk};
+ghost use Rattle.std.specs.Prelude.{◌≡◌, [], ◌++◌, ◌≤◌, IsTrue, cond, drop, length, true, IfOk, IfErr, OnOk};
 ghost use Rattle.config_rules.specs.Cut.{Cut, cut_of, stop_behind};
 ghost use Rattle.cf_lexer.specs.Line.{IsFaultOf, Shows};
 ghost use Rattle.cf_lexer.specs.Lines.{begins, first_of};
+ghost use Rattle.cf_lexer.specs.Rest.{MayRest, all_result, all_tokens, is_closed};
 
-use crate::front::is_blank_byte;
-use crate::line::{LexStop, cut_line, push_token};
-use cf_types::{List, Memory as NoMemory, Token, TokenKind};
+use crate::check::check;
+use crate::line::{LexStop, cut_line};
+use crate::rest::{Cutting, Rest, begins, push_stop};
+use cf_types::{List, Memory as NoMemory, Token};
 use std::alloc::Global;
-
-/// Whether the line of a text that begins there begins a statement, unless it is blank: it begins with no space, tab or
-/// comment.
-#[inline(always)]
-fn begins(text: &[u8], start: usize) -> bool
-    requires { start ≤ length text.now }
-    ensures { result ≡ begins (first_of (drop start text.now)) }
-{
-    if start == text.len() {
-        return false;
-    }
-    let first = text[start];
-    !is_blank_byte(first) && first != b'#' && first != b'\n'
-}
-
-/// Appends a stop after the last token, if there is one.
-#[inline]
-fn push_stop(tokens: &mut Vec<Token>) -> Result<(), NoMemory>
-    ensures { OnOk result (tokens.new.items ≡ tokens.old.items ++ stop_behind tokens.old.items) }
-{
-    if let Some(last) = tokens.last() {
-        let stop = Token {
-            kind: TokenKind::Stop,
-            start: last.end,
-            end: last.end,
-            line: last.line,
-        };
-        push_token(tokens, stop)?;
-    }
-    Ok(())
-}
 
 /// Ends the statement so far if the line of a text that begins there begins another one.
 #[inline(always)]
@@ -51,6 +22,18 @@ fn end_statement(tokens: &mut Vec<Token>, text: &[u8], start: usize) -> Result<(
     Ok(())
 }
 
+/// Whether a statement begins there that probably opens a condition, so that what follows may be left out.
+#[inline(always)]
+fn opens(text: &[u8], start: usize) -> bool
+    requires { start ≤ length text.now }
+    ensures { IsTrue result → begins (first_of (drop start text.now)) ≡ true }
+{
+    match &text[start..] {
+        [b'i', b'f', b'd' | b'n', ..] => true,
+        _ => false,
+    }
+}
+
 /// No token, with room for as many as most files of this size have, so that few are moved as the list grows. Room that
 /// no token fills is never touched.
 fn room_for(alloc: Global, bytes: usize) -> Result<Vec<Token>, NoMemory>
@@ -60,21 +43,37 @@ fn room_for(alloc: Global, bytes: usize) -> Result<Vec<Token>, NoMemory>
 }
 
 /// The tokens of a configuration file of at most 1,048,576 bytes, with a `Stop` after those of each statement, or the
-/// fault of the first byte that is part of no token, comment or blank. See config(5).
-pub fn cut(alloc: Global, text: &[u8]) -> Result<List<Token>, LexStop>
+/// fault of the first byte that is part of no token, comment or blank. From the first statement on that opens a
+/// condition the text is only checked: that is the rest. See config(5).
+pub fn cut(alloc: Global, text: &[u8]) -> Result<Cutting, LexStop>
     requires { length text.now ≤ 1048576 }
-    ensures cut { IfOk result (λ tokens. Cut text.now tokens) }
+    ensures cut { IfOk result (λ cutting. Cut text.now (all_tokens text.now cutting)) }
     ensures fault { IfErr result (λ stop. IsFaultOf text.now stop) }
-    ensures exact { Shows (cut_of text.now) result }
+    ensures exact { Shows (cut_of text.now) (all_result text.now result) }
+    ensures closed { IfOk result (λ cutting. is_closed cutting.tokens ≡ true) }
+    ensures rest { IfOk result (λ cutting. MayRest text.now cutting.rest) }
 {
     let mut tokens = room_for(alloc, text.len())?;
     let mut number = 1;
     let mut left = Some(0);
     while let Some(start) = left {
         end_statement(&mut tokens, text, start)?;
+        if opens(text, start) {
+            check(text, number, start)?;
+            return Ok(Cutting {
+                tokens: List::from_vec(tokens),
+                rest: Some(Rest {
+                    line: number,
+                    place: start,
+                }),
+            });
+        }
         left = cut_line(&mut tokens, number, text, start)?;
         number += 1;
     }
     push_stop(&mut tokens)?;
-    Ok(List::from_vec(tokens))
+    Ok(Cutting {
+        tokens: List::from_vec(tokens),
+        rest: None,
+    })
 }

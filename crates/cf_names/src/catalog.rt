@@ -1,5 +1,5 @@
 ghost use Rattle.std.specs.Prelude.{◌≡◌, [], ◌∷◌, ◌++◌, ◌<◌, length, IfSome, OnOk, All, Ok};
-ghost use Rattle.config_rules.specs.Declared.{attr_number, device_number, has_attach};
+ghost use Rattle.cf_types.specs.Lookups.{attr_number, device_number, has_attach};
 ghost use Rattle.cf_names.specs.Attaches.{attaches_of};
 ghost use Rattle.cf_names.specs.Indexed.{IsIndexOf, with_attach, with_attr, with_device};
 ghost use Rattle.cf_names.specs.Spots.{AreSpots, all_spots};
@@ -175,7 +175,7 @@ impl Catalog {
 
     /// The number of the first attribute of this name.
     pub fn attr_number(&self, name: &Name) -> Option<usize>
-        ensures found { result ≡ attr_number self.now name.now }
+        ensures found { result ≡ attr_number self.now.attrs name.now }
         ensures within { IfSome result (λ n. n < length self.now.attrs) }
     {
         number_in(&self.index.attrs, name)
@@ -183,7 +183,7 @@ impl Catalog {
 
     /// The number of the first device of this name.
     pub fn device_number(&self, name: &Name) -> Option<usize>
-        ensures found { result ≡ device_number self.now name.now }
+        ensures found { result ≡ device_number self.now.devices name.now }
         ensures within { IfSome result (λ n. n < length self.now.devices) }
     {
         number_in(&self.index.devices, name)
@@ -191,7 +191,7 @@ impl Catalog {
 
     /// Whether an attachment has this name.
     pub fn has_attach(&self, name: &Name) -> bool
-        ensures { result ≡ has_attach self.now name.now }
+        ensures { result ≡ has_attach self.now.attaches name.now }
     {
         number_in(&self.index.attaches, name).is_some()
     }

@@ -14,7 +14,7 @@ use Rattle.cf_types.specs.Gather.{is_in}
 use Rattle.cf_types.specs.Offers.{firsts}
 use Rattle.cf_types.proofs.OfferLemmas.{gathered_is, is_in-firsts}
 use Rattle.config_rules.specs.Select.{same_mark}
-use Rattle.config_rules.specs.Meaning.{unit_of}
+use Rattle.config_rules.specs.Meaning.{own_unit}
 use Rattle.cf_rows.specs.Rows.{seen, fixed, of_unit, units_of, AreGroups, AreAscending}
 
 -- ---- places in a list of numbers
@@ -44,7 +44,7 @@ last_at (x ∷ xs) y (suc k) d h = last_at xs y k d (omega arith)
 
 -- ---- the units of one more instance
 
-test_fixed : (i : Instance) (m : UnitMark) (v u : ℕ) → i.mark ≡ m → unit_of i ≡ Some v → same_mark m (Fixed u) ≡ (v == u)
+test_fixed : (i : Instance) (m : UnitMark) (v u : ℕ) → i.mark ≡ m → own_unit i ≡ Some v → same_mark m (Fixed u) ≡ (v == u)
 test_fixed i (Fixed w) v u e h =
     let k : Some w ≡ Some v = rw e at h in
     let same : w ≡ v = cc in
@@ -53,7 +53,7 @@ test_fixed i Star v u e h =
     let k = rw e at h in
     absurd (cc)
 
-test_star : (i : Instance) (m : UnitMark) (u : ℕ) → i.mark ≡ m → unit_of i ≡ None → same_mark m (Fixed u) ≡ false
+test_star : (i : Instance) (m : UnitMark) (u : ℕ) → i.mark ≡ m → own_unit i ≡ None → same_mark m (Fixed u) ≡ false
 test_star i (Fixed w) u e h =
     let k = rw e at h in
     absurd (cc)
@@ -66,33 +66,33 @@ of_unit-append insts i u = filter-append (λ (j : Instance). same_mark j.mark (F
 of_unit_kept : (insts : List Instance) (i : Instance) (u : ℕ) → same_mark i.mark (Fixed u) ≡ false → of_unit (insts ++ i ∷ []) u ≡ of_unit insts u
 of_unit_kept insts i u h = of_unit-append insts i u ∙ ap (λ b. of_unit insts u ++ cond b (i ∷ []) []) h ∙ append-nil (of_unit insts u)
 
-of_unit_more : (insts : List Instance) (i : Instance) (u : ℕ) → unit_of i ≡ Some u → of_unit (insts ++ i ∷ []) u ≡ of_unit insts u ++ i ∷ []
+of_unit_more : (insts : List Instance) (i : Instance) (u : ℕ) → own_unit i ≡ Some u → of_unit (insts ++ i ∷ []) u ≡ of_unit insts u ++ i ∷ []
 of_unit_more insts i u h =
     of_unit-append insts i u ∙ ap (λ b. of_unit insts u ++ cond b (i ∷ []) []) (test_fixed i i.mark u u refl h ∙ eq-eqb u u refl)
 
-units-append : (insts : List Instance) (i : Instance) (o : Option ℕ) → unit_of i ≡ o → filter_map unit_of (insts ++ i ∷ []) ≡ filter_map unit_of insts ++ cons_option o []
-units-append insts i o h = filter_map-append unit_of insts (i ∷ []) ∙ ap (λ o. filter_map unit_of insts ++ cons_option o []) h
+units-append : (insts : List Instance) (i : Instance) (o : Option ℕ) → own_unit i ≡ o → filter_map own_unit (insts ++ i ∷ []) ≡ filter_map own_unit insts ++ cons_option o []
+units-append insts i o h = filter_map-append own_unit insts (i ∷ []) ∙ ap (λ o. filter_map own_unit insts ++ cons_option o []) h
 
-units_starred : (insts : List Instance) (i : Instance) → unit_of i ≡ None → units_of (insts ++ i ∷ []) ≡ units_of insts
-units_starred insts i h = ap firsts (units-append insts i None h ∙ append-nil (filter_map unit_of insts))
+units_starred : (insts : List Instance) (i : Instance) → own_unit i ≡ None → units_of (insts ++ i ∷ []) ≡ units_of insts
+units_starred insts i h = ap firsts (units-append insts i None h ∙ append-nil (filter_map own_unit insts))
 
-units_fixed : (insts : List Instance) (i : Instance) (u : ℕ) (b : Bool) → unit_of i ≡ Some u → is_in u (units_of insts) ≡ b → units_of (insts ++ i ∷ []) ≡ cond b (units_of insts) (units_of insts ++ u ∷ [])
+units_fixed : (insts : List Instance) (i : Instance) (u : ℕ) (b : Bool) → own_unit i ≡ Some u → is_in u (units_of insts) ≡ b → units_of (insts ++ i ∷ []) ≡ cond b (units_of insts) (units_of insts ++ u ∷ [])
 units_fixed insts i u b h is =
-    ap firsts (units-append insts i (Some u) h) ∙ sym (gathered_is (filter_map unit_of insts) (u ∷ [])) ∙ ap (λ c. cond c (units_of insts) (units_of insts ++ u ∷ [])) is
+    ap firsts (units-append insts i (Some u) h) ∙ sym (gathered_is (filter_map own_unit insts) (u ∷ [])) ∙ ap (λ c. cond c (units_of insts) (units_of insts ++ u ∷ [])) is
 
 none_there : (b : Bool) (x : Instance) (xs : List Instance) (u : ℕ) → same_mark x.mark (Fixed u) ≡ b → b ≡ false → of_unit xs u ≡ [] → of_unit (x ∷ xs) u ≡ []
 none_there b x xs u is e h = ap (λ c. cond c (x ∷ of_unit xs u) (of_unit xs u)) (is ∙ e) ∙ h
 
-no_unit_at : (o : Option ℕ) (x : Instance) (xs : List Instance) (u : ℕ) → unit_of x ≡ o → is_in u (cons_option o (filter_map unit_of xs)) ≡ false → (is_in u (filter_map unit_of xs) ≡ false → of_unit xs u ≡ []) → of_unit (x ∷ xs) u ≡ []
+no_unit_at : (o : Option ℕ) (x : Instance) (xs : List Instance) (u : ℕ) → own_unit x ≡ o → is_in u (cons_option o (filter_map own_unit xs)) ≡ false → (is_in u (filter_map own_unit xs) ≡ false → of_unit xs u ≡ []) → of_unit (x ∷ xs) u ≡ []
 no_unit_at None x xs u is h ih = none_there false x xs u (test_star x x.mark u refl is) refl (ih h)
 no_unit_at (Some v) x xs u is h ih =
-    let both = or_parts (v == u) (is_in u (filter_map unit_of xs)) h in
+    let both = or_parts (v == u) (is_in u (filter_map own_unit xs)) h in
     none_there (v == u) x xs u (test_fixed x x.mark v u refl is) both.0 (ih both.1)
 
 -- a unit that isn't there has no instances
-no_unit : (insts : List Instance) (u : ℕ) → is_in u (filter_map unit_of insts) ≡ false → of_unit insts u ≡ []
+no_unit : (insts : List Instance) (u : ℕ) → is_in u (filter_map own_unit insts) ≡ false → of_unit insts u ≡ []
 no_unit [] u h = refl
-no_unit (x ∷ xs) u h = no_unit_at (unit_of x) x xs u refl h (λ k. no_unit xs u k)
+no_unit (x ∷ xs) u h = no_unit_at (own_unit x) x xs u refl h (λ k. no_unit xs u k)
 
 -- ---- one more instance
 
@@ -105,7 +105,7 @@ no_groups place h = record {
   own = λ p k. absurd (omega arith);
 }
 
-pub add_starred : (insts : List Instance) (i : Instance) (groups : List (List (Bor Instance))) (place : ℕ → Option ℕ) → AreGroups insts groups place → unit_of i ≡ None → AreGroups (insts ++ i ∷ []) groups place
+pub add_starred : (insts : List Instance) (i : Instance) (groups : List (List (Bor Instance))) (place : ℕ → Option ℕ) → AreGroups insts groups place → own_unit i ≡ None → AreGroups (insts ++ i ∷ []) groups place
 add_starred insts i groups place kept h =
     let same = units_starred insts i h in
     record {
@@ -118,7 +118,7 @@ add_starred insts i groups place kept h =
 same_or_not : (p q : ℕ) → (p ≡ q) ⊎ (p ≢ q)
 same_or_not p q = grind arith
 
-own_known : (insts : List Instance) (i : Instance) (groups : List (List (Bor Instance))) (place : ℕ → Option ℕ) (u p : ℕ) (group : List (Bor Instance)) → AreGroups insts groups place → unit_of i ≡ Some u → place u ≡ Some p
+own_known : (insts : List Instance) (i : Instance) (groups : List (List (Bor Instance))) (place : ℕ → Option ℕ) (u p : ℕ) (group : List (Bor Instance)) → AreGroups insts groups place → own_unit i ≡ Some u → place u ≡ Some p
     → seen group ≡ seen (get_or groups p []) ++ i ∷ [] → (q : ℕ) → q < length groups → (q ≡ p) ⊎ (q ≢ p) → seen (get_or (set groups p group) q []) ≡ of_unit (insts ++ i ∷ []) (get_or (units_of insts) q 0)
 own_known insts i groups place u p group kept h at new q k (inl same) =
     let f = kept.found u p at in
@@ -136,7 +136,7 @@ own_known insts i groups place u p group kept h at new q k (inr other) =
     ∙ sym (of_unit_kept insts i (get_or (units_of insts) q 0) (test_fixed i i.mark u _ refl h ∙ differ u _ apart))
 
 -- an instance of a unit that has a group
-pub add_known : (insts : List Instance) (i : Instance) (groups : List (List (Bor Instance))) (place : ℕ → Option ℕ) (u p : ℕ) (group : List (Bor Instance)) → AreGroups insts groups place → unit_of i ≡ Some u → place u ≡ Some p
+pub add_known : (insts : List Instance) (i : Instance) (groups : List (List (Bor Instance))) (place : ℕ → Option ℕ) (u p : ℕ) (group : List (Bor Instance)) → AreGroups insts groups place → own_unit i ≡ Some u → place u ≡ Some p
     → seen group ≡ seen (get_or groups p []) ++ i ∷ [] → AreGroups (insts ++ i ∷ []) (set groups p group) place
 add_known insts i groups place u p group kept h at new =
     let f = kept.found u p at in
@@ -177,7 +177,7 @@ there_new insts groups place place' u kept none at others q (inl k) =
 there_new insts groups place place' u kept none at others q (inr same) =
     ap place' (last_at (units_of insts) u q 0 (omega (arith, kept.as_many))) ∙ at ∙ ap (λ n. Some n) (sym same)
 
-own_new : (insts : List Instance) (i : Instance) (groups : List (List (Bor Instance))) (place : ℕ → Option ℕ) (u : ℕ) (group : List (Bor Instance)) → AreGroups insts groups place → unit_of i ≡ Some u → place u ≡ None
+own_new : (insts : List Instance) (i : Instance) (groups : List (List (Bor Instance))) (place : ℕ → Option ℕ) (u : ℕ) (group : List (Bor Instance)) → AreGroups insts groups place → own_unit i ≡ Some u → place u ≡ None
     → seen group ≡ i ∷ [] → is_in u (units_of insts) ≡ false → (q : ℕ) → (q < length groups) ⊎ (q ≡ length groups) → seen (get_or (groups ++ group ∷ []) q []) ≡ of_unit (insts ++ i ∷ []) (get_or (units_of insts ++ u ∷ []) q 0)
 own_new insts i groups place u group kept h none new free q (inl k) =
     let apart : u ≢ get_or (units_of insts) q 0 = λ e. apart_from insts groups place u q kept none k (sym e) in
@@ -188,12 +188,12 @@ own_new insts i groups place u group kept h none new free q (inl k) =
 own_new insts i groups place u group kept h none new free q (inr same) =
     ap seen (last_at groups group q [] same)
     ∙ new
-    ∙ ap (λ is. is ++ i ∷ []) (sym (no_unit insts u (sym (is_in-firsts u (filter_map unit_of insts)) ∙ free)))
+    ∙ ap (λ is. is ++ i ∷ []) (sym (no_unit insts u (sym (is_in-firsts u (filter_map own_unit insts)) ∙ free)))
     ∙ sym (of_unit_more insts i u h)
     ∙ ap (of_unit (insts ++ i ∷ [])) (sym (last_at (units_of insts) u q 0 (omega (arith, kept.as_many))))
 
 -- an instance of a unit that has none yet
-pub add_new : (insts : List Instance) (i : Instance) (groups : List (List (Bor Instance))) (place place' : ℕ → Option ℕ) (u : ℕ) (group : List (Bor Instance)) → AreGroups insts groups place → unit_of i ≡ Some u → place u ≡ None
+pub add_new : (insts : List Instance) (i : Instance) (groups : List (List (Bor Instance))) (place place' : ℕ → Option ℕ) (u : ℕ) (group : List (Bor Instance)) → AreGroups insts groups place → own_unit i ≡ Some u → place u ≡ None
     → place' u ≡ Some (length groups) → ((v : ℕ) → v ≢ u → place' v ≡ place v) → seen group ≡ i ∷ [] → AreGroups (insts ++ i ∷ []) (groups ++ group ∷ []) place'
 add_new insts i groups place place' u group kept h none at others new =
     let free : is_in u (units_of insts) ≡ false = not_in u (units_of insts) (λ k p. apart_from insts groups place u k kept none (omega (arith, kept.as_many))) in
@@ -237,20 +237,20 @@ flat_agree f g (u ∷ us) n h same =
 fixed_push : (insts : List Instance) (i : Instance) (b : Bool) → same_mark i.mark Star ≡ b → fixed (insts ++ i ∷ []) ≡ fixed insts ++ cond (not b) (i ∷ []) []
 fixed_push insts i b e = filter-append (λ (j : Instance). not (same_mark j.mark Star)) insts (i ∷ []) ∙ ap (λ c. fixed insts ++ cond (not c) (i ∷ []) []) e
 
-fixed_mark : (i : Instance) (m : UnitMark) (u : ℕ) → i.mark ≡ m → unit_of i ≡ Some u → same_mark m Star ≡ false
+fixed_mark : (i : Instance) (m : UnitMark) (u : ℕ) → i.mark ≡ m → own_unit i ≡ Some u → same_mark m Star ≡ false
 fixed_mark i (Fixed w) u e h = refl
 fixed_mark i Star u e h =
     let k = rw e at h in
     absurd (cc)
 
-star_mark : (i : Instance) (m : UnitMark) → i.mark ≡ m → unit_of i ≡ None → same_mark m Star ≡ true
+star_mark : (i : Instance) (m : UnitMark) → i.mark ≡ m → own_unit i ≡ None → same_mark m Star ≡ true
 star_mark i (Fixed w) e h =
     let k = rw e at h in
     absurd (cc)
 star_mark i Star e h = refl
 
 -- a star behind them
-pub ascending_star : (insts : List Instance) (i : Instance) (least : ℕ) → AreAscending insts least → unit_of i ≡ None → AreAscending (insts ++ i ∷ []) least
+pub ascending_star : (insts : List Instance) (i : Instance) (least : ℕ) → AreAscending insts least → own_unit i ≡ None → AreAscending (insts ++ i ∷ []) least
 ascending_star insts i least kept h =
     let same = units_starred insts i h in
     let flat : flat_map (of_unit (insts ++ i ∷ [])) (units_of insts) ≡ flat_map (of_unit insts) (units_of insts) =
@@ -263,7 +263,7 @@ ascending_star insts i least kept h =
     }
 
 -- a unit that is not below the least one behind them
-pub ascending_unit : (insts : List Instance) (i : Instance) (least u : ℕ) → AreAscending insts least → unit_of i ≡ Some u → least ≤ u → AreAscending (insts ++ i ∷ []) (u + 1)
+pub ascending_unit : (insts : List Instance) (i : Instance) (least u : ℕ) → AreAscending insts least → own_unit i ≡ Some u → least ≤ u → AreAscending (insts ++ i ∷ []) (u + 1)
 ascending_unit insts i least u kept h le =
     let free : is_in u (units_of insts) ≡ false = not_in u (units_of insts) (λ k m e. let lt = kept.below k 0 m in omega (arith, lt, e, le)) in
     let more : units_of (insts ++ i ∷ []) ≡ units_of insts ++ u ∷ [] = units_fixed insts i u false h free in
@@ -271,7 +271,7 @@ ascending_unit insts i least u kept h le =
     let old : flat_map (of_unit all) (units_of insts) ≡ flat_map (of_unit insts) (units_of insts) =
     flat_agree (of_unit all) (of_unit insts) (units_of insts) least kept.below
     (λ v m. of_unit_kept insts i v (test_fixed i i.mark u v refl h ∙ differ u v (λ e. omega (arith, e, m, le)))) in
-    let own : of_unit all u ≡ i ∷ [] = of_unit_more insts i u h ∙ ap (λ is. is ++ i ∷ []) (no_unit insts u (sym (is_in-firsts u (filter_map unit_of insts)) ∙ free)) in
+    let own : of_unit all u ≡ i ∷ [] = of_unit_more insts i u h ∙ ap (λ is. is ++ i ∷ []) (no_unit insts u (sym (is_in-firsts u (filter_map own_unit insts)) ∙ free)) in
     record {
       same =
           ap (flat_map (of_unit all)) more

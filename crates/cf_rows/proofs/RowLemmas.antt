@@ -13,7 +13,7 @@ use Rattle.cf_types.specs.declared.tables.Row.{Row}
 use Rattle.cf_types.specs.declared.stmt.UnitMark.TheVariants.{Fixed, Star}
 use Rattle.cf_types.specs.declared.stmt.UnitMark.{UnitMark}
 use Rattle.config_rules.specs.Select.{same_mark}
-use Rattle.config_rules.specs.Meaning.{unit_of, first_unit, device_rows, in_order, row}
+use Rattle.config_rules.specs.Meaning.{own_unit, first_unit, device_rows, in_order, row}
 use Rattle.cf_types.specs.Numbers.{below}
 use Rattle.cf_rows.specs.Rows.{seen, UnitFits, AreGroups}
 
@@ -38,20 +38,20 @@ passing_more : (t : Instance → Bool) (own : List (Bor Instance)) (i : ℕ) (r 
 passing_more t own i r b p is e =
     ap (filter t) (seen_more own i r p is) ∙ filter-append t (seen (take i own)) (r.now ∷ []) ∙ ap (λ c. filter t (seen (take i own)) ++ cond c (r.now ∷ []) []) e
 
-star_by : (i : Instance) (m : UnitMark) → i.mark ≡ m → same_mark m Star ≡ is_none (unit_of i)
+star_by : (i : Instance) (m : UnitMark) → i.mark ≡ m → same_mark m Star ≡ is_none (own_unit i)
 star_by i (Fixed u) e = rw e refl
 star_by i Star e = rw e refl
 
 -- an instance is starred where it has no unit
-pub star_test : (i : Instance) → same_mark i.mark Star ≡ is_none (unit_of i)
+pub star_test : (i : Instance) → same_mark i.mark Star ≡ is_none (own_unit i)
 star_test i = star_by i i.mark refl
 
-fixed_by : (i : Instance) (m : UnitMark) → i.mark ≡ m → not (same_mark m Star) ≡ is_some (unit_of i)
+fixed_by : (i : Instance) (m : UnitMark) → i.mark ≡ m → not (same_mark m Star) ≡ is_some (own_unit i)
 fixed_by i (Fixed u) e = rw e refl
 fixed_by i Star e = rw e refl
 
 -- an instance is not starred where it has a unit
-pub fixed_test : (i : Instance) → not (same_mark i.mark Star) ≡ is_some (unit_of i)
+pub fixed_test : (i : Instance) → not (same_mark i.mark Star) ≡ is_some (own_unit i)
 fixed_test i = fixed_by i i.mark refl
 
 seen-append : (refs : List (Bor Instance)) (r : Bor Instance) → seen (refs ++ r ∷ []) ≡ seen refs ++ r.now ∷ []
@@ -71,20 +71,20 @@ leave_other t own ordered first i r p is passes so_far =
 
 -- ---- the first unit
 
-first_at : (insts : List Instance) (i : Instance) (o : Option ℕ) → unit_of i ≡ o → first_unit (filter_map unit_of (insts ++ i ∷ [])) ≡ first_unit (filter_map unit_of insts ++ cons_option o [])
-first_at insts i o e = ap first_unit (filter_map-append unit_of insts (i ∷ [])) ∙ ap (λ p. first_unit (filter_map unit_of insts ++ cons_option p [])) e
+first_at : (insts : List Instance) (i : Instance) (o : Option ℕ) → own_unit i ≡ o → first_unit (filter_map own_unit (insts ++ i ∷ [])) ≡ first_unit (filter_map own_unit insts ++ cons_option o [])
+first_at insts i o e = ap first_unit (filter_map-append own_unit insts (i ∷ [])) ∙ ap (λ p. first_unit (filter_map own_unit insts ++ cons_option p [])) e
 
-pub first_some : (own : List (Bor Instance)) (i : ℕ) (r : Bor Instance) (u first : ℕ) → i < length own → r ≡ get_or own i r → unit_of r.now ≡ Some u → first ≡ first_unit (filter_map unit_of (seen (take i own))) → max first (u + 1) ≡ first_unit (filter_map unit_of (seen (take (i + 1) own)))
+pub first_some : (own : List (Bor Instance)) (i : ℕ) (r : Bor Instance) (u first : ℕ) → i < length own → r ≡ get_or own i r → own_unit r.now ≡ Some u → first ≡ first_unit (filter_map own_unit (seen (take i own))) → max first (u + 1) ≡ first_unit (filter_map own_unit (seen (take (i + 1) own)))
 first_some own i r u first p is e so_far =
     ap (λ n. max n (u + 1)) so_far
-    ∙ sym (fold-append (λ n unit. max n (unit + 1)) 0 (filter_map unit_of (seen (take i own))) (u ∷ []))
+    ∙ sym (fold-append (λ n unit. max n (unit + 1)) 0 (filter_map own_unit (seen (take i own))) (u ∷ []))
     ∙ sym (first_at (seen (take i own)) r.now (Some u) e)
-    ∙ ap (λ (insts : List Instance). first_unit (filter_map unit_of insts)) (sym (seen_more own i r p is))
+    ∙ ap (λ (insts : List Instance). first_unit (filter_map own_unit insts)) (sym (seen_more own i r p is))
 
-pub first_none : (own : List (Bor Instance)) (i : ℕ) (r : Bor Instance) (first : ℕ) → i < length own → r ≡ get_or own i r → unit_of r.now ≡ None → first ≡ first_unit (filter_map unit_of (seen (take i own))) → first ≡ first_unit (filter_map unit_of (seen (take (i + 1) own)))
+pub first_none : (own : List (Bor Instance)) (i : ℕ) (r : Bor Instance) (first : ℕ) → i < length own → r ≡ get_or own i r → own_unit r.now ≡ None → first ≡ first_unit (filter_map own_unit (seen (take i own))) → first ≡ first_unit (filter_map own_unit (seen (take (i + 1) own)))
 first_none own i r first p is e so_far =
-    so_far ∙ ap first_unit (sym (append-nil (filter_map unit_of (seen (take i own))))) ∙ sym (first_at (seen (take i own)) r.now None e)
-    ∙ ap (λ (insts : List Instance). first_unit (filter_map unit_of insts)) (sym (seen_more own i r p is))
+    so_far ∙ ap first_unit (sym (append-nil (filter_map own_unit (seen (take i own))))) ∙ sym (first_at (seen (take i own)) r.now None e)
+    ∙ ap (λ (insts : List Instance). first_unit (filter_map own_unit insts)) (sym (seen_more own i r p is))
 
 seen_at : (own : List (Bor Instance)) (i : ℕ) (r : Bor Instance) → get_or (seen own) i r.now ≡ (get_or own i r).now
 seen_at [] i r = refl
@@ -92,7 +92,7 @@ seen_at (x ∷ own) zero r = refl
 seen_at (x ∷ own) (suc i) r = seen_at own i r
 
 -- the unit of each is small
-pub small_unit : (own : List (Bor Instance)) (i : ℕ) (r : Bor Instance) (u : ℕ) → All UnitFits (seen own) → i < length own → r ≡ get_or own i r → unit_of r.now ≡ Some u → u ≤ 65535
+pub small_unit : (own : List (Bor Instance)) (i : ℕ) (r : Bor Instance) (u : ℕ) → All UnitFits (seen own) → i < length own → r ≡ get_or own i r → own_unit r.now ≡ Some u → u ≤ 65535
 small_unit own i r u h p is e =
     let here : UnitFits (get_or (seen own) i r.now) = h i r.now (omega (arith, length-map own (λ (x : Bor Instance). x.now))) in
     let same : get_or (seen own) i r.now ≡ r.now = seen_at own i r ∙ ap (λ (x : Bor Instance). x.now) (sym is) in
@@ -107,10 +107,10 @@ own_units insts own device h is = subst (λ (js : List Instance). All UnitFits j
 
 -- the rows of one more device
 pub rows_more : (insts : List Instance) (device : ℕ) (own : List (Bor Instance)) (rows rows' : List Row) → rows ≡ flat_map (device_rows insts) (below device) → seen own ≡ filter (λ i. i.joined.device == device) insts
-    → rows' ≡ rows ++ map (row (first_unit (filter_map unit_of (seen own)))) (in_order (seen own)) → rows' ≡ flat_map (device_rows insts) (below (device + 1))
+    → rows' ≡ rows ++ map (row (first_unit (filter_map own_unit (seen own)))) (in_order (seen own)) → rows' ≡ flat_map (device_rows insts) (below (device + 1))
 rows_more insts device own rows rows' so_far is new =
     new
-    ∙ ap (λ (js : List Instance). rows ++ map (row (first_unit (filter_map unit_of js))) (in_order js)) is
+    ∙ ap (λ (js : List Instance). rows ++ map (row (first_unit (filter_map own_unit js))) (in_order js)) is
     ∙ ap (λ (rs : List Row). rs ++ device_rows insts device) so_far
     ∙ ap (λ (rs : List Row). flat_map (device_rows insts) (below device) ++ rs) (sym (append-nil (device_rows insts device)))
     ∙ sym (flat_map-append (device_rows insts) (below device) (device ∷ []))

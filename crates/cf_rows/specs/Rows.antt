@@ -6,7 +6,7 @@ use Rattle.cf_types.specs.Offers.{firsts}
 use Rattle.cf_types.specs.declared.instance.Instance.{Instance}
 use Rattle.cf_types.specs.declared.stmt.UnitMark.TheVariants.{Fixed, Star}
 use Rattle.config_rules.specs.Select.{same_mark}
-use Rattle.config_rules.specs.Meaning.{unit_of}
+use Rattle.config_rules.specs.Meaning.{own_unit}
 
 -- the instances behind references
 abbrev pub seen : List (Bor Instance) → List Instance
@@ -14,7 +14,7 @@ seen refs = map (λ r. r.now) refs
 
 -- an instance is starred, or its unit is at most 65,535
 abbrev pub UnitFits : Instance → Type 0
-UnitFits i = IfSome (unit_of i) (λ unit. unit ≤ 65535)
+UnitFits i = IfSome (own_unit i) (λ unit. unit ≤ 65535)
 
 -- the instances of a unit
 abbrev pub of_unit : List Instance → ℕ → List Instance
@@ -30,7 +30,7 @@ fixed insts = filter (λ i. not (same_mark i.mark Star)) insts
 
 -- the units in the order of their first instances
 abbrev pub units_of : List Instance → List ℕ
-units_of insts = firsts (filter_map unit_of insts)
+units_of insts = firsts (filter_map own_unit insts)
 
 -- one group of instances for each unit, and the place of each unit's group
 pub record AreGroups (insts : List Instance) (groups : List (List (Bor Instance))) (place : ℕ → Option ℕ) : Type 0 where

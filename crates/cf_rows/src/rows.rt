@@ -1,10 +1,10 @@
 ghost use Rattle.std.specs.Prelude.{◌≡◌, ◌++◌, map, All, IfOk, OnOk};
 ghost use Rattle.std.specs.List.{filter_map};
-ghost use Rattle.config_rules.specs.Meaning.{unit_of, first_unit, in_order, row, rows_of};
+ghost use Rattle.config_rules.specs.Meaning.{own_unit, first_unit, in_order, row, rows_of};
 ghost use Rattle.cf_rows.specs.Rows.{seen, UnitFits};
 
 use crate::device::by_device;
-use crate::units::{first_unit, in_order, unit_of};
+use crate::units::{first_unit, in_order, own_unit};
 use cf_types::{Instance, List, Locs, Memory, Row};
 use std::alloc::Global;
 
@@ -22,7 +22,7 @@ fn copied(locs: &Locs) -> Locs
 fn row(first: u32, instance: &Instance) -> Row
     ensures { result ≡ row first instance.now }
 {
-    let unit = unit_of(instance);
+    let unit = own_unit(instance);
     Row {
         device: instance.joined.device,
         unit: unit.unwrap_or(first),
@@ -38,7 +38,7 @@ fn row(first: u32, instance: &Instance) -> Row
 /// Appends the rows of a device, from its own instances.
 fn push_device(alloc: Global, rows: &mut List<Row>, own: &[&Instance]) -> Result<(), Memory>
     requires { All UnitFits (seen own.now) }
-    ensures { OnOk result (rows.new ≡ rows.old ++ map (row (first_unit (filter_map unit_of (seen own.now)))) (in_order (seen own.now))) }
+    ensures { OnOk result (rows.new ≡ rows.old ++ map (row (first_unit (filter_map own_unit (seen own.now)))) (in_order (seen own.now))) }
 {
     let first = first_unit(own);
     let ordered = in_order(alloc, own)?;

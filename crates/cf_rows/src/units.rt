@@ -1,7 +1,7 @@
 ghost use Rattle.std.specs.Prelude.{◌≡◌, ℕ, ◌<◌, [], ◌∷◌, ◌++◌, length, flat_map, nat_eq, Some, All, IfOk, IsTrue, OnOk};
 ghost use Rattle.std.specs.List.{filter_map};
 ghost use Rattle.std.specs.HashMap.{get};
-ghost use Rattle.config_rules.specs.Meaning.{unit_of, first_unit, in_order};
+ghost use Rattle.config_rules.specs.Meaning.{own_unit, first_unit, in_order};
 ghost use Rattle.cf_rows.specs.Rows.{seen, UnitFits, AreGroups, units_of, of_unit, fixed, starred};
 
 use crate::group::Group;
@@ -10,8 +10,8 @@ use std::alloc::Global;
 use std::collections::HashMap;
 
 /// The unit of an instance that is not starred.
-pub fn unit_of(instance: &Instance) -> Option<u32>
-    ensures { result ≡ unit_of instance.now }
+pub fn own_unit(instance: &Instance) -> Option<u32>
+    ensures { result ≡ own_unit instance.now }
 {
     match instance.mark {
         UnitMark::Fixed(unit) => Some(unit),
@@ -22,11 +22,11 @@ pub fn unit_of(instance: &Instance) -> Option<u32>
 /// One more than the greatest unit, or 0 if each instance is starred.
 pub fn first_unit(own: &[&Instance]) -> u32
     requires { All UnitFits (seen own.now) }
-    ensures { result ≡ first_unit (filter_map unit_of (seen own.now)) }
+    ensures { result ≡ first_unit (filter_map own_unit (seen own.now)) }
 {
     let mut first = 0;
     for instance in own {
-        if let Some(unit) = unit_of(instance) {
+        if let Some(unit) = own_unit(instance) {
             first = first.max(unit + 1);
         }
     }
@@ -42,7 +42,7 @@ fn add<'a>(
     instance: &'a Instance,
 ) -> Result<(), Memory>
     requires within { (u p : ℕ) → get nat_eq places.old u ≡ Some p → p < length groups.old.items }
-    requires unit { unit_of instance.now ≡ Some unit }
+    requires unit { own_unit instance.now ≡ Some unit }
     ensures { OnOk result ((insts : _) → AreGroups insts groups.old.items (get nat_eq places.old) → AreGroups (insts ++ instance.now ∷ []) groups.new.items (get nat_eq places.new)) }
 {
     if let Some(place) = places.get(&unit).copied() {
@@ -62,7 +62,7 @@ fn by_unit<'a>(alloc: Global, own: &[&'a Instance]) -> Result<Vec<Group<'a>>, Me
     let mut groups = Vec::new(alloc);
     let mut places = HashMap::new(alloc);
     for instance in own {
-        if let Some(unit) = unit_of(instance) {
+        if let Some(unit) = own_unit(instance) {
             add(alloc, &mut groups, &mut places, unit, instance)?;
         }
     }
@@ -74,7 +74,7 @@ fn push_fixed<'a>(ordered: &mut Vec<&'a Instance>, own: &[&'a Instance]) -> Resu
     ensures { OnOk result (seen ordered.new.items ≡ seen ordered.old.items ++ fixed (seen own.now)) }
 {
     for instance in own {
-        if unit_of(instance).is_some() {
+        if own_unit(instance).is_some() {
             ordered.push(*instance)?;
         }
     }
@@ -86,7 +86,7 @@ fn push_starred<'a>(ordered: &mut Vec<&'a Instance>, own: &[&'a Instance]) -> Re
     ensures { OnOk result (seen ordered.new.items ≡ seen ordered.old.items ++ starred (seen own.now)) }
 {
     for instance in own {
-        if unit_of(instance).is_none() {
+        if own_unit(instance).is_none() {
             ordered.push(*instance)?;
         }
     }
@@ -100,7 +100,7 @@ fn units_ascend(own: &[&Instance]) -> bool
 {
     let mut least = 0;
     for instance in own {
-        if let Some(unit) = unit_of(instance) {
+        if let Some(unit) = own_unit(instance) {
             if unit < least {
                 return false;
             }

@@ -73,8 +73,8 @@ abbrev pub base_len : List ℕ → ℕ
 base_len chunk = length chunk - suffix_len is_ascii_digit chunk
 
 -- a name that doesn't end with a digit, and the number behind it
-abbrev pub unit_of : List ℕ → Option (List ℕ × ℕ)
-unit_of chunk =
+abbrev pub base_and_unit : List ℕ → Option (List ℕ × ℕ)
+base_and_unit chunk =
     if is_written (take (base_len chunk) chunk) && is_decimal (drop (base_len chunk) chunk)
     then Some (take (base_len chunk) chunk, digits_value 10 (drop (base_len chunk) chunk)) else None
 

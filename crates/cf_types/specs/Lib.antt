@@ -1,6 +1,7 @@
 pub mod Gather
 pub mod Lines
 pub mod Locators
+pub mod Lookups
 pub mod Names
 pub mod Numbers
 pub mod Offers

@@ -11,8 +11,9 @@ use Rattle.config_rules.proofs.GivenLaws.{no_code, no_last, no_first}
 use Rattle.cf_types.specs.declared.stmt.Placed.{Placed}
 use Rattle.cf_types.specs.declared.stmt.Stmt.{Stmt}
 use Rattle.cf_types.specs.declared.stmt.Stmt.TheVariants as stmt
+use Rattle.cf_types.specs.Lookups.{has_attach}
 use Rattle.cf_text.specs.Shapes.{is_written}
-use Rattle.config_rules.specs.Declared.{Declared, has_attach, is_root, declared}
+use Rattle.config_rules.specs.Declared.{Declared, is_root, declared}
 use Rattle.config_rules.specs.Fault.{code_of, fault_of, first_code, has_attr, has_device, is_instance, places_fault}
 use Rattle.config_rules.specs.MachineText.{differ, is_free_name, is_one}
 use Rattle.config_rules.specs.Written.{IsName}
@@ -33,7 +34,7 @@ free_code d n (stmt.Device name locs needs) h =
 free_code d n (stmt.Attach device places name needs) h =
     let first = no_code (not (has_device d device)) UNKNOWN_DEVICE _ h in
     let second = no_first (places_fault d places) _ first.1 in
-    (or_parts (is_root (unwrap_or name device)) (has_attach d (unwrap_or name device)) (no_code _ NAME_TAKEN _ second.1).0).0
+    (or_parts (is_root (unwrap_or name device)) (has_attach d.attaches (unwrap_or name device)) (no_code _ NAME_TAKEN _ second.1).0).0
 free_code d n _ h = tt
 
 free_fault : (before : List Stmt) (s : Stmt) → fault_of before s ≡ None → IsFree s

@@ -12,7 +12,7 @@ use Rattle.cf_types.specs.declared.instance.Instance.{Instance}
 use Rattle.cf_types.specs.declared.stmt.UnitMark.{UnitMark}
 use Rattle.cf_types.specs.declared.stmt.UnitMark.TheVariants.{Fixed, Star}
 use Rattle.cf_types.proofs.OfferLemmas.{is_in-firsts}
-use Rattle.config_rules.specs.Meaning.{device_rows, first_unit, in_order, row, rows_of, unit_of}
+use Rattle.config_rules.specs.Meaning.{device_rows, first_unit, in_order, row, rows_of, own_unit}
 use Rattle.config_rules.specs.Select.{same_mark}
 use Rattle.cf_declare.proofs.ListFacts.{all_pieces}
 use Rattle.config_laws.proofs.ListLaws.{all_givers, all_parts, all_passing, all_piece, both_few, none_of_both, number_in, pieces_few, pieces_shorter}
@@ -22,7 +22,7 @@ abbrev of_unit : List Instance → ℕ → List Instance
 of_unit insts unit = filter (λ i. same_mark i.mark (Fixed unit)) insts
 
 abbrev units : List Instance → List ℕ
-units insts = filter_map unit_of insts
+units insts = filter_map own_unit insts
 
 -- ---- the same instances
 
@@ -44,7 +44,7 @@ in_itself (v ∷ us) =
     or_true false b h = h
 
 -- one instance is among those of its unit, or starred
-one_found : (P : Instance → Type 0) (us : List ℕ) (x : Instance) (mark : UnitMark) → x.mark ≡ mark → IfSome (unit_of x) (λ u. is_in u us ≡ true)
+one_found : (P : Instance → Type 0) (us : List ℕ) (x : Instance) (mark : UnitMark) → x.mark ≡ mark → IfSome (own_unit x) (λ u. is_in u us ≡ true)
     → ((u : ℕ) → is_in u us ≡ true → same_mark x.mark (Fixed u) ≡ true → P x) → (same_mark x.mark Star ≡ true → P x) → P x
 one_found P us x (Fixed u) e there unit star =
     let found : is_in u us ≡ true = rw e at there in
@@ -58,8 +58,8 @@ order_complete P insts h =
     let parts = all_parts P (flat_map (of_unit insts) us) (filter (λ i. same_mark i.mark Star) insts) h in
     let pieces : All (λ u. All P (of_unit insts u)) us = all_piece P (of_unit insts) us parts.0 in
     let stars = all_passing P (λ i. same_mark i.mark Star) insts parts.1 in
-    let there : All (λ i. IfSome (unit_of i) (λ u. is_in u us ≡ true)) insts =
-    all_givers (λ u. is_in u us ≡ true) unit_of insts
+    let there : All (λ i. IfSome (own_unit i) (λ u. is_in u us ≡ true)) insts =
+    all_givers (λ u. is_in u us ≡ true) own_unit insts
     (All-weaker (λ u. is_in u (units insts) ≡ true) (λ u. is_in u us ≡ true) (λ u e. is_in-firsts u (units insts) ∙ e) (units insts) (in_itself (units insts))) in
     λ k d lt.
     one_found P us (get_or insts k d) (get_or insts k d).mark refl (there k d lt)

@@ -14,7 +14,7 @@ use Rattle.cf_types.specs.declared.tables.Row.{Row}
 use Rattle.cf_types.specs.declared.tables.Tables.{Tables}
 use Rattle.config_rules.specs.Declared.{Declared}
 use Rattle.config_rules.specs.Formed.{FormedRow, fixed_units}
-use Rattle.config_rules.specs.Meaning.{device_rows, first_unit, in_order, row, rows_of, unit_of}
+use Rattle.config_rules.specs.Meaning.{device_rows, first_unit, in_order, row, rows_of, own_unit}
 use Rattle.cf_declare.specs.Instances.{SoundJoined}
 use Rattle.cf_declare.proofs.ListFacts.{all_pieces}
 use Rattle.cf_rows.specs.Rows.{UnitFits}
@@ -29,7 +29,7 @@ own insts device = filter (λ i. i.joined.device == device) insts
 
 -- the first unit of its starred rows
 abbrev pub first_of : List Instance → ℕ → ℕ
-first_of insts device = first_unit (filter_map unit_of (own insts device))
+first_of insts device = first_unit (filter_map own_unit (own insts device))
 
 -- what holds of the rows of each instance holds of all rows
 pub rows_all : (P : Row → Type 0) (n : ℕ) (insts : List Instance) → ((device : ℕ) → All (λ i. P (row (first_of insts device) i)) (own insts device)) → All P (rows_of n insts)
@@ -65,12 +65,12 @@ no_unit P true u = tt
 no_unit P false u = tt
 
 -- the row of an instance, by whether it is one of the device
-row_fixed : (P : ℕ → Type 0) (device first : ℕ) (i : Instance) (b : Bool) → (i.joined.device == device) ≡ b → (b ≡ true → IfSome (unit_of i) P) → IfSome (fixed_of device (row first i)) P
-row_fixed P device first i true e h = rw e (by_unit P (unit_of i) first (h refl))
-row_fixed P device first i false e h = rw e (no_unit P (not (not (is_some (unit_of i)))) (unwrap_or (unit_of i) first))
+row_fixed : (P : ℕ → Type 0) (device first : ℕ) (i : Instance) (b : Bool) → (i.joined.device == device) ≡ b → (b ≡ true → IfSome (own_unit i) P) → IfSome (fixed_of device (row first i)) P
+row_fixed P device first i true e h = rw e (by_unit P (own_unit i) first (h refl))
+row_fixed P device first i false e h = rw e (no_unit P (not (not (is_some (own_unit i)))) (unwrap_or (own_unit i) first))
 
-own_fixed : (P : ℕ → Type 0) (device first : ℕ) (i : Instance) → (i.joined.device == device) ≡ true → IfSome (fixed_of device (row first i)) P → IfSome (unit_of i) P
-own_fixed P device first i e h = of_unit P (unit_of i) first (rw e at h)
+own_fixed : (P : ℕ → Type 0) (device first : ℕ) (i : Instance) → (i.joined.device == device) ≡ true → IfSome (fixed_of device (row first i)) P → IfSome (own_unit i) P
+own_fixed P device first i e h = of_unit P (own_unit i) first (rw e at h)
 
 -- the rows of a device have the units of its instances
 pub same_starred : (n : ℕ) (insts : List Instance) (device : ℕ) → device < n → first_of insts device ≡ first_unit (fixed_units (rows_of n insts) device)
@@ -79,17 +79,17 @@ same_starred n insts device lt =
     let mine = own insts device in
     let Below : ℕ → Type 0 = λ u. u < first_of insts device in
     let Under : ℕ → Type 0 = λ u. u < first_unit (fixed_units rows device) in
-    let mine_below : All (λ i. IfSome (unit_of i) Below) mine = all_givers Below unit_of mine (below_first (filter_map unit_of mine)) in
-    let all_below : All (λ i. (i.joined.device == device) ≡ true → IfSome (unit_of i) Below) insts = all_passing (λ i. IfSome (unit_of i) Below) (λ i. i.joined.device == device) insts mine_below in
+    let mine_below : All (λ i. IfSome (own_unit i) Below) mine = all_givers Below own_unit mine (below_first (filter_map own_unit mine)) in
+    let all_below : All (λ i. (i.joined.device == device) ≡ true → IfSome (own_unit i) Below) insts = all_passing (λ i. IfSome (own_unit i) Below) (λ i. i.joined.device == device) insts mine_below in
     let rows_below : All (λ r. IfSome (fixed_of device r) Below) rows =
     rows_all (λ r. IfSome (fixed_of device r) Below) n insts (λ k.
-    All-weaker (λ i. (i.joined.device == device) ≡ true → IfSome (unit_of i) Below) (λ i. IfSome (fixed_of device (row (first_of insts k) i)) Below) (λ i h. row_fixed Below device (first_of insts k) i (i.joined.device == device) refl h)
-    (own insts k) (All-filter (λ (i : Instance). i.joined.device == k) (λ i. (i.joined.device == device) ≡ true → IfSome (unit_of i) Below) insts all_below)) in
+    All-weaker (λ i. (i.joined.device == device) ≡ true → IfSome (own_unit i) Below) (λ i. IfSome (fixed_of device (row (first_of insts k) i)) Below) (λ i h. row_fixed Below device (first_of insts k) i (i.joined.device == device) refl h)
+    (own insts k) (All-filter (λ (i : Instance). i.joined.device == k) (λ i. (i.joined.device == device) ≡ true → IfSome (own_unit i) Below) insts all_below)) in
     let rows_under : All (λ r. IfSome (fixed_of device r) Under) rows = all_givers Under (fixed_of device) rows (below_first (fixed_units rows device)) in
     let own_rows : All (λ i. IfSome (fixed_of device (row (first_of insts device) i)) Under) mine = own_all (λ r. IfSome (fixed_of device r) Under) n insts device lt rows_under in
     let passes : All (λ i. (i.joined.device == device) ≡ true) mine = filter_passes (λ (i : Instance). i.joined.device == device) insts in
-    let mine_under : All (λ i. IfSome (unit_of i) Under) mine = λ k d at. own_fixed Under device (first_of insts device) (get_or mine k d) (passes k d at) (own_rows k d at) in
-    same_first (filter_map unit_of mine) (fixed_units rows device) (all_given Under unit_of mine mine_under) (all_given Below (fixed_of device) rows rows_below)
+    let mine_under : All (λ i. IfSome (own_unit i) Under) mine = λ k d at. own_fixed Under device (first_of insts device) (get_or mine k d) (passes k d at) (own_rows k d at) in
+    same_first (filter_map own_unit mine) (fixed_units rows device) (all_given Under own_unit mine mine_under) (all_given Below (fixed_of device) rows rows_below)
 
 -- ---- the parts of a row
 
@@ -125,8 +125,8 @@ row_formed t d first i ea ed ex sound same =
       one_value_a_locator = sound.joins.has_values ∙ ap (λ xs. length (locators_at xs i.joined.place)) (sym ea);
       parent = rw ed sound.joins.has_parent;
       no_parent_at_root = sound.alone;
-      fixed_unit = unit_fits (unit_of i) first sound.fits;
-      starred_unit = λ star. star_first (unit_of i) first star ∙ same;
+      fixed_unit = unit_fits (own_unit i) first sound.fits;
+      starred_unit = λ star. star_first (own_unit i) first star ∙ same;
     }
 
 -- all rows

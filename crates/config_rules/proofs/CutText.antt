@@ -3,7 +3,8 @@ use Rattle.std.proofs.Common.{◌≡◌, ℕ, zero, suc, ◌+◌, ◌<◌, List,
 use Rattle.std.specs.Prelude.{IfOk, IfErr}
 use Rattle.std.specs.List.{AllZip}
 use Rattle.cf_types.specs.declared.stmt.Token.{Token}
-use Rattle.config_rules.specs.Cut.{Part, parts_of, at_line, all_parts, cut_of, lines_of, lines_tokens, LineCut, LineFault, Cut, CutFault, ◌>>=◌}
+use Rattle.cf_types.specs.Lines.{lines_of}
+use Rattle.config_rules.specs.Cut.{Part, parts_of, at_line, all_parts, cut_of, lines_tokens, LineCut, LineFault, Cut, CutFault, ◌>>=◌}
 use Rattle.config_rules.proofs.Parts.{ok_is}
 use Rattle.config_rules.proofs.CutLaws.{parts_sound, if_bind}
 use Rattle.config_rules.proofs.CutWhole.{parts_only, fault_only, fault_sound, err_is, err_bind}

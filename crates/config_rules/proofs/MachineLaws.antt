@@ -24,12 +24,13 @@ use Rattle.cf_types.specs.declared.tables.Tables.{Tables}
 use Rattle.cf_types.specs.Locators.{locators_at}
 use Rattle.cf_types.specs.Offers.{is_interface}
 use Rattle.cf_types.specs.Policies.{no_policy}
+use Rattle.cf_types.specs.Lookups.{attach_number, spot_number}
 use Rattle.cf_text.specs.Shapes.{number}
 use Rattle.config_rules.specs.Cut.{at_line, ◌>>=◌}
 use Rattle.config_rules.specs.Form.{each, given, ◌or◌}
 use Rattle.config_rules.specs.Formed.{AreNames, FittingMachine, FittingMatch, FittingSpot, FittingStyle, is_place}
 use Rattle.config_rules.specs.Select.{is_root_place}
-use Rattle.config_rules.specs.MachineText.{GivenValue, LineForm, SpotLine, MatchOf, StyleOf, DriverOf, WordLine, after_line, after_lines, attach_number, depth_of, differ, driver_line, found_fault, found_value, located_value, in_match_range, interface_number, is_free_name, is_one, is_spot, line_form, located, machine_of, mark_words, match_line, no_machine, records_of, spot_above, spot_fault, spot_line, spot_locators, spot_number, spot_of, spot_place, style_line, with_policies}
+use Rattle.config_rules.specs.MachineText.{GivenValue, LineForm, SpotLine, MatchOf, StyleOf, DriverOf, WordLine, after_line, after_lines, depth_of, differ, driver_line, found_fault, found_value, located_value, in_match_range, interface_number, is_free_name, is_one, is_spot, line_form, located, machine_of, mark_words, match_line, no_machine, records_of, spot_above, spot_fault, spot_line, spot_locators, spot_of, spot_place, style_line, with_policies}
 use Rattle.config_rules.proofs.CutLaws.{both_left, both_right}
 use Rattle.config_rules.proofs.Parts.{ok_is}
 
@@ -318,13 +319,13 @@ matched_below spots (Some name) = position_below (λ s. bytes_eq s.name name) sp
 match_line_fits : (t : Tables) (m : Machine) (attach : List ℕ) (spot : Option (List ℕ)) (value : Option ℕ) → FittingMachine t m → IfSome value (λ v. v ≤ 65535) → IfOk (after_line t m (Some (MatchOf attach spot value))) (FittingMachine t)
 match_line_fits t m attach spot value f within =
     let no_spot : Bool = option_map_or (λ name. is_none (spot_number m.spots name)) spot false in
-    unless (FittingMachine t) (given (is_none (attach_number t attach)) UNKNOWN_ATTACHMENT or (given no_spot UNKNOWN_SPOT or given (is_none value) OUT_OF_RANGE))
-    (record { attach = unwrap_or (attach_number t attach) 0; spot = option_and_then (spot_number m.spots) spot; value = unwrap_or value 0 })
+    unless (FittingMachine t) (given (is_none (attach_number t.attaches attach)) UNKNOWN_ATTACHMENT or (given no_spot UNKNOWN_SPOT or given (is_none value) OUT_OF_RANGE))
+    (record { attach = unwrap_or (attach_number t.attaches attach) 0; spot = option_and_then (spot_number m.spots) spot; value = unwrap_or value 0 })
     (λ l. Ok (record m { matches = m.matches ++ l ∷ [] })) (λ none.
-    let line : MatchLine = record { attach = unwrap_or (attach_number t attach) 0; spot = option_and_then (spot_number m.spots) spot; value = unwrap_or value 0 } in
-    let after_attach = (no_code (is_none (attach_number t attach)) 6 _ none).1 in
+    let line : MatchLine = record { attach = unwrap_or (attach_number t.attaches attach) 0; spot = option_and_then (spot_number m.spots) spot; value = unwrap_or value 0 } in
+    let after_attach = (no_code (is_none (attach_number t.attaches attach)) 6 _ none).1 in
     let fits : FittingMatch t m.spots line = record {
-      attach = there (attach_number t attach) (λ a. a < length t.attaches) 0 (no_code _ 6 _ none).0 (position_below (λ a. bytes_eq a.name attach) t.attaches);
+      attach = there (attach_number t.attaches attach) (λ a. a < length t.attaches) 0 (no_code _ 6 _ none).0 (position_below (λ a. bytes_eq a.name attach) t.attaches);
       spot = matched_below m.spots spot;
       value = there value (λ v. v ≤ 65535) 0 (no_last _ 7 (no_code no_spot 3 _ after_attach).1) within;
     } in
@@ -340,13 +341,13 @@ match_line_fits t m attach spot value f within =
 
 style_line_fits : (t : Tables) (m : Machine) (attach attr : List ℕ) (indirect : Bool) → FittingMachine t m → IfOk (after_line t m (Some (StyleOf attach attr indirect))) (FittingMachine t)
 style_line_fits t m attach attr indirect f =
-    unless (FittingMachine t) (given (is_none (attach_number t attach)) UNKNOWN_ATTACHMENT or given (is_none (interface_number t attr)) NO_INTERFACE)
-    (record { attach = unwrap_or (attach_number t attach) 0; attr = unwrap_or (interface_number t attr) 0; indirect = indirect })
+    unless (FittingMachine t) (given (is_none (attach_number t.attaches attach)) UNKNOWN_ATTACHMENT or given (is_none (interface_number t attr)) NO_INTERFACE)
+    (record { attach = unwrap_or (attach_number t.attaches attach) 0; attr = unwrap_or (interface_number t attr) 0; indirect = indirect })
     (λ l. Ok (record m { styles = m.styles ++ l ∷ [] })) (λ none.
-    let line : StyleLine = record { attach = unwrap_or (attach_number t attach) 0; attr = unwrap_or (interface_number t attr) 0; indirect = indirect } in
+    let line : StyleLine = record { attach = unwrap_or (attach_number t.attaches attach) 0; attr = unwrap_or (interface_number t attr) 0; indirect = indirect } in
     let fits : FittingStyle t line = record {
-      attach = there (attach_number t attach) (λ a. a < length t.attaches) 0 (no_code _ 6 _ none).0 (position_below (λ a. bytes_eq a.name attach) t.attaches);
-      attr = there (interface_number t attr) (λ a. is_interface t.attrs a ≡ true) 0 (no_last _ 4 (no_code (is_none (attach_number t attach)) 6 _ none).1) (interface_is t attr);
+      attach = there (attach_number t.attaches attach) (λ a. a < length t.attaches) 0 (no_code _ 6 _ none).0 (position_below (λ a. bytes_eq a.name attach) t.attaches);
+      attr = there (interface_number t attr) (λ a. is_interface t.attrs a ≡ true) 0 (no_last _ 4 (no_code (is_none (attach_number t.attaches attach)) 6 _ none).1) (interface_is t attr);
     } in
     record {
       few_spots = f.few_spots;
@@ -376,7 +377,7 @@ line_fits t m None f h = tt
 line_fits t m (Some (SpotLine name parent attr found marks)) f h = spot_line_fits t m name parent attr found marks f h
 line_fits t m (Some (MatchOf attach spot value)) f h = match_line_fits t m attach spot value f h
 line_fits t m (Some (StyleOf attach attr indirect)) f h = style_line_fits t m attach attr indirect f
-line_fits t m (Some (DriverOf attach words)) f h = driver_line_fits t m words (attach_number t attach) f
+line_fits t m (Some (DriverOf attach words)) f h = driver_line_fits t m words (attach_number t.attaches attach) f
 
 -- ---- all lines
 

@@ -11,10 +11,11 @@ use Rattle.cf_types.specs.declared.machine.Command.{Command}
 use Rattle.cf_types.specs.declared.machine.Command.TheVariants as command
 use Rattle.cf_types.specs.declared.machine.Given.{Given}
 use Rattle.cf_text.specs.Shapes.{in_range, number}
-use Rattle.config_rules.specs.Cut.{lines_of, ◌>>=◌}
+use Rattle.cf_types.specs.Lines.{lines_of}
+use Rattle.config_rules.specs.Cut.{◌>>=◌}
 use Rattle.config_rules.specs.Form.{given, ◌or◌}
 use Rattle.config_rules.specs.MachineText.{has_bad_byte, words_of}
-use Rattle.config_rules.specs.ScriptText.{CommandRow, FormedCommand, FormedScript, are_pairs, bad_sayings, code_after, command_of, commands, commands_in, commands_of, given_in, is_bounded, io_form, is_caller, is_number, is_operand, is_turn, is_value, line_says, names_in, natural_within, number_within, within, on_any, on_one, one_operand, open_form, operand, order_of, pairs_of, rescan_form, rescan_on, row_of, sayings, sole_form, turns_code, turns_of, bad_turns, unless_bad, words_say}
+use Rattle.config_rules.specs.ScriptText.{CommandRow, FormedCommand, FormedScript, are_pairs, bad_sayings, code_after, command_of, commands, commands_in, commands_of, given_in, is_bounded, io_form, is_caller, spells_number, is_operand, is_turn, is_value, line_says, names_in, natural_within, number_within, value_within, on_any, on_one, one_operand, open_form, operand, order_of, pairs_of, rescan_form, rescan_on, row_of, sayings, sole_form, turns_code, turns_of, bad_turns, unless_bad, words_say}
 use Rattle.config_rules.proofs.CutLaws.{both_left, both_right}
 use Rattle.config_rules.proofs.Parts.{cond_both}
 
@@ -84,7 +85,7 @@ open_formed (option ∷ device ∷ []) = sole_formed option device
 open_formed (option ∷ device ∷ other ∷ words) = tt
 
 -- the value of a transfer fits
-fits_is : (o : Option ℤ) → IfOk (within is_value o) (λ z. is_value z ≡ true)
+fits_is : (o : Option ℤ) → IfOk (value_within is_value o) (λ z. is_value z ≡ true)
 fits_is None = tt
 fits_is (Some z) = cond_both (λ r. IfOk r (λ v. is_value v ≡ true)) (is_value z) (Ok z) (Err OUT_OF_RANGE) (λ h. h) (λ h. tt)
 
@@ -115,8 +116,8 @@ given_formed (name ∷ []) h = absurd (cc)
 given_formed (name ∷ value ∷ words) h =
     any_if (ArePairs (name ∷ value ∷ words)) (number_within in_range value) (λ v. given_in words >>= λ more. Ok (record { name = name; value = v } ∷ more))
     (λ v. then_if (ArePairs words) (ArePairs (name ∷ value ∷ words)) (given_in words) (λ more. Ok (record { name = name; value = v } ∷ more))
-    (given_formed words (both_right (is_operand name && is_number value) (are_pairs words) h))
-    (λ more fine. (All-cons (λ n. is_operand n ≡ true) name (map (λ g. g.name) more) (both_left (is_operand name) (is_number value) (both_left (is_operand name && is_number value) (are_pairs words) h)) fine.0, omega (arith, fine.1))))
+    (given_formed words (both_right (is_operand name && spells_number value) (are_pairs words) h))
+    (λ more fine. (All-cons (λ n. is_operand n ≡ true) name (map (λ g. g.name) more) (both_left (is_operand name) (spells_number value) (both_left (is_operand name && spells_number value) (are_pairs words) h)) fine.0, omega (arith, fine.1))))
 
 few_words : (n : ℕ) → nat_le n 32 ≡ true → n ≤ 32
 few_words n h = grind (arith, nat_tests)
@@ -328,7 +329,7 @@ lines_are : (callers n : ℕ) (lines : List (List ℕ)) → bad_turns_from calle
 lines_are callers n [] h = All-nil (IsTurn callers)
 lines_are callers n (line ∷ lines) h =
     let parts = not_none n (turns_code callers line) (bad_turns_from callers (n + 1) lines) h in
-    let here : list_all (is_turn callers) (words_of line) ≡ true = fine (has_bad_byte line || not (list_all is_number (words_of line))) (list_all (is_turn callers) (words_of line)) parts.0 in
+    let here : list_all (is_turn callers) (words_of line) ≡ true = fine (has_bad_byte line || not (list_all spells_number (words_of line))) (list_all (is_turn callers) (words_of line)) parts.0 in
     let P : List ℕ → Type 0 = All (IsTurn callers) in
     subst P (sym (filter_map-append (λ word. option_map nat_abs (number word)) (words_of line) (flat_map words_of lines)))
     (All-append (IsTurn callers) (turns_of (words_of line)) (turns_of (flat_map words_of lines)) (turns_are callers (words_of line) here) (lines_are callers (n + 1) lines parts.1))

@@ -2,7 +2,7 @@
 use Rattle.std.proofs.Common.{◌≡◌, true, false, Some, None, Ok, Err, [], ◌∷◌, ◌++◌, refl, codes}
 use Rattle.std.specs.Prelude.{pos, negsuc}
 use Rattle.cf_types.specs.declared.stmt.TokenKind.TheVariants as kind
-use Rattle.cf_text.specs.Shapes.{is_name, is_written, number, unit_of, base_before}
+use Rattle.cf_text.specs.Shapes.{is_name, is_written, number, base_and_unit, base_before}
 use Rattle.config_rules.specs.Cut.{cut_of, parts_within, token}
 use Rattle.config_rules.proofs.VectorWords.{text, many}
 
@@ -92,9 +92,9 @@ no_numbers : (number (codes "08") ≡ None)
 no_numbers = (refl, refl, refl, refl, refl, refl)
 
 -- a unit has no leading zero, whatever its size, and a base with a mark may end with a digit
-unit_chunks : (unit_of (codes "com0") ≡ Some (codes "com", 0))
-    × (unit_of (codes "com00") ≡ None)
-    × (unit_of (codes "com099999") ≡ None)
-    × (unit_of (codes "com") ≡ None)
+unit_chunks : (base_and_unit (codes "com0") ≡ Some (codes "com", 0))
+    × (base_and_unit (codes "com00") ≡ None)
+    × (base_and_unit (codes "com099999") ≡ None)
+    × (base_and_unit (codes "com") ≡ None)
     × (base_before 42 (codes "com0*") ≡ Some (codes "com0"))
 unit_chunks = (refl, refl, refl, refl, refl)

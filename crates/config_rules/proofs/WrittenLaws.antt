@@ -19,8 +19,8 @@ use Rattle.cf_types.specs.declared.stmt.ItemKind.TheVariants as of_kind
 use Rattle.cf_types.specs.declared.stmt.Stmt.{Stmt}
 use Rattle.cf_types.specs.declared.stmt.Stmt.TheVariants as stmt
 use Rattle.cf_types.specs.declared.tables.Locator.{Locator}
-use Rattle.cf_text.specs.Shapes.{ends_with_digit, is_written, is_decimal, base_len, unit_of, base_before}
-use Rattle.config_rules.specs.Form.{◌or◌, alone, at_place, attach_stmt, attached, by_row, cond_form, count_of, defining, device_stmt, each, fixed_of, form_by, form_of, free_form, given, inst_stmt, is_before_last, is_chunk, is_mark, is_word, locator_name, locator_of, locators_of, marked_of, make_item, name_of, names_of, option_item, path_of, needs_of, no_inst, no_stmt, pairs_of, parted, parted_at, place_of, prefix_stmt, pseudo_stmt, row_by, row_of, table, TableRow, unit_chunk, value_of, with_body, with_default, within}
+use Rattle.cf_text.specs.Shapes.{ends_with_digit, is_written, is_decimal, base_len, base_and_unit, base_before}
+use Rattle.config_rules.specs.Form.{◌or◌, alone, at_place, attach_stmt, attached, by_row, cond_form, count_of, defining, device_stmt, each, fixed_of, form_by, form_of, free_form, given, inst_stmt, is_chunk, is_mark, is_word, locator_name, locator_of, locators_of, marked_of, make_item, name_of, names_of, option_item, path_of, needs_of, no_inst, no_stmt, pairs_of, parted, parted_at, place_of, prefix_stmt, pseudo_stmt, row_by, row_of, table, TableRow, unit_chunk, value_of, with_body, with_default, fitted, places_and_name}
 use Rattle.config_rules.specs.Written.{AreLocators, IsName, IsUnit, IsWritten}
 use Rattle.config_rules.proofs.CutLaws.{both_left, both_right}
 
@@ -154,16 +154,29 @@ device_written (n ∷ ps) =
     if_both IsWritten (ends_with_digit n.text) None (defining true stmt.Device (n ∷ ps)) (λ _. tt)
     (λ plain. named_body stmt.Device n ps (λ locs needs shaped fit all. (shaped, plain, fit, all)))
 
+-- places and an attachment's name that may be written
+abbrev AreNamed : List (List ℕ) × Option (List ℕ) → Type 0
+AreNamed a = All IsName a.0 × IfSome a.1 IsName
+
+one_name : (name : List ℕ) → IsName name → All IsName (name ∷ [])
+one_name name own = All-cons IsName name [] own (All-nil IsName)
+
+places_named : (ps : List Piece) → IfSome (places_and_name ps) AreNamed
+places_named [] = tt
+places_named (n ∷ []) = if_map AreNamed _ (name_of n) (if_weaker IsName _ (name_of n) (λ place own. (one_name place own, tt)) (named n))
+places_named (n ∷ m ∷ ps) =
+    if_then AreNamed _ (name_of n)
+    (if_weaker IsName _ (name_of n) (λ place own.
+    if_both AreNamed (is_mark (codes ",") m) (option_map (λ rest. (place ∷ rest.0, rest.1)) (places_and_name ps)) _
+    (λ _. if_map AreNamed _ (places_and_name ps) (if_weaker AreNamed _ (places_and_name ps) (λ rest all. (All-cons IsName place rest.0 own all.0, all.1)) (places_named ps)))
+    (λ _. if_both AreNamed (is_word (codes "with") m) (option_map (λ name. (place ∷ [], Some name)) (alone name_of ps)) None
+    (λ _. if_map AreNamed _ (alone name_of ps) (if_weaker IsName _ (alone name_of ps) (λ name there. (one_name place own, there)) (if_alone IsName name_of named ps)))
+    (λ _. tt)))
+    (named n))
+
 attached_written : (device : List ℕ) (needs : List (List ℕ)) (ps : List Piece) → IsName device → All IsName needs → IfSome (attached device needs ps) IsWritten
 attached_written device needs ps shaped all =
-    if_both IsWritten (is_before_last (codes "with") ps) _ (option_map (λ places. stmt.Attach device places None needs) (names_of ps))
-    (λ _. if_then IsWritten _ (names_of (take (length ps - 2) ps))
-    (if_weaker (All IsName) _ (names_of (take (length ps - 2) ps)) (λ places here.
-    if_map IsWritten (λ name. stmt.Attach device places (Some name) needs) (alone name_of (drop (length ps - 1) ps))
-    (if_weaker IsName _ (alone name_of (drop (length ps - 1) ps)) (λ name own. (shaped, here, own, all)) (if_alone IsName name_of named (drop (length ps - 1) ps))))
-    (all_named (take (length ps - 2) ps))))
-    (λ _. if_map IsWritten (λ places. stmt.Attach device places None needs) (names_of ps)
-    (if_weaker (All IsName) _ (names_of ps) (λ places here. (shaped, here, tt, all)) (all_named ps)))
+    if_map IsWritten _ (places_and_name ps) (if_weaker AreNamed _ (places_and_name ps) (λ a are. (shaped, are.0, are.1, all)) (places_named ps))
 
 attach_written : (ps : List Piece) → IfSome (attach_stmt ps) IsWritten
 attach_written [] = tt
@@ -183,7 +196,7 @@ attach_written (d ∷ at ∷ ps) =
 abbrev IsUnitOf : List ℕ × UnitMark → Type 0
 IsUnitOf u = IsName u.0 × IsUnit u.1
 
-based : (chunk : List ℕ) → IfSome (unit_of chunk) (λ u. IsName u.0)
+based : (chunk : List ℕ) → IfSome (base_and_unit chunk) (λ u. IsName u.0)
 based chunk =
     let base = take (base_len chunk) chunk in
     let behind = drop (base_len chunk) chunk in
@@ -192,8 +205,8 @@ based chunk =
 fixed_shaped : (p : Piece) → IfSome (fixed_of true p) (λ u. IsName u.0 × (u.1 ≤ 65535))
 fixed_shaped p =
     if_both (λ u. IsName u.0 × (u.1 ≤ 65535)) (is_chunk p) _ None
-    (λ _. if_then (λ u. IsName u.0 × (u.1 ≤ 65535)) (λ u. within true (nat_le u.1 65535) u (u.0, 0)) (unit_of p.text)
-    (if_weaker (λ u. IsName u.0) _ (unit_of p.text) (λ u shaped.
+    (λ _. if_then (λ u. IsName u.0 × (u.1 ≤ 65535)) (λ u. fitted true (nat_le u.1 65535) u (u.0, 0)) (base_and_unit p.text)
+    (if_weaker (λ u. IsName u.0) _ (base_and_unit p.text) (λ u shaped.
     if_both (λ v. IsName v.0 × (v.1 ≤ 65535)) (nat_le u.1 65535) (Some u) None (λ few. (shaped, leb-true u.1 65535 few)) (λ _. tt))
     (based p.text)))
     (λ _. tt)

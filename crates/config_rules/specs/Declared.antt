@@ -1,6 +1,5 @@
 -- What statements declare: attributes, devices and attachments, each in order, after config(5).
-use Rattle.std.specs.Prelude.{ℕ, Bool, true, false, if◌then◌else◌, List, [], map, filter_map, find, position, bytes_eq, codes, Option, Some, None, is_some, option_map, option_and_then, unwrap_or}
-use Rattle.std.specs.List.{list_any}
+use Rattle.std.specs.Prelude.{ℕ, Bool, true, false, if◌then◌else◌, List, [], map, filter_map, bytes_eq, codes, Option, Some, None, is_some, option_map, option_and_then, unwrap_or}
 use Rattle.cf_types.specs.declared.declared.Declared as lists
 use Rattle.cf_types.specs.declared.stmt.Stmt.{Stmt}
 use Rattle.cf_types.specs.declared.stmt.Stmt.TheVariants as stmt
@@ -10,6 +9,7 @@ use Rattle.cf_types.specs.declared.tables.Device.{Device}
 use Rattle.cf_types.specs.declared.tables.Attach.{Attach}
 use Rattle.cf_types.specs.declared.tables.Place.{Place}
 use Rattle.cf_types.specs.declared.tables.Place.TheVariants.{Root, At}
+use Rattle.cf_types.specs.Lookups.{place_of_name}
 
 -- the attributes, devices and attachments, each in order; a pseudo-device is an attribute that is marked so
 abbrev pub Declared : Type 0
@@ -21,17 +21,13 @@ Declared = lists.Declared
 abbrev pub is_root : List ℕ → Bool
 is_root name = bytes_eq name (codes "root")
 
--- the place of a name in a list of names
-abbrev pub place_in : List (List ℕ) → List ℕ → Option ℕ
-place_in names name = position (λ n. bytes_eq n name) names
-
 -- the numbers of these names, each told by a look-up
 abbrev pub numbers_by : (List ℕ → Option ℕ) → List (List ℕ) → List ℕ
 numbers_by number_of wanted = map (λ name. unwrap_or (number_of name) 0) wanted
 
 -- the numbers of these names in a list of names
 abbrev pub numbers_in : List (List ℕ) → List (List ℕ) → List ℕ
-numbers_in names = numbers_by (place_in names)
+numbers_in names = numbers_by (place_of_name names)
 
 -- the attribute that a statement declares; a device with braces declares one of its own name
 abbrev pub attr_name : Stmt → Option (List ℕ)
@@ -74,21 +70,21 @@ attach_by attr_number device_number _ = None
 
 -- the attribute of a statement
 abbrev pub attr_of : List (List ℕ) → Stmt → Option Attr
-attr_of attrs = attr_by (place_in attrs)
+attr_of attrs = attr_by (place_of_name attrs)
 
 -- a device, with the number of the attribute of its own, if it has braces
 abbrev pub device_of : List (List ℕ) → Stmt → Option Device
 device_of attrs (stmt.Device name locs needs) =
-    Some (record { name = name; own = option_and_then (λ l. place_in attrs name) locs; needs = numbers_in attrs needs })
+    Some (record { name = name; own = option_and_then (λ l. place_of_name attrs name) locs; needs = numbers_in attrs needs })
 device_of attrs _ = None
 
 -- the place of this name
 abbrev pub place_of : List (List ℕ) → List ℕ → Place
-place_of attrs = place_by (place_in attrs)
+place_of attrs = place_by (place_of_name attrs)
 
 -- the attachment of a statement
 abbrev pub attach_of : List (List ℕ) → List (List ℕ) → Stmt → Option Attach
-attach_of attrs devices = attach_by (place_in attrs) (place_in devices)
+attach_of attrs devices = attach_by (place_of_name attrs) (place_of_name devices)
 
 -- each list, in the order of the statements
 abbrev pub declared_with : List (List ℕ) → List (List ℕ) → List Stmt → Declared
@@ -101,21 +97,3 @@ declared_with attrs devices stmts = record {
 -- the attributes, devices and attachments that the statements declare
 unfoldable pub declared : List Stmt → Declared
 declared stmts = declared_with (filter_map attr_name stmts) (filter_map device_name stmts) stmts
-
--- ---- looking up
-
--- the number of an attribute
-abbrev pub attr_number : Declared → List ℕ → Option ℕ
-attr_number d name = position (λ a. bytes_eq a.name name) d.attrs
-
--- the number of a device
-abbrev pub device_number : Declared → List ℕ → Option ℕ
-device_number d name = position (λ x. bytes_eq x.name name) d.devices
-
--- an attachment has this name
-abbrev pub has_attach : Declared → List ℕ → Bool
-has_attach d name = list_any (λ a. bytes_eq a.name name) d.attaches
-
--- the attribute of this name
-abbrev pub attr_named : Declared → List ℕ → Option Attr
-attr_named d name = find (λ a. bytes_eq a.name name) d.attrs

@@ -13,8 +13,9 @@ use Rattle.cf_types.specs.declared.tables.Locator.{Locator}
 use Rattle.cf_types.specs.declared.tables.Refusal.{Refusal}
 use Rattle.config_rules.specs.Form.{given, ◌or◌}
 use Rattle.config_rules.specs.Reading.{Files, Reading, reading}
-use Rattle.config_rules.specs.Declared.{Declared, declared, is_root, numbers_by, attr_number, device_number, attr_named, has_attach}
+use Rattle.config_rules.specs.Declared.{Declared, declared, is_root, numbers_by}
 use Rattle.cf_types.specs.Offers.{nodes_of, interfaces_of, firsts}
+use Rattle.cf_types.specs.Lookups.{attr_named, attr_number, device_number, has_attach}
 use Rattle.config_rules.specs.Joined.{join}
 
 -- ---- words of the table
@@ -30,11 +31,11 @@ repeats_locator locs = repeats (map (λ l. l.name) (unwrap_or locs []))
 
 -- an attribute has this name
 abbrev pub has_attr : Declared → List ℕ → Bool
-has_attr d name = is_some (attr_number d name)
+has_attr d name = is_some (attr_number d.attrs name)
 
 -- a device has this name
 abbrev pub has_device : Declared → List ℕ → Bool
-has_device d name = is_some (device_number d name)
+has_device d name = is_some (device_number d.devices name)
 
 -- one of these names is no attribute
 abbrev pub lacks_attr : Declared → List (List ℕ) → Bool
@@ -42,7 +43,7 @@ lacks_attr d names = list_any (λ name. not (has_attr d name)) names
 
 -- the numbers of these attributes
 abbrev pub attr_numbers : Declared → List (List ℕ) → List ℕ
-attr_numbers d = numbers_by (attr_number d)
+attr_numbers d = numbers_by (attr_number d.attrs)
 
 -- an interface list of its own attribute, where there is one, and those of these names would be too long
 abbrev pub offers_too_much : Declared → Option (List Locator) → List (List ℕ) → Bool
@@ -63,7 +64,7 @@ is_instance _ = false
 
 -- the attribute of this name is that of a pseudo-device
 abbrev pub is_pseudo : Declared → List ℕ → Bool
-is_pseudo d name = option_map_or (λ x. x.pseudo) (attr_named d name) false
+is_pseudo d name = option_map_or (λ x. x.pseudo) (attr_named d.attrs name) false
 
 -- ---- the codes of each statement, in the order in which they are looked for
 
@@ -87,7 +88,7 @@ device_fault d name locs needs =
 -- a place that is unknown, or no interface attribute
 abbrev pub place_fault : Declared → List ℕ → Option ℕ
 place_fault d place =
-    if is_root place then None else option_map_or (λ a. given (not a.iface) NO_INTERFACE) (attr_named d place) (Some UNKNOWN_ATTRIBUTE)
+    if is_root place then None else option_map_or (λ a. given (not a.iface) NO_INTERFACE) (attr_named d.attrs place) (Some UNKNOWN_ATTRIBUTE)
 
 -- the places in order
 abbrev pub places_fault : Declared → List (List ℕ) → Option ℕ
@@ -99,7 +100,7 @@ abbrev pub attach_fault : Declared → List ℕ → List (List ℕ) → List ℕ
 attach_fault d device places name needs =
     given (not (has_device d device)) UNKNOWN_DEVICE
     or (places_fault d places
-    or (given (is_root name || has_attach d name) NAME_TAKEN
+    or (given (is_root name || has_attach d.attaches name) NAME_TAKEN
     or given (lacks_attr d needs) UNKNOWN_ATTRIBUTE))
 
 -- the code of a result

@@ -1,6 +1,6 @@
 -- The statement that a list of tokens is, one case for each row of the table of statements. The statements are those
 -- of config(5). Their exact forms, the limits on lengths and numbers, and the codes are this project's profile.
-use Rattle.std.specs.Prelude.{◌≡◌, ℕ, ◌-◌, Bool, true, false, not, ◌&&◌, ◌||◌, ◌==◌, nat_lt, nat_le, if◌then◌else◌, List, [], ◌∷◌, length, take, drop, map, bytes_eq, codes, Option, Some, None, is_some, is_none, option_map, option_and_then, ℤ, pos, nat_abs, int_le}
+use Rattle.std.specs.Prelude.{◌≡◌, ℕ, Bool, true, false, not, ◌&&◌, ◌||◌, ◌==◌, nat_lt, nat_le, if◌then◌else◌, List, [], ◌∷◌, length, take, drop, map, bytes_eq, codes, Option, Some, None, is_some, is_none, option_map, option_and_then, ℤ, pos, nat_abs, int_le}
 use Rattle.std.specs.List.{list_all, list_any, slice_split, before_first, after_first}
 use Rattle.cf_types.specs.declared.code.configuration.TheConstants.{OUT_OF_RANGE, NO_FORM, LEFT_OUT}
 use Rattle.cf_types.specs.declared.keyword.Keyword.{Keyword}
@@ -21,7 +21,7 @@ use Rattle.cf_types.specs.declared.stmt.Item.{Item}
 use Rattle.cf_types.specs.declared.stmt.Stmt.{Stmt}
 use Rattle.cf_types.specs.declared.stmt.Stmt.TheVariants as stmt
 use Rattle.cf_types.specs.declared.tables.Locator.{Locator}
-use Rattle.cf_text.specs.Shapes.{is_name, is_written, ends_with_digit, number, in_range, unit_of, base_before}
+use Rattle.cf_text.specs.Shapes.{is_name, is_written, ends_with_digit, number, in_range, base_and_unit, base_before}
 
 -- ---- single tokens
 
@@ -70,12 +70,12 @@ abbrev pub name_of : Piece → Option (List ℕ)
 name_of p = given (is_chunk p && is_written p.text) p.text
 
 -- a number in its range; where sizes don't count, one out of its range stands for 0
-abbrev pub within : {A : Type 0} → Bool → Bool → A → A → Option A
-within sized fits x zero_of = if fits then Some x else given (not sized) zero_of
+abbrev pub fitted : {A : Type 0} → Bool → Bool → A → A → Option A
+fitted sized fits x zero_of = if fits then Some x else given (not sized) zero_of
 
 -- `V`
 abbrev pub value_of : Bool → Piece → Option ℤ
-value_of sized p = if is_chunk p then option_and_then (λ v. within sized (in_range v) v (pos 0)) (number p.text) else None
+value_of sized p = if is_chunk p then option_and_then (λ v. fitted sized (in_range v) v (pos 0)) (number p.text) else None
 
 -- a chunk or a string
 abbrev pub bytes_of : Piece → Option (List ℕ)
@@ -87,7 +87,7 @@ path_of p = given ((is_chunk p || is_text p) && nat_lt 0 (length p.text)) p.text
 
 -- a base and a unit up to 65535
 abbrev pub fixed_of : Bool → Piece → Option (List ℕ × ℕ)
-fixed_of sized p = if is_chunk p then option_and_then (λ u. within sized (nat_le u.1 65535) u (u.0, 0)) (unit_of p.text) else None
+fixed_of sized p = if is_chunk p then option_and_then (λ u. fitted sized (nat_le u.1 65535) u (u.0, 0)) (base_and_unit p.text) else None
 
 -- a base before this mark
 abbrev pub marked_of : ℕ → Piece → Option (List ℕ)
@@ -190,19 +190,20 @@ defining sized make (n ∷ ps) = option_and_then (λ name. with_body sized (make
 
 -- ---- one case for each row
 
--- a word, the last but one token, with no comma before it and something before that
-abbrev pub is_before_last : List ℕ → List Piece → Bool
-is_before_last word ps =
-    nat_lt 2 (length ps) && list_any (is_word word) (take 1 (drop (length ps - 2) ps))
-    && not (list_any (is_mark (codes ",")) (take 1 (drop (length ps - 3) ps)))
+-- `N-or-root, .. [with N]`: the places, and the attachment's name, if it is written
+abbrev pub places_and_name : List Piece → Option (List (List ℕ) × Option (List ℕ))
+places_and_name [] = None
+places_and_name (n ∷ []) = option_map (λ place. (place ∷ [], None)) (name_of n)
+places_and_name (n ∷ m ∷ ps) =
+    option_and_then (λ place.
+    if is_mark (codes ",") m then option_map (λ rest. (place ∷ rest.0, rest.1)) (places_and_name ps)
+    else (if is_word (codes "with") m then option_map (λ name. (place ∷ [], Some name)) (alone name_of ps)
+    else None))
+    (name_of n)
 
--- the places, and where they end with `with N`, the attachment's name
+-- the attachment of a device that needs these attributes
 abbrev pub attached : List ℕ → List (List ℕ) → List Piece → Option Stmt
-attached device needs ps =
-    if is_before_last (codes "with") ps
-    then option_and_then (λ places. option_map (λ name. stmt.Attach device places (Some name) needs) (alone name_of (drop (length ps - 1) ps)))
-    (names_of (take (length ps - 2) ps))
-    else option_map (λ places. stmt.Attach device places None needs) (names_of ps)
+attached device needs ps = option_map (λ a. stmt.Attach device a.0 a.1 needs) (places_and_name ps)
 
 -- `attach N at N-or-root, .. [with N] [: N, ..]`, behind its word
 abbrev pub attach_stmt : List Piece → Option Stmt
@@ -284,7 +285,7 @@ make_item _ = None
 
 -- from 1 to 65535
 abbrev pub count_of : Bool → Piece → Option ℕ
-count_of sized p = option_and_then (λ v. within sized (int_le (pos 1) v && int_le v (pos 65535)) (nat_abs v) 0) (value_of sized p)
+count_of sized p = option_and_then (λ v. fitted sized (int_le (pos 1) v && int_le v (pos 65535)) (nat_abs v) 0) (value_of sized p)
 
 -- `N [V]`
 abbrev pub pseudo_stmt : Bool → List Piece → Option Stmt

@@ -1,6 +1,6 @@
 -- The attachment, the place, the parent and the locator values of an instance, or the first code that it has. Which
 -- attachment is taken, and what brackets and defaults of locators mean, is this project's profile after config(5).
-use Rattle.std.specs.Prelude.{ℕ, Bool, true, false, not, ◌&&◌, ◌==◌, if◌then◌else◌, List, [], ◌∷◌, ◌++◌, map, flat_map, find, bytes_eq, Option, Some, None, is_some, is_none, option_and_then, unwrap_or, ok_or, Result, Ok, Err, ℤ, pos}
+use Rattle.std.specs.Prelude.{ℕ, Bool, true, false, not, ◌&&◌, ◌==◌, if◌then◌else◌, List, [], ◌∷◌, ◌++◌, map, flat_map, find, Option, Some, None, is_some, is_none, option_and_then, unwrap_or, ok_or, Result, Ok, Err, ℤ, pos}
 use Rattle.std.specs.List.{list_any, enumerate_from}
 use Rattle.std.specs.Option.{option_map_or}
 use Rattle.cf_types.specs.declared.code.configuration.TheConstants.{UNKNOWN_ATTRIBUTE, NO_INTERFACE, UNKNOWN_DEVICE, NO_ATTACHMENT, NO_FITTING_ATTACHMENT, MISSING_LOCATOR, UNKNOWN_LOCATOR, LOCATOR_TWICE, NO_DEFAULT, UNIT_ON_ATTRIBUTE}
@@ -17,19 +17,12 @@ use Rattle.cf_types.specs.declared.tables.Place.{Place}
 use Rattle.cf_types.specs.declared.tables.Place.TheVariants.{Root, At}
 use Rattle.config_rules.specs.Cut.{◌>>=◌}
 use Rattle.config_rules.specs.Form.{given, ◌or◌}
-use Rattle.config_rules.specs.Declared.{Declared, attr_number, device_number}
+use Rattle.config_rules.specs.Declared.{Declared}
 use Rattle.cf_types.specs.Offers.{is_interface, offers}
 use Rattle.cf_types.specs.Locators.{locators_at}
+use Rattle.cf_types.specs.Lookups.{attr_number, device_number, given_named, locator_named}
 
 -- ---- locators
-
--- the locator of this name
-abbrev pub locator_named : List Locator → List ℕ → Option Locator
-locator_named locs name = find (λ l. bytes_eq l.name name) locs
-
--- what an instance gives for this name
-abbrev pub given_named : List GivenLoc → List ℕ → Option GivenLoc
-given_named pairs name = find (λ g. bytes_eq g.name name) pairs
 
 -- no such locator; written before; `?` without a default
 abbrev pub pair_fault : List Locator → List GivenLoc → GivenLoc → Option ℕ
@@ -86,8 +79,8 @@ attr_target d unit (Some a) =
 abbrev pub target_of : Declared → AtSpec → Result Target ℕ
 target_of d written.Root = Ok AtRoot
 target_of d (written.Named base unit) =
-    option_map_or (λ device. Ok (Below (record { device = device; unit = unit }))) (device_number d base)
-    (attr_target d unit (attr_number d base))
+    option_map_or (λ device. Ok (Below (record { device = device; unit = unit }))) (device_number d.devices base)
+    (attr_target d unit (attr_number d.attrs base))
 
 -- the parent device that is named, if one is
 abbrev pub parent_of : Target → Option ParentSpec
@@ -97,7 +90,7 @@ parent_of (On a) = None
 
 -- the device of an instance
 abbrev pub device_or : Declared → List ℕ → Result ℕ ℕ
-device_or d name = ok_or (device_number d name) UNKNOWN_DEVICE
+device_or d name = ok_or (device_number d.devices name) UNKNOWN_DEVICE
 
 -- a device without any attachment
 abbrev pub attached : Declared → ℕ → Result ℕ ℕ

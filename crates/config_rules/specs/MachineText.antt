@@ -1,5 +1,5 @@
 -- What the lines of a machine file mean, or the first bad line and its code. The format is this project's own.
-use Rattle.std.specs.Prelude.{ℕ, zero, suc, Bool, true, false, not, ◌&&◌, ◌||◌, ◌==◌, nat_lt, nat_le, if◌then◌else◌, List, [], ◌∷◌, ◌++◌, length, drop, take_while, map, filter, find, position, slice_get, bytes_eq, codes, Option, Some, None, is_some, is_none, option_map, option_and_then, unwrap_or, Result, Ok, Err, ℤ, pos, negsuc, nat_abs, int_le}
+use Rattle.std.specs.Prelude.{ℕ, zero, suc, Bool, true, false, not, ◌&&◌, ◌||◌, ◌==◌, nat_lt, nat_le, if◌then◌else◌, List, [], ◌∷◌, ◌++◌, length, drop, take_while, map, filter, find, slice_get, bytes_eq, codes, Option, Some, None, is_some, is_none, option_map, option_and_then, unwrap_or, Result, Ok, Err, ℤ, pos, negsuc, nat_abs, int_le}
 use Rattle.std.specs.List.{list_all, list_any, slice_split, before_first, after_first, enumerate_from}
 use Rattle.std.specs.Option.{option_map_or}
 use Rattle.cf_types.specs.Policies.{no_policy}
@@ -16,7 +16,9 @@ use Rattle.cf_types.specs.declared.tables.Tables.{Tables}
 use Rattle.cf_types.specs.Locators.{locators_at}
 use Rattle.cf_types.specs.Offers.{is_interface}
 use Rattle.cf_text.specs.Shapes.{is_written, number, in_range}
-use Rattle.config_rules.specs.Cut.{lines_of, is_space, at_line, ◌>>=◌}
+use Rattle.cf_types.specs.Lines.{lines_of}
+use Rattle.cf_types.specs.Lookups.{attach_number, attr_number, spot_number}
+use Rattle.config_rules.specs.Cut.{is_space, at_line, ◌>>=◌}
 use Rattle.config_rules.specs.Form.{given, each, ◌or◌}
 
 -- ---- lines and words
@@ -120,13 +122,13 @@ abbrev pub in_match_range : ℤ → Bool
 in_match_range v = int_le (pos 0) v && int_le v (pos 65535)
 
 -- the match value that a word spells, and whether it is in its range
-abbrev pub match_value : List ℕ → Option (Option ℕ)
-match_value word = option_map (λ v. given (in_match_range v) (nat_abs v)) (number word)
+abbrev pub ranged_match : List ℕ → Option (Option ℕ)
+ranged_match word = option_map (λ v. given (in_match_range v) (nat_abs v)) (number word)
 
 -- `match ATTACHMENT SPOT V`, or `*` for every spot
 abbrev pub match_form : List ℕ → List ℕ → List ℕ → Option LineForm
 match_form attach spot value =
-    option_map (λ v. MatchOf attach (if bytes_eq spot (codes "*") then None else Some spot) v) (match_value value)
+    option_map (λ v. MatchOf attach (if bytes_eq spot (codes "*") then None else Some spot) v) (ranged_match value)
 
 -- `style ATTACHMENT ATTR direct` or `indirect`
 abbrev pub style_form : List ℕ → List ℕ → List ℕ → Option LineForm
@@ -175,22 +177,10 @@ line_form (word ∷ rest) =
 
 -- ---- what a line means after those before it
 
--- the number of an attribute of the tables
-abbrev pub attr_number : Tables → List ℕ → Option ℕ
-attr_number t name = position (λ a. bytes_eq a.name name) t.attrs
-
--- the number of an attachment of the tables
-abbrev pub attach_number : Tables → List ℕ → Option ℕ
-attach_number t name = position (λ a. bytes_eq a.name name) t.attaches
-
 -- the number of an interface attribute
 abbrev pub interface_number : Tables → List ℕ → Option ℕ
 interface_number t name =
-    option_and_then (λ a. given (is_interface t.attrs a) a) (attr_number t name)
-
--- the number of an earlier spot
-abbrev pub spot_number : List Spot → List ℕ → Option ℕ
-spot_number spots name = position (λ s. bytes_eq s.name name) spots
+    option_and_then (λ a. given (is_interface t.attrs a) a) (attr_number t.attrs name)
 
 -- the place of a spot, where its attribute is one and `root` stands on both sides or on none
 abbrev pub spot_place : Tables → List ℕ → List ℕ → Option Place
@@ -255,17 +245,17 @@ new_spot t spots name parent attr found marks =
 abbrev pub new_match : Tables → List Spot → List ℕ → Option (List ℕ) → Option ℕ → Result MatchLine ℕ
 new_match t spots attach spot value =
     option_map_or (λ code. Err code)
-    (given (is_none (attach_number t attach)) UNKNOWN_ATTACHMENT
+    (given (is_none (attach_number t.attaches attach)) UNKNOWN_ATTACHMENT
     or (given (option_map_or (λ name. is_none (spot_number spots name)) spot false) UNKNOWN_SPOT
     or given (is_none value) OUT_OF_RANGE))
-    (Ok (record { attach = unwrap_or (attach_number t attach) 0; spot = option_and_then (spot_number spots) spot; value = unwrap_or value 0 }))
+    (Ok (record { attach = unwrap_or (attach_number t.attaches attach) 0; spot = option_and_then (spot_number spots) spot; value = unwrap_or value 0 }))
 
 -- the style line, or its first code
 abbrev pub new_style : Tables → List ℕ → List ℕ → Bool → Result StyleLine ℕ
 new_style t attach attr indirect =
     option_map_or (λ code. Err code)
-    (given (is_none (attach_number t attach)) UNKNOWN_ATTACHMENT or given (is_none (interface_number t attr)) NO_INTERFACE)
-    (Ok (record { attach = unwrap_or (attach_number t attach) 0; attr = unwrap_or (interface_number t attr) 0; indirect = indirect }))
+    (given (is_none (attach_number t.attaches attach)) UNKNOWN_ATTACHMENT or given (is_none (interface_number t attr)) NO_INTERFACE)
+    (Ok (record { attach = unwrap_or (attach_number t.attaches attach) 0; attr = unwrap_or (interface_number t attr) 0; indirect = indirect }))
 
 -- a policy with those of the words added
 abbrev pub with_policies : List (List ℕ) → Policy → Policy
@@ -283,7 +273,7 @@ with_policies words p = record {
 abbrev pub new_policies : Tables → List ℕ → List (List ℕ) → List Policy → Result (List Policy) ℕ
 new_policies t attach words policies =
     option_map_or (λ a. Ok (map (λ e. if e.0 == a then with_policies words e.1 else e.1) (enumerate_from 0 policies)))
-    (attach_number t attach) (Err UNKNOWN_ATTACHMENT)
+    (attach_number t.attaches attach) (Err UNKNOWN_ATTACHMENT)
 
 -- the machine after a line of this form, or its first code
 abbrev pub after_line : Tables → Machine → Option LineForm → Result Machine ℕ

@@ -55,8 +55,8 @@ marked wanted insts marks = map (λ e. e.0) (filter (λ e. if e.1 then wanted el
 -- ---- the rows
 
 -- the number of an instance that is not starred
-abbrev pub unit_of : Instance → Option ℕ
-unit_of i = number i.mark
+abbrev pub own_unit : Instance → Option ℕ
+own_unit i = number i.mark
   where
     number : UnitMark → Option ℕ
     number (Fixed unit) = Some unit
@@ -70,8 +70,8 @@ first_unit units = fold (λ n unit. max n (unit + 1)) 0 units
 abbrev pub row : ℕ → Instance → Row
 row first i = record {
   device = i.joined.device;
-  unit = unwrap_or (unit_of i) first;
-  star = not (is_some (unit_of i));
+  unit = unwrap_or (own_unit i) first;
+  star = not (is_some (own_unit i));
   attach = i.joined.attach;
   place = i.joined.place;
   parent = i.joined.parent;
@@ -82,14 +82,14 @@ row first i = record {
 -- the rows without star, equal units together at the place of the first of them, and then the starred rows
 abbrev pub in_order : List Instance → List Instance
 in_order insts =
-    flat_map (λ unit. filter (λ i. same_mark i.mark (Fixed unit)) insts) (firsts (filter_map unit_of insts))
+    flat_map (λ unit. filter (λ i. same_mark i.mark (Fixed unit)) insts) (firsts (filter_map own_unit insts))
     ++ filter (λ i. same_mark i.mark Star) insts
 
 -- the rows of one device, from those of its instances that are rooted
 abbrev pub device_rows : List Instance → ℕ → List Row
 device_rows insts device =
     let own = filter (λ i. i.joined.device == device) insts in
-    map (row (first_unit (filter_map unit_of own))) (in_order own)
+    map (row (first_unit (filter_map own_unit own))) (in_order own)
 
 -- the rows of all devices, in the order of their definitions
 unfoldable pub rows_of : ℕ → List Instance → List Row

@@ -9,7 +9,8 @@ use Rattle.cf_types.specs.declared.machine.Command.{Command}
 use Rattle.cf_types.specs.declared.machine.Command.TheVariants as command
 use Rattle.cf_types.specs.declared.machine.Given.{Given}
 use Rattle.cf_text.specs.Shapes.{is_name, number, in_range}
-use Rattle.config_rules.specs.Cut.{lines_of, ◌>>=◌}
+use Rattle.cf_types.specs.Lines.{lines_of}
+use Rattle.config_rules.specs.Cut.{◌>>=◌}
 use Rattle.config_rules.specs.Form.{given, ◌or◌}
 use Rattle.config_rules.specs.MachineText.{words_of, has_bad_byte}
 
@@ -24,13 +25,13 @@ abbrev pub operand : List ℕ → Result (List ℕ) ℕ
 operand word = if is_operand word then Ok word else Err WRONG_WORDS
 
 -- a number within a range
-abbrev pub within : (ℤ → Bool) → Option ℤ → Result ℤ ℕ
-within fits None = Err WRONG_WORDS
-within fits (Some v) = if fits v then Ok v else Err OUT_OF_RANGE
+abbrev pub value_within : (ℤ → Bool) → Option ℤ → Result ℤ ℕ
+value_within fits None = Err WRONG_WORDS
+value_within fits (Some v) = if fits v then Ok v else Err OUT_OF_RANGE
 
 -- the number that a word spells, within a range
 abbrev pub number_within : (ℤ → Bool) → List ℕ → Result ℤ ℕ
-number_within fits word = within fits (number word)
+number_within fits word = value_within fits (number word)
 
 -- the same of a range without negative numbers
 abbrev pub natural_within : (ℤ → Bool) → List ℕ → Result ℕ ℕ
@@ -71,13 +72,13 @@ pairs_of words = if nat_le (length words) 32 && are_pairs words then given_in wo
 
 -- `-x D` behind `open`
 abbrev pub sole_form : List ℕ → List ℕ → Result Command ℕ
-sole_form option device = if bytes_eq option (codes "-x") then (operand device >>= λ name. Ok (command.OpenSole name)) else Err 2
+sole_form option device = if bytes_eq option (codes "-x") then (operand device >>= λ name. Ok (command.OpenSole name)) else Err WRONG_WORDS
 
 -- `open D` or `open -x D`
 abbrev pub open_form : List (List ℕ) → Result Command ℕ
 open_form (device ∷ []) = operand device >>= λ name. Ok (command.OpenDev name)
 open_form (option ∷ device ∷ []) = sole_form option device
-open_form _ = Err 2
+open_form _ = Err WRONG_WORDS
 
 -- `io D V`
 abbrev pub io_form : List (List ℕ) → Result Command ℕ
@@ -181,8 +182,8 @@ abbrev pub is_caller : ℕ → ℤ → Bool
 is_caller callers v = int_le (pos 1) v && int_le v (pos callers)
 
 -- a word that spells a number
-abbrev pub is_number : List ℕ → Bool
-is_number word = is_some (number word)
+abbrev pub spells_number : List ℕ → Bool
+spells_number word = is_some (number word)
 
 -- a word that spells the number of a caller
 abbrev pub is_turn : ℕ → List ℕ → Bool
@@ -191,7 +192,7 @@ is_turn callers word = option_map_or (is_caller callers) (number word) false
 -- the code of a line: a byte is not allowed or a word spells no number, or else one is not the number of a caller
 abbrev pub turns_code : ℕ → List ℕ → Option ℕ
 turns_code callers line =
-    given (has_bad_byte line || not (list_all is_number (words_of line))) WRONG_WORDS
+    given (has_bad_byte line || not (list_all spells_number (words_of line))) WRONG_WORDS
     or given (not (list_all (is_turn callers) (words_of line))) OUT_OF_RANGE
 
 -- the bad lines of an order file with their codes

@@ -15,7 +15,7 @@ use Rattle.run_rules.specs.World.{World, Caller, caller_at, has_ended, nobody, p
 use Rattle.run_rules.specs.declared.deed.Deed.TheVariants.{Search, EndScan, BeginInterrupts, Finalise}
 use Rattle.run_rules.specs.After.{after, released, under_top, moved_top, with_stack, arrived, attached, listed, finaliser_placed, scan_placed, finaliser_placing, scan_placing, place_finaliser, place_scan, show_spot, list_moved, finaliser_done}
 use Rattle.defer_queue.specs.Queue.{others_of}
-use Rattle.run_sound.specs.Coming.{IsCall, IsCalled}
+use Rattle.run_sound.proofs.Coming.{IsCall, IsCalled}
 use Rattle.scan_engine.specs.Frames.{is_scanning}
 use Rattle.run_world.specs.declared.caller.CallerState.{CallerState}
 use Rattle.run_world.specs.declared.parts.Core.{Core}

@@ -19,7 +19,7 @@ use Rattle.run_rules.specs.declared.world.Arrival.{Arrival}
 use Rattle.run_rules.specs.declared.world.Position.{Position}
 use Rattle.run_rules.specs.declared.deed.Choice.TheVariants.{Does}
 use Rattle.run_rules.specs.Next.{command_of, next, next_sleep, next_wake}
-use Rattle.run_sound.specs.Commands.{IsOnly}
+use Rattle.run_sound.proofs.Commands.{IsOnly}
 use Rattle.run_sound.specs.Kept.{Kept, MayRun}
 use Rattle.run_sound.proofs.Members.{contained_live, found_contained, found_from_end}
 use Rattle.run_sound.proofs.Reasons.{has_command_reason}

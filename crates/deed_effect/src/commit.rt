@@ -11,12 +11,11 @@ ghost use Rattle.deed_effect.specs.Commits.{HasRoom, shown_now, IsAfter};
 ghost use Rattle.run_world.specs.View.{Books, SameAside};
 ghost use Rattle.run_world.specs.Sites.{world_at};
 
-use crate::absent::remove_spot;
 use crate::attach::arrive;
 use crate::effect::do_command;
 use cf_types::Memory;
 use run_rules::{Arrival, Deed, Key, Position};
-use run_world::{Core, Site};
+use run_world::{Core, Site, SpotSet};
 use std::alloc::Global;
 
 /// A turn of a scan: the scan moves, and what was found is attached.
@@ -52,11 +51,11 @@ fn search(
 
 /// A late spot is seen from now on.
 #[inline(always)]
-fn show(hidden: &mut Vec<u16>, spot: Option<u16>)
-    ensures { hidden.new.items ≡ shown_now hidden.old.items spot }
+fn show(hidden: &mut SpotSet, spot: Option<u16>)
+    ensures { hidden.new ≡ shown_now hidden.old spot }
 {
     match spot {
-        Some(spot) => remove_spot(hidden, spot),
+        Some(spot) => hidden.remove(spot),
         None => {}
     }
 }

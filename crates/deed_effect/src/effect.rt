@@ -21,7 +21,6 @@ ghost use Rattle.run_world.specs.View.{world_of, Books, SameAside};
 ghost use Rattle.run_world.specs.Sites.{world_at};
 ghost use Rattle.deed_effect.specs.Commits.{IsAfter};
 
-use crate::absent::{pull, remove_spot};
 use crate::freed::free;
 use cf_types::Memory;
 use run_rules::{Activity, Deed, Frame, Position, PowerKind, Setup};
@@ -111,7 +110,7 @@ fn plug(core: &mut Core, caller: u8, spot: u16)
     ensures books { (s : from.Setup) → Books s core.old → Books s core.new }
     ensures aside { SameAside core.old core.new }
 {
-    remove_spot(&mut core.absent, spot);
+    core.absent.remove(spot);
     finish(core, caller);
 }
 
@@ -148,7 +147,7 @@ fn unplug(core: &mut Core, caller: u8, spot: u16, of: Option<u64>) -> Result<(),
     ensures books { (s : from.Setup) → Books s core.old → Books s core.new }
     ensures aside { SameAside core.old core.new }
 {
-    pull(&mut core.absent, spot)?;
+    core.absent.put_first(spot)?;
     match of {
         Some(of) => {
             core.tree.condemn(of, caller);

@@ -1,7 +1,6 @@
 //! What a deed changes: the parts of a board, and the slots of the spots whose devices come and go.
 #![tactic(auto)]
 
-mod absent;
 mod attach;
 mod commit;
 mod effect;

@@ -11,6 +11,7 @@ use Rattle.cf_types.specs.declared.machine.Command.TheVariants as command
 use Rattle.cf_types.specs.declared.machine.Given.{Given}
 use Rattle.cf_types.specs.declared.machine.Spot.{Spot}
 use Rattle.cf_types.specs.declared.machine.Ticket.{Ticket}
+use Rattle.cf_types.specs.Lookups.{attr_number, spot_number}
 use Rattle.config_rules.specs.MachineText.{is_free_name}
 use Rattle.config_rules.specs.ScriptText.{FormedCommand, FormedScript}
 use Rattle.run_rules.specs.declared.event.Act.TheVariants as act
@@ -30,7 +31,7 @@ use Rattle.run_rules.specs.declared.deed.Deed.{Deed}
 use Rattle.run_rules.specs.declared.deed.Deed.TheVariants.{Search, EndScan, BeginInterrupts, Finalise, EndCaller, Drop, Refuse, Open, Close, Start, Done, Detach, Free, Rescan, BeginPower, Sleep, Wake, EndPower, Plug, Unplug, Tell}
 use Rattle.run_rules.specs.declared.deed.Choice.{Choice}
 use Rattle.run_rules.specs.declared.deed.Choice.TheVariants.{Does}
-use Rattle.run_rules.specs.Next.{attr_named, command_deed, command_of, has_nothing, hindered, is_hindrance, is_power, name_at, next, next_sleep, next_wake, on_device, on_held, powering, rescan_of, spot_named, suspending, telling, unless_hindered, waking, wanted_of}
+use Rattle.run_rules.specs.Next.{command_deed, command_of, has_nothing, hindered, is_hindrance, is_power, name_at, next, next_sleep, next_wake, on_device, on_held, powering, rescan_of, suspending, telling, unless_hindered, waking, wanted_of}
 use Rattle.run_rules.specs.References.{count_in}
 use Rattle.run_rules.specs.Run.{answer_of, answered, depth_name, end_of, event_of, got_of as named_of, list_names, number_of, power_name, printed, reply_of, shown_of, spot_name, told, tree_names}
 use Rattle.run_rules.specs.Tree.{tree_below}
@@ -39,10 +40,10 @@ use Rattle.run_rules.proofs.Devices.{all_both, all_imp}
 use Rattle.run_rules.proofs.FormedNames.{device_known, root_known, written_device}
 use Rattle.run_rules.proofs.Free.{find_true}
 use Rattle.run_sound.specs.Calls.{CallsDevices}
-use Rattle.run_sound.specs.Coming.{IsCalled, IsTurn}
-use Rattle.run_sound.specs.Commands.{Begins, EndsPower, SendsToSleep, Wakes, power_command}
+use Rattle.run_sound.proofs.Coming.{IsCalled, IsTurn}
+use Rattle.run_sound.proofs.Commands.{Begins, EndsPower, SendsToSleep, Wakes}
 use Rattle.run_sound.specs.Kept.{Kept, MayRun}
-use Rattle.run_sound.specs.Scripts.{IsAmid}
+use Rattle.run_sound.specs.Scripts.{IsAmid, power_command}
 use Rattle.run_sound.proofs.Arrivals.{due_inside, finalise_comes, search_comes, shown_inside}
 use Rattle.run_sound.proofs.Callers.{all_filter, doing_so}
 use Rattle.run_sound.proofs.Members.{all_flat_of, contained_live, each_mapped, found_contained, found_from_end, found_of}
@@ -80,7 +81,7 @@ row_named s r u may row small = written_device (driver_name s (driver_of s r)) u
 -- the names of live devices are those of devices
 all_named : (w : World) → MayRun w.setup → Kept w → AllNamed w
 all_named w may kept =
-    all_both (λ (d : Dev). d.row < length w.setup.tables.rows) (λ (d : Dev). d.unit < 2 ^ 32) (Named w) (λ d row small. row_named w.setup d.row d.unit may row small) w.live kept.ranges.rows kept.ranges.units
+    all_both (λ (d : Dev). d.row < length w.setup.tables.rows) (λ (d : Dev). d.unit < 2 ^ 32) (Named w) (λ d row small. row_named w.setup d.row d.unit may row small) w.live kept.ranges.devices.rows kept.ranges.devices.units
 
 live_named : (w : World) (s : ℕ) → AllNamed w → IsLive w.live s → IsDeviceName (name_at w s)
 live_named w s named live = cases (device_at w.live s) refl
@@ -218,7 +219,7 @@ rescan_fits : (w : World) (d : Dev) (said : Command) (attr : Option (List ℕ)) 
 unfolding rescan_of
 rescan_fits w d said None given fine locator attribute = fine
 rescan_fits w d said (Some name) given fine locator attribute =
-    by_option w said _ (attr_named w name) _
+    by_option w said _ (attr_number w.setup.tables.attrs name) _
     (λ a e. by_if w said (has (offered_by w.setup d.row) a) _ _ (by_option w said _ (wanted_of _ given) _ (λ wanted g. fine) locator) attribute) attribute
 
 command_fits : (w : World) (k n : ℕ) (said : Command) → AllNamed w → FitsDeed w said (command_deed w k n said)
@@ -263,10 +264,10 @@ command_fits w k n (command.ResumeTree name) named =
     device_fits w c name _ (λ d. tt) tt tt
 command_fits w k n (command.Plug name) named =
     let c : Command = command.Plug name in
-    by_option w c _ (spot_named w name) _ (λ x e. tt) tt
+    by_option w c _ (spot_number w.setup.machine.spots name) _ (λ x e. tt) tt
 command_fits w k n (command.Unplug name) named =
     let c : Command = command.Unplug name in
-    by_option w c _ (spot_named w name) _ (λ x e. by_option w c _ (device_on w.live x) _ (λ d f. hindered_fits w k c d.serial true _ named (λ n h. h) tt) tt) tt
+    by_option w c _ (spot_number w.setup.machine.spots name) _ (λ x e. by_option w c _ (device_on w.live x) _ (λ d f. hindered_fits w k c d.serial true _ named (λ n h. h) tt) tt) tt
 
 value_small : (value : ℕ) → nat_lt value (2 ^ 32) ≡ true → value < 2 ^ 32
 value_small value h = grind (arith, nat_tests, h)
@@ -525,7 +526,7 @@ may_be_told w k Tell may kept calls chosen = tt
 -- ---- what is printed is formed
 
 few_live : (w : World) → MayRun w.setup → Kept w → length w.live < 2 ^ 32
-few_live w may kept = omega (arith, kept.ranges.few, may.machine.few_spots)
+few_live w may kept = omega (arith, kept.ranges.devices.few, may.machine.few_spots)
 
 -- the answer of a transfer fits
 answer_formed : (t : Ticket) → IsFormedAnswer (answer_of t)

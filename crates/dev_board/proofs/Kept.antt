@@ -44,7 +44,7 @@ clash activity.Scans e h = cc
 clash (activity.Power what s) e h = cc
 
 pub boot_idle : (w : World) → Kept w → has_ended w 0 ≡ false → (caller_at w 0).doing ≡ activity.Idle
-boot_idle w kept goes = elim kept.ranges.booting [ inl idle ↦ idle | inr ended ↦ absurd (clash (caller_at w 0).doing ended goes) ]
+boot_idle w kept goes = elim kept.ranges.callers.booting [ inl idle ↦ idle | inr ended ↦ absurd (clash (caller_at w 0).doing ended goes) ]
 
 -- ---- what is kept
 

@@ -18,11 +18,7 @@ ghost use Rattle.run_rules.specs.World.{opening, setup_of};
 ghost use Rattle.deed_effect.specs.Agreement.{slots_of};
 ghost use Rattle.run_sound.specs.Kept.{MayRun};
 ghost use Rattle.run_sound.specs.Left.{boot_left};
-ghost use Rattle.attr_graph.specs.Graphs.{FitGraph};
-ghost use Rattle.match_search.specs.Index.{IsIndexOf};
-ghost use Rattle.run_world.specs.Input.{Bounded};
 ghost use Rattle.run_world.specs.Scripted.{FormedScripts};
-ghost use Rattle.scan_engine.specs.Spans.{AreSpansOf};
 ghost use Rattle.dev_board.specs.Posting.{PostIs};
 ghost use Rattle.dev_board.specs.Shown.{began};
 ghost use Rattle.dev_board.specs.Stepping.{StepIs, IsDid, IsOfBoot, DenialsAre};
@@ -33,13 +29,10 @@ use crate::post::post_core;
 use crate::posted::Posted;
 use crate::step::step_core;
 use crate::stepped::Stepped;
-use attr_graph::graph_of;
 use cf_types::{DevLine, List, Machine, Memory, Script, Tables};
-use match_search::RowIndex;
 use ref_ledger::Slots;
 use run_rules::{Event, Setup};
 use run_world::{Core, Site, is_occupied, opening_core};
-use scan_engine::ChildSpans;
 use std::alloc::Global;
 use std::marker::Model;
 use std::mem::drop;
@@ -65,41 +58,6 @@ impl Model for Board {
     ghost invariant = { board_kept };
 }
 
-/// What is known about a setup before any event: the rows that suit each spot, and where the spots below each one are.
-fn known_of(alloc: Global, setup: &Setup) -> Result<(RowIndex, ChildSpans), Memory>
-    requires { Bounded setup.now }
-    ensures { IfOk result (λ known. IsIndexOf setup.now.tables setup.now.machine known.0 × AreSpansOf setup.now.machine known.1) }
-{
-    let index = RowIndex::make(alloc, &setup.tables, &setup.machine)?;
-    let spans = ChildSpans::make(alloc, &setup.machine)?;
-    Ok((index, spans))
-}
-
-/// The site of this setup.
-fn site_of(alloc: Global, setup: Setup) -> Result<Site, Memory>
-    requires graph { FitGraph setup.tables }
-    requires bounded { Bounded setup }
-    ensures { IfOk result (λ site. site.setup ≡ setup) }
-{
-    let Ok(graph) = graph_of(alloc, &setup.tables) else {
-        drop(setup);
-        return Err(Memory);
-    };
-    match known_of(alloc, &setup) {
-        Ok((index, spans)) => Ok(Site {
-            setup,
-            graph,
-            index,
-            spans,
-        }),
-        Err(_) => {
-            drop(graph);
-            drop(setup);
-            Err(Memory)
-        }
-    }
-}
-
 impl Board {
     /// The board before any event, for formed tables, a machine that fits them, and at most 16 formed scripts of
     /// drvctl(8) commands.
@@ -122,7 +80,7 @@ impl Board {
             machine,
             scripts,
         };
-        match site_of(alloc, setup) {
+        match Site::make(alloc, setup) {
             Ok(site) => Board::on_site(alloc, site),
             Err(_) => Err(Memory),
         }

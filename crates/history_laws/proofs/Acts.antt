@@ -18,7 +18,8 @@ use Rattle.run_rules.specs.World.{World}
 use Rattle.run_rules.specs.Laws.{attached_name, freed_name, is_ok, opens, opens_sole, returns, slept_name, woken_name}
 use Rattle.run_rules.specs.Next.{command_of, name_at, next}
 use Rattle.run_rules.specs.Run.{answered, printed, reply_of, shown_of, told}
-use Rattle.run_sound.specs.Commands.{Begins, power_command}
+use Rattle.run_sound.specs.Scripts.{power_command}
+use Rattle.run_sound.proofs.Commands.{Begins}
 use Rattle.run_sound.proofs.Reasons.{has_command_reason}
 use Rattle.history_laws.specs.Counted.{gives_back, grants}
 use Rattle.history_laws.proofs.Grown.{LeavesRefs, LeavesSleep, LeavesTree}

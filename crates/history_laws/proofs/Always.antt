@@ -4,11 +4,11 @@ use Rattle.std.proofs.lemmas.List.{append-nil}
 use Rattle.run_rules.specs.declared.event.Event.{Event}
 use Rattle.run_rules.specs.declared.world.Setup.{Setup}
 use Rattle.run_rules.specs.World.{World, opening}
-use Rattle.run_rules.specs.Laws.{IsLawfulNext, Lawful, LawfulFrom}
+use Rattle.run_rules.specs.Laws.{FreesChildless, FreesUnheld, IsLawfulNext, Lawful, LawfulFrom}
 use Rattle.run_rules.specs.Run.{Run, Step}
 use Rattle.run_rules.specs.Sound.{HaveOwnNames}
 use Rattle.run_sound.specs.Kept.{MayRun}
-use Rattle.history_laws.specs.Always.{FreesChildless, FreesUnheld, OfEveryEvent, OfEveryRun}
+use Rattle.history_laws.specs.Always.{OfEveryEvent, OfEveryRun}
 use Rattle.history_laws.specs.Reliable.{AtEach, IsReliable}
 use Rattle.history_laws.proofs.LawsHold.{always_lawful, lawful_next}
 use Rattle.history_laws.proofs.Names.{world_names}
@@ -33,7 +33,7 @@ of_run P f s h v may run = f h v (stands_always s h v may run)
 pub of_event : (P : List Event → Event → Type 0) → ((h : List Event) (w v : World) (e : Event) → Stands h w → Step w e.caller e v → P h e) → OfEveryEvent P
 of_event P f s h e v may run = let last = ends (opening s) h e v run in f h last.before v e (stands_always s h last.before may last.run) last.step
 
-pub of_lawful : (P : List Event → Event → Type 0) → ((h : List Event) (e : Event) → IsLawfulNext h e (h ++ e ∷ []) → P h e) → OfEveryEvent P
+pub of_lawful : (P : List Event → Event → Type 0) → ((h : List Event) (e : Event) → IsLawfulNext h e → P h e) → OfEveryEvent P
 of_lawful P f = of_event P (λ h w v e at step. f h e (lawful_next h w v e at step))
 
 pub own_names : (h : List Event) (w : World) → Stands h w → HaveOwnNames w.setup w.live
@@ -42,12 +42,12 @@ own_names h w at = (world_names w at.may at.kept).own
 -- ---- what may be relied on
 
 -- what is lawful where an event stands
-lawful_at : (g before rest : List Event) (e : Event) → LawfulFrom g (before ++ e ∷ rest) → IsLawfulNext (g ++ before) e ((g ++ before) ++ e ∷ [])
-lawful_at g [] rest e all = subst (λ (f : List Event). IsLawfulNext f e (f ++ e ∷ [])) (sym (append-nil g)) all.0
+lawful_at : (g before rest : List Event) (e : Event) → LawfulFrom g (before ++ e ∷ rest) → IsLawfulNext (g ++ before) e
+lawful_at g [] rest e all = subst (λ (f : List Event). IsLawfulNext f e) (sym (append-nil g)) all.0
 lawful_at g (f ∷ before) rest e all =
-    subst (λ (i : List Event). IsLawfulNext i e (i ++ e ∷ [])) (append_assoc g (f ∷ []) before) (lawful_at (g ++ f ∷ []) before rest e all.1)
+    subst (λ (i : List Event). IsLawfulNext i e) (append_assoc g (f ∷ []) before) (lawful_at (g ++ f ∷ []) before rest e all.1)
 
-at_each : (P : List Event → Event → Type 0) → ((before : List Event) (e : Event) → IsLawfulNext before e (before ++ e ∷ []) → P before e) → (h : List Event) → Lawful h → AtEach P h
+at_each : (P : List Event → Event → Type 0) → ((before : List Event) (e : Event) → IsLawfulNext before e → P before e) → (h : List Event) → Lawful h → AtEach P h
 at_each P f h lawful before rest e is = f before e (lawful_at [] before rest e (subst Lawful is lawful))
 
 pub reliable : (h : List Event) (w : World) → Stands h w → Lawful h → IsReliable h w

@@ -26,8 +26,9 @@ use Rattle.run_rules.specs.After.{after, new_device}
 use Rattle.run_rules.specs.Laws.{attached_below, attached_name, freed_name, is_name, is_ok, transfers}
 use Rattle.run_rules.specs.Next.{command_of, name_at, next}
 use Rattle.run_rules.specs.Run.{answered, printed, reply_of, told}
-use Rattle.run_sound.specs.Coming.{IsCall, IsTurn}
-use Rattle.run_sound.specs.Commands.{Begins, StartsHeld, open_command, power_command}
+use Rattle.run_sound.proofs.Coming.{IsCall, IsTurn}
+use Rattle.run_sound.specs.Scripts.{power_command}
+use Rattle.run_sound.proofs.Commands.{Begins, StartsHeld, open_command}
 use Rattle.run_sound.specs.Holding.{GoesUnheld}
 use Rattle.run_sound.specs.Kept.{Kept, MayRun}
 use Rattle.run_sound.proofs.Arrivals.{none_shown}

@@ -25,8 +25,8 @@ use Rattle.run_rules.specs.Run.{answered, event_of, got_of, printed, shown_of, s
 use Rattle.run_rules.specs.Sound.{EachLater, IsApart, IsPlaced}
 use Rattle.run_rules.proofs.Devices.{all_imp, all_front, below_next}
 use Rattle.run_rules.proofs.Setups.{after_setup}
-use Rattle.run_sound.specs.Coming.{IsCall, MayCome}
-use Rattle.run_sound.specs.Commands.{ClosesHeld, OpensFree, ReturnsFirst, SendsToSleep, Wakes, open_command}
+use Rattle.run_sound.proofs.Coming.{IsCall, MayCome}
+use Rattle.run_sound.proofs.Commands.{ClosesHeld, OpensFree, ReturnsFirst, SendsToSleep, Wakes, open_command}
 use Rattle.run_sound.specs.Holding.{GoesUnheld, opened_by, returned_by}
 use Rattle.run_sound.specs.Kept.{Kept, MayRun}
 use Rattle.run_sound.proofs.Arrivals.{finalise_comes, none_shown, search_comes}

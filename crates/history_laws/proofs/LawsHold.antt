@@ -169,7 +169,7 @@ module _ (g : List Event) (w v : World) (e : Event) (at : Stands g w) (step : St
   in_use x is =
       held_so (g ++ e ∷ []) v w e.caller d x after_it step.world at.kept.sound.refs.counted (holds_in_use w e.caller d x at.may at.kept step.chosen (rw line at is))
 
-  pub lawful_next : IsLawfulNext g e (g ++ e ∷ [])
+  pub lawful_next : IsLawfulNext g e
   lawful_next = record {
     unreferred = λ x is k. dead_unheld (g ++ e ∷ []) v after_it k x (freed_dead x is).1;
     childless = no_child;

@@ -120,8 +120,8 @@ pub world_names : (w : World) → MayRun w.setup → Kept w → HasNames w.setup
 world_names w may kept =
     let formed : HasFormedDevices w.setup.tables = formed_devices w.setup.tables may.tables in
     record {
-      own = names_own w.setup w.live formed kept.ranges.rows kept.ranges.units kept.sound.devices.apart;
-      unlike_root = λ d here. unlike_root w.setup d formed (of_each (λ (e : Dev). e.row < length w.setup.tables.rows) w.live d kept.ranges.rows here) (of_each (λ (e : Dev). e.unit < 2 ^ 32) w.live d kept.ranges.units here);
+      own = names_own w.setup w.live formed kept.ranges.devices.rows kept.ranges.devices.units kept.sound.devices.apart;
+      unlike_root = λ d here. unlike_root w.setup d formed (of_each (λ (e : Dev). e.row < length w.setup.tables.rows) w.live d kept.ranges.devices.rows here) (of_each (λ (e : Dev). e.unit < 2 ^ 32) w.live d kept.ranges.devices.units here);
       apart = kept.sound.devices.apart;
       placed = kept.sound.devices.placed;
     }

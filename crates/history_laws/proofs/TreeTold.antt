@@ -114,7 +114,7 @@ nobody_else h w k x at other = holds_is h w k x at ∙ ap pos (cases (device_nam
 
     cases : (o : Option Dev) → held_of w.refs k o ≡ 0
     cases None = refl
-    cases (Some d) = not_held_counts w.refs k d.serial (false_from_ne_true (holds_in w.refs k d.serial) (λ on. outside (held_by_script w.setup w.refs k d.serial at.kept.ranges.holders on)))
+    cases (Some d) = not_held_counts w.refs k d.serial (false_from_ne_true (holds_in w.refs k d.serial) (λ on. outside (held_by_script w.setup w.refs k d.serial at.kept.ranges.callers.holders on)))
 
 pub tells_tree : (h : List Event) (w : World) → Stands h w → TellsTree h (tree_lines w)
 unfolding tree_lines

@@ -1,10 +1,9 @@
 -- What may be relied on in the history and the tree that a run prints.
 use Rattle.std.specs.Prelude.{◌≡◌, List, ◌∷◌, ◌++◌}
 use Rattle.run_rules.specs.declared.event.Event.{Event}
-use Rattle.run_rules.specs.Laws.{Lawful}
+use Rattle.run_rules.specs.Laws.{FreesChildless, FreesUnheld, Lawful}
 use Rattle.run_rules.specs.Tree.{tree_lines}
 use Rattle.run_rules.specs.World.{World}
-use Rattle.history_laws.specs.Always.{FreesChildless, FreesUnheld}
 use Rattle.history_laws.specs.Tells.{TellsTree}
 
 -- wherever an event stands in the history, after these events before it

@@ -1,18 +1,9 @@
 //! Laws of every history, counted on its lines. What holds of every run holds of each prefix of a history, since that is a
 //! run too.
-ghost use Rattle.run_rules.specs.Laws.{Lawful};
-ghost use Rattle.run_rules.specs.Sound.{HaveOwnNames};
-ghost use Rattle.run_rules.specs.Tree.{tree_lines};
-ghost use Rattle.history_laws.specs.Counted.{AreAllCounted, Counted};
-ghost use Rattle.history_laws.specs.Reliable.{IsReliable};
-ghost use Rattle.history_laws.specs.Calm.{IsCalm, OfEveryBoot};
-ghost use Rattle.history_laws.specs.Tells.{TellsTree};
-ghost use Rattle.history_laws.specs.Always.{
-  OfEveryRun,
-  OfEveryEvent,
+ghost use Rattle.run_rules.specs.Laws.{
+  Lawful,
   FreesUnheld,
   FreesChildless,
-  FreesLiving,
   SleepsBelow,
   HoldsFew,
   HoldsLiving,
@@ -21,6 +12,13 @@ ghost use Rattle.history_laws.specs.Always.{
   ComesFresh,
   ComesBelowAwake,
 };
+ghost use Rattle.run_rules.specs.Sound.{HaveOwnNames};
+ghost use Rattle.run_rules.specs.Tree.{tree_lines};
+ghost use Rattle.history_laws.specs.Counted.{AreAllCounted, Counted};
+ghost use Rattle.history_laws.specs.Reliable.{IsReliable};
+ghost use Rattle.history_laws.specs.Calm.{IsCalm, OfEveryBoot};
+ghost use Rattle.history_laws.specs.Tells.{TellsTree};
+ghost use Rattle.history_laws.specs.Always.{FreesLiving, OfEveryEvent, OfEveryRun};
 
 /// What is counted on the lines of a run is what the world after it has.
 pub fn counted()

@@ -1,13 +1,14 @@
 -- The first line of a text and the others.
 use Rattle.std.proofs.Common.{◌≡◌, ◌<◌, ◌+◌, ◌==◌, ℕ, suc, Bool, true, false, cond, List, [], ◌∷◌, length, take, drop, Option, Some, None, refl, sym, ap, ◌∙◌, arith, add-one, length-drop}
 use Rattle.std.specs.Prelude.{nat_lt, position, option_map}
-use Rattle.std.specs.List.{position_or_len}
+use Rattle.std.specs.List.{onto_first, position_or_len}
 use Rattle.std.proofs.lemmas.Bool.{false_from_ne_true}
 use Rattle.std.proofs.lemmas.Bool.Decides.{nat_tests}
 use Rattle.std.proofs.lemmas.List.Sums.{position_or_len_is}
 use Rattle.memchr.specs.Find.{IsFirstByte, is_byte}
 use Rattle.cf_types.proofs.PlaceLemmas.{position_cons}
-use Rattle.run_rules.specs.Reread.{lines_of, onto_first, pieces_of, without_empty_last}
+use Rattle.cf_types.specs.Lines.{lines_of}
+use Rattle.run_rules.specs.Reread.{history_lines, without_empty_last}
 use Rattle.history_replay.specs.Lines.{IsCut}
 use Rattle.replay_laws.proofs.Cuts.{counts}
 
@@ -20,7 +21,7 @@ some_none p e = cc
 
 -- up to the first newline
 abbrev CutAt : List ℕ → ℕ → Type 0
-CutAt text p = pieces_of text ≡ take p text ∷ pieces_of (drop (suc p) text)
+CutAt text p = lines_of text ≡ take p text ∷ lines_of (drop (suc p) text)
 
 pieces_at : (text : List ℕ) (p : ℕ) → position (λ b. b == 10) text ≡ Some p → CutAt text p
 pieces_at [] p e = absurd cc
@@ -41,21 +42,21 @@ no_place : (o : Option ℕ) → option_map (λ k. k + 1) o ≡ None → o ≡ No
 no_place None e = refl
 no_place (Some q) e = absurd cc
 
-pieces_whole : (text : List ℕ) → position (λ b. b == 10) text ≡ None → pieces_of text ≡ text ∷ []
+pieces_whole : (text : List ℕ) → position (λ b. b == 10) text ≡ None → lines_of text ≡ text ∷ []
 pieces_whole [] e = refl
 pieces_whole (b ∷ bs) e = by (b == 10) refl (sym (position_cons (λ b. b == 10) b bs) ∙ e) (λ h. pieces_whole bs h)
   where
     by : (c : Bool) → (b == 10) ≡ c → cond (b == 10) (Some 0) (option_map (λ k. k + 1) (position (λ b. b == 10) bs)) ≡ None
-        → (position (λ b. b == 10) bs ≡ None → pieces_of bs ≡ bs ∷ []) → pieces_of (b ∷ bs) ≡ (b ∷ bs) ∷ []
+        → (position (λ b. b == 10) bs ≡ None → lines_of bs ≡ bs ∷ []) → lines_of (b ∷ bs) ≡ (b ∷ bs) ∷ []
     by true t h later = absurd (some_none 0 (rw t at h))
     by false t h later = rw t (ap (onto_first b) (later (no_place (position (λ b. b == 10) bs) (rw t at h))))
 
 -- ---- lines
 
-pub lines_at : (text : List ℕ) (p : ℕ) → position (λ b. b == 10) text ≡ Some p → lines_of text ≡ take p text ∷ lines_of (drop (p + 1) text)
+pub lines_at : (text : List ℕ) (p : ℕ) → position (λ b. b == 10) text ≡ Some p → history_lines text ≡ take p text ∷ history_lines (drop (p + 1) text)
 lines_at text p e = rw add-one (ap without_empty_last (pieces_at text p e) ∙ counts (take p text) (drop (suc p) text))
 
-pub lines_whole : (text : List ℕ) → 0 < length text → position (λ b. b == 10) text ≡ None → lines_of text ≡ text ∷ lines_of []
+pub lines_whole : (text : List ℕ) → 0 < length text → position (λ b. b == 10) text ≡ None → history_lines text ≡ text ∷ history_lines []
 lines_whole [] some e = absurd (omega (arith, some))
 lines_whole (b ∷ bs) some e = ap without_empty_last (pieces_whole (b ∷ bs) e)
 
@@ -76,14 +77,14 @@ place_within (b ∷ bs) p e = by (b == 10) refl (sym (position_cons (λ b. b == 
 -- the line up to a newline, and the text behind it
 pub cut_there : (text line rest : List ℕ) (p : ℕ) → position (λ b. b == 10) text ≡ Some p → line ≡ take p text → rest ≡ drop (p + 1) text → IsCut text line rest
 cut_there text line rest p at is more = record {
-  lines = lines_at text p at ∙ ap (λ (l : List ℕ). l ∷ lines_of (drop (p + 1) text)) (sym is) ∙ ap (λ (r : List ℕ). line ∷ lines_of r) (sym more);
+  lines = lines_at text p at ∙ ap (λ (l : List ℕ). l ∷ history_lines (drop (p + 1) text)) (sym is) ∙ ap (λ (r : List ℕ). line ∷ history_lines r) (sym more);
   shorter = omega (arith, ap length more, length-drop (p + 1) text, place_within text p at);
 }
 
 -- the last line, without a newline
 pub cut_whole : (text rest : List ℕ) → 0 < length text → position (λ b. b == 10) text ≡ None → rest ≡ [] → IsCut text text rest
 cut_whole text rest some none nothing = record {
-  lines = lines_whole text some none ∙ ap (λ (r : List ℕ). text ∷ lines_of r) (sym nothing);
+  lines = lines_whole text some none ∙ ap (λ (r : List ℕ). text ∷ history_lines r) (sym nothing);
   shorter = omega (arith, ap length nothing);
 }
 

@@ -15,7 +15,7 @@ use Rattle.run_rules.specs.After.{after}
 use Rattle.run_rules.specs.Next.{next}
 use Rattle.run_rules.specs.Run.{event_of, printed}
 use Rattle.run_rules.specs.World.{World}
-use Rattle.run_rules.specs.Reread.{caller_of, format_of, line_in, lines_of, reread, reread_from, reread_lines, step_by, told_by, with_event}
+use Rattle.run_rules.specs.Reread.{caller_of, format_of, history_lines, line_in, reread, reread_from, reread_lines, step_by, told_by, with_event}
 use Rattle.plain_world.specs.declared.world.Plain.{Plain}
 use Rattle.plain_world.specs.Plain.{world_of}
 use Rattle.history_replay.specs.declared.history.ReplayStop.TheVariants.{Bad}
@@ -134,15 +134,15 @@ pub record HasRead (s : Setup) (f : Format) (start : World) (first : ℕ) (text 
   pub going : IsGoing s p
   pub next : p.live.next ≤ number
   pub few : number + length left < 2 ^ 64 - 1
-  pub read : reread_lines f start first (lines_of text) ≡ behind events (reread_lines f (world_of s p) number (lines_of left))
+  pub read : reread_lines f start first (history_lines text) ≡ behind events (reread_lines f (world_of s p) number (history_lines left))
 
 -- the lines before the head
 pub record HasPassed (w : World) (text : List ℕ) (number : ℕ) (left : List ℕ) : Type 0 where
   pub counted : 1 ≤ number
   pub few : number + length left ≤ 1 + length text
-  pub passed : reread w text ≡ reread_from w number (lines_of left)
+  pub passed : reread w text ≡ reread_from w number (history_lines left)
 
-pub from_one : (w : World) (text : List ℕ) → reread w text ≡ reread_from w 1 (lines_of text)
+pub from_one : (w : World) (text : List ℕ) → reread w text ≡ reread_from w 1 (history_lines text)
 unfolding reread
 from_one w text = refl
 
@@ -153,24 +153,24 @@ all_read es w = rw (append-nil es) refl
 
 -- what is left is what its first line and the others say
 lines_left : (s : Setup) (f : Format) (start : World) (first : ℕ) (text : List ℕ) (events : List Event) (p : Plain) (number : ℕ) (left : List ℕ) (lines : List (List ℕ)) (r : Result (List Event × World) ℕ)
-    → HasRead s f start first text events p number left → lines_of left ≡ lines → reread_lines f (world_of s p) number lines ≡ r → reread_lines f start first (lines_of text) ≡ behind events r
+    → HasRead s f start first text events p number left → history_lines left ≡ lines → reread_lines f (world_of s p) number lines ≡ r → reread_lines f start first (history_lines text) ≡ behind events r
 lines_left s f start first text events p number left lines r h are is = h.read ∙ ap (behind events) (ap (reread_lines f (world_of s p) number) are ∙ is)
 
 pub tree_met : (s : Setup) (f : Format) (start : World) (first : ℕ) (text : List ℕ) (events : List Event) (p : Plain) (number : ℕ) (left line rest : List ℕ)
-    → HasRead s f start first text events p number left → IsCut left line rest → bytes_eq line (codes "tree") ≡ true → reread_lines f start first (lines_of text) ≡ Ok (events, world_of s p)
+    → HasRead s f start first text events p number left → IsCut left line rest → bytes_eq line (codes "tree") ≡ true → reread_lines f start first (history_lines text) ≡ Ok (events, world_of s p)
 tree_met s f start first text events p number left line rest h cut e =
-    lines_left s f start first text events p number left (line ∷ lines_of rest) (Ok ([], world_of s p)) h cut.lines (ends_here f (world_of s p) number line (lines_of rest) e)
+    lines_left s f start first text events p number left (line ∷ history_lines rest) (Ok ([], world_of s p)) h cut.lines (ends_here f (world_of s p) number line (history_lines rest) e)
     ∙ all_read events (world_of s p)
 
 pub line_bad : (s : Setup) (f : Format) (start : World) (first : ℕ) (text : List ℕ) (events : List Event) (p : Plain) (number : ℕ) (left line rest : List ℕ)
     → HasRead s f start first text events p number left → IsCut left line rest → bytes_eq line (codes "tree") ≡ false → step_by f (world_of s p) line ≡ None
-    → IsStop (Bad number) (reread_lines f start first (lines_of text))
+    → IsStop (Bad number) (reread_lines f start first (history_lines text))
 line_bad s f start first text events p number left line rest h cut other none =
-    let whole = lines_left s f start first text events p number left (line ∷ lines_of rest) (Err number) h cut.lines (stops_here f (world_of s p) number line (lines_of rest) other none) in
+    let whole = lines_left s f start first text events p number left (line ∷ history_lines rest) (Err number) h cut.lines (stops_here f (world_of s p) number line (history_lines rest) other none) in
     subst (IsStop (Bad number)) (sym whole) refl
 
 pub lines_gone : (s : Setup) (f : Format) (start : World) (first : ℕ) (text : List ℕ) (events : List Event) (p : Plain) (number : ℕ) (left : List ℕ)
-    → HasRead s f start first text events p number left → lines_of left ≡ [] → IsStop (Bad number) (reread_lines f start first (lines_of text))
+    → HasRead s f start first text events p number left → history_lines left ≡ [] → IsStop (Bad number) (reread_lines f start first (history_lines text))
 lines_gone s f start first text events p number left h none =
     let whole = lines_left s f start first text events p number left [] (Err number) h none (no_tree f (world_of s p) number) in
     subst (IsStop (Bad number)) (sym whole) refl
@@ -183,29 +183,29 @@ one_more s f start first text events p number left line rest e q more h cut othe
   next = omega (arith, h.next, grows);
   few = omega (arith, h.few, cut.shorter);
   read =
-      lines_left s f start first text events p number left (line ∷ lines_of rest) (with_event e (reread_lines f (world_of s q) (number + 1) (lines_of rest))) h cut.lines
-      (goes_on f (world_of s p) (world_of s q) number line (lines_of rest) e other took)
-      ∙ one_behind events e (reread_lines f (world_of s q) (number + 1) (lines_of rest))
-      ∙ ap (λ (es : List Event). behind es (reread_lines f (world_of s q) (number + 1) (lines_of rest))) (sym is);
+      lines_left s f start first text events p number left (line ∷ history_lines rest) (with_event e (reread_lines f (world_of s q) (number + 1) (history_lines rest))) h cut.lines
+      (goes_on f (world_of s p) (world_of s q) number line (history_lines rest) e other took)
+      ∙ one_behind events e (reread_lines f (world_of s q) (number + 1) (history_lines rest))
+      ∙ ap (λ (es : List Event). behind es (reread_lines f (world_of s q) (number + 1) (history_lines rest))) (sym is);
 }
 
 pub none_read : (s : Setup) (f : Format) (p : Plain) (first : ℕ) (text : List ℕ) → IsGoing s p → p.live.next ≤ first → first + length text < 2 ^ 64 - 1 → HasRead s f (world_of s p) first text [] p first text
-none_read s f p first text going next few = record { going = going; next = next; few = few; read = none_before (reread_lines f (world_of s p) first (lines_of text)) }
+none_read s f p first text going next few = record { going = going; next = next; few = few; read = none_before (reread_lines f (world_of s p) first (history_lines text)) }
 
 -- ---- a turn before the head
 
 pub head_met : (w : World) (text : List ℕ) (number : ℕ) (left line rest : List ℕ) (f : Format) → HasPassed w text number left → IsCut left line rest → format_of line ≡ Some f
-    → reread w text ≡ reread_lines f w (number + 1) (lines_of rest)
-head_met w text number left line rest f h cut is = h.passed ∙ ap (reread_from w number) cut.lines ∙ head_here w number line (lines_of rest) f is
+    → reread w text ≡ reread_lines f w (number + 1) (history_lines rest)
+head_met w text number left line rest f h cut is = h.passed ∙ ap (reread_from w number) cut.lines ∙ head_here w number line (history_lines rest) f is
 
 pub line_passed : (w : World) (text : List ℕ) (number : ℕ) (left line rest : List ℕ) → HasPassed w text number left → IsCut left line rest → format_of line ≡ None → HasPassed w text (number + 1) rest
 line_passed w text number left line rest h cut none = record {
   counted = omega (arith, h.counted);
   few = omega (arith, h.few, cut.shorter);
-  passed = h.passed ∙ ap (reread_from w number) cut.lines ∙ head_later w number line (lines_of rest) none;
+  passed = h.passed ∙ ap (reread_from w number) cut.lines ∙ head_later w number line (history_lines rest) none;
 }
 
-pub all_passed : (w : World) (text : List ℕ) (number : ℕ) (left : List ℕ) → HasPassed w text number left → lines_of left ≡ [] → IsStop (Bad 0) (reread w text)
+pub all_passed : (w : World) (text : List ℕ) (number : ℕ) (left : List ℕ) → HasPassed w text number left → history_lines left ≡ [] → IsStop (Bad 0) (reread w text)
 all_passed w text number left h none = let whole = h.passed ∙ ap (reread_from w number) none ∙ no_head w number in subst (IsStop (Bad 0)) (sym whole) refl
 
 pub none_passed : (w : World) (text : List ℕ) → HasPassed w text 1 text

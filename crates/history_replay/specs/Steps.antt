@@ -8,7 +8,7 @@ use Rattle.run_rules.specs.declared.event.Event.{Event}
 use Rattle.run_rules.specs.declared.event.Format.{Format}
 use Rattle.run_rules.specs.declared.world.Setup.{Setup}
 use Rattle.run_rules.specs.Next.{next}
-use Rattle.run_rules.specs.Reread.{line_in, lines_of, reread, reread_lines, step_by, told_by}
+use Rattle.run_rules.specs.Reread.{history_lines, line_in, reread, reread_lines, step_by, told_by}
 use Rattle.run_rules.specs.Lines.{line_of}
 use Rattle.run_rules.specs.Run.{event_of}
 use Rattle.run_rules.specs.World.{World}
@@ -51,7 +51,7 @@ TellsStep s f p line q e = IsTold s p q (step_by f (world_of s p) line) e
 
 -- the events of the lines up to the next line `tree`, of which the first has this number
 abbrev pub ReadsLines : Setup → Format → Plain → ℕ → List ℕ → Result (List Event) ReplayStop → Plain → Type 0
-ReadsLines s f p first text r q = IsRead (reread_lines f (world_of s p) first (lines_of text)) r (world_of s q)
+ReadsLines s f p first text r q = IsRead (reread_lines f (world_of s p) first (history_lines text)) r (world_of s q)
 
 -- and those of a whole history
 abbrev pub ReadsHistory : Setup → Plain → List ℕ → Result (List Event) ReplayStop → Plain → Type 0

@@ -24,7 +24,7 @@ fn cut_at(text: &[u8], place: usize) -> (&[u8], &[u8])
 
 /// The first line of a text, without its newline, and the text after it; none if nothing is left.
 pub fn first_line(text: &[u8]) -> Option<(&[u8], &[u8])>
-    ensures { MatchOption result (rule.lines_of text.now ≡ []) (λ p. IsCut text.now p.0.now p.1.now) }
+    ensures { MatchOption result (rule.history_lines text.now ≡ []) (λ p. IsCut text.now p.0.now p.1.now) }
 {
     if text.is_empty() {
         return None;

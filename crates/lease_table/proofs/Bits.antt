@@ -1,6 +1,7 @@
 -- Words that differ in one bit.
 use Rattle.std.proofs.Common.{◌≡◌, ◌≢◌, ℕ, ◌+◌, ◌-◌, ◌*◌, ◌/◌, ◌%◌, ◌^◌, ◌<◌, ◌≤◌, sym, ap, ◌∙◌, arith, div-add-mod', lt_of_not-le}
-use Rattle.std.specs.Prelude.{bit_or, bit_and, max, min}
+use Rattle.std.specs.Prelude.{◌==◌, bit_or, bit_and, max, min}
+use Rattle.lease_table.specs.Words.{is_holder, said}
 use Rattle.std.specs.Int.{bit_at}
 use Rattle.std.proofs.lemmas.Nat.Bits.{bit_at_or, bit_at_and, bit_at-pow_same, bit_at-pow_other, same_from_bits, bit_at-lt, bit_at_cat_low, bit_at_cat_high, bit_at_above, bit_at-zero}
 use native.Mathlib.Decide.{dec_le}
@@ -47,3 +48,7 @@ shifted_high m k some = same_from_bits (m * 2 ^ k / 2 ^ k) m (λ b. bit_at_high 
 
 pub none_low : (w k b : ℕ) → w % 2 ^ k ≡ 0 → b < k → bit_at w b ≡ 0
 none_low w k b clear l = sym (bit_at_low w k b l) ∙ (ap (λ (z : ℕ). bit_at z b) clear ∙ bit_at-zero b)
+
+-- who is a holder by the number of the word
+pub holder_bit : (n k : ℕ) → k ≤ 16 → is_holder (said n) k ≡ (bit_at n (k - 1) == 1)
+holder_bit n k small = ap (λ (z : ℕ). z == 1) (bit_at_low n 16 (k - 1) (omega arith))

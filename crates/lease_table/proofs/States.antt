@@ -1,11 +1,12 @@
 -- The states that the keeper knows.
-use Rattle.std.proofs.Common.{◌≡◌, ℕ, zero, suc, ◌+◌, ◌<◌, ◌%◌, ◌^◌, true, List, [], ◌∷◌, map, length, refl, ap, ◌∙◌, subst, arith}
+use Rattle.std.proofs.Common.{◌≡◌, ℕ, zero, suc, ◌+◌, ◌<◌, true, List, [], ◌∷◌, map, length, refl, ap, ◌∙◌, subst, arith}
 use Rattle.std.specs.Prelude.{slice_get, slice_index_or, slice_set, Option, Some, None}
 use Rattle.ref_ledger.specs.declared.state.SlotState.{SlotState}
 use Rattle.ref_ledger.specs.declared.state.SlotState.TheVariants.{Free}
 use Rattle.lease_table.specs.declared.view.SlotRecord.{SlotRecord}
 use Rattle.lease_table.specs.declared.view.Standing.{Standing}
 use Rattle.lease_table.specs.declared.view.View.{View}
+use Rattle.lease_table.specs.declared.view.Word.{Word}
 use Rattle.ref_ledger.specs.Slots.{Answers, Denies}
 use Rattle.ref_ledger.specs.declared.buried.Bury.{Bury}
 use Rattle.ref_ledger.specs.declared.buried.Bury.TheVariants as bury
@@ -30,7 +31,7 @@ pub known_state : (v : View) (x : ℕ) (s : SlotState) → slice_get (states_in 
 known_state v x s e = known v.standing.slots x s e
 
 -- a word without a holder's bit was not shown
-pub none_noticed : (mask : ℕ) (v : View) (x word : ℕ) → mask ≡ 0 → noticed mask v x word ≡ v
+pub none_noticed : (mask : ℕ) (v : View) (x : ℕ) (word : Word) → mask ≡ 0 → noticed mask v x word ≡ v
 none_noticed zero v x word e = refl
 none_noticed (suc mask) v x word e = absurd (omega arith)
 
@@ -43,8 +44,8 @@ freed_state v x = map-set (λ (k : SlotRecord). k.state) v.standing.slots x (slo
     freed_at : View → ℕ → Standing
     freed_at v x = record { keeps = true; number = 0; claims = []; slots = record { state = Free; generation = next_generation (slot_at v.standing x).generation } ∷ []; drawn = 0 }
 
-one_more_denial : (n s m : ℕ) → denial_of (n + 1) s m ≡ Some (record { slot = s; mask = m % 2 ^ 16 })
-one_more_denial n s m = subst (λ (z : ℕ). denial_of z s m ≡ Some (record { slot = s; mask = m % 2 ^ 16 })) (next n) refl
+one_more_denial : (n s : ℕ) (m : Word) → denial_of (n + 1) s m ≡ Some (record { slot = s; mask = m.holders })
+one_more_denial n s m = subst (λ (z : ℕ). denial_of z s m ≡ Some (record { slot = s; mask = m.holders })) (next n) refl
   where
     next : (n : ℕ) → suc n ≡ n + 1
     next n = omega arith

@@ -1,12 +1,11 @@
 -- What a caller holds.
-use Rattle.std.specs.Prelude.{◌≡◌, ◌⊎◌, ⊤, ℕ, ◌-◌, true, Option, Some, None}
-use Rattle.std.specs.Int.{bit_at}
+use Rattle.std.specs.Prelude.{◌≡◌, ◌⊎◌, ⊤, ℕ, true, false, Option, Some, None}
 use Rattle.lease_table.specs.declared.view.Claim.{Claim}
 use Rattle.lease_table.specs.declared.view.Claim.TheVariants.{Nothing, Trying, Held}
 use Rattle.lease_table.specs.declared.view.View.{View}
-use Rattle.lease_table.specs.declared.table.Word.{Word}
+use Rattle.lease_table.specs.declared.view.Word.{Word}
 use Rattle.lease_table.specs.Leases.{claim_at, showing, with_claim}
-use Rattle.lease_table.specs.Words.{WordOf}
+use Rattle.lease_table.specs.Words.{is_holder}
 
 abbrev pub claim_of : Option ℕ → Claim
 claim_of None = Nothing
@@ -17,8 +16,8 @@ abbrev pub HoldsNothing : View → Type 0
 HoldsNothing v = (x : ℕ) → claim_at v.standing x ≡ Nothing
 
 -- a lease, or none because of the word: it is condemned or not live
-abbrev pub Gained : Claim → ℕ → Type 0
-Gained Nothing word = (bit_at word 17 ≡ 1) ⊎ (bit_at word 16 ≡ 0)
+abbrev pub Gained : Claim → Word → Type 0
+Gained Nothing word = (word.condemned ≡ true) ⊎ (word.live ≡ false)
 Gained Trying word = ⊥
 Gained (Held g) word = ⊤
 
@@ -36,9 +35,8 @@ Takes x v w = ((g : ℕ) × (claim_at v.standing x ≡ Held g) × (w ≡ v)) ⊎
 pub record LooksAt (v : View) (k x : ℕ) (word : Word) (w : View) : Type 0 where
   pub held : claim_at v.standing x ≡ Held word.generation
   pub live : word.live ≡ true
-  pub own : bit_at word.holders (k - 1) ≡ 1
-  pub says : WordOf w.word word
-  pub shown : w ≡ showing v v.standing x w.word
+  pub own : is_holder word k ≡ true
+  pub shown : w ≡ showing v v.standing x word
 
 -- none exactly where there is no lease on the slot
 abbrev pub LookIs : View → ℕ → ℕ → Option Word → View → Type 0

@@ -1,5 +1,5 @@
 -- What contracts see of a seat.
-use Rattle.std.specs.Prelude.{◌≡◌, ◌≢◌, ◌%◌, ◌^◌, ℕ, zero, suc, List, [], ◌∷◌, ◌++◌, map, Option, Some, None}
+use Rattle.std.specs.Prelude.{◌≡◌, ◌≢◌, ℕ, zero, suc, List, [], ◌∷◌, ◌++◌, map, Option, Some, None}
 use Rattle.ref_ledger.specs.Slots.{Denial}
 use Rattle.ref_ledger.specs.declared.state.SlotState.{SlotState}
 use Rattle.ref_ledger.specs.declared.buried.Bury.{Bury}
@@ -7,6 +7,7 @@ use Rattle.ref_ledger.specs.declared.buried.Bury.TheVariants as bury
 use Rattle.lease_table.specs.Leases.{showing, freed, slot_at, caller_view}
 use Rattle.atomic_table.specs.Seated.{TableId}
 use Rattle.lease_table.specs.declared.view.View.{View}
+use Rattle.lease_table.specs.declared.view.Word.{Word}
 
 pub record SeatShown : Type 0 where
   pub table : TableId
@@ -35,14 +36,14 @@ abbrev pub states_in : View → List SlotState
 states_in v = map (λ k. k.state) v.standing.slots
 
 -- how often a burial was denied, and the last denial
-abbrev pub denial_of : ℕ → ℕ → ℕ → Option Denial
+abbrev pub denial_of : ℕ → ℕ → Word → Option Denial
 denial_of zero slot word = None
-denial_of (suc n) slot word = Some (record { slot = slot; mask = word % 2 ^ 16 })
+denial_of (suc n) slot word = Some (record { slot = slot; mask = word.holders })
 
 abbrev pub denial_in : View → Option Denial
 denial_in v = denial_of v.shown v.slot v.word
 
--- the slot is free and has the next generation, and the token names the one that ended; or a word with a holder's bit was shown, and this is its mask
+-- the slot is free and has the next generation, and the token names the one that ended; or a word was shown that somebody holds, and this is the mask of its holders
 abbrev pub BuryIs : ℕ → View → Bury → View → Type 0
 BuryIs x v (bury.Buried token) w = (w ≡ freed v x) × (token ≡ record { slot = x; generation = (slot_at v.standing x).generation })
-BuryIs x v (bury.Held mask) w = (w ≡ showing v v.standing x w.word) × (w.word % 2 ^ 16 ≡ mask) × (mask ≢ 0)
+BuryIs x v (bury.Held mask) w = (w ≡ showing v v.standing x w.word) × (w.word.holders ≡ mask) × (mask ≢ 0)

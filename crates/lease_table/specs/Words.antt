@@ -1,21 +1,17 @@
--- What a word says, and what a try for a lease answers.
-use Rattle.std.specs.Prelude.{◌≡◌, ℕ, ◌/◌, ◌%◌, ◌^◌, ◌==◌}
+-- The words of a table: bits 0 to 15 are those of callers 1 to 16, bit 16 says that the slot is live, bit 17 that it is condemned, and
+-- the others are its generation. Nothing else speaks of bits.
+use Rattle.std.specs.Prelude.{ℕ, ◌-◌, ◌/◌, ◌%◌, ◌^◌, ◌==◌, Bool, false}
 use Rattle.std.specs.Int.{bit_at}
-use Rattle.lease_table.specs.declared.view.Claim.TheVariants.{Nothing, Held}
-use Rattle.lease_table.specs.declared.view.View.{View}
-use Rattle.lease_table.specs.declared.table.Word.{Word}
-use Rattle.lease_table.specs.declared.table.Taken.{Taken}
-use Rattle.lease_table.specs.declared.table.Taken.TheVariants as taken
-use Rattle.lease_table.specs.Leases.{showing, with_claim}
+use Rattle.lease_table.specs.declared.view.Word.{Word}
 
-pub record WordOf (word : ℕ) (w : Word) : Type 0 where
-  pub generation : w.generation ≡ word / 2 ^ 18
-  pub live : w.live ≡ (bit_at word 16 == 1)
-  pub condemned : w.condemned ≡ (bit_at word 17 == 1)
-  pub holders : w.holders ≡ word % 2 ^ 16
+-- what a word of the table says
+abbrev pub said : ℕ → Word
+said n = record { generation = n / 2 ^ 18; live = bit_at n 16 == 1; condemned = bit_at n 17 == 1; holders = n % 2 ^ 16 }
 
--- a lease on this slot comes with its hold; else the word that was shown last says why, and nothing is held there
-abbrev pub TakenIs : ℕ → View → Taken → View → Type 0
-TakenIs x v (taken.Lease l) w = (l.slot ≡ x) × (w ≡ showing v (with_claim v.standing x (Held l.generation)) x w.word)
-TakenIs x v (taken.Condemned g) w = (w ≡ showing v (with_claim v.standing x Nothing) x w.word) × (bit_at w.word 17 ≡ 1) × (w.word / 2 ^ 18 ≡ g)
-TakenIs x v (taken.Free g) w = (w ≡ showing v (with_claim v.standing x Nothing) x w.word) × (bit_at w.word 16 ≡ 0) × (w.word / 2 ^ 18 ≡ g)
+-- whether caller k is one of the holders
+abbrev pub is_holder : Word → ℕ → Bool
+is_holder word k = bit_at word.holders (k - 1) == 1
+
+-- a word that says nothing
+abbrev pub blank : Word
+blank = record { generation = 0; live = false; condemned = false; holders = 0 }

@@ -6,7 +6,8 @@ ghost use Rattle.lease_table.specs.declared.view.Claim.TheVariants.{Nothing};
 ghost use Rattle.lease_table.specs.Holding.{HoldsNothing, LookIs, Takes, claim_of};
 
 use crate::lease::Lease;
-use crate::table::{LeaseSeat, LeaseTable, Taken, Word};
+use crate::table::{LeaseSeat, LeaseTable, Taken};
+use crate::view::Word;
 use cf_types::Memory;
 use std::alloc::Global;
 use std::marker::Model;

@@ -13,5 +13,5 @@ mod view;
 pub use holding::Leases;
 pub use lease::Lease;
 pub use rule::LeaseRule;
-pub use table::{LeaseKeeper, LeaseSeat, LeaseTable, Taken, Word};
-pub use view::{Claim, SlotRecord, Standing, View};
+pub use table::{LeaseKeeper, LeaseSeat, LeaseTable, Taken};
+pub use view::{Claim, SlotRecord, Standing, View, Word};

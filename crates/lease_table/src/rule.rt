@@ -1,6 +1,7 @@
 //! The rule of the leases, and what each kind of atomic step shows to the one who takes it.
 ghost use Rattle.std.specs.Prelude.{◌≡◌, map};
 ghost use Rattle.lease_table.specs.Leases.{Ruled, standing, keeper_view, knowing, Looked, Took, Gave, Peeked, Buries};
+ghost use Rattle.lease_table.specs.Words.{said};
 ghost use Rattle.ref_ledger.specs.declared.state.SlotState.TheVariants.{Live, Condemned};
 
 use crate::view::View;
@@ -20,21 +21,21 @@ impl TableRule<(), View, u16> for LeaseRule {
 pub struct Looks;
 
 impl Play<(), View> for Looks {
-    ghost then = { λ st m found w. Looked st.word m.0 found w.0 };
+    ghost then = { λ st m found w. Looked st.word m.0 (said found) w.0 };
 }
 
 /// A caller sets its own bit.
 pub struct Takes;
 
 impl Play<(), View> for Takes {
-    ghost then = { λ st m found w. Took st.word m.0 found w.0 };
+    ghost then = { λ st m found w. Took st.word m.0 (said found) w.0 };
 }
 
 /// A caller clears its own bit.
 pub struct Gives;
 
 impl Play<(), View> for Gives {
-    ghost then = { λ st m found w. Gave st.word m.0 found w.0 };
+    ghost then = { λ st m found w. Gave st.word m.0 w.0 };
 }
 
 /// A caller's seat is split from the keeper's, while the table is made.
@@ -66,7 +67,7 @@ impl Play<(), View> for Condemns {
 pub struct Peeks;
 
 impl Play<(), View> for Peeks {
-    ghost then = { λ st m found w. Peeked st.word m.0 found w.0 };
+    ghost then = { λ st m found w. Peeked st.word m.0 (said found) w.0 };
 }
 
 /// The keeper frees a condemned slot, if the word still has no holder's bit.

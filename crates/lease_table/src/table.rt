@@ -6,11 +6,12 @@ ghost use Rattle.ref_ledger.specs.declared.state.SlotState.TheVariants.{Free, Li
 ghost use Rattle.lease_table.specs.declared.view.Claim.TheVariants.{Nothing, Held};
 ghost use Rattle.lease_table.specs.Leases.{claim_at, showing, with_claim, gained_from, without, keeper_view, drawn_view, dealt, dealt_to, slot_at, knowing};
 ghost use Rattle.lease_table.specs.Shown.{SeatShown, KeeperShown, first_seats, states_in, BuryIs};
-ghost use Rattle.lease_table.specs.Words.{WordOf, TakenIs};
+ghost use Rattle.lease_table.specs.Taken.{TakenIs};
+ghost use Rattle.lease_table.specs.Words.{is_holder, said};
 
 use crate::lease::Lease;
 use crate::rule::{Condemns, Deals, Frees, Gives, LeaseRule, Looks, Peeks, Publishes, Takes};
-use crate::view::View;
+use crate::view::{View, Word};
 use atomic_table::{Seat, Table};
 use cf_types::{List, Memory};
 use ref_ledger::{Buried, Bury};
@@ -63,15 +64,6 @@ impl Model for LeaseKeeper {
     ghost invariant = { λ s. (s.seat.me.0.standing.keeps ≡ true) × (length s.seat.me.0.standing.slots + 1 ≡ s.seat.table_id.words) };
 }
 
-/// What a slot's word says: its generation, below 2^46; whether it is live, and condemned; its holders, bit k-1 for caller k.
-#[derive(Clone, Copy, Debug, PartialEq, Eq)]
-pub struct Word {
-    pub generation: u64,
-    pub live: bool,
-    pub condemned: bool,
-    pub holders: u16,
-}
-
 /// The answer to a try for a lease: a lease, or the generation of a slot that is condemned or not live.
 pub enum Taken {
     Lease(Lease),
@@ -80,7 +72,7 @@ pub enum Taken {
 }
 
 fn word_of(word: u64) -> Word
-    ensures { WordOf word result }
+    ensures { result ≡ said word }
 {
     Word {
         generation: word >> 18,
@@ -92,7 +84,7 @@ fn word_of(word: u64) -> Word
 
 // The holders that a word names.
 fn low_of(word: u64) -> u16
-    ensures { result ≡ word % 2 ^ 16 }
+    ensures { result ≡ (said word).holders }
 {
     (word & 0xffff) as u16
 }
@@ -189,9 +181,8 @@ impl LeaseTable {
         requires held { claim_at seat.old.view.standing lease.now.slot ≡ Held lease.now.generation }
         ensures live { result.live ≡ true }
         ensures generation { result.generation ≡ lease.now.generation }
-        ensures own { bit_at result.holders (seat.old.caller - 1) ≡ 1 }
-        ensures word { WordOf seat.new.view.word result }
-        ensures shown { seat.new.view ≡ showing seat.old.view seat.old.view.standing lease.now.slot seat.new.view.word }
+        ensures own { is_holder result seat.old.caller ≡ true }
+        ensures shown { seat.new.view ≡ showing seat.old.view seat.old.view.standing lease.now.slot result }
         ensures same { (seat.new.table ≡ seat.old.table) × (seat.new.caller ≡ seat.old.caller) }
     {
         let word = self

@@ -1,6 +1,15 @@
-//! What a seat knows. Only contracts use these types: no value of them is made.
+//! What a word of the table says, and what a seat knows. Of the types of what a seat knows no value is made: only contracts use them.
 use ref_ledger::SlotState;
 use std::collections::LinkedList;
+
+/// What a slot's word says: its generation, below 2^46; whether it is live, and condemned; its holders, bit k-1 for caller k.
+#[derive(Clone, Copy, Debug, PartialEq, Eq)]
+pub struct Word {
+    pub generation: u64,
+    pub live: bool,
+    pub condemned: bool,
+    pub holders: u16,
+}
 
 /// What a caller has on a slot: nothing, its bit without a lease, or a lease of this generation.
 #[derive(Drop)]
@@ -34,5 +43,5 @@ pub struct View {
     pub standing: Standing,
     pub shown: u64,
     pub slot: u64,
-    pub word: u64,
+    pub word: Word,
 }

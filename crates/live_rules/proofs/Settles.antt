@@ -18,7 +18,8 @@ use Rattle.run_sound.proofs.Members.{each_of, of_each}
 use Rattle.live_rules.specs.declared.plan.LiveReply.TheVariants as reply
 use Rattle.live_rules.specs.Live.{Answer, IsBare, LiveWorld, Settled, Site, add, after, attach, is_candidate_on, is_free, is_known, is_on, new_device, opening, pass, places_below, scan, search_below, search_place, search_spot, spots_below, turned_on, winner_on}
 use Rattle.live_rules.specs.Laws.{AddsSettle, IsSound, ScansSettle}
-use Rattle.live_rules.proofs.Candidates.{fewer_candidates, no_candidate}
+use Rattle.run_sound.proofs.Candidates.{fewer_candidates}
+use Rattle.live_rules.proofs.Candidates.{no_candidate}
 use Rattle.live_rules.proofs.Kept.{bare_spot, numbered, sound_comes, sound_kept, stays_sound, turned_sound}
 use Rattle.live_rules.proofs.Lists.{few_keys, one_longer}
 use Rattle.live_rules.proofs.Steps.{Comes, IsAt, IsKept, below_keeps, device_more, fold-snoc, fold_does, fold_keeps, known_below, pass_keeps, place_keeps, places, spot_keeps, spots}

@@ -15,7 +15,7 @@ use Rattle.run_rules.specs.Tree.{tree_below}
 use Rattle.live_rules.specs.declared.plan.PlanCommand.TheVariants.{Add, Remove, Scan}
 use Rattle.live_rules.specs.declared.plan.LiveReply.TheVariants as reply
 use Rattle.live_rules.specs.declared.plan.LiveLine.TheVariants.{Attached, Freed}
-use Rattle.live_rules.specs.Live.{add, answer, answers, after, doomed, freed, group_of, hinders, is_doomed, is_free, is_winner_on, opening, pass, remove, remove_unless, removed, scan, search_below, search_place, search_spot, spared, tree_lines, turned_on, winner_on}
+use Rattle.live_rules.specs.Live.{add, answer, answers, after, doomed, freed, group_of, hinders, is_doomed, is_free, opening, pass, remove, remove_unless, removed, scan, search_below, search_place, search_spot, spared, tree_lines, turned_on, winner_on}
 
 -- a main bus, an ISA bus below it, and serial ports below that
 pc_tables : Tables
@@ -67,7 +67,7 @@ ports_come_and_go : answers (record { setup = setup_of pc_tables (pc_machine no_
     ≡ ((reply.Ok, Attached (codes "mainbus0") (codes "root") 0 ∷ Attached (codes "isa0") (codes "mainbus0") 1 ∷ [])
     ∷ (reply.Ok, Attached (codes "com0") (codes "isa0") 2 ∷ Attached (codes "com1") (codes "isa0") 3 ∷ [])
     ∷ (reply.Ok, Freed (codes "com1") ∷ Freed (codes "com0") ∷ []) ∷ [])
-unfolding answers answer scan add turned_on remove remove_unless removed freed doomed spared hinders is_doomed pass search_below search_place search_spot is_free winner_on is_winner_on group_of is_candidate match_value unit_of free_after child_spots places_of interfaces interfaces_of walk firsts offers submatch lineage parent_name root_name unit_name digits pc_tables pc_machine
+unfolding answers answer scan add turned_on remove remove_unless removed freed doomed spared hinders is_doomed pass search_below search_place search_spot is_free winner_on group_of is_candidate match_value unit_of free_after child_spots places_of interfaces interfaces_of walk firsts offers submatch lineage parent_name root_name unit_name digits pc_tables pc_machine
 ports_come_and_go = refl
 
 bus_may_not_go : answers (record { setup = setup_of pc_tables (pc_machine (record no_policy { nodetach = true })) []; groups = (record { name = codes "b"; devices = 1 ∷ [] }) ∷ [] }) opening (Add 0 ∷ Add 0 ∷ Remove 0 ∷ [])
@@ -76,7 +76,7 @@ bus_may_not_go : answers (record { setup = setup_of pc_tables (pc_machine (recor
       Attached (codes "mainbus0") (codes "root") 0 ∷ Attached (codes "isa0") (codes "mainbus0") 1 ∷ Attached (codes "com0") (codes "isa0") 2 ∷ Attached (codes "com1") (codes "isa0") 3 ∷ [],
     )
     ∷ (reply.OnAlready, []) ∷ (reply.Busy (codes "com0"), []) ∷ [])
-unfolding answers answer scan add turned_on remove remove_unless removed freed doomed spared hinders is_doomed pass search_below search_place search_spot is_free winner_on is_winner_on group_of is_candidate match_value unit_of free_after child_spots places_of interfaces interfaces_of walk firsts offers submatch lineage parent_name root_name unit_name digits pc_tables pc_machine
+unfolding answers answer scan add turned_on remove remove_unless removed freed doomed spared hinders is_doomed pass search_below search_place search_spot is_free winner_on group_of is_candidate match_value unit_of free_after child_spots places_of interfaces interfaces_of walk firsts offers submatch lineage parent_name root_name unit_name digits pc_tables pc_machine
 bus_may_not_go = refl
 
 -- the tree that the first plan leaves
@@ -84,5 +84,5 @@ ports_tree : tree_lines (record { setup = setup_of pc_tables (pc_machine no_poli
     (after (record { setup = setup_of pc_tables (pc_machine no_policy) []; groups = (record { name = codes "serial"; devices = 2 ∷ [] }) ∷ [] }) opening (Scan ∷ Add 0 ∷ Remove 0 ∷ []))
     ≡ ((record { depth = 0; name = codes "mainbus0"; parent = codes "root"; row = 0; asleep = false; condemned = false; holders = [] })
     ∷ (record { depth = 1; name = codes "isa0"; parent = codes "mainbus0"; row = 1; asleep = false; condemned = false; holders = [] }) ∷ [])
-unfolding after tree_lines tree_below answer scan add turned_on remove remove_unless removed freed doomed spared hinders is_doomed pass search_below search_place search_spot is_free winner_on is_winner_on group_of is_candidate match_value unit_of free_after child_spots places_of interfaces interfaces_of walk firsts offers submatch lineage parent_name root_name unit_name digits pc_tables pc_machine
+unfolding after tree_lines tree_below answer scan add turned_on remove remove_unless removed freed doomed spared hinders is_doomed pass search_below search_place search_spot is_free winner_on group_of is_candidate match_value unit_of free_after child_spots places_of interfaces interfaces_of walk firsts offers submatch lineage parent_name root_name unit_name digits pc_tables pc_machine
 ports_tree = refl

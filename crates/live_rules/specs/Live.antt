@@ -1,7 +1,7 @@
 -- Tables that come and go: rows are added and taken away in groups while devices live, after config_cfdata_attach and
 -- config_cfdata_detach of autoconf(9). Winners, units and spots are those of a boot.
-use Rattle.std.specs.Prelude.{◌≡◌, ℕ, ◌+◌, Bool, true, false, not, ◌&&◌, ◌||◌, ◌==◌, nat_lt, nat_le, if◌then◌else◌, List, [], ◌∷◌, ◌++◌, length, reverse, map, filter, find, fold, slice_get, Option, Some, None}
-use Rattle.std.specs.List.{list_any, list_all, Contains}
+use Rattle.std.specs.Prelude.{◌≡◌, ℕ, ◌+◌, Bool, true, false, not, ◌&&◌, ◌||◌, ◌==◌, nat_le, if◌then◌else◌, List, [], ◌∷◌, ◌++◌, length, reverse, map, filter, find, fold, slice_get, Option, Some, None}
+use Rattle.std.specs.List.{list_any, Contains}
 use Rattle.std.specs.Option.{option_map_or}
 use Rattle.cf_types.specs.Numbers.{below}
 use Rattle.cf_types.specs.declared.tables.Place.{Place}
@@ -9,7 +9,7 @@ use Rattle.cf_types.specs.declared.tree.DevLine.{DevLine}
 use Rattle.run_rules.specs.declared.world.Setup.{Setup}
 use Rattle.run_rules.specs.declared.world.Dev.{Dev}
 use Rattle.run_rules.specs.World.{device_at, driver_of, has, is_live, is_number, lineage, name_of, parent_name, policy_of}
-use Rattle.run_rules.specs.Search.{child_spots, is_candidate, is_occupied, parent_ref, scan_places, spot_of, unit_of, value_of}
+use Rattle.run_rules.specs.Search.{child_spots, first_best, is_candidate, is_occupied, parent_ref, scan_places, spot_of, unit_of, value_of}
 use Rattle.run_rules.specs.Tree.{tree_below}
 use Rattle.live_rules.specs.declared.plan.Group.{Group}
 use Rattle.live_rules.specs.declared.plan.PlanCommand.{PlanCommand}
@@ -54,15 +54,9 @@ is_on t on r = option_map_or (has on) (group_of t.groups (driver_of t.setup r)) 
 abbrev pub is_candidate_on : Site → LiveWorld → ℕ → Place → ℕ → ℕ → Bool
 is_candidate_on t w p place x r = is_on t w.on r && is_candidate t.setup w.live (parent_ref t.setup w.live p) place x r
 
--- of the candidates that are on the best wins, and of equals the first, as in a boot
-unfoldable pub is_winner_on : Site → LiveWorld → ℕ → Place → ℕ → ℕ → Bool
-is_winner_on t w p place x r =
-    is_candidate_on t w p place x r
-    && list_all (λ q. not (is_candidate_on t w p place x q) || nat_lt (value_of t.setup q x) (value_of t.setup r x)
-    || (value_of t.setup q x == value_of t.setup r x && nat_le r q)) (below (length t.setup.tables.rows))
-
+-- the best candidate that is on, by match value, as in a boot
 unfoldable pub winner_on : Site → LiveWorld → ℕ → Place → ℕ → Option ℕ
-winner_on t w p place x = find (is_winner_on t w p place x) (below (length t.setup.tables.rows))
+winner_on t w p place x = first_best (is_candidate_on t w p place x) (λ r. value_of t.setup r x) (length t.setup.tables.rows)
 
 -- ---- settled worlds
 

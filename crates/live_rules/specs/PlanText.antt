@@ -5,7 +5,9 @@ use Rattle.std.specs.Option.{option_map_or}
 use Rattle.cf_text.specs.Shapes.{is_written}
 use Rattle.cf_types.specs.declared.code.script.TheConstants.{NO_COMMAND, WRONG_WORDS, TOO_MANY_COMMANDS}
 use Rattle.cf_types.specs.declared.tables.Tables.{Tables}
-use Rattle.config_rules.specs.Cut.{at_line, lines_of, ◌>>=◌}
+use Rattle.cf_types.specs.Lines.{lines_of}
+use Rattle.cf_types.specs.Lookups.{device_number}
+use Rattle.config_rules.specs.Cut.{at_line, ◌>>=◌}
 use Rattle.config_rules.specs.MachineText.{has_bad_byte, words_of}
 use Rattle.run_rules.specs.World.{has}
 use Rattle.live_rules.specs.declared.code.TheConstants.{DEVICE_TWICE, GROUP_TWICE, NO_DEVICE, NO_GROUP}
@@ -54,10 +56,6 @@ line_form bad word rest =
 
 -- ---- what a line means after those before it
 
--- the number of a device of the tables
-abbrev pub device_number : Tables → List ℕ → Option ℕ
-device_number t name = position (λ d. bytes_eq d.name name) t.devices
-
 -- the number of a group of earlier lines
 abbrev pub group_number : List Group → List ℕ → Option ℕ
 group_number groups name = position (λ g. bytes_eq g.name name) groups
@@ -69,7 +67,7 @@ is_grouped groups device = list_any (λ g. has g.devices device) groups
 -- a device that joins others in a new group, or its code
 abbrev pub new_member : Tables → List Group → List ℕ → List ℕ → Result ℕ ℕ
 new_member t groups members name =
-    option_map_or (λ d. if is_grouped groups d || has members d then Err DEVICE_TWICE else Ok d) (device_number t name) (Err NO_DEVICE)
+    option_map_or (λ d. if is_grouped groups d || has members d then Err DEVICE_TWICE else Ok d) (device_number t.devices name) (Err NO_DEVICE)
 
 -- the devices of a new group, one by one, or the first code of one
 abbrev pub members_of : Tables → List Group → List ℕ → List (List ℕ) → Result (List ℕ) ℕ

@@ -18,7 +18,8 @@ use Rattle.live_rules.specs.declared.plan.LiveLine.{LiveLine}
 use Rattle.live_rules.specs.Laws.{IsSound}
 use Rattle.live_rules.specs.Live.{LiveWorld, Site, attach, attached_line, is_free, is_known, is_on, new_device, places_below, search_below, search_place, search_spot, spots_below, winner_on}
 use Rattle.live_rules.proofs.Appends.{append-assoc, append_nil}
-use Rattle.live_rules.proofs.Candidates.{candidate_free, winner_candidate, winner_there}
+use Rattle.run_rules.proofs.Units.{candidate_free}
+use Rattle.live_rules.proofs.Candidates.{winner_candidate, winner_there}
 use Rattle.live_rules.proofs.Doomed.{after_parents, no_root}
 use Rattle.live_tables.specs.Coming.{Begins, Brings, IsParent, MayCome, Searched, lines_as_they_come, with_device}
 use Rattle.live_tables.specs.Running.{HasSerials, Running}

@@ -16,9 +16,8 @@ use Rattle.run_rules.specs.declared.world.ParentRef.{ParentRef}
 use Rattle.run_rules.specs.declared.world.Setup.{Setup}
 use Rattle.run_rules.specs.Search.{fits, found_at, is_candidate, is_live_row, match_value, parent_offers, parent_ref, value_of}
 use Rattle.run_rules.specs.World.{device_at, is_live}
-use Rattle.run_rules.proofs.Winner.{IsBest, best_is}
-use Rattle.live_rules.specs.Live.{LiveWorld, Site, is_candidate_on, is_on, is_winner_on, winner_on}
-use Rattle.live_rules.proofs.Candidates.{has_best}
+use Rattle.run_rules.proofs.Winner.{best_alike, best_is, has_best}
+use Rattle.live_rules.specs.Live.{LiveWorld, Site, is_candidate_on, is_on, winner_on}
 use Rattle.live_rules.proofs.Lists.{one_longer}
 use Rattle.live_tables.specs.Open.{is_open, open_rows}
 
@@ -140,25 +139,16 @@ may_take_is t w p place x q = cases (slice_get t.setup.tables.rows q) refl
         rw (open_is t w q row e) (regroup (is_on t w.on q) (is_live_row t.setup w.live row) (fits t.setup.tables pref place row)
         (submatch (locators_at t.setup.tables.attrs place) row.locs (found_at t.setup.machine x)) (nat_lt 0 (match_value t.setup.machine row.attach x)))
 
-best_of_same : (c d : ℕ → Bool) (v : ℕ → ℕ) (i : ℕ) (best : Option ℕ) → ((q : ℕ) → c q ≡ d q) → IsBest c v i best → IsBest d v i best
-best_of_same c d v i None same h = λ q lt. sym (same q) ∙ h q lt
-best_of_same c d v i (Some b) same h = record {
-  in_range = h.in_range;
-  candidate = sym (same b) ∙ h.candidate;
-  no_greater = λ q lt is. h.no_greater q lt (same q ∙ is);
-  no_earlier = λ q lt is. h.no_earlier q lt (same q ∙ is);
-}
-
 best_on : (t : Site) (w : LiveWorld) (p : ℕ) (place : Place) (x : ℕ)
     → best_row t.setup.tables t.setup.machine (open_rows t w) (parent_ref t.setup w.live p) place x ≡ winner_on t w p place x
-unfolding winner_on is_winner_on
+unfolding winner_on
 best_on t w p place x =
     let rows : ℕ = length t.setup.tables.rows in
     let test : ℕ → Bool = is_candidate_on t w p place x in
     let value : ℕ → ℕ = λ q. value_of t.setup q x in
     let found = has_best test value rows in
     sym (row_is t.setup.tables t.setup.machine (open_rows t w) (parent_ref t.setup w.live p) place x found.best
-    (best_of_same test (may_take t.setup.tables t.setup.machine (open_rows t w) (parent_ref t.setup w.live p) place x) value rows found.best (may_take_is t w p place x) found.is))
+    (best_alike test (may_take t.setup.tables t.setup.machine (open_rows t w) (parent_ref t.setup w.live p) place x) value rows found.best (may_take_is t w p place x) found.is))
     ∙ sym (best_is test value rows found.best found.is)
 
 -- the first open one of the rows that suit a spot, the best first

@@ -1,25 +1,20 @@
 //! Tables whose groups of rows come and go while devices live.
 ghost use Rattle.std.specs.Prelude.{◌≡◌, ◌<◌, ◌≤◌, ◌^◌, [], length, IfOk};
-ghost use Rattle.attr_graph.specs.Graphs.{FitGraph};
 ghost use Rattle.config_rules.specs.Formed.{FormedTables, FittingMachine};
 ghost use Rattle.live_rules.specs.Laws.{IsSound};
 ghost use Rattle.live_rules.specs.Live as rule;
-ghost use Rattle.match_search.specs.Index.{IsIndexOf};
 ghost use Rattle.run_rules.specs.World.{setup_of};
 ghost use Rattle.run_world.specs.Input.{Bounded};
-ghost use Rattle.scan_engine.specs.Spans.{AreSpansOf};
 ghost use Rattle.live_tables.specs.Running.{AreFirst};
 
 use crate::driver_groups::driver_groups;
 use crate::on_groups::OnGroups;
-use attr_graph::graph_of;
 use cf_types::{List, Machine, Memory, Tables};
 use dev_tree::DevTree;
 use live_rules::Group;
-use match_search::{LiveRows, RowIndex};
+use match_search::LiveRows;
 use run_rules::Setup;
 use run_world::Site;
-use scan_engine::ChildSpans;
 use std::alloc::Global;
 use std::marker::Model;
 use std::mem::drop;
@@ -54,16 +49,6 @@ impl Model for LiveTables {
     ghost invariant = { LiveKept };
 }
 
-/// The rows that suit each spot, and where the spots below each one stand.
-fn known_of(alloc: Global, setup: &Setup) -> Result<(RowIndex, ChildSpans), Memory>
-    requires { Bounded setup.now }
-    ensures { IfOk result (λ known. IsIndexOf setup.now.tables setup.now.machine known.0 × AreSpansOf setup.now.machine known.1) }
-{
-    let index = RowIndex::make(alloc, &setup.tables, &setup.machine)?;
-    let spans = ChildSpans::make(alloc, &setup.machine)?;
-    Ok((index, spans))
-}
-
 /// What is kept beside the devices before there are any.
 fn parts_of(
     alloc: Global,
@@ -81,31 +66,6 @@ fn parts_of(
     Ok((driver_groups, on, rows, units))
 }
 
-/// What is known of these tables and this machine before any device.
-fn site_of(alloc: Global, setup: Setup) -> Result<Site, Memory>
-    requires graph { FitGraph setup.tables }
-    requires bounded { Bounded setup }
-    ensures { IfOk result (λ site. site.setup ≡ setup) }
-{
-    let Ok(graph) = graph_of(alloc, &setup.tables) else {
-        drop(setup);
-        return Err(Memory);
-    };
-    match known_of(alloc, &setup) {
-        Ok((index, spans)) => Ok(Site {
-            setup,
-            graph,
-            index,
-            spans,
-        }),
-        Err(_) => {
-            drop(graph);
-            drop(setup);
-            Err(Memory)
-        }
-    }
-}
-
 impl LiveTables {
     /// No devices on a machine that fits formed tables, and every group off.
     pub fn start(
@@ -120,12 +80,13 @@ impl LiveTables {
         ensures site { IfOk result (λ it. it.site ≡ record { setup = setup_of tables machine []; groups = groups }) }
         ensures world { IfOk result (λ it. it.world ≡ rule.opening) }
     {
+        let scripts = List::make(alloc);
         let setup = Setup {
             tables,
             machine,
-            scripts: List::make(alloc),
+            scripts,
         };
-        match site_of(alloc, setup) {
+        match Site::make(alloc, setup) {
             Ok(site) => LiveTables::on_site(alloc, site, groups),
             Err(_) => {
                 drop(groups);

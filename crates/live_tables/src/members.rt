@@ -1,6 +1,7 @@
 //! The devices of a new group.
 ghost use Rattle.std.specs.Prelude.{◌≡◌, ◌<◌, ◌≤◌, [], IsTrue, length, bytes_eq, position, IfSome};
 ghost use Rattle.std.specs.List.{list_all};
+ghost use Rattle.cf_types.specs.Lookups.{device_number};
 ghost use Rattle.cf_text.specs.Shapes as shape;
 ghost use Rattle.machine_text.specs.Words.{seen};
 ghost use Rattle.run_rules.specs.World.{has};
@@ -55,7 +56,7 @@ fn device_place(devices: &[Device], name: &[u8]) -> Option<usize>
 /// The number of the device of a name.
 fn device_number(tables: &Tables, name: &[u8]) -> Option<u32>
     requires few { length tables.now.devices ≤ 65536 }
-    ensures { result ≡ rule.device_number tables.now name.now }
+    ensures { result ≡ device_number tables.now.devices name.now }
 {
     match device_place(tables.devices.items(), name) {
         Some(place) => Some(place as u32),

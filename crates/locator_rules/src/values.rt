@@ -1,7 +1,8 @@
 ghost use Rattle.std.specs.Prelude.{◌≡◌, ◌≤◌, [], false, length, map, is_some, option_map};
 ghost use Rattle.std.specs.List.{list_any};
+ghost use Rattle.cf_types.specs.Lookups.{given_named, locator_named};
 ghost use Rattle.config_rules.specs.Fault.{repeats};
-ghost use Rattle.config_rules.specs.Joined.{fill, fill_fault, filled, given_named, is_wanting, locator_named, pair_fault, pairs_fault};
+ghost use Rattle.config_rules.specs.Joined.{fill, fill_fault, filled, is_wanting, pair_fault, pairs_fault};
 
 use cf_types::code::configuration as code;
 use cf_types::{Attr, GivenLoc, Locator, Locs, Name};

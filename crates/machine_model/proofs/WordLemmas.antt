@@ -9,7 +9,7 @@ use Rattle.cf_text.specs.Shapes.{in_range, number}
 use Rattle.config_rules.specs.Form.{given}
 use Rattle.machine_model.specs.declared.locator.FoundValue.{FoundValue}
 use Rattle.machine_model.specs.Found.{given_of, names_of}
-use Rattle.config_rules.specs.MachineText.{differ, in_match_range, is_one, match_value, ranged}
+use Rattle.config_rules.specs.MachineText.{differ, in_match_range, is_one, ranged_match, ranged}
 
 -- ---- numbers
 
@@ -48,7 +48,7 @@ match_of : (o : Option ℤ) → match_by (option_map (λ v. given (in_range v) v
 match_of None = refl
 match_of (Some v) = match_if (in_range v) v refl
 
-pub match_is : (o : Option (Option ℤ)) (word : List ℕ) → o ≡ ranged word → match_by o ≡ match_value word
+pub match_is : (o : Option (Option ℤ)) (word : List ℕ) → o ≡ ranged word → match_by o ≡ ranged_match word
 match_is o word e = ap match_by e ∙ match_of (number word)
 
 -- ---- words that differ

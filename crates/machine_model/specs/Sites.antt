@@ -4,8 +4,9 @@ use Rattle.cf_types.specs.declared.code.machine.TheConstants.{SPOT_TWICE, UNKNOW
 use Rattle.cf_types.specs.declared.machine.Spot.{Spot}
 use Rattle.cf_types.specs.declared.tables.Locator.{Locator}
 use Rattle.cf_types.specs.declared.tables.Tables.{Tables}
+use Rattle.cf_types.specs.Lookups.{spot_number}
 use Rattle.config_rules.specs.Form.{given, ◌or◌}
-use Rattle.config_rules.specs.MachineText.{GivenValue, depth_of, found_fault, found_value, is_one, spot_above, spot_locators, spot_number, spot_place}
+use Rattle.config_rules.specs.MachineText.{GivenValue, depth_of, found_fault, found_value, is_one, spot_above, spot_locators, spot_place}
 use Rattle.machine_model.specs.declared.draft.Draft.{Draft}
 use Rattle.machine_model.specs.declared.spot.Site.{Site}
 use Rattle.machine_model.specs.Numbers.{IsPlaceOf, number_in}

@@ -1,6 +1,7 @@
 ghost use Rattle.std.specs.Prelude.{◌≡◌, ◌<◌, ◌≤◌, ◌&&◌, IfOk, IsTrue, OnOk, if◌then◌else◌, [], ◌∷◌, Some, None, bytes_eq, codes, length, map, nat_lt, option_map};
 ghost use Rattle.std.specs.List.{list_all};
-ghost use Rattle.config_rules.specs.MachineText.{after_line, driver_form, driver_line, is_spot, is_one, line_form, match_form, match_line, policy_words, spot_form, spot_line, spot_number, style_form, style_line};
+ghost use Rattle.cf_types.specs.Lookups.{spot_number};
+ghost use Rattle.config_rules.specs.MachineText.{after_line, driver_form, driver_line, is_spot, is_one, line_form, match_form, match_line, policy_words, spot_form, spot_line, style_form, style_line};
 ghost use Rattle.machine_model.specs.Found.{given_of};
 ghost use Rattle.machine_model.specs.Indexed.{IsDraft, IsIndex, with_spot};
 ghost use Rattle.machine_model.specs.Left.{Leaves, after_words};
@@ -14,7 +15,7 @@ use crate::locator::{FoundValue, count_located, given_values, names_differ};
 use crate::lookup::{attach_number, interface_number, spot_number};
 use crate::numbers::insert;
 use crate::spot::{fitting_site, make_spot};
-use crate::word::{are_marks, are_policies, differ, is_free_name, match_value, spells};
+use crate::word::{are_marks, are_policies, differ, is_free_name, ranged_match, spells};
 use cf_types::code::machine as code;
 use cf_types::{List, MatchLine, Memory, Spot, StyleLine};
 use machine_text::LineStop;
@@ -114,7 +115,7 @@ fn add_match(
     ensures left { Leaves (after_line index.now.tables.now draft.old.machine (match_form attach.now spot.now value.now)) result draft.new.machine }
     ensures draft { OnOk result (IsDraft draft.new) }
 {
-    let value = match match_value(value) {
+    let value = match ranged_match(value) {
         Some(value) => value,
         None => return Err(LineStop::Code(code::BAD_LINE)),
     };

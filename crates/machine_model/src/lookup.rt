@@ -1,5 +1,6 @@
 ghost use Rattle.std.specs.Prelude.{◌≡◌};
-ghost use Rattle.config_rules.specs.MachineText.{attach_number, attr_number, interface_number, spot_above, spot_number, spot_place};
+ghost use Rattle.cf_types.specs.Lookups.{attach_number, attr_number, spot_number};
+ghost use Rattle.config_rules.specs.MachineText.{interface_number, spot_above, spot_place};
 ghost use Rattle.machine_model.specs.Indexed.{IsDraft, IsIndex};
 
 use crate::draft::Draft;
@@ -10,7 +11,7 @@ use cf_types::Place;
 
 fn attr_number(index: &Index, name: &[u8]) -> Option<u32>
     requires { IsIndex index.now }
-    ensures { result ≡ attr_number index.now.tables.now name.now }
+    ensures { result ≡ attr_number index.now.tables.now.attrs name.now }
 {
     match number_in(&index.attrs, name) {
         Some(at) => Some(at as u32),
@@ -21,7 +22,7 @@ fn attr_number(index: &Index, name: &[u8]) -> Option<u32>
 /// The number of the attachment of this name.
 pub fn attach_number(index: &Index, name: &[u8]) -> Option<u32>
     requires { IsIndex index.now }
-    ensures { result ≡ attach_number index.now.tables.now name.now }
+    ensures { result ≡ attach_number index.now.tables.now.attaches name.now }
 {
     match number_in(&index.attaches, name) {
         Some(at) => Some(at as u32),

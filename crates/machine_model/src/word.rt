@@ -1,7 +1,7 @@
 ghost use Rattle.std.specs.Prelude.{◌≡◌, ◌≤◌, IsTrue, bytes_eq, length, nat_abs, option_and_then};
 ghost use Rattle.std.specs.List.{list_all};
 ghost use Rattle.config_rules.specs.Form.{given};
-ghost use Rattle.config_rules.specs.MachineText.{differ, in_match_range, is_free_name, is_one, mark_words, match_value, policy_words, ranged};
+ghost use Rattle.config_rules.specs.MachineText.{differ, in_match_range, is_free_name, is_one, mark_words, ranged_match, policy_words, ranged};
 ghost use Rattle.machine_text.specs.Words.{seen};
 
 use cf_text::{NumberRead, is_name, read_number};
@@ -110,8 +110,8 @@ fn within_match(value: Option<i64>) -> Option<u32>
 }
 
 /// The match value that a word spells, `Some(None)` if it is not from 0 to 65,535.
-pub fn match_value(word: &[u8]) -> Option<Option<u32>>
-    ensures { result ≡ match_value word.now }
+pub fn ranged_match(word: &[u8]) -> Option<Option<u32>>
+    ensures { result ≡ ranged_match word.now }
 {
     match ranged(word) {
         Some(value) => Some(within_match(value)),

@@ -9,7 +9,7 @@ use Rattle.std.specs.Iterator.{Yields}
 use Rattle.std.proofs.lemmas.Bool.Decides.{nat_tests}
 use Rattle.std.proofs.lemmas.List.Splits.{length-slice_split}
 use Rattle.std.proofs.lemmas.List.Sums.{count_by-le-length}
-use Rattle.config_rules.specs.Cut.{lines_of}
+use Rattle.cf_types.specs.Lines.{lines_of}
 use Rattle.config_rules.specs.MachineText.{has_bad_byte}
 
 -- ---- what is left in a loop over a list, at its next value and at its end

@@ -1,7 +1,6 @@
 -- A reason that is told applies, and none before it does.
-use Rattle.std.proofs.Common.{◌≡◌, ◌⊎◌, ◌<◌, ◌≤◌, ◌∙◌, ℕ, zero, suc, Bool, true, false, not, ◌&&◌, ◌||◌, ◌==◌, nat_lt, nat_le, if◌then◌else◌, List, [], ◌∷◌, find, length, slice_get, Option, Some, None, option_map, option_and_then, refl, sym, ap, subst, inl, inr, arith, ℤ}
-use Rattle.std.specs.List.{list_all}
-use Rattle.std.specs.Option.{option_map_or, option_or}
+use Rattle.std.proofs.Common.{◌≡◌, ◌⊎◌, ◌<◌, ◌≤◌, ◌∙◌, ℕ, zero, suc, Bool, true, false, not, ◌&&◌, ◌==◌, nat_lt, if◌then◌else◌, List, [], ◌∷◌, find, length, slice_get, Option, Some, None, option_map, refl, ap, subst, inl, inr, arith, ℤ}
+use Rattle.std.specs.Option.{option_or}
 use Rattle.std.proofs.lemmas.Bool.{cases_lt}
 use Rattle.std.proofs.lemmas.Bool.Decides.{nat_tests}
 use Rattle.cf_types.specs.declared.tables.Locator.{Locator as Loc}
@@ -13,15 +12,16 @@ use Rattle.cf_types.proofs.ListLemmas.{found_passes}
 use Rattle.run_rules.specs.declared.world.Dev.{Dev}
 use Rattle.run_rules.specs.declared.world.ParentRef.{ParentRef}
 use Rattle.run_rules.specs.declared.world.Setup.{Setup}
-use Rattle.run_rules.specs.Search.{fits, found_at, is_candidate, is_winner, match_value, value_of, winner}
+use Rattle.run_rules.specs.Search.{fits, found_at, is_candidate, match_value, value_of, winner}
 use Rattle.run_rules.specs.World.{driver_of, row_at}
-use Rattle.run_rules.proofs.Below.{and_both, at_below}
+use Rattle.run_rules.proofs.Below.{and_both}
 use Rattle.match_reasons.specs.declared.reason.Reason.{Reason}
 use Rattle.match_reasons.specs.declared.reason.Reason.TheVariants.{Parent, Locator as Missed, NoMatch, Taken, Beaten}
 use Rattle.match_reasons.specs.Laws.{Applies, HasUnit, IsBetter, IsFirst, precedes}
 use Rattle.match_reasons.specs.Reasons.{beaten, first_of, fits_at, kept_off, missed_locator, no_match, other_parent, reason, reason_of, unit_taken}
+use Rattle.match_reasons.proofs.Bests.{winner_best}
 use Rattle.match_reasons.proofs.Finds.{before_found, clash, found_in, none_in}
-use Rattle.match_reasons.proofs.ReasonLaws.{AreNone, are_none, candidate_of, is_zero, matched, no_parent, none_missed, not_false, not_true, passes_by, same_true, winner_candidate}
+use Rattle.match_reasons.proofs.ReasonLaws.{AreNone, are_none, candidate_of, is_zero, matched, no_parent, none_missed, not_false, not_true, passes_by, same_true}
 
 less_true : (j i : ℕ) → nat_lt j i ≡ true → j < i
 less_true j i h = grind (arith, nat_tests)
@@ -102,23 +102,26 @@ before_beaten s live p place x r row q none (Beaten m) before a = absurd cc
 
 -- ---- what each says is so
 
-better_of : (v w q r : ℕ) → (not true || nat_lt v w || (v == w && nat_le q r)) ≡ true → (q == r) ≡ false → (v < w) ⊎ ((v ≡ w) × (q < r))
-better_of v w q r h differ = elim (cases_lt v w) [
+better_of : (v w q r : ℕ) → v ≤ w → (r < q → v < w) → (q == r) ≡ false → (v < w) ⊎ ((v ≡ w) × (q < r))
+better_of v w q r most earlier differ = elim (cases_lt v w) [
   | inl less ↦ inl less
   | inr more ↦
-      let equal : v ≡ w = grind (arith, nat_tests) in
-      let before : q < r = grind (arith, nat_tests) in
-      inr (equal, before)
+      let equal : v ≡ w = omega (arith, most) in
+      elim (cases_lt r q) [
+        | inl before ↦ inl (earlier before)
+        | inr behind ↦ let after : q < r = grind (arith, nat_tests) in inr (equal, after)
+      ]
 ]
 
 -- the winner is better than another candidate
 winner_better : (s : Setup) (live : List Dev) (p : ParentRef) (place : Place) (x q r : ℕ) → winner s live p place x ≡ Some q → r < length s.tables.rows
     → is_candidate s live p place x r ≡ true → (q == r) ≡ false → IsBetter s live p place x q r
-unfolding winner is_winner
 winner_better s live p place x q r e lt candidate differ =
-    let both = and_both (is_candidate s live p place x q) _ (found_passes (is_winner s live p place x) (below (length s.tables.rows)) q e) in
-    let at = at_below (λ k. not (is_candidate s live p place x k) || nat_lt (value_of s k x) (value_of s q x) || (value_of s k x == value_of s q x && nat_le q k)) (length s.tables.rows) both.1 r lt in
-    record { candidate = both.0; better = better_of (value_of s r x) (value_of s q x) q r (rw candidate at at) differ }
+    let best = winner_best s live p place x q e in
+    record {
+      candidate = best.candidate;
+      better = better_of (value_of s r x) (value_of s q x) q r (best.no_greater r lt candidate) (λ before. best.no_earlier r before candidate) differ;
+    }
 
 taken_has : (s : Setup) (live : List Dev) (row : Row) (d : Dev) → row.star ≡ false → find (λ d. driver_of s d.row == row.device && d.unit == row.unit) live ≡ Some d → HasUnit s live row d.serial
 taken_has s live row d alone e =

@@ -1,7 +1,7 @@
 -- A row has no reason exactly where it is the winner, and a reason is the first that applies.
-use Rattle.std.proofs.Common.{◌≡◌, ◌≢◌, ◌⊎◌, ◌<◌, ◌≤◌, ◌+◌, ◌∙◌, ℕ, zero, suc, Bool, true, false, cond, not, ◌&&◌, ◌||◌, ◌==◌, nat_lt, nat_le, if◌then◌else◌, List, [], ◌∷◌, find, length, Option, Some, None, is_some, option_map, option_and_then, slice_get, refl, sym, ap, subst, inl, inr, arith, ℤ}
-use Rattle.std.specs.List.{list_all, list_any}
-use Rattle.std.specs.Option.{is_none, option_map_or, option_or}
+use Rattle.std.proofs.Common.{◌≡◌, ◌<◌, ◌≤◌, ◌∙◌, ℕ, zero, suc, Bool, true, false, cond, not, ◌&&◌, ◌||◌, ◌==◌, nat_lt, if◌then◌else◌, List, [], ◌∷◌, find, length, Option, Some, None, is_some, option_map, refl, sym, ap, inl, inr, arith, ℤ}
+use Rattle.std.specs.List.{list_any}
+use Rattle.std.specs.Option.{is_none, option_or}
 use Rattle.std.proofs.lemmas.Bool.{cases_lt}
 use Rattle.std.proofs.lemmas.Bool.Decides.{nat_tests}
 use Rattle.cf_types.specs.declared.tables.Locator.{Locator as Loc}
@@ -9,19 +9,18 @@ use Rattle.cf_types.specs.declared.tables.Place.{Place}
 use Rattle.cf_types.specs.declared.tables.Row.{Row}
 use Rattle.cf_types.specs.Locators.{fits_locator, locators_at, submatch}
 use Rattle.cf_types.specs.Numbers.{below}
-use Rattle.cf_types.proofs.ListLemmas.{found_passes, slice_get_some}
+use Rattle.cf_types.proofs.ListLemmas.{slice_get_some}
 use Rattle.run_rules.specs.declared.world.Dev.{Dev}
 use Rattle.run_rules.specs.declared.world.ParentRef.{ParentRef}
 use Rattle.run_rules.specs.declared.world.Setup.{Setup}
-use Rattle.run_rules.specs.Search.{fits, found_at, is_candidate, is_live_row, is_taken, is_winner, match_value, value_of, winner}
-use Rattle.run_rules.specs.World.{attach_of, driver_of, row_at}
-use Rattle.run_rules.proofs.Below.{and_both, at_below, find_below, find-none}
+use Rattle.run_rules.specs.Search.{fits, found_at, is_candidate, is_live_row, is_taken, match_value, winner}
+use Rattle.run_rules.specs.World.{driver_of, row_at}
+use Rattle.run_rules.proofs.Below.{and_both, find-none}
 use Rattle.match_reasons.specs.declared.reason.Reason.{Reason}
 use Rattle.match_reasons.specs.declared.reason.Reason.TheVariants.{Parent, Locator as Missed, NoMatch, Taken, Beaten}
-use Rattle.match_reasons.specs.Laws.{Applies, HasUnit, IsBetter, IsFirst, precedes}
 use Rattle.match_reasons.specs.Reasons.{beaten, first_of, fits_at, kept_off, missed_locator, no_match, other_parent, reason, reason_of, unit_taken}
-use Rattle.match_reasons.proofs.Finds.{before_found, clash, found_in, none_below, none_in, past_end}
-use Rattle.match_reasons.proofs.Bests.{no_candidate}
+use Rattle.match_reasons.proofs.Finds.{clash, none_below, past_end}
+use Rattle.match_reasons.proofs.Bests.{no_candidate, winner_best}
 
 -- ---- locators: submatch passes exactly where each locator fits
 
@@ -240,8 +239,7 @@ true_same : (r : ℕ) → (r == r) ≡ true
 true_same r = grind (arith, nat_tests)
 
 pub winner_candidate : (s : Setup) (live : List Dev) (p : ParentRef) (place : Place) (x q : ℕ) → winner s live p place x ≡ Some q → is_candidate s live p place x q ≡ true
-unfolding winner is_winner
-winner_candidate s live p place x q e = (and_both (is_candidate s live p place x q) _ (found_passes (is_winner s live p place x) (below (length s.tables.rows)) q e)).0
+winner_candidate s live p place x q e = (winner_best s live p place x q e).candidate
 
 wins : (s : Setup) (live : List Dev) (p : ParentRef) (place : Place) (x r : ℕ) (row : Row) → r < length s.tables.rows → row_at s r ≡ Some row
     → reason_of s live p place x r row ≡ None → winner s live p place x ≡ Some r

@@ -1,6 +1,6 @@
 -- What is told of the rows below a number, one row more; and each row is told or counted.
-use Rattle.std.proofs.Common.{◌≡◌, ◌≤◌, ◌<◌, ◌+◌, ◌∙◌, ℕ, zero, suc, Bool, true, false, not, ◌&&◌, ◌==◌, cond, List, [], ◌∷◌, ◌++◌, filter, map, length, slice_get, Option, Some, None, refl, sym, ap, subst, add-one, arith}
-use Rattle.std.specs.List.{All, Contains, count_by, list_any}
+use Rattle.std.proofs.Common.{◌≡◌, ◌≤◌, ◌+◌, ◌∙◌, ℕ, zero, suc, Bool, true, false, not, ◌&&◌, ◌==◌, cond, List, [], ◌∷◌, ◌++◌, filter, map, length, slice_get, Option, Some, None, refl, sym, ap, subst, add-one, arith}
+use Rattle.std.specs.List.{Contains, count_by, list_any}
 use Rattle.std.specs.Option.{IfSome, option_map_or}
 use Rattle.std.proofs.lemmas.Bool.Decides.{nat_tests}
 use Rattle.std.proofs.lemmas.List.{length-append, map-append}
@@ -15,14 +15,13 @@ use Rattle.config_rules.specs.Formed.{FormedRow, FormedTables}
 use Rattle.run_rules.specs.declared.world.Dev.{Dev}
 use Rattle.run_rules.specs.declared.world.ParentRef.{ParentRef}
 use Rattle.run_rules.specs.declared.world.Setup.{Setup}
-use Rattle.run_rules.specs.Search.{fits, is_winner, names_parent, parent_offers, parent_ref, winner}
+use Rattle.run_rules.specs.Search.{fits, names_parent, parent_offers, parent_ref, winner}
 use Rattle.run_rules.specs.World.{device_at, row_at, same_place}
-use Rattle.run_rules.proofs.Below.{and_both, find_below}
+use Rattle.run_rules.proofs.Free.{winner_below}
 use Rattle.match_reasons.specs.declared.reason.RowReason.{RowReason}
-use Rattle.match_reasons.specs.declared.told.Told.{Told}
 use Rattle.match_reasons.specs.Searches.{parent_by}
 use Rattle.match_reasons.specs.Laws.{TellsAll}
-use Rattle.match_reasons.specs.Reasons.{could_stand, has_attachment, others, reasons, row_reason, spot_place, told_of}
+use Rattle.match_reasons.specs.Reasons.{could_stand, others, reasons, row_reason, spot_place, told_of}
 use Rattle.match_reasons.proofs.Finds.{any_at, any_in}
 use Rattle.match_reasons.proofs.ReasonLaws.{passes_of, winner_candidate}
 
@@ -118,10 +117,9 @@ three true b c h = refl
 three false b c h = absurd cc
 
 pub tells_all : (s : Setup) (live : List Dev) (p : ParentRef) (place : Place) (x : ℕ) → FormedTables s.tables → TellsAll s live p place x
-unfolding winner
 tells_all s live p place x formed = record {
   winner = λ r e.
-      let lt = find_below (is_winner s live p place x) (length s.tables.rows) r e in
+      let lt = winner_below s live p place x r e in
       let found = slice_get_some s.tables.rows r lt in
       let passes = passes_of s live p place x r found.0 found.1 (winner_candidate s live p place x r e) in
       placed s place r found.0 found.1 (all_at (FormedRow s.tables) s.tables.rows r found.0 formed.rows found.1)

@@ -1,16 +1,15 @@
 -- The rows that may take a spot, by the truth values of their liveness.
-use Rattle.std.specs.Prelude.{ℕ, Bool, false, not, ◌&&◌, ◌||◌, nat_lt, nat_le, List, length, map, find, Option, slice_get}
-use Rattle.std.specs.List.{list_all, slice_index_or}
+use Rattle.std.specs.Prelude.{ℕ, Bool, false, ◌&&◌, nat_lt, List, length, map, Option, slice_get}
+use Rattle.std.specs.List.{slice_index_or}
 use Rattle.std.specs.Option.{option_map_or}
 use Rattle.cf_types.specs.declared.machine.Machine.{Machine}
 use Rattle.cf_types.specs.declared.tables.Place.{Place}
 use Rattle.cf_types.specs.declared.tables.Tables.{Tables}
 use Rattle.cf_types.specs.Locators.{locators_at, submatch}
-use Rattle.cf_types.specs.Numbers.{below}
 use Rattle.run_rules.specs.declared.world.Dev.{Dev}
 use Rattle.run_rules.specs.declared.world.ParentRef.{ParentRef}
 use Rattle.run_rules.specs.declared.world.Setup.{Setup}
-use Rattle.run_rules.specs.Search.{is_live_row, fits, found_at, match_value}
+use Rattle.run_rules.specs.Search.{first_best, is_live_row, fits, found_at, match_value}
 
 -- of each row whether it is live
 abbrev pub live_rows : Setup → List Dev → List Bool
@@ -29,12 +28,6 @@ may_take t m live p place x r =
 abbrev pub worth : Tables → Machine → ℕ → ℕ → ℕ
 worth t m r x = match_value m (option_map_or (λ row. row.attach) (slice_get t.rows r) 0) x
 
--- the row may take the spot, and none that may is worth more
-abbrev pub is_best : Tables → Machine → List Bool → ParentRef → Place → ℕ → ℕ → Bool
-is_best t m live p place x r =
-    may_take t m live p place x r
-    && list_all (λ q. not (may_take t m live p place x q) || nat_le (worth t m q x) (worth t m r x)) (below (length t.rows))
-
--- the first of greatest worth among the rows that may take the spot
+-- of the rows that may take the spot the first of the greatest worth
 unfoldable pub best_row : Tables → Machine → List Bool → ParentRef → Place → ℕ → Option ℕ
-best_row t m live p place x = find (is_best t m live p place x) (below (length t.rows))
+best_row t m live p place x = first_best (may_take t m live p place x) (λ r. worth t m r x) (length t.rows)

@@ -5,3 +5,4 @@ pub mod PlanLaws
 pub mod RescanLaws
 pub mod PairLaws
 pub mod AloneLaws
+pub mod LateLaws

@@ -13,7 +13,7 @@ use Rattle.run_rules.specs.declared.world.Position.{Position}
 use Rattle.run_rules.specs.declared.world.Setup.{Setup}
 use Rattle.run_rules.specs.declared.world.Turn.{Turn}
 use Rattle.run_rules.specs.declared.world.Wanted.{Wanted}
-use Rattle.run_rules.specs.Search.{due, is_before, is_child, is_due, is_open, style_of, places_of, bus_turns, turns_of, turns, driver_at, attach_at, spot_of}
+use Rattle.run_rules.specs.Search.{due, is_before, is_child, is_due, is_open, is_bus_indirect, places_of, bus_turns, turns_of, turns, driver_at, attach_at, spot_of}
 use Rattle.scan_engine.specs.Turns.{first_from, past, turns_after}
 use Rattle.scan_engine.proofs.Order.{all_weaken, all_flat}
 use Rattle.scan_engine.proofs.Positions.{by_attr}
@@ -43,7 +43,7 @@ later_attr a b h = grind (arith, nat_tests)
 -- the turn's place is the one of its number, and its spot hangs there
 record IsOf (t : Tables) (m : Machine) (attach spot : Option ℕ) (places : List Place) (u : Turn) : Type 0 where
   place : slice_get places u.at.attr ≡ Some u.place
-  style : u.indirect ≡ style_of m attach u.place
+  style : u.indirect ≡ is_bus_indirect m attach u.place
   within : u.at.spot < length m.spots
   child : is_child m spot u.place u.at.spot ≡ true
 
@@ -59,9 +59,9 @@ all_of : (t : Tables) (m : Machine) (driver attach spot only : Option ℕ) → A
 unfolding turns_of
 all_of t m driver attach spot only =
     let places = places_of t driver only in
-    all_flat (IsOf t m attach spot places) (λ e. bus_turns m (length t.rows) (style_of m attach e.1) spot e) (enumerate_from 0 places)
-    (all_weaken (λ e. slice_get places e.0 ≡ Some e.1) (λ e. AllByRecursion (IsOf t m attach spot places) (bus_turns m (length t.rows) (style_of m attach e.1) spot e)) (enumerate_from 0 places)
-    (λ e is. all_bus (IsOf t m attach spot places) m (length t.rows) (style_of m attach e.1) spot e
+    all_flat (IsOf t m attach spot places) (λ e. bus_turns m (length t.rows) (is_bus_indirect m attach e.1) spot e) (enumerate_from 0 places)
+    (all_weaken (λ e. slice_get places e.0 ≡ Some e.1) (λ e. AllByRecursion (IsOf t m attach spot places) (bus_turns m (length t.rows) (is_bus_indirect m attach e.1) spot e)) (enumerate_from 0 places)
+    (λ e is. all_bus (IsOf t m attach spot places) m (length t.rows) (is_bus_indirect m attach e.1) spot e
     (λ r x row straight lt child. record { place = is; style = refl; within = lt; child = child }))
     (numbered 0 places (slice_get places) (λ k. let e : 0 + k ≡ k = omega arith in ap (slice_get places) e)))
 
@@ -70,7 +70,7 @@ same_bus : (t : Tables) (m : Machine) (attach spot : Option ℕ) (places : List 
 same_bus t m attach spot places u v a b e =
     let both : Path (Option Place) (Some u.place) (Some v.place) = sym a.place ∙ ap (slice_get places) e ∙ b.place in
     let same : u.place ≡ v.place = cc in
-    let style : u.indirect ≡ v.indirect = a.style ∙ ap (style_of m attach) same ∙ sym b.style in
+    let style : u.indirect ≡ v.indirect = a.style ∙ ap (is_bus_indirect m attach) same ∙ sym b.style in
     rw (← same, ← style, ← e) refl
 
 -- ---- the search

@@ -9,46 +9,47 @@ use Rattle.cf_types.proofs.PlaceLemmas.{position-map}
 use Rattle.run_rules.specs.declared.world.Wanted.{Wanted}
 use Rattle.cf_types.specs.Locators.{locators_at}
 use Rattle.cf_types.specs.declared.tables.Place.TheVariants.{At}
+use Rattle.cf_types.specs.Lookups.{attr_number, place_of_name}
 use Rattle.run_rules.specs.declared.world.Dev.{Dev}
 use Rattle.run_rules.specs.World.{World, has, is_number, offered_by}
 use Rattle.run_rules.specs.declared.deed.Deed.{Deed}
 use Rattle.run_rules.specs.declared.deed.Deed.TheVariants.{Refuse, Rescan}
-use Rattle.run_rules.specs.Next.{attr_named, locator_place, rescan_of, wanted_of}
+use Rattle.run_rules.specs.Next.{rescan_of, wanted_of}
 use Rattle.run_rules.specs.declared.deed.Refusal.TheVariants.{BadAttribute, BadLocator}
 
-pub place_is : (locators : List Locator) (name : List ℕ) → locator_place (map (λ l. l.name) locators) name ≡ position (λ l. bytes_eq l.name name) locators
+pub place_is : (locators : List Locator) (name : List ℕ) → place_of_name (map (λ l. l.name) locators) name ≡ position (λ l. bytes_eq l.name name) locators
 place_is locators name = position-map (λ n. bytes_eq n name) (λ (l : Locator). l.name) locators
 
 -- the places of what is wanted are those of what is given
 places_are : (names : List (List ℕ)) (gs : List Given) (ws : List Wanted) (i : ℕ) → wanted_of names gs ≡ Some ws
-    → list_any (λ v. v.place == i) ws ≡ list_any (λ h. is_number (locator_place names h.name) i) gs
+    → list_any (λ v. v.place == i) ws ≡ list_any (λ h. is_number (place_of_name names h.name) i) gs
 unfolding wanted_of
 places_are names [] ws i e = let none : [] ≡ ws = cc in ap (list_any (λ (v : Wanted). v.place == i)) (sym none)
 places_are names (g ∷ gs) ws i e = by_rest (wanted_of names gs) (λ rest. places_are names gs rest i) e
   where
-    by_test : (rest : List Wanted) (n : ℕ) (b : Bool) → list_any (λ v. v.place == i) rest ≡ list_any (λ h. is_number (locator_place names h.name) i) gs
+    by_test : (rest : List Wanted) (n : ℕ) (b : Bool) → list_any (λ v. v.place == i) rest ≡ list_any (λ h. is_number (place_of_name names h.name) i) gs
         → (if b then None else Some (record { place = n; value = g.value } ∷ rest)) ≡ Some ws
-        → list_any (λ v. v.place == i) ws ≡ (n == i || list_any (λ h. is_number (locator_place names h.name) i) gs)
+        → list_any (λ v. v.place == i) ws ≡ (n == i || list_any (λ h. is_number (place_of_name names h.name) i) gs)
     by_test rest n true more k = absurd cc
     by_test rest n false more k =
         let is : record { place = n; value = g.value } ∷ rest ≡ ws = cc in
         ap (list_any (λ (v : Wanted). v.place == i)) (sym is) ∙ ap (λ b. n == i || b) more
 
-    by_place : (rest : List Wanted) (o : Option ℕ) → list_any (λ v. v.place == i) rest ≡ list_any (λ h. is_number (locator_place names h.name) i) gs
+    by_place : (rest : List Wanted) (o : Option ℕ) → list_any (λ v. v.place == i) rest ≡ list_any (λ h. is_number (place_of_name names h.name) i) gs
         → option_and_then (λ n. if list_any (λ v. v.place == n) rest then None else Some (record { place = n; value = g.value } ∷ rest)) o ≡ Some ws
-        → list_any (λ v. v.place == i) ws ≡ (is_number o i || list_any (λ h. is_number (locator_place names h.name) i) gs)
+        → list_any (λ v. v.place == i) ws ≡ (is_number o i || list_any (λ h. is_number (place_of_name names h.name) i) gs)
     by_place rest None more k = absurd cc
     by_place rest (Some n) more k = by_test rest n (list_any (λ v. v.place == n) rest) more k
 
-    by_rest : (o : Option (List Wanted)) → ((rest : List Wanted) → o ≡ Some rest → list_any (λ v. v.place == i) rest ≡ list_any (λ h. is_number (locator_place names h.name) i) gs)
-        → option_and_then (λ rest. option_and_then (λ n. if list_any (λ v. v.place == n) rest then None else Some (record { place = n; value = g.value } ∷ rest)) (locator_place names g.name)) o ≡ Some ws
-        → list_any (λ v. v.place == i) ws ≡ (is_number (locator_place names g.name) i || list_any (λ h. is_number (locator_place names h.name) i) gs)
+    by_rest : (o : Option (List Wanted)) → ((rest : List Wanted) → o ≡ Some rest → list_any (λ v. v.place == i) rest ≡ list_any (λ h. is_number (place_of_name names h.name) i) gs)
+        → option_and_then (λ rest. option_and_then (λ n. if list_any (λ v. v.place == n) rest then None else Some (record { place = n; value = g.value } ∷ rest)) (place_of_name names g.name)) o ≡ Some ws
+        → list_any (λ v. v.place == i) ws ≡ (is_number (place_of_name names g.name) i || list_any (λ h. is_number (place_of_name names h.name) i) gs)
     by_rest None more k = absurd cc
-    by_rest (Some rest) more k = by_place rest (locator_place names g.name) (more rest refl) k
+    by_rest (Some rest) more k = by_place rest (place_of_name names g.name) (more rest refl) k
 
 -- where the others may be given, one more may if it has a place and no other has the same
-pub wanted_beside : (names : List (List ℕ)) (g : Given) (gs : List Given) (place : Option ℕ) → is_some (wanted_of names gs) ≡ true → locator_place names g.name ≡ place
-    → is_some (wanted_of names (g ∷ gs)) ≡ option_map_or (λ i. not (list_any (λ h. is_number (locator_place names h.name) i) gs)) place false
+pub wanted_beside : (names : List (List ℕ)) (g : Given) (gs : List Given) (place : Option ℕ) → is_some (wanted_of names gs) ≡ true → place_of_name names g.name ≡ place
+    → is_some (wanted_of names (g ∷ gs)) ≡ option_map_or (λ i. not (list_any (λ h. is_number (place_of_name names h.name) i) gs)) place false
 unfolding wanted_of
 wanted_beside names g gs place are at =
     ap (λ (o : Option ℕ). is_some (option_and_then (λ rest. option_and_then (λ n. if list_any (λ v. v.place == n) rest then None else Some (record { place = n; value = g.value } ∷ rest)) o) (wanted_of names gs))) at ∙ by_rest (wanted_of names gs) refl are place
@@ -58,7 +59,7 @@ wanted_beside names g gs place are at =
     by_test rest n false = refl
 
     by_rest : (o : Option (List Wanted)) → wanted_of names gs ≡ o → is_some o ≡ true → (place : Option ℕ)
-        → is_some (option_and_then (λ rest. option_and_then (λ n. if list_any (λ v. v.place == n) rest then None else Some (record { place = n; value = g.value } ∷ rest)) place) o) ≡ option_map_or (λ i. not (list_any (λ h. is_number (locator_place names h.name) i) gs)) place false
+        → is_some (option_and_then (λ rest. option_and_then (λ n. if list_any (λ v. v.place == n) rest then None else Some (record { place = n; value = g.value } ∷ rest)) place) o) ≡ option_map_or (λ i. not (list_any (λ h. is_number (place_of_name names h.name) i) gs)) place false
     by_rest None e h place = absurd cc
     by_rest (Some rest) e h None = refl
     by_rest (Some rest) e h (Some n) = by_test rest n (list_any (λ v. v.place == n) rest) ∙ ap not (places_are names gs rest n e)
@@ -68,7 +69,7 @@ pub unwanted : (names : List (List ℕ)) (g : Given) (gs : List Given) → is_so
 unfolding wanted_of
 unwanted names g gs are = cases (wanted_of names gs) are
   where
-    cases : (o : Option (List Wanted)) → is_some o ≡ false → is_some (option_and_then (λ rest. option_and_then (λ n. if list_any (λ v. v.place == n) rest then None else Some (record { place = n; value = g.value } ∷ rest)) (locator_place names g.name)) o) ≡ false
+    cases : (o : Option (List Wanted)) → is_some o ≡ false → is_some (option_and_then (λ rest. option_and_then (λ n. if list_any (λ v. v.place == n) rest then None else Some (record { place = n; value = g.value } ∷ rest)) (place_of_name names g.name)) o) ≡ false
     cases None h = refl
     cases (Some rest) h = absurd cc
 
@@ -102,19 +103,19 @@ wanted_at w a given = wanted_of (map (λ l. l.name) (locators_at w.setup.tables.
 abbrev rescan_attr : Dev → ℕ → Bool → Option (List Wanted) → Deed
 rescan_attr d a offered wanted = if offered then option_map_or (λ ws. Rescan d.serial (Some a)) wanted (Refuse BadLocator) else Refuse BadAttribute
 
-rescan_named : (w : World) (d : Dev) (name : List ℕ) (given : List Given) (o : Option ℕ) → attr_named w name ≡ o
+rescan_named : (w : World) (d : Dev) (name : List ℕ) (given : List Given) (o : Option ℕ) → attr_number w.setup.tables.attrs name ≡ o
     → rescan_of w d (Some name) given ≡ option_map_or (λ a. rescan_attr d a (has (offered_by w.setup d.row) a) (wanted_at w a given)) o (Refuse BadAttribute)
 unfolding rescan_of
 rescan_named w d name given o at = ap (λ (x : Option ℕ). option_map_or (λ a. rescan_attr d a (has (offered_by w.setup d.row) a) (wanted_at w a given)) x (Refuse BadAttribute)) at
 
-pub unnamed : (w : World) (d : Dev) (name : List ℕ) (given : List Given) → attr_named w name ≡ None → rescan_of w d (Some name) given ≡ Refuse BadAttribute
+pub unnamed : (w : World) (d : Dev) (name : List ℕ) (given : List Given) → attr_number w.setup.tables.attrs name ≡ None → rescan_of w d (Some name) given ≡ Refuse BadAttribute
 unnamed w d name given at = rescan_named w d name given None at
 
-pub unoffered : (w : World) (d : Dev) (name : List ℕ) (given : List Given) (a : ℕ) → attr_named w name ≡ Some a → has (offered_by w.setup d.row) a ≡ false
+pub unoffered : (w : World) (d : Dev) (name : List ℕ) (given : List Given) (a : ℕ) → attr_number w.setup.tables.attrs name ≡ Some a → has (offered_by w.setup d.row) a ≡ false
     → rescan_of w d (Some name) given ≡ Refuse BadAttribute
 unoffered w d name given a at offered = rescan_named w d name given (Some a) at ∙ ap (λ (b : Bool). rescan_attr d a b (wanted_at w a given)) offered
 
-pub rescanned : (w : World) (d : Dev) (name : List ℕ) (given : List Given) (a : ℕ) (are : Bool) → attr_named w name ≡ Some a
+pub rescanned : (w : World) (d : Dev) (name : List ℕ) (given : List Given) (a : ℕ) (are : Bool) → attr_number w.setup.tables.attrs name ≡ Some a
     → has (offered_by w.setup d.row) a ≡ true → is_some (wanted_at w a given) ≡ are → rescan_of w d (Some name) given ≡ (if are then Rescan d.serial (Some a) else Refuse BadLocator)
 rescanned w d name given a are at offered wanted =
     rescan_named w d name given (Some a) at ∙ ap (λ (b : Bool). rescan_attr d a b (wanted_at w a given)) offered ∙ by_wanted (wanted_at w a given) are wanted

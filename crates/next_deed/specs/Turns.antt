@@ -19,19 +19,19 @@ searcher_of s live p = record { driver = driver_at s live p; attach = attach_at 
 
 -- the first turn from a position on that is due on a site, and whether a turn is due there
 abbrev pub due_at : Site → Core → ℕ → Option ℕ → List Wanted → Position → Option Turn
-due_at site c p only filter from = due site.setup c.tree.live c.absent.items c.hidden.items p only filter from
+due_at site c p only filter from = due site.setup c.tree.live c.absent c.hidden p only filter from
 
 abbrev pub is_due_at : Site → Core → ℕ → List Wanted → Turn → Bool
-is_due_at site c p filter turn = is_due site.setup c.tree.live c.absent.items c.hidden.items p filter turn
+is_due_at site c p filter turn = is_due site.setup c.tree.live c.absent c.hidden p filter turn
 
 -- whether a spot is open to a search there
 abbrev pub is_open_at : Setup → Core → List Wanted → ℕ → Bool
-is_open_at s c filter x = is_open s.machine c.tree.live c.absent.items c.hidden.items filter x
+is_open_at s c filter x = is_open s.machine c.tree.live c.absent c.hidden filter x
 
 -- what is done next on a scan there
 abbrev pub next_scan_at : Site → Core → ℕ → Option ℕ → List Wanted → Position → Deed
-next_scan_at site c p only filter from = next_scan site.setup c.tree.live c.absent.items c.hidden.items p only filter from
+next_scan_at site c p only filter from = next_scan site.setup c.tree.live c.absent c.hidden p only filter from
 
 -- whether a finaliser of the device would show the spot there
 abbrev pub is_late_at : Site → Core → Dev → ℕ → Bool
-is_late_at site c d x = late_test site.setup c.absent.items c.hidden.items d x
+is_late_at site c d x = late_test site.setup c.absent c.hidden d x

@@ -13,7 +13,7 @@ use cf_types::Machine;
 use dev_tree::DevTree;
 use match_search::found_at;
 use run_rules::{ParentRef, Position, Setup, Turn, Wanted};
-use run_world::{Core, Site, attach_of, driver_of, has_spot, is_occupied};
+use run_world::{Core, Site, attach_of, driver_of, is_occupied};
 use scan_engine::next_turn;
 
 /// Who searches: the driver, the attachment and the spot of a device, none of them for the root; and how rows name it.
@@ -74,10 +74,10 @@ fn passes_filter(machine: &Machine, spot: u16, filter: &[Wanted]) -> bool
 #[tactic(auto, unfolding(run_rules::specs::Search::is_open))]
 #[inline(always)]
 pub fn is_open(setup: &Setup, core: &Core, filter: &[Wanted], spot: u16) -> bool
-    ensures { rule.is_open setup.now.machine core.now.tree.live core.now.absent.items core.now.hidden.items filter.now spot ≡ result }
+    ensures { rule.is_open setup.now.machine core.now.tree.live core.now.absent core.now.hidden filter.now spot ≡ result }
 {
-    let absent = has_spot(&core.absent, spot);
-    let hidden = has_spot(&core.hidden, spot);
+    let absent = core.absent.has(spot);
+    let hidden = core.hidden.has(spot);
     let occupied = is_occupied(&core.tree, spot);
     let passes = passes_filter(&setup.machine, spot, filter);
     !absent && !hidden && !occupied && passes
@@ -139,6 +139,7 @@ pub fn due_turn(
             &site.setup.tables,
             &site.graph,
             &site.setup.machine,
+            &site.styles,
             only,
             position,
             by.driver,

@@ -10,7 +10,7 @@ ghost use Rattle.next_deed.specs.Turns.{is_late_at};
 
 use cf_types::{Place, Spot};
 use run_rules::Dev;
-use run_world::{Core, Site, driver_of, has, has_spot};
+use run_world::{Core, Site, driver_of, has};
 use scan_engine::offered;
 
 fn is_number(value: Option<u16>, n: u16) -> bool
@@ -54,20 +54,21 @@ fn hangs_below(site: &Site, device: Dev, spot: u16) -> bool
 }
 
 /// Whether a finalizer of the device would show the spot.
+#[inline(always)]
 fn is_late_below(site: &Site, core: &Core, device: Dev, spot: u16) -> bool
     ensures { is_late_at site.now core.now device spot ≡ result }
 {
-    let hidden = has_spot(&core.hidden, spot);
-    let absent = has_spot(&core.absent, spot);
-    let below = hangs_below(site, device, spot);
-    hidden && !absent && below
+    core.hidden.has(spot) && !core.absent.has(spot) && hangs_below(site, device, spot)
 }
 
-/// The first spot that is late, hidden and present, and is below the device.
+/// The first spot that is late, hidden and present, and is below the device. Only spots between the first and the last
+/// one below it are looked at.
 fn late_spot(site: &Site, core: &Core, device: Dev) -> Option<u16>
     ensures { find (is_late_at site.now core.now device) (below (length site.now.setup.machine.spots)) ≡ result }
 {
-    for spot in 0..site.setup.machine.spots.len() as u16 {
+    let span = site.spans.below(Some(device.spot));
+    let end = span.end.min(site.setup.machine.spots.len() as u16);
+    for spot in span.first..end {
         if is_late_below(site, core, device, spot) {
             return Some(spot);
         }

@@ -1,6 +1,7 @@
 //! What a rescan searches, or why it does not begin. See drvctl(8).
 ghost use Rattle.std.specs.Prelude.{◌≡◌, ◌≤◌, ◌∷◌, true, Some, length, map, is_some};
 ghost use Rattle.std.specs.List.{list_any};
+ghost use Rattle.cf_types.specs.Lookups.{place_of_name};
 ghost use Rattle.run_rules.specs.declared.deed.Deed.TheVariants.{Rescan};
 ghost use Rattle.run_rules.specs.declared.world.Dev.{Dev};
 ghost use Rattle.run_rules.specs.Next as next;
@@ -19,7 +20,7 @@ use scan_engine::offered;
 
 /// Whether a locator that is given has this place.
 fn stands_at(locators: &[Locator], given: &Given, place: usize) -> bool
-    ensures { result ≡ is_number (next.locator_place (map (λ l. l.name) locators.now) given.now.name) place }
+    ensures { result ≡ is_number (place_of_name (map (λ l. l.name) locators.now) given.now.name) place }
 {
     match locator_place(locators, given.name.bytes()) {
         Some(found) => found == place,
@@ -29,7 +30,7 @@ fn stands_at(locators: &[Locator], given: &Given, place: usize) -> bool
 
 /// Whether a locator of this place is given.
 fn is_given(locators: &[Locator], place: usize, given: &[Given]) -> bool
-    ensures { result ≡ list_any (λ h. is_number (next.locator_place (map (λ l. l.name) locators.now) h.name) place) given.now }
+    ensures { result ≡ list_any (λ h. is_number (place_of_name (map (λ l. l.name) locators.now) h.name) place) given.now }
 {
     given.iter().any(|given| stands_at(locators, given, place))
 }

@@ -1,6 +1,7 @@
 //! What a command does, or why it does nothing. See drvctl(8) and pmf(9).
 ghost use Rattle.std.specs.Prelude.{◌≡◌, IfOk};
 ghost use Rattle.std.specs.Option.{option_map_or};
+ghost use Rattle.cf_types.specs.Lookups.{spot_number};
 ghost use Rattle.run_rules.specs.Next as next;
 ghost use Rattle.run_rules.specs.World as world;
 ghost use Rattle.run_rules.specs.declared.deed.Deed.TheVariants as deeds;
@@ -254,7 +255,7 @@ fn begin_power(
 /// Hardware comes to the spot of a name.
 fn plug(rules: &Rules, plain: &Plain, name: &Name) -> Deed
     requires { AreFit rules.now }
-    ensures { option_map_or (λ x. deeds.Plug x) (next.spot_named (world_of (setup_by rules.now) plain.now) name.now) (deeds.Refuse refusal.NoSpot) ≡ result }
+    ensures { option_map_or (λ x. deeds.Plug x) (spot_number (world_of (setup_by rules.now) plain.now).setup.machine.spots name.now) (deeds.Refuse refusal.NoSpot) ≡ result }
 {
     match spot_named(rules, name.bytes()) {
         Some(spot) => Deed::Plug { spot },
@@ -279,7 +280,7 @@ fn unplugging(rules: &Rules, plain: &Plain, caller: u8, spot: u16) -> Deed
 /// Hardware goes from the spot of a name.
 fn unplug(rules: &Rules, plain: &Plain, caller: u8, name: &Name) -> Deed
     requires fit { AreFit rules.now }
-    ensures { let w = world_of (setup_by rules.now) plain.now in option_map_or (next.unplugging w caller) (next.spot_named w name.now) (deeds.Refuse refusal.NoSpot) ≡ result }
+    ensures { let w = world_of (setup_by rules.now) plain.now in option_map_or (next.unplugging w caller) (spot_number w.setup.machine.spots name.now) (deeds.Refuse refusal.NoSpot) ≡ result }
 {
     match spot_named(rules, name.bytes()) {
         Some(spot) => unplugging(rules, plain, caller, spot),

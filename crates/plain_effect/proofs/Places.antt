@@ -6,7 +6,7 @@ use Rattle.run_rules.specs.declared.deed.Deed.TheVariants.{Search, EndScan, Begi
 use Rattle.run_rules.specs.declared.deed.Choice.TheVariants.{Does}
 use Rattle.run_rules.specs.Next.{next}
 use Rattle.run_rules.specs.World.{World}
-use Rattle.run_sound.specs.Coming.{IsCalled}
+use Rattle.run_sound.proofs.Coming.{IsCalled}
 use Rattle.run_sound.proofs.Reasons.{has_reason}
 use Rattle.plain_effect.specs.Effects.{HasPlace}
 

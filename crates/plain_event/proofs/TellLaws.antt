@@ -9,6 +9,7 @@ use Rattle.cf_types.specs.declared.machine.Command.{Command}
 use Rattle.cf_types.specs.declared.machine.Command.TheVariants as command
 use Rattle.cf_types.specs.declared.machine.Given.{Given}
 use Rattle.cf_types.specs.declared.machine.Ticket.{Ticket}
+use Rattle.cf_types.specs.Lookups.{attr_number, spot_number}
 use Rattle.config_rules.proofs.Parts.{cond_both}
 use Rattle.run_rules.specs.declared.event.PowerKind.{PowerKind}
 use Rattle.run_rules.specs.declared.event.PowerKind.TheVariants as kind
@@ -25,14 +26,14 @@ use Rattle.run_rules.specs.declared.deed.Deed.TheVariants.{Search, EndScan, Begi
 use Rattle.run_rules.specs.declared.deed.Choice.{Choice}
 use Rattle.run_rules.specs.declared.deed.Choice.TheVariants.{Does}
 use Rattle.run_rules.specs.declared.deed.PowerEnd.{PowerEnd}
-use Rattle.run_rules.specs.Next.{attr_named, command_deed, command_of, has_nothing, hindered, is_hindrance, is_power, next, next_sleep, next_wake, on_device, on_held, powering, rescan_of, rescanning, spot_named, suspending, telling, unless_hindered, unplugging, waking, wanted_of}
+use Rattle.run_rules.specs.Next.{command_deed, command_of, has_nothing, hindered, is_hindrance, is_power, next, next_sleep, next_wake, on_device, on_held, powering, rescan_of, rescanning, suspending, telling, unless_hindered, unplugging, waking, wanted_of}
 use Rattle.run_rules.specs.References.{count_in}
 use Rattle.run_rules.specs.Sound.{Sound}
 use Rattle.run_sound.specs.Calls.{CallsDevices, IsOfDevice}
-use Rattle.run_sound.specs.Coming.{IsCalled, IsTurn}
-use Rattle.run_sound.specs.Commands.{Begins, EndsPower, SendsToSleep, Wakes, power_command}
+use Rattle.run_sound.proofs.Coming.{IsCalled, IsTurn}
+use Rattle.run_sound.proofs.Commands.{Begins, EndsPower, SendsToSleep, Wakes}
 use Rattle.run_sound.specs.Kept.{Kept}
-use Rattle.run_sound.specs.Scripts.{IsAmid}
+use Rattle.run_sound.specs.Scripts.{IsAmid, power_command}
 use Rattle.run_sound.proofs.Arrivals.{due_inside, shown_inside, top_known}
 use Rattle.run_sound.proofs.Callers.{all_or, doing_so, not_ended}
 use Rattle.run_sound.proofs.Members.{contained_live, found_contained, found_from_end}
@@ -75,7 +76,7 @@ rescan_live : (w : World) (d : Dev) (attr : Option (List ℕ)) (given : List Giv
 unfolding rescan_of
 rescan_live w d None given = tt
 rescan_live w d (Some name) given =
-    by_option w _ (attr_named w name) _ (λ a e. by_if w (has (offered_by w.setup d.row) a) _ _ (by_option w _ (wanted_of _ given) _ (λ wanted g. tt) tt) tt) tt
+    by_option w _ (attr_number w.setup.tables.attrs name) _ (λ a e. by_if w (has (offered_by w.setup d.row) a) _ _ (by_option w _ (wanted_of _ given) _ (λ wanted g. tt) tt) tt) tt
 
 rescanning_live : (w : World) (d : Dev) (attr : Option (List ℕ)) (given : List Given) → is_live w.live d.serial ≡ true → NamesLive w (rescanning w d attr given)
 rescanning_live w d attr given live =
@@ -99,8 +100,8 @@ command_live w k n (command.TreeDev name) = telling_live w name
 command_live w k n (command.Suspend name) = on_live w name _ (λ d. tt)
 command_live w k n (command.Resume name) = on_live w name _ (λ d. tt)
 command_live w k n (command.ResumeTree name) = on_live w name _ (λ d. tt)
-command_live w k n (command.Plug name) = by_option w _ (spot_named w name) _ (λ x e. tt) tt
-command_live w k n (command.Unplug name) = by_option w _ (spot_named w name) _ (λ x e. unplugging_live w k x) tt
+command_live w k n (command.Plug name) = by_option w _ (spot_number w.setup.machine.spots name) _ (λ x e. tt) tt
+command_live w k n (command.Unplug name) = by_option w _ (spot_number w.setup.machine.spots name) _ (λ x e. unplugging_live w k x) tt
 
 -- ---- power
 
@@ -193,7 +194,7 @@ called_live w k s (Some place) false kept calls goes called =
     rw called.5 (at_live w.live w.finalisers place (omega (arith, called.3, called.4)) (kept.sound.boot (not_ended w 0 (subst (λ j. has_ended w j ≡ false) called.0 goes))).finalisers)
 called_live w k s (Some place) true kept calls goes called =
     let boots : has_ended w 0 ≡ false = subst (λ j. has_ended w j ≡ false) called.0 goes in
-    rw called.5 (at_live w.live w.finalisers 0 (kept.ranges.some_called boots called.6) (kept.sound.boot (not_ended w 0 boots)).finalisers)
+    rw called.5 (at_live w.live w.finalisers 0 ((kept.ranges.list boots).some called.6) (kept.sound.boot (not_ended w 0 boots)).finalisers)
 
 -- ---- spots
 

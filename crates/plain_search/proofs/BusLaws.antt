@@ -11,7 +11,7 @@ use Rattle.run_rules.specs.declared.world.Dev.{Dev}
 use Rattle.run_rules.specs.declared.world.Setup.{Setup}
 use Rattle.run_rules.specs.declared.world.Turn.{Turn}
 use Rattle.run_rules.specs.declared.world.Position.{Position}
-use Rattle.run_rules.specs.Search.{is_before, is_child, attach_at, bus_turns, child_spots, driver_at, places_of, spot_of, style_of, turns, turns_at, turns_of}
+use Rattle.run_rules.specs.Search.{is_before, is_child, attach_at, bus_turns, child_spots, driver_at, places_of, spot_of, is_bus_indirect, turns, turns_at, turns_of}
 use Rattle.run_rules.proofs.Below.{find-none}
 use Rattle.run_rules.proofs.Turns.{find_children, find_first, find_later}
 use Rattle.plain_world.specs.Rules.{setup_by}
@@ -84,7 +84,7 @@ attr_before r p g t child lt = passed_by r p g t child (earlier_attr t.at.attr g
 
 pub place_behind : (r : Rules) (p : Plain) (g : Going) (live : List Dev) (serial attr : ℕ) (place : Place) → attr < g.from.attr → find (takes r p g) (turns_at (setup_by r) live serial (attr, place)) ≡ None
 unfolding bus_turns
-place_behind r p g live serial attr place lt = cases (style_of r.machine.now (attach_at (setup_by r) live serial) place)
+place_behind r p g live serial attr place lt = cases (is_bus_indirect r.machine.now (attach_at (setup_by r) live serial) place)
   where
     cases : (indirect : Bool) → find (takes r p g) (bus_turns r.machine.now (length r.tables.now.rows) indirect (spot_of live serial) (attr, place)) ≡ None
     cases false =

@@ -289,9 +289,9 @@ fn is_indirect_by(seeker: &Seeker, attach: u32, attr: u32) -> bool
 }
 
 /// Whether a device of this attachment searches a place row by row.
-#[tactic(auto, unfolding(run_rules::specs::Search::style_of))]
+#[tactic(auto, unfolding(run_rules::specs::Search::is_bus_indirect))]
 fn is_indirect(seeker: &Seeker, attach: Option<u32>, place: Place) -> bool
-    ensures { result ≡ rule.style_of seeker.now.rules.now.machine.now attach place }
+    ensures { result ≡ rule.is_bus_indirect seeker.now.rules.now.machine.now attach place }
 {
     match (attach, place) {
         (_, Place::Root) => false,

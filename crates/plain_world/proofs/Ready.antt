@@ -11,7 +11,7 @@ use Rattle.plain_world.specs.declared.world.Plain.{Plain}
 use Rattle.plain_world.specs.Plain.{HasCaller, IsReady, world_of}
 
 pub few_devices : (s : Setup) (p : Plain) → MayRun s → Kept (world_of s p) → length p.live.devices ≤ 1024
-few_devices s p may kept = omega (arith, kept.ranges.few, may.machine.few_spots)
+few_devices s p may kept = omega (arith, kept.ranges.devices.few, may.machine.few_spots)
 
 pub ready : (s : Setup) (p : Plain) → MayRun s → Kept (world_of s p) → IsReady p
 ready s p may kept = record { few = few_devices s p may kept; low = λ k. over_low (world_of s p) may kept k }

@@ -12,7 +12,8 @@ use Rattle.cf_types.specs.declared.machine.Given.{Given}
 use Rattle.run_rules.specs.declared.world.Wanted.{Wanted}
 use Rattle.cf_types.specs.declared.tables.Locator.{Locator}
 use Rattle.cf_types.proofs.PlaceLemmas.{position-map}
-use Rattle.run_rules.specs.Next.{locator_place, wanted_of}
+use Rattle.cf_types.specs.Lookups.{place_of_name}
+use Rattle.run_rules.specs.Next.{wanted_of}
 use Rattle.plain_world.specs.Wanted.{names_of, wants}
 
 taken_all : {A : Type 0} (xs : List A) → take (length xs) xs ≡ xs
@@ -41,7 +42,7 @@ rest_wanted names g gs rest e = rw e refl
 
 -- ---- the first of them
 
-place_is : (ls : List Locator) (name : List ℕ) → locator_place (names_of ls) name ≡ position (λ l. bytes_eq l.name name) ls
+place_is : (ls : List Locator) (name : List ℕ) → place_of_name (names_of ls) name ≡ position (λ l. bytes_eq l.name name) ls
 place_is ls name = position-map (λ n. bytes_eq n name) (λ (l : Locator). l.name) ls
 
 -- no locator has its name

@@ -12,8 +12,8 @@ use Rattle.run_rules.specs.declared.deed.Deed.{Deed}
 use Rattle.run_rules.specs.declared.deed.Deed.TheVariants.{EndCaller}
 use Rattle.run_rules.specs.declared.deed.Choice.TheVariants.{Does}
 use Rattle.run_rules.proofs.Setups.{after_setup}
-use Rattle.run_sound.specs.Commands.{Begins}
-use Rattle.run_sound.specs.Coming.{IsEnd}
+use Rattle.run_sound.proofs.Commands.{Begins}
+use Rattle.run_sound.proofs.Coming.{IsEnd}
 use Rattle.run_sound.specs.Kept.{Kept}
 use Rattle.run_sound.specs.Scripts.{script_of}
 use Rattle.run_sound.proofs.Callers.{caller_here, clash, doing_so, doing_there}
@@ -54,7 +54,7 @@ idle_of (activity.Power kind t) q e s = absurd cc
 pub end_idle : (w : World) (k : ℕ) → Kept w → next w k ≡ Does EndCaller → (caller_at w k).doing ≡ activity.Idle
 end_idle w k kept e =
     let why : IsEnd w k = has_reason w k EndCaller e in
-    idle_of (caller_at w k).doing (quiet_end w k e) (doing_so w k EndCaller e).unended (λ scans. (kept.ranges.placed k).scans scans why.stack)
+    idle_of (caller_at w k).doing (quiet_end w k e) (doing_so w k EndCaller e).unended (λ scans. (kept.ranges.callers.placed k).scans scans why.stack)
 
 pub end_ahead : (w : World) (k : ℕ) → Kept w → next w k ≡ Does EndCaller → ahead (after w k EndCaller) k < ahead w k
 unfolding after

@@ -12,7 +12,7 @@ use Rattle.run_rules.specs.declared.world.Ref.{Ref}
 use Rattle.run_rules.specs.declared.world.Activity.{Activity}
 use Rattle.run_rules.specs.declared.world.Activity.TheVariants as activity
 use Rattle.run_rules.specs.World.{World, Caller, caller_at, is_condemned, is_under}
-use Rattle.run_rules.specs.Sound.{Sound, is_power}
+use Rattle.run_rules.specs.Sound.{Sound, is_powering}
 use Rattle.run_rules.specs.References.{is_of, without_first}
 use Rattle.run_rules.specs.After.{after, pushed, referred, rescan_frame, settled, unreferred, with_caller, with_condemner}
 use Rattle.run_rules.specs.Next.{next}
@@ -20,7 +20,7 @@ use Rattle.run_rules.specs.declared.deed.Deed.TheVariants.{Drop, Refuse, Open, C
 use Rattle.run_rules.specs.declared.deed.Refusal.{Refusal}
 use Rattle.cf_types.specs.declared.machine.Ticket.{Ticket}
 use Rattle.run_rules.specs.declared.deed.Choice.TheVariants.{Does}
-use Rattle.run_sound.specs.Commands.{IsBetween}
+use Rattle.run_sound.proofs.Commands.{IsBetween}
 use Rattle.run_sound.specs.Kept.{Kept}
 use Rattle.run_sound.specs.Left.{free_spots, scan_left, spot_worth, whole_scan}
 use Rattle.run_sound.specs.Scripts.{script_of}
@@ -49,7 +49,7 @@ record Sets (n : ℕ) (w v : World) (k : ℕ) (c : Caller) : Type 0 where
   turn : turn_left v ≤ turn_left w
   unfinished : unfinished v k ≡ length (script_of w.setup k) - c.over
 
-sets : (n : ℕ) (w : World) (k : ℕ) (live : List Dev) (refs : List Ref) (sole absent : List ℕ) (c : Caller) → Sound w → k < length w.callers → is_power (caller_at w k).doing ≡ false
+sets : (n : ℕ) (w : World) (k : ℕ) (live : List Dev) (refs : List Ref) (sole absent : List ℕ) (c : Caller) → Sound w → k < length w.callers → is_powering (caller_at w k).doing ≡ false
     → Stirs 0 w (with_board w live refs sole absent) → Sets n w (with_caller (with_board w live refs sole absent) k c) k c
 sets n w k live refs sole absent c sound lt calm stirs =
     let u : World = with_board w live refs sole absent in
@@ -63,7 +63,7 @@ sets n w k live refs sole absent c sound lt calm stirs =
     }
 
 -- the same devices: what is left grows as the references do
-set_rises : (n : ℕ) (w : World) (k z : ℕ) (refs : List Ref) (sole absent : List ℕ) (c : Caller) → Sound w → k < length w.callers → is_power (caller_at w k).doing ≡ false
+set_rises : (n : ℕ) (w : World) (k z : ℕ) (refs : List Ref) (sole absent : List ℕ) (c : Caller) → Sound w → k < length w.callers → is_powering (caller_at w k).doing ≡ false
     → c.stack ≡ (caller_at w k).stack → (caller_at w k).over ≤ c.over → length refs ≤ length w.refs + z → own n (with_caller (with_board w w.live refs sole absent) k c) k ≤ own n w k + z
 set_rises n w k z refs sole absent c sound lt calm stack past few =
     let s = sets n w k w.live refs sole absent c sound lt calm (record { asleep = omega arith; awake = omega arith }) in
@@ -71,7 +71,7 @@ set_rises n w k z refs sole absent c sound lt calm stack past few =
     omega (arith, s.frames, frames, s.turn, s.unfinished, past, few)
 
 -- and where a command is over, it is less
-set_lowers : (n : ℕ) (w : World) (k : ℕ) (refs : List Ref) (sole absent : List ℕ) (c : Caller) → Sound w → k < length w.callers → is_power (caller_at w k).doing ≡ false
+set_lowers : (n : ℕ) (w : World) (k : ℕ) (refs : List Ref) (sole absent : List ℕ) (c : Caller) → Sound w → k < length w.callers → is_powering (caller_at w k).doing ≡ false
     → c.stack ≡ (caller_at w k).stack → (caller_at w k).over < c.over → (caller_at w k).over < length (script_of w.setup k) → length refs ≤ length w.refs → own n (with_caller (with_board w w.live refs sole absent) k c) k < own n w k
 set_lowers n w k refs sole absent c sound lt calm stack past within few =
     let s = sets n w k w.live refs sole absent c sound lt calm (record { asleep = omega arith; awake = omega arith }) in
@@ -98,8 +98,8 @@ refs_fall p (r ∷ rs) h = cases (p r) (λ k. refs_fall p rs k) h
 
 -- ---- a command begins
 
-begins_calm : (w : World) (k : ℕ) → Kept w → IsBetween w k → is_power (caller_at w k).doing ≡ false
-begins_calm w k kept between = ap is_power (between_idle w k kept between)
+begins_calm : (w : World) (k : ℕ) → Kept w → IsBetween w k → is_powering (caller_at w k).doing ≡ false
+begins_calm w k kept between = ap is_powering (between_idle w k kept between)
 
 pub refuse_rises : (n : ℕ) (w : World) (k : ℕ) (why : Refusal) → Kept w → next w k ≡ Does (Refuse why) → own n (after w k (Refuse why)) k ≤ own n w k + 0
 unfolding after
@@ -139,7 +139,7 @@ unfolding after
 start_rises n w k t kept e =
     set_rises n w k 0 w.refs w.sole w.absent _ kept.sound (doing_there w k (Start t) e) (begins_calm w k kept (has_command_reason w k (Start t) e).begins.between) refl (omega arith) (omega arith)
 
-quiet_calm : (a : Activity) → is_quiet a ≡ true → is_power a ≡ false
+quiet_calm : (a : Activity) → is_quiet a ≡ true → is_powering a ≡ false
 quiet_calm activity.Idle h = refl
 quiet_calm activity.Ended h = refl
 quiet_calm activity.Scans h = refl
@@ -158,7 +158,7 @@ pub done_lowers : (n : ℕ) (w : World) (k : ℕ) (t : Ticket) → Kept w → ne
 unfolding after
 done_lowers n w k t kept e =
     let amid = has_command_reason w k (Done t) e in
-    set_lowers n w k w.refs w.sole w.absent _ kept.sound (doing_there w k (Done t) e) (ap is_power amid) refl (omega arith) (amid_within w k kept (ap is_amid amid)) (omega arith)
+    set_lowers n w k w.refs w.sole w.absent _ kept.sound (doing_there w k (Done t) e) (ap is_powering amid) refl (omega arith) (amid_within w k kept (ap is_amid amid)) (omega arith)
 
 pub drop_lowers : (n : ℕ) (w : World) (k s : ℕ) → Kept w → next w k ≡ Does (Drop s) → own n (after w k (Drop s)) k < own n w k
 unfolding after
@@ -169,7 +169,7 @@ drop_lowers n w k s kept e =
 -- ---- devices are condemned
 
 pub few_live : (w : World) → Kept w → length w.live ≤ length w.setup.machine.spots
-few_live w kept = omega (arith, kept.ranges.few)
+few_live w kept = omega (arith, kept.ranges.devices.few)
 
 abbrev marked_live : World → ℕ → ℕ → List Dev
 marked_live w k s = map (with_condemner w.live k s) w.live
@@ -181,7 +181,7 @@ condemned_asleep live k s d = at (is_under live s d.serial)
     at true = refl
     at false = refl
 
-condemned_rises : (w : World) (k s : ℕ) (absent : List ℕ) (c : Caller) → Kept w → k < length w.callers → is_power (caller_at w k).doing ≡ false
+condemned_rises : (w : World) (k s : ℕ) (absent : List ℕ) (c : Caller) → Kept w → k < length w.callers → is_powering (caller_at w k).doing ≡ false
     → c.stack ≡ (caller_at w k).stack → (caller_at w k).over ≤ c.over
     → own (length w.setup.machine.spots) (with_caller (with_board w (marked_live w k s) w.refs w.sole absent) k c) k ≤ own (length w.setup.machine.spots) w k + free_worth (length w.setup.machine.spots) * length w.setup.machine.spots
 condemned_rises w k s absent c kept lt calm stack past =

@@ -13,13 +13,13 @@ use Rattle.run_rules.specs.declared.world.Dev.{Dev}
 use Rattle.run_rules.specs.declared.world.Activity.{Activity}
 use Rattle.run_rules.specs.declared.world.Activity.TheVariants as activity
 use Rattle.run_rules.specs.World.{World, Caller, caller_at, is_condemned, is_live, is_number, is_under, nobody}
-use Rattle.run_rules.specs.Sound.{Sound, is_power}
+use Rattle.run_rules.specs.Sound.{Sound, is_powering}
 use Rattle.run_rules.specs.After.{after, freed, freeing_target, marked, over, with_sleep}
 use Rattle.run_rules.specs.Next.{next, next_free, next_sleep, next_wake}
 use Rattle.run_rules.specs.declared.deed.Deed.TheVariants.{Free, Sleep, Wake}
 use Rattle.run_rules.specs.declared.deed.Choice.TheVariants.{Does}
 use Rattle.run_rules.proofs.Free.{find_true}
-use Rattle.run_sound.specs.Commands.{FreesLast, Wakes, wakes_below}
+use Rattle.run_sound.proofs.Commands.{FreesLast, Wakes, wakes_below}
 use Rattle.run_sound.specs.Kept.{Kept}
 use Rattle.run_sound.specs.Left.{free_spots, scan_left, spot_worth}
 use Rattle.run_sound.specs.Scripts.{script_of}
@@ -105,8 +105,8 @@ free_lowers n w k s kept e = cases (freeing_target (caller_at w k).doing s)
     why : FreesLast w k s
     why = has_command_reason w k (Free s) e
 
-    calm : is_power (caller_at w k).doing ≡ false
-    calm = ap is_power why.amid
+    calm : is_powering (caller_at w k).doing ≡ false
+    calm = ap is_powering why.amid
 
     less : 2 * (spot_worth n * free_spots (without w.live s) n) + free_worth n * condemned_in (without w.live s) < 2 * (spot_worth n * free_spots w.live n) + free_worth n * condemned_in w.live
     less =
@@ -217,14 +217,14 @@ pub number_is : (o : Option ℕ) (k : ℕ) → is_number o k ≡ true → o ≡ 
 number_is None k h = absurd cc
 number_is (Some j) k h = ap (λ (i : ℕ). Some i) (eqb-true j k h)
 
-turn_is : (w v : World) (k : ℕ) (a : Activity) → Sound w → (caller_at w k).doing ≡ a → is_power a ≡ true → v.power_owner ≡ w.power_owner → v.callers ≡ w.callers → turn_left v ≡ power_left v.live a
+turn_is : (w v : World) (k : ℕ) (a : Activity) → Sound w → (caller_at w k).doing ≡ a → is_powering a ≡ true → v.power_owner ≡ w.power_owner → v.callers ≡ w.callers → turn_left v ≡ power_left v.live a
 turn_is w v k a sound amid power owner callers =
-    let mine : is_power (caller_at w k).doing ≡ true = ap is_power amid ∙ power in
+    let mine : is_powering (caller_at w k).doing ≡ true = ap is_powering amid ∙ power in
     let has : w.power_owner ≡ Some k = number_is w.power_owner k ((sound.callers k).turn.1 mine) in
     let same : caller_at v k ≡ caller_at w k = ap (λ (cs : List Caller). slice_index_or cs k nobody) callers in
     rw (owner ∙ has) (ap (λ (x : Caller). power_left v.live x.doing) same ∙ ap (power_left v.live) amid)
 
-marked_lowers : (n : ℕ) (w : World) (k s : ℕ) (asleep : Bool) (a : Activity) → Sound w → (caller_at w k).doing ≡ a → is_power a ≡ true → power_left (slept_live w s asleep) a < power_left w.live a
+marked_lowers : (n : ℕ) (w : World) (k s : ℕ) (asleep : Bool) (a : Activity) → Sound w → (caller_at w k).doing ≡ a → is_powering a ≡ true → power_left (slept_live w s asleep) a < power_left w.live a
     → own n (marked w s asleep) k < own n w k
 marked_lowers n w k s asleep a sound amid power less =
     let before : turn_left w ≡ power_left w.live a = turn_is w w k a sound amid power refl refl in

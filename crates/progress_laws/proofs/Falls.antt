@@ -83,7 +83,7 @@ left_falls w k d may kept e = rw (left_is v n (ap (λ (s : Setup). length s.mach
     v = after w k d
 
     moves : OneMoves w v k
-    moves = record { setup = after_setup w k d; others = λ j other. others_stay w k j d other; there = omega (arith, doing_there w k d e, kept.ranges.callers) }
+    moves = record { setup = after_setup w k d; others = λ j other. others_stay w k j d other; there = omega (arith, doing_there w k d e, kept.ranges.callers.as_many) }
 
     before : over_callers ahead v + ahead w k ≡ over_callers ahead w + ahead v k
     before = ahead_moves w v k moves

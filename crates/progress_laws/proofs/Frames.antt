@@ -12,7 +12,7 @@ use Rattle.run_rules.specs.World.{World, Caller, caller_at, has, has_ended, is_e
 use Rattle.run_rules.specs.After.{after, attached, finaliser_placed, finaliser_placing, listed, moved_top, new_device, place_finaliser, place_scan, released, scan_placed, scan_placing, show_spot, under_top, with_stack}
 use Rattle.run_sound.specs.Left.{free_spots, spot_worth, whole_scan}
 use Rattle.run_rules.specs.declared.deed.Deed.TheVariants.{Search, EndScan, Finalise}
-use Rattle.run_sound.specs.Coming.{IsCalled, IsTurn, IsScanEnd}
+use Rattle.run_sound.proofs.Coming.{IsCalled, IsTurn, IsScanEnd}
 use Rattle.run_sound.specs.Kept.{MayRun}
 use Rattle.run_sound.proofs.Callers.{caller_there, callers_kept}
 use Rattle.run_sound.proofs.Stacks.{stacked}

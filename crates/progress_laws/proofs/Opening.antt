@@ -71,7 +71,7 @@ board_first : (s : Setup) → MayRun s → board_left (length s.machine.spots) (
 unfolding opening
 board_first s may =
     let n : ℕ = length s.machine.spots in
-    let free : free_spots [] n ≤ n = omega (arith, (opening_kept s may).ranges.few) in
+    let free : free_spots [] n ≤ n = omega (arith, (opening_kept s may).ranges.devices.few) in
     omega (arith, product_le (spot_worth n) (free_spots [] n) n free, product_le n (length (late_spots s)) n (late_few s))
 
 -- ---- all of it

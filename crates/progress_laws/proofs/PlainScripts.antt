@@ -73,7 +73,7 @@ nothing_left begun left n c many here frees goes x =
 -- a caller that frees is in the middle of such a command
 amid_freeing : (w : World) (k target : ℕ) → Kept w → (caller_at w k).doing ≡ activity.Frees target
     → (c : Command) × (slice_get (script_of w.setup k) (caller_at w k).over ≡ Some c) × (is_freeing c ≡ true)
-amid_freeing w k target kept frees = cases (subst (λ (a : Activity). IsAmid a (slice_get (script_of w.setup k) (caller_at w k).over)) frees (kept.ranges.placed k).amid)
+amid_freeing w k target kept frees = cases (subst (λ (a : Activity). IsAmid a (slice_get (script_of w.setup k) (caller_at w k).over)) frees (kept.ranges.callers.placed k).amid)
   where
     cases : IsAmid (activity.Frees target) (slice_get (script_of w.setup k) (caller_at w k).over)
         → (c : Command) × (slice_get (script_of w.setup k) (caller_at w k).over ≡ Some c) × (is_freeing c ≡ true)

@@ -167,7 +167,7 @@ module _ (w : World) (at : KeptInFull w) (stuck : NobodyDoes w) where
   -- who has not ended is of a script
   of_script : (k : ℕ) → has_ended w k ≡ false → (0 < k) × (k ≤ length w.setup.scripts)
   of_script zero goes = clash (has_ended w 0) (boot_over w at stuck) goes
-  of_script (suc k) goes = (omega arith, omega (arith, unended_there w (suc k) goes, at.kept.ranges.callers))
+  of_script (suc k) goes = (omega arith, omega (arith, unended_there w (suc k) goes, at.kept.ranges.callers.as_many))
 
   alone : length w.setup.scripts ≤ 1 → (k : ℕ) → has_ended w k ≡ true
   alone one k = elim (held_up w at stuck k) [

@@ -106,7 +106,7 @@ still_rounds zero w ks at all le = elim (somebody_or_nobody w) [
 ]
 still_rounds (suc n) w ks at all le = elim (somebody_or_nobody w) [
   | inl a ↦
-      let there : a.0 < suc (length w.setup.scripts) = omega (arith, doing_there w a.0 a.1 a.2, at.full.kept.ranges.callers) in
+      let there : a.0 < suc (length w.setup.scripts) = omega (arith, doing_there w a.0 a.1 a.2, at.full.kept.ranges.callers.as_many) in
       let round : Turns w (played w ks).1 = plays w ks at in
       let less : run_left (played w ks).1 < run_left w = round_falls w ks a.0 a.1 at a.2 (all a.0 there) in
       subst NobodyDoes (sym (played_append w ks (rounds n ks)))

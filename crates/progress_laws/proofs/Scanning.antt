@@ -9,14 +9,14 @@ use Rattle.run_rules.specs.declared.world.Setup.{Setup}
 use Rattle.run_rules.specs.declared.world.Activity.{Activity}
 use Rattle.run_rules.specs.declared.world.Activity.TheVariants as activity
 use Rattle.run_rules.specs.World.{World, Caller, caller_at, has_ended, is_ended}
-use Rattle.run_rules.specs.Sound.{is_power}
+use Rattle.run_rules.specs.Sound.{is_powering}
 use Rattle.run_rules.specs.After.{after, settled}
 use Rattle.run_rules.specs.Next.{next}
 use Rattle.run_rules.specs.declared.deed.Deed.{Deed}
 use Rattle.run_rules.specs.declared.deed.Deed.TheVariants.{Search, EndScan, BeginInterrupts, Finalise}
 use Rattle.run_rules.specs.declared.deed.Choice.TheVariants.{Does}
 use Rattle.run_rules.proofs.Setups.{after_setup}
-use Rattle.run_sound.specs.Coming.{IsCall, IsCalled, IsScanEnd, IsTurn}
+use Rattle.run_sound.proofs.Coming.{IsCall, IsCalled, IsScanEnd, IsTurn}
 use Rattle.run_sound.specs.Kept.{Kept, MayRun}
 use Rattle.run_sound.specs.Left.{boot_left, free_spots, scan_left, spot_worth, whole_scan}
 use Rattle.run_sound.specs.Scripts.{script_of}
@@ -35,17 +35,17 @@ use Rattle.progress_laws.proofs.Turns.{turn_stirs}
 
 -- ---- who has a frame is in no power command
 
-boot_calm : (w : World) → Kept w → is_power (caller_at w 0).doing ≡ false
-boot_calm w kept = elim kept.ranges.booting [ inl idle ↦ ap is_power idle | inr ended ↦ ap is_power ended ]
+boot_calm : (w : World) → Kept w → is_powering (caller_at w 0).doing ≡ false
+boot_calm w kept = elim kept.ranges.callers.booting [ inl idle ↦ ap is_powering idle | inr ended ↦ ap is_powering ended ]
 
-scan_calm : (w : World) (k : ℕ) → Kept w → (caller_at w k).stack ≢ [] → is_power (caller_at w k).doing ≡ false
+scan_calm : (w : World) (k : ℕ) → Kept w → (caller_at w k).stack ≢ [] → is_powering (caller_at w k).doing ≡ false
 scan_calm w zero kept some = boot_calm w kept
-scan_calm w (suc k) kept some = ap is_power ((kept.sound.callers (suc k)).frames (later_test (suc k) (λ same. omega (arith, same))) some)
+scan_calm w (suc k) kept some = ap is_powering ((kept.sound.callers (suc k)).frames (later_test (suc k) (λ same. omega (arith, same))) some)
 
-topped : (w : World) (k : ℕ) (f : Frame) (rest : List Frame) → Kept w → (caller_at w k).stack ≡ f ∷ rest → is_power (caller_at w k).doing ≡ false
+topped : (w : World) (k : ℕ) (f : Frame) (rest : List Frame) → Kept w → (caller_at w k).stack ≡ f ∷ rest → is_powering (caller_at w k).doing ≡ false
 topped w k f rest kept e = scan_calm w k kept (λ none. let no : f ∷ rest ≡ [] = sym e ∙ none in cc)
 
-at_boot : (w : World) (k : ℕ) → Kept w → k ≡ 0 → is_power (caller_at w k).doing ≡ false
+at_boot : (w : World) (k : ℕ) → Kept w → k ≡ 0 → is_powering (caller_at w k).doing ≡ false
 at_boot w k kept same = rw same (boot_calm w kept)
 
 -- ---- no command begins
@@ -79,7 +79,7 @@ unfinished_less w k d le =
 frame_sum : (x x' c t t' l u u' : ℕ) → x' < x → t' ≤ t + 1 → u' ≤ u → 2 * x' + c + t' + l + u' < 2 * x + c + t + l + u
 frame_sum x x' c t t' l u u' a b e = omega (arith, a, b, e)
 
-lowers : (n : ℕ) (w : World) (k : ℕ) (d : Deed) → Kept w → is_power (caller_at w k).doing ≡ false → Side w (after w k d) → (caller_at w k).over ≤ (caller_at (after w k d) k).over
+lowers : (n : ℕ) (w : World) (k : ℕ) (d : Deed) → Kept w → is_powering (caller_at w k).doing ≡ false → Side w (after w k d) → (caller_at w k).over ≤ (caller_at (after w k d) k).over
     → work n (after w k d) k < work n w k → own n (after w k d) k < own n w k
 lowers n w k d kept calm side past less =
     let turn : turn_left (after w k d) ≤ turn_left w + 1 = turn_stirs 1 w (after w k d) k kept.sound calm side.leaves.owner (λ j other. others_stay w k j d other) side.stirs in
@@ -176,7 +176,7 @@ final_works w (suc k) s spot got None anew may kept e = call_works w (suc k) s s
 final_works w (suc k) s spot got (Some place) anew may kept e =
     absurd (let same : suc k ≡ 0 = listed_boots w (suc k) s place anew (has_reason w (suc k) (Finalise s spot got (Some place) anew) e).called in omega (arith, same))
 
-call_calm : (w : World) (k s : ℕ) (place : Option ℕ) (anew : Bool) → Kept w → IsCalled w k s place anew → is_power (caller_at w k).doing ≡ false
+call_calm : (w : World) (k s : ℕ) (place : Option ℕ) (anew : Bool) → Kept w → IsCalled w k s place anew → is_powering (caller_at w k).doing ≡ false
 call_calm w k s None anew kept called = topped w k (Finaliser s) called.0 kept called.1
 call_calm w k s (Some place) anew kept called = at_boot w k kept (listed_boots w k s place anew called)
 

@@ -24,7 +24,7 @@ use Rattle.run_rules.specs.declared.deed.Choice.TheVariants.{Ended, Waits, Does}
 use Rattle.run_rules.specs.World.{World, Caller, caller_at, has_ended, holds_in, is_held, is_number, is_pinned, is_referred, nobody, refers_to}
 use Rattle.run_rules.specs.Next.{by_activity, command_of, first_held, freeing, next, next_command, next_free, on_top, other_turn}
 use Rattle.run_rules.specs.Next as rules
-use Rattle.run_rules.specs.Sound.{IsFreed, IsSoundlyCondemned, IsSoundlyDeferred, is_power, is_scan_of}
+use Rattle.run_rules.specs.Sound.{IsFreed, IsSoundlyCondemned, IsSoundlyDeferred, is_powering, is_scan_of}
 use Rattle.run_rules.proofs.Devices.{none_of}
 use Rattle.run_rules.proofs.Free.{find_true}
 use Rattle.run_sound.specs.InFull.{IsUnheld, KeptInFull}
@@ -140,7 +140,7 @@ module _ (w : World) (at : KeptInFull w) (stuck : NobodyDoes w) where
 
       cases : (b : Bool) → has_ended w 0 ≡ b → has_ended w 0 ≡ true
       cases true e = e
-      cases false e = elim at.kept.ranges.booting [ inl is ↦ idle e is | inr is ↦ rw is refl ]
+      cases false e = elim at.kept.ranges.callers.booting [ inl is ↦ idle e is | inr is ↦ rw is refl ]
 
   boot_ended : (caller_at w 0).doing ≡ activity.Ended
   boot_ended = is_ended_so (caller_at w 0).doing boot_over
@@ -179,7 +179,7 @@ module _ (w : World) (at : KeptInFull w) (stuck : NobodyDoes w) where
   no_turn : (j : ℕ) → w.power_owner ≢ Some j
   no_turn j owner = cases (caller_at w j).doing refl ((at.kept.sound.callers j).turn.0 (rw owner (eq-eqb j j refl)))
     where
-      cases : (a : Activity) → (caller_at w j).doing ≡ a → is_power a ≡ true → ⊥
+      cases : (a : Activity) → (caller_at w j).doing ≡ a → is_powering a ≡ true → ⊥
       cases (activity.Power what target) e h =
           never j (by_activity w j (activity.Power what target)) (next_is w j (rw e refl) (λ later. boot_over) ∙ ap (by_activity w j) e) (power_acts w j what target unpinned)
       cases activity.Idle e h = absurd cc

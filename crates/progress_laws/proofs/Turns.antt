@@ -8,7 +8,7 @@ use Rattle.run_rules.specs.declared.world.Dev.{Dev}
 use Rattle.run_rules.specs.declared.world.Activity.{Activity}
 use Rattle.run_rules.specs.declared.world.Activity.TheVariants as activity
 use Rattle.run_rules.specs.World.{World, caller_at, is_number}
-use Rattle.run_rules.specs.Sound.{Sound, is_power}
+use Rattle.run_rules.specs.Sound.{Sound, is_powering}
 use Rattle.run_sound.proofs.Callers.{clash}
 use Rattle.progress_laws.specs.Ahead.{asleep_in, awake_in, power_left, turn_left}
 
@@ -31,12 +31,12 @@ power_stirs x w v (activity.Transfer t) s = omega arith
 power_stirs x w v (activity.Frees t) s = omega arith
 
 -- who is in no power command has not the turn
-pub no_turn : (w : World) (k : ℕ) → Sound w → is_power (caller_at w k).doing ≡ false → is_number w.power_owner k ≡ false
+pub no_turn : (w : World) (k : ℕ) → Sound w → is_powering (caller_at w k).doing ≡ false → is_number w.power_owner k ≡ false
 no_turn w k sound off = cases (is_number w.power_owner k) refl
   where
     cases : (b : Bool) → is_number w.power_owner k ≡ b → is_number w.power_owner k ≡ false
     cases false e = e
-    cases true e = clash (is_power (caller_at w k).doing) ((sound.callers k).turn.0 e) off
+    cases true e = clash (is_powering (caller_at w k).doing) ((sound.callers k).turn.0 e) off
 
 turn_for : (x : ℕ) (w v : World) (k : ℕ) (o : Option ℕ) → is_number o k ≡ false → ((j : ℕ) → j ≢ k → caller_at v j ≡ caller_at w j) → Stirs x w v
     → option_map_or (λ j. power_left v.live (caller_at v j).doing) o 0 ≤ option_map_or (λ j. power_left w.live (caller_at w j).doing) o 0 + x
@@ -46,7 +46,7 @@ turn_for x w v k (Some j) off others s =
     rw (others j other) (power_stirs x w v (caller_at w j).doing s)
 
 -- so the turn has no more left, or so much more
-pub turn_stirs : (x : ℕ) (w v : World) (k : ℕ) → Sound w → is_power (caller_at w k).doing ≡ false → v.power_owner ≡ w.power_owner → ((j : ℕ) → j ≢ k → caller_at v j ≡ caller_at w j) → Stirs x w v
+pub turn_stirs : (x : ℕ) (w v : World) (k : ℕ) → Sound w → is_powering (caller_at w k).doing ≡ false → v.power_owner ≡ w.power_owner → ((j : ℕ) → j ≢ k → caller_at v j ≡ caller_at w j) → Stirs x w v
     → turn_left v ≤ turn_left w + x
 turn_stirs x w v k sound off same others s = rw same (turn_for x w v k w.power_owner (no_turn w k sound off) others s)
 

@@ -27,7 +27,7 @@ use Rattle.run_rules.specs.declared.world.Setup.{Setup}
 use Rattle.run_rules.specs.After.{after}
 use Rattle.run_rules.specs.Lines.{IsFormed, IsFormedAct, IsFormedDepthName, IsFormedGot, IsFormedName, IsFormedShown, IsDeviceName, MayClose, MayDetach, MayEndPower, MayOpen, MayOpenSole, MayPlug, MayPower, MayRescan, MayStart, MayUnplug, act_text, act_text_1, line_of, line_of_1, lines, lines_1}
 use Rattle.run_rules.specs.Next.{next}
-use Rattle.run_rules.specs.Reread.{line_in, lines_of, reread, reread_from, reread_lines, step_by, told_by, with_event}
+use Rattle.run_rules.specs.Reread.{history_lines, line_in, reread, reread_from, reread_lines, step_by, told_by, with_event}
 use Rattle.run_rules.specs.Run.{event_of}
 use Rattle.run_rules.specs.World.{World, opening}
 use Rattle.run_rules.proofs.FormedNames.{device_known}
@@ -172,7 +172,7 @@ step_setup w e x m formed took =
 abbrev tail_of : List ℕ → List ℕ
 tail_of rest = ended (codes "tree") ++ rest
 
-tree_ends : (f : Format) (w : World) (n : ℕ) (rest : List ℕ) → reread_lines f w n (lines_of (tail_of rest)) ≡ Ok ([], w)
+tree_ends : (f : Format) (w : World) (n : ℕ) (rest : List ℕ) → reread_lines f w n (history_lines (tail_of rest)) ≡ Ok ([], w)
 unfolding reread_lines
 tree_ends f w n rest = ap (reread_lines f w n) (lines_behind (codes "tree") rest refl)
 
@@ -201,13 +201,13 @@ both_taken n second first (Some step) g v later is =
 
 abbrev OlderTaken : ℕ → List Event → List ℕ → Type 0
 OlderTaken n h rest =
-    (w : World) (g : List Event) (v : World) → MayRun w.setup → reread_lines format.Second w n (lines_of (text_of (map line_of h) ++ tail_of rest)) ≡ Ok (g, v)
-    → reread_lines format.First w n (lines_of (text_of (map line_of_1 h) ++ tail_of rest)) ≡ Ok (g, v)
+    (w : World) (g : List Event) (v : World) → MayRun w.setup → reread_lines format.Second w n (history_lines (text_of (map line_of h) ++ tail_of rest)) ≡ Ok (g, v)
+    → reread_lines format.First w n (history_lines (text_of (map line_of_1 h) ++ tail_of rest)) ≡ Ok (g, v)
 
 one_older : (n : ℕ) (e : Event) (es : List Event) (rest : List ℕ) → IsFormed e → OlderTaken (n + 1) es rest → OlderTaken n (e ∷ es) rest
 one_older n e es rest formed later w g v may took =
-    let second : List (List ℕ) = lines_of (text_of (map line_of es) ++ tail_of rest) in
-    let first : List (List ℕ) = lines_of (text_of (map line_of_1 es) ++ tail_of rest) in
+    let second : List (List ℕ) = history_lines (text_of (map line_of es) ++ tail_of rest) in
+    let first : List (List ℕ) = history_lines (text_of (map line_of_1 es) ++ tail_of rest) in
     let read : answer_of format.Second n second (step_by format.Second w (line_of e)) ≡ Ok (g, v) =
     sym (opened format.Second w n (line_of e) second (no_tree (line_of e) e.caller (names_caller format.Second e formed.caller)))
     ∙ sym (ap (reread_lines format.Second w n) (first_of (line_of e) (map line_of es) (tail_of rest) (formed_line format.Second e formed))) ∙ took in

@@ -10,7 +10,7 @@ use Rattle.run_rules.specs.declared.event.Event.{Event}
 use Rattle.run_rules.specs.declared.event.Format.{Format}
 use Rattle.run_rules.specs.After.{after}
 use Rattle.run_rules.specs.Next.{next}
-use Rattle.run_rules.specs.Reread.{caller_of, format_of, line_in, lines_of, reread, reread_from, reread_lines, step_by, told_by, with_event}
+use Rattle.run_rules.specs.Reread.{caller_of, format_of, history_lines, line_in, reread, reread_from, reread_lines, step_by, told_by, with_event}
 use Rattle.run_rules.specs.Run.{Run, Step, event_of}
 use Rattle.run_rules.specs.World.{World}
 
@@ -91,4 +91,4 @@ from_run w n (line ∷ rest) h v is = by_head w (n + 1) rest h v (from_run w (n 
 -- the events lead from the world to the other one
 pub taken_run : (w : World) (text : List ℕ) (h : List Event) (v : World) → reread w text ≡ Ok (h, v) → Run w h v
 unfolding reread
-taken_run w text h v is = from_run w 1 (lines_of text) h v is
+taken_run w text h v is = from_run w 1 (history_lines text) h v is

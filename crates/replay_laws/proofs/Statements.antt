@@ -1,5 +1,5 @@
 -- The words that a statement keeps for the tables, or for the names of files, are each within one line.
-use Rattle.std.proofs.Common.{ℕ, ◌-◌, Bool, true, false, cond, ◌&&◌, ◌||◌, Option, Some, None, List, [], ◌∷◌, length, take, drop, map}
+use Rattle.std.proofs.Common.{ℕ, ◌-◌, Bool, true, false, cond, ◌&&◌, ◌||◌, Option, Some, None, List, [], ◌∷◌, length, drop, map}
 use Rattle.std.specs.Prelude.{All, IfSome, ⊤, ◌==◌, codes, nat_le, nat_lt, option_and_then, option_map}
 use Rattle.std.specs.List.{before_first, list_all, onto_first, slice_split}
 use Rattle.std.proofs.lemmas.List.Elements.{All-cons, All-head, All-nil, All-tail}
@@ -16,7 +16,7 @@ use Rattle.cf_types.specs.declared.stmt.Stmt.{Stmt}
 use Rattle.cf_types.specs.declared.stmt.Stmt.TheVariants as stmt
 use Rattle.cf_types.specs.declared.stmt.UnitMark.{UnitMark}
 use Rattle.cf_types.specs.declared.tables.Locator.{Locator}
-use Rattle.config_rules.specs.Form.{TableRow, alone, at_place, attach_stmt, attached, by_row, bytes_of, cond_form, count_of, defining, device_stmt, each, form_of, free_form, inst_stmt, is_before_last, is_chunk, is_mark, is_text, is_word, locators_of, make_item, name_of, names_of, needs_of, no_inst, no_stmt, option_item, pairs_of, parted, parted_at, path_of, place_of, prefix_stmt, pseudo_stmt, row_by, row_of, table, unit_chunk, with_body}
+use Rattle.config_rules.specs.Form.{TableRow, alone, at_place, attach_stmt, attached, by_row, bytes_of, cond_form, count_of, defining, device_stmt, each, form_of, free_form, inst_stmt, is_chunk, is_mark, is_text, is_word, locators_of, make_item, name_of, names_of, needs_of, no_inst, no_stmt, option_item, pairs_of, parted, parted_at, path_of, place_of, places_and_name, prefix_stmt, pseudo_stmt, row_by, row_of, table, unit_chunk, with_body}
 use Rattle.config_rules.proofs.GivenLaws.{if_given}
 use Rattle.config_rules.proofs.Parts.{cond_both}
 use Rattle.replay_laws.specs.OneLine.{IsItemLine, IsOneLine}
@@ -144,10 +144,7 @@ device_lined [] = tt
 device_lined (n ∷ ps) = if_cond HasLines (ends_with_digit n.text) None (defining true stmt.Device (n ∷ ps)) tt (defined stmt.Device (λ n l d. tt) (n ∷ ps))
 
 attached_lined : (device : List ℕ) (needs : List (List ℕ)) (ps : List Piece) → IfSome (attached device needs ps) HasLines
-attached_lined device needs ps =
-    if_cond HasLines (is_before_last (codes "with") ps) _ (option_map (λ places. stmt.Attach device places None needs) (names_of ps))
-    (then_any HasLines _ (names_of (take (length ps - 2) ps)) (λ places. map_any HasLines _ (alone name_of (drop (length ps - 1) ps)) (λ name. tt)))
-    (map_any HasLines _ (names_of ps) (λ places. tt))
+attached_lined device needs ps = map_any HasLines _ (places_and_name ps) (λ a. tt)
 
 attach_lined : (ps : List Piece) → IfSome (attach_stmt ps) HasLines
 attach_lined [] = tt

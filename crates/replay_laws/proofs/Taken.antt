@@ -16,7 +16,7 @@ use Rattle.run_rules.specs.declared.world.Setup.{Setup}
 use Rattle.run_rules.specs.After.{after}
 use Rattle.run_rules.specs.Lines.{act_text, act_text_1, line_of, line_of_1, lines, lines_1}
 use Rattle.run_rules.specs.Next.{next}
-use Rattle.run_rules.specs.Reread.{format_of, line_in, lines_of, reread, reread_from, reread_lines, step_by, with_event}
+use Rattle.run_rules.specs.Reread.{format_of, history_lines, line_in, reread, reread_from, reread_lines, step_by, with_event}
 use Rattle.run_rules.specs.Run.{Run, Step, event_of}
 use Rattle.run_rules.specs.Tree.{dev_text, tree_lines, tree_text}
 use Rattle.run_rules.specs.World.{World, beginning, opening}
@@ -114,18 +114,18 @@ one_more f w n e m rest es v said read = rw (said.no_tree, said.told) (ap (with_
 
 -- the lines of the events of a run, and the line `tree` behind them
 lines_taken : (s : Setup) (f : Format) (w : World) (n : ℕ) (h : List Event) (v : World) → MayPlay s → IsOf s w → Run w h v
-    → reread_lines f w n (lines_of (text_of (map (line_in f) h) ++ tree_text v)) ≡ Ok (h, v)
+    → reread_lines f w n (history_lines (text_of (map (line_in f) h) ++ tree_text v)) ≡ Ok (h, v)
 unfolding reread_lines tree_text
 lines_taken s f w n [] v play at run =
     ap (reread_lines f w n) (lines_behind (codes "tree") (text_of (map dev_text (tree_lines v))) refl) ∙ ap (λ (u : World). Ok ([], u)) run
 lines_taken s f w n (e ∷ es) v play at run =
     let said = step_said s f w e run.0 play at run.1 in
     ap (reread_lines f w n) (first_of (line_in f e) (map (line_in f) es) (tree_text v) said.one)
-    ∙ one_more f w n e run.0 (lines_of (text_of (map (line_in f) es) ++ tree_text v)) es v said (lines_taken s f run.0 (n + 1) es v play (goes_on s w e.caller e run.0 at run.1) run.2)
+    ∙ one_more f w n e run.0 (history_lines (text_of (map (line_in f) es) ++ tree_text v)) es v said (lines_taken s f run.0 (n + 1) es v play (goes_on s w e.caller e run.0 at run.1) run.2)
 
 -- ---- a text
 
-from_head : (s : Setup) (f : Format) (n : ℕ) (h : List Event) (v : World) → MayPlay s → Run (opening s) h v → reread_from (opening s) n (lines_of (history_in f h v)) ≡ Ok (h, v)
+from_head : (s : Setup) (f : Format) (n : ℕ) (h : List Event) (v : World) → MayPlay s → Run (opening s) h v → reread_from (opening s) n (history_lines (history_in f h v)) ≡ Ok (h, v)
 unfolding reread_from lines lines_1
 from_head s format.First n h v play run =
     ap (reread_from (opening s) n) (first_of (codes "history 1") (map line_of_1 h) (tree_text v) refl)
@@ -139,11 +139,11 @@ passed_one : (w : World) (n : ℕ) (line : List ℕ) (rest : List (List ℕ)) (r
 unfolding reread_from
 passed_one w n line rest r none later = rw none later
 
-passed : (w : World) (n : ℕ) (front : List (List ℕ)) (rest : List ℕ) (r : Result (List Event × World) ℕ) → AllByRecursion IsPassed front → ((m : ℕ) → reread_from w m (lines_of rest) ≡ r)
-    → reread_from w n (lines_of (text_of front ++ rest)) ≡ r
+passed : (w : World) (n : ℕ) (front : List (List ℕ)) (rest : List ℕ) (r : Result (List Event × World) ℕ) → AllByRecursion IsPassed front → ((m : ℕ) → reread_from w m (history_lines rest) ≡ r)
+    → reread_from w n (history_lines (text_of front ++ rest)) ≡ r
 passed w n [] rest r all later = later n
 passed w n (line ∷ front) rest r all later =
-    ap (reread_from w n) (first_of line front rest all.0.one) ∙ passed_one w n line (lines_of (text_of front ++ rest)) r all.0.no_head (passed w (n + 1) front rest r all.1 later)
+    ap (reread_from w n) (first_of line front rest all.0.one) ∙ passed_one w n line (history_lines (text_of front ++ rest)) r all.0.no_head (passed w (n + 1) front rest r all.1 later)
 
 -- ---- the laws
 

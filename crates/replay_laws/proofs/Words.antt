@@ -10,7 +10,8 @@ use Rattle.std.proofs.lemmas.List.Splits.{slice_split_at, slice_split_none}
 use Rattle.std.proofs.Math.Seq.{drop-append-add}
 use Rattle.cf_types.specs.declared.stmt.Piece.{Piece}
 use Rattle.cf_types.specs.declared.stmt.Token.{Token}
-use Rattle.config_rules.specs.Cut.{Part, Space, Comment, Quoted, Chunk, Mark, Cut, LineCut, is_over, is_stop, line_tokens, lines_of, lines_tokens, part_tokens, piece, spelling, spellings, statements, stop_behind}
+use Rattle.cf_types.specs.Lines.{lines_of}
+use Rattle.config_rules.specs.Cut.{Part, Space, Comment, Quoted, Chunk, Mark, Cut, LineCut, is_over, is_stop, line_tokens, lines_tokens, part_tokens, piece, spelling, spellings, statements, stop_behind}
 use Rattle.config_rules.specs.Reading.{Statement, line_at, statements_in}
 use Rattle.replay_laws.specs.OneLine.{IsOneLine, is_one_line}
 

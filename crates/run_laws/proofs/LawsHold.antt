@@ -303,9 +303,10 @@ others_none names callers g k x c h j apart =
       ]
     ]
 
-lawful_here : (names : List (List ℕ)) (callers : List ℕ) (before : List Event) (e : Event) (g : List Event) → AreCovered names callers g
-    → covers names callers e ≡ true → is_lawful_here names callers before e g ≡ true → IsLawfulNext before e g
-lawful_here names callers before e g c ce h =
+lawful_here : (names : List (List ℕ)) (callers : List ℕ) (before : List Event) (e : Event) → AreCovered names callers (before ++ e ∷ [])
+    → covers names callers e ≡ true → is_lawful_here names callers before e (before ++ e ∷ []) ≡ true → IsLawfulNext before e
+lawful_here names callers before e c ce h =
+    let g : List Event = before ++ e ∷ [] in
     let t1 : Bool = option_map_or (free_test names callers g) (freed_name e.act) true in
     let t2 : Bool = list_all (children_sleep names g) names in
     let t3 : Bool = list_all (λ k. list_all (count_test g k) names) callers in
@@ -388,7 +389,7 @@ lawful_on names callers before (e ∷ es) c h t =
     let both = and_both (covers names callers e) (list_all (covers names callers) es) h in
     let test = and_both (is_lawful_here names callers before e (before ++ e ∷ [])) (lawful_test names callers (before ++ e ∷ []) es) t in
     let on : AreCovered names callers (before ++ e ∷ []) = snoc names callers before e c both.0 in
-    (lawful_here names callers before e (before ++ e ∷ []) on both.0 test.0, lawful_on names callers (before ++ e ∷ []) es on both.1 test.1)
+    (lawful_here names callers before e on both.0 test.0, lawful_on names callers (before ++ e ∷ []) es on both.1 test.1)
 
 -- the test has all names and callers of the history, and the history passes it
 unfoldable pub passes_laws : List (List ℕ) → List ℕ → List Event → Bool

@@ -15,7 +15,7 @@ use Rattle.run_rules.specs.declared.world.Activity.TheVariants as activity
 use Rattle.run_rules.specs.declared.world.ParentRef.TheVariants as under
 use Rattle.run_rules.specs.declared.world.Setup.{Setup}
 use Rattle.run_rules.specs.declared.world.Wait.TheVariants as wait
-use Rattle.run_rules.specs.Search.{is_candidate, is_winner, match_value, winner, winner_at}
+use Rattle.run_rules.specs.Search.{is_candidate, match_value, winner, winner_at}
 use Rattle.run_laws.proofs.Inputs.{attach, attr, caller, deep, dev, device, event, going, got, match_line, parent, ref, row, spot, style, tables_of}
 use Rattle.run_laws.proofs.Machines.{isa_boot_events, isa_machine, isa_quiet, isa_tables}
 use Rattle.run_laws.proofs.Outcome.{Over, Stays, outcome, quiet}
@@ -190,9 +190,9 @@ left = refl
 
 -- now the second row would take the second spot, where before any device came the third row was the best
 left_now : winner_at left_setup (dev 1 0 0 0 0 ∷ dev 2 2 0 1 1 ∷ []) 1 (place.At 0) 2 ≡ Some 1
-unfolding winner is_winner is_candidate match_value submatch offers interfaces interfaces_of firsts walk
+unfolding winner is_candidate match_value submatch offers interfaces interfaces_of firsts walk
 left_now = refl
 
 left_first : winner left_setup [] (under.Dev 0 0) (place.At 0) 2 ≡ Some 2
-unfolding winner is_winner is_candidate match_value submatch offers interfaces interfaces_of firsts walk
+unfolding winner is_candidate match_value submatch offers interfaces interfaces_of firsts walk
 left_first = refl

@@ -17,7 +17,7 @@ use Rattle.run_rules.specs.World.{World, Caller, opening, nobody, is_live, is_un
 use Rattle.run_rules.specs.declared.world.Ref.{Ref}
 use Rattle.run_rules.specs.References.{AreCounted, count_in, is_of, refs_to}
 use Rattle.cf_types.specs.Numbers.{below}
-use Rattle.run_rules.specs.Sound.{EachLater, IsApart, IsPlaced, IsSoundlyCondemned, IsSoundlyAsleep, is_scan_of, is_known, IsSoundlyDeferred, is_power, is_empty, IsSoundCaller, IsSoundBoot, IsUnbegun, others, Sound}
+use Rattle.run_rules.specs.Sound.{EachLater, IsApart, IsPlaced, IsSoundlyCondemned, IsSoundlyAsleep, is_scan_of, is_known, IsSoundlyDeferred, is_powering, is_empty, IsSoundCaller, IsSoundBoot, IsUnbegun, others, Sound}
 use Rattle.run_rules.specs.Next.{next}
 use Rattle.run_rules.specs.Run.{taken, played}
 use Rattle.run_rules.proofs.Below.{and_both, at_below}
@@ -80,7 +80,7 @@ target_test w k _ = true
 
 abbrev pub caller_test : World → ℕ → Bool
 caller_test w k =
-    same_bool (is_number w.power_owner k) (is_power (caller_at w k).doing)
+    same_bool (is_number w.power_owner k) (is_powering (caller_at w k).doing)
     && (holds_transfer w k (caller_at w k).doing && (ended_test w k (caller_at w k) && (frames_test k (caller_at w k) && target_test w k (caller_at w k).doing)))
 
 abbrev pub is_idle : Activity → Bool
@@ -266,12 +266,12 @@ caller_in : (w : World) (k : ℕ) → caller_test w k ≡ true → IsSoundCaller
 caller_in w k h =
     let c : Caller = caller_at w k in
     let e1 : Bool = ended_test w k c && (frames_test k c && target_test w k c.doing) in
-    let a = and_both (same_bool (is_number w.power_owner k) (is_power c.doing)) (holds_transfer w k c.doing && e1) h in
+    let a = and_both (same_bool (is_number w.power_owner k) (is_powering c.doing)) (holds_transfer w k c.doing && e1) h in
     let b = and_both (holds_transfer w k c.doing) e1 a.1 in
     let d = and_both (ended_test w k c) (frames_test k c && target_test w k c.doing) b.1 in
     let f = and_both (frames_test k c) (target_test w k c.doing) d.1 in
     record {
-      turn = same_is (is_number w.power_owner k) (is_power c.doing) a.0;
+      turn = same_is (is_number w.power_owner k) (is_powering c.doing) a.0;
       transfer = λ t e. subst (λ (x : Activity). holds_transfer w k x ≡ true) e b.0;
       ended = λ e.
           let left = and_both (is_empty c.stack) (list_all (λ r. not (r.caller == k)) w.refs)
@@ -290,7 +290,7 @@ turn_past : (o : Option ℕ) (n k : ℕ) → option_map_or (λ j. nat_lt j n) o 
 turn_past None n k h le e = cc
 turn_past (Some j) n k h le e = omega (arith, ltb-true j n h, eqb-true j k e, le)
 
-no_power : (a : Activity) → a ≡ activity.Ended → is_power a ≡ true → ⊥
+no_power : (a : Activity) → a ≡ activity.Ended → is_powering a ≡ true → ⊥
 no_power a e p = cc
 
 caller_past : (w : World) (k : ℕ) → range_test w ≡ true → length w.callers ≤ k → IsSoundCaller w k

@@ -7,7 +7,7 @@ use Rattle.run_rules.specs.declared.world.Position.{Position}
 use Rattle.run_rules.specs.declared.world.Wanted.{Wanted}
 use Rattle.run_rules.specs.declared.world.ParentRef.{ParentRef}
 use Rattle.run_rules.specs.World.{has, is_number}
-use Rattle.run_rules.specs.Search.{turns, is_before, is_due, is_open, is_occupied, passes_filter, found_at, due, is_winner, winner, winner_at}
+use Rattle.run_rules.specs.Search.{turns, is_before, is_due, is_open, is_occupied, passes_filter, found_at, due, is_best, is_candidate, value_of, winner, winner_at}
 use Rattle.run_rules.specs.declared.world.Turn.{Turn}
 use Rattle.std.proofs.Common.{◌<◌, ◌||◌}
 use Rattle.std.proofs.lemmas.Bool.{not-true}
@@ -70,4 +70,4 @@ due_wins s live absent hidden p only wanted from t e indirect =
 
 pub winner_below : (s : Setup) (live : List Dev) (p : ParentRef) (place : Place) (x r : ℕ) → winner s live p place x ≡ Some r → r < length s.tables.rows
 unfolding winner
-winner_below s live p place x r e = find_below (is_winner s live p place x) (length s.tables.rows) r e
+winner_below s live p place x r e = find_below (is_best (is_candidate s live p place x) (λ q. value_of s q x) (length s.tables.rows)) (length s.tables.rows) r e

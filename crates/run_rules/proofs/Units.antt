@@ -14,7 +14,7 @@ use Rattle.cf_types.specs.declared.tables.Place.{Place}
 use Rattle.cf_types.specs.declared.tables.Row.{Row}
 use Rattle.std.specs.Prelude.{if◌then◌else◌}
 use Rattle.std.specs.Option.{option_map_or}
-use Rattle.run_rules.specs.Search.{is_taken, free_after, unit_of, is_live_row, is_candidate, is_winner, winner}
+use Rattle.run_rules.specs.Search.{is_taken, free_after, unit_of, is_best, is_live_row, is_candidate, value_of, winner}
 use Rattle.run_rules.proofs.Below.{and_both, find-is, find-none}
 use Rattle.run_rules.proofs.Free.{find_true}
 
@@ -165,11 +165,16 @@ row_free s live r (Some row) a b c e h =
     cases true k = free_after_free s live row.device row.unit
     cases false k = live_free (is_taken s live row.device row.unit) k
 
+-- the unit of a candidate is free
+pub candidate_free : (s : Setup) (live : List Dev) (p : ParentRef) (place : Place) (x r : ℕ) → is_candidate s live p place x r ≡ true → is_taken s live (driver_of s r) (unit_of s live r) ≡ false
+unfolding is_candidate
+candidate_free s live p place x r h = row_free s live r (slice_get s.tables.rows r) _ _ _ refl h
+
 pub winner_free : (s : Setup) (live : List Dev) (p : ParentRef) (place : Place) (x r : ℕ) → winner s live p place x ≡ Some r → is_taken s live (driver_of s r) (unit_of s live r) ≡ false
-unfolding winner is_winner is_candidate
+unfolding winner
 winner_free s live p place x r e =
-    let won = find_true (is_winner s live p place x) (below (length s.tables.rows)) r e in
-    row_free s live r (slice_get s.tables.rows r) _ _ _ refl (and_both (is_candidate s live p place x r) _ won).0
+    let won = find_true (is_best (is_candidate s live p place x) (λ q. value_of s q x) (length s.tables.rows)) (below (length s.tables.rows)) r e in
+    candidate_free s live p place x r (and_both (is_candidate s live p place x r) _ won).0
 
 -- ---- the search for it, number by number
 

@@ -98,28 +98,65 @@ pub record IsCount (least : ℕ) (z : ℤ) : Type 0 where
 abbrev pub LivesAwake : List Event → List ℕ → Type 0
 LivesAwake h x = (lives h x ≡ true) × (is_asleep_in h x ≡ false)
 
--- what holds where event e stands after the events before it; g are the events up to e
-pub record IsLawfulNext (before : List Event) (e : Event) (g : List Event) : Type 0 where
-  -- nobody holds what is freed
-  pub unreferred : (x : List ℕ) → freed_name e.act ≡ Some x → (k : ℕ) → holds g k x ≡ pos 0
-  -- and nothing lives below it
-  pub childless : (x y : List ℕ) → freed_name e.act ≡ Some x → lives g y ≡ true → parent_in g y ≢ Some x
-  -- what lives below a sleeping device sleeps
-  pub sleeping : (x y : List ℕ) → is_asleep_in g x ≡ true → lives g y ≡ true → parent_in g y ≡ Some x → is_asleep_in g y ≡ true
-  -- a caller holds a device up to 15 times, only while it lives, and wherever it starts or ends a transfer on it
-  pub held : (k : ℕ) (x : List ℕ) → IsCount 0 (holds g k x)
-  pub held_live : (k : ℕ) (x : List ℕ) → lives g x ≡ false → holds g k x ≡ pos 0
-  pub held_in_use : (x : List ℕ) → transfers e.act x ≡ true → IsCount 1 (holds g e.caller x)
-  -- who has a device solely holds it once, and nobody else holds it
-  pub sole : (k : ℕ) (x : List ℕ) → sole_in g k x ≡ true → (holds g k x ≡ pos 1) × ((j : ℕ) → j ≢ k → holds g j x ≡ pos 0)
-  -- what comes did not live, and comes below the root or below what lived and was awake
-  pub fresh : (x : List ℕ) → attached_name e.act ≡ Some x → lives before x ≡ false
-  pub below_awake : (x : List ℕ) → attached_name e.act ≡ Some x → (attached_below e.act ≡ root_name) ⊎ LivesAwake before (attached_below e.act)
+-- ---- the laws one by one: of events, or of the events before an event and this event
 
--- each of these events is lawful after those before it
+-- nobody holds what is freed
+abbrev pub FreesUnheld : List Event → Event → Type 0
+FreesUnheld h e = (x : List ℕ) → freed_name e.act ≡ Some x → (k : ℕ) → holds (h ++ e ∷ []) k x ≡ pos 0
+
+-- and nothing lives below it
+abbrev pub FreesChildless : List Event → Event → Type 0
+FreesChildless h e =
+    (x y : List ℕ) → freed_name e.act ≡ Some x → lives (h ++ e ∷ []) y ≡ true → parent_in (h ++ e ∷ []) y ≢ Some x
+
+-- what lives below a sleeping device sleeps
+abbrev pub SleepsBelow : List Event → Type 0
+SleepsBelow h = (x y : List ℕ) → is_asleep_in h x ≡ true → lives h y ≡ true → parent_in h y ≡ Some x → is_asleep_in h y ≡ true
+
+-- a caller holds a device 0 to 15 times
+abbrev pub HoldsFew : List Event → Type 0
+HoldsFew h = (k : ℕ) (x : List ℕ) → IsCount 0 (holds h k x)
+
+-- only devices that live are held
+abbrev pub HoldsLiving : List Event → Type 0
+HoldsLiving h = (k : ℕ) (x : List ℕ) → lives h x ≡ false → holds h k x ≡ pos 0
+
+-- who starts or ends a transfer on a device holds it
+abbrev pub HoldsInUse : List Event → Event → Type 0
+HoldsInUse h e = (x : List ℕ) → transfers e.act x ≡ true → IsCount 1 (holds (h ++ e ∷ []) e.caller x)
+
+-- who has a device solely holds it once, and nobody else holds it
+abbrev pub HoldsAlone : List Event → Type 0
+HoldsAlone h =
+    (k : ℕ) (x : List ℕ) → sole_in h k x ≡ true → (holds h k x ≡ pos 1) × ((j : ℕ) → j ≢ k → holds h j x ≡ pos 0)
+
+-- what comes did not live
+abbrev pub ComesFresh : List Event → Event → Type 0
+ComesFresh h e = (x : List ℕ) → attached_name e.act ≡ Some x → lives h x ≡ false
+
+-- and comes below the root, or below what lived and was awake
+abbrev pub ComesBelowAwake : List Event → Event → Type 0
+ComesBelowAwake h e =
+    (x : List ℕ) → attached_name e.act ≡ Some x → (attached_below e.act ≡ root_name) ⊎ LivesAwake h (attached_below e.act)
+
+-- ---- all of them
+
+-- what holds where event e stands behind the events h
+pub record IsLawfulNext (h : List Event) (e : Event) : Type 0 where
+  pub unreferred : FreesUnheld h e
+  pub childless : FreesChildless h e
+  pub sleeping : SleepsBelow (h ++ e ∷ [])
+  pub held : HoldsFew (h ++ e ∷ [])
+  pub held_live : HoldsLiving (h ++ e ∷ [])
+  pub held_in_use : HoldsInUse h e
+  pub sole : HoldsAlone (h ++ e ∷ [])
+  pub fresh : ComesFresh h e
+  pub below_awake : ComesBelowAwake h e
+
+-- each of these events is lawful behind those before it
 abbrev pub LawfulFrom : List Event → List Event → Type 0
-LawfulFrom before [] = ⊤
-LawfulFrom before (e ∷ es) = IsLawfulNext before e (before ++ e ∷ []) × LawfulFrom (before ++ e ∷ []) es
+LawfulFrom h [] = ⊤
+LawfulFrom h (e ∷ es) = IsLawfulNext h e × LawfulFrom (h ++ e ∷ []) es
 
 abbrev pub Lawful : List Event → Type 0
 Lawful h = LawfulFrom [] h

@@ -1,5 +1,5 @@
 -- What a caller does next. The first line that applies counts.
-use Rattle.std.specs.Prelude.{ℕ, ◌+◌, ◌-◌, Bool, true, false, not, ◌&&◌, ◌||◌, ◌==◌, nat_lt, if◌then◌else◌, List, [], ◌∷◌, length, reverse, map, find, position, slice_get, slice_index_or, Option, Some, None, option_map, option_and_then, bytes_eq}
+use Rattle.std.specs.Prelude.{ℕ, ◌+◌, ◌-◌, Bool, true, false, not, ◌&&◌, ◌||◌, ◌==◌, nat_lt, if◌then◌else◌, List, [], ◌∷◌, length, reverse, map, find, slice_get, slice_index_or, Option, Some, None, option_map, option_and_then}
 use Rattle.std.specs.List.{list_any}
 use Rattle.std.specs.Option.{option_map_or}
 use Rattle.cf_types.specs.Locators.{locators_at}
@@ -23,6 +23,7 @@ use Rattle.run_rules.specs.declared.world.Activity.TheVariants as activity
 use Rattle.run_rules.specs.declared.world.Setup.{Setup}
 use Rattle.run_rules.specs.World.{World, has, is_number, serial_of, device_at, device_on, is_live, is_under, name_of, device_named, policy_of, offered_by, is_pinned, is_held, is_referred, is_condemned, caller_at, has_ended}
 use Rattle.cf_types.specs.Numbers.{below}
+use Rattle.cf_types.specs.Lookups.{attr_number, place_of_name, spot_number}
 use Rattle.run_rules.specs.References.{count_in}
 use Rattle.run_rules.specs.Search.{winner_at, unit_of, due, after_turn}
 use Rattle.run_rules.specs.declared.deed.Deed.{Deed}
@@ -158,10 +159,6 @@ ticket_of w k number d value = record {
   value = value;
 }
 
--- a locator's place among the names
-abbrev pub locator_place : List (List ℕ) → List ℕ → Option ℕ
-locator_place names name = position (λ n. bytes_eq n name) names
-
 -- after drvctl(8): the locator values that a rescan gives, each by its place; none where one is no locator or is given twice
 unfoldable pub wanted_of : List (List ℕ) → List Given → Option (List Wanted)
 wanted_of names [] = Some []
@@ -169,10 +166,7 @@ wanted_of names (g ∷ gs) =
     option_and_then (λ rest.
     option_and_then (λ i.
     if list_any (λ v. v.place == i) rest then None else Some (record { place = i; value = g.value } ∷ rest))
-    (locator_place names g.name)) (wanted_of names gs)
-
-abbrev pub attr_named : World → List ℕ → Option ℕ
-attr_named w name = position (λ a. bytes_eq a.name name) w.setup.tables.attrs
+    (place_of_name names g.name)) (wanted_of names gs)
 
 -- bad attribute, bad locator, or the rescan
 unfoldable pub rescan_of : World → Dev → Option (List ℕ) → List Given → Deed
@@ -183,7 +177,7 @@ rescan_of w d (Some name) given =
     then option_map_or (λ wanted. Rescan d.serial (Some a))
     (wanted_of (map (λ l. l.name) (locators_at w.setup.tables.attrs (At a))) given) (Refuse refusal.BadLocator)
     else Refuse refusal.BadAttribute)
-    (attr_named w name) (Refuse refusal.BadAttribute)
+    (attr_number w.setup.tables.attrs name) (Refuse refusal.BadAttribute)
 
 abbrev pub has_nothing : List ℕ → Bool
 has_nothing [] = true
@@ -196,9 +190,6 @@ rescanning w d attr given =
     else (if d.asleep then Refuse refusal.Asleep
     else (if (policy_of w.setup d.row).norescan || has_nothing (offered_by w.setup d.row) then Refuse refusal.NoRescan
     else rescan_of w d attr given))
-
-abbrev pub spot_named : World → List ℕ → Option ℕ
-spot_named w name = position (λ x. bytes_eq x.name name) w.setup.machine.spots
 
 -- the spot is absent from now on, and what stood there goes with its subtree, unless something in it is busy
 abbrev pub unplugging : World → ℕ → ℕ → Deed
@@ -233,8 +224,8 @@ command_deed w k number (command.Suspend name) = on_device w name (λ d. BeginPo
 command_deed w k number (command.Resume name) = on_device w name (λ d. BeginPower kind.Resume d.serial)
 command_deed w k number (command.ResumeTree name) = on_device w name (λ d. BeginPower kind.ResumeTree d.serial)
 -- spots: this project's profile
-command_deed w k number (command.Plug name) = option_map_or (λ x. Plug x) (spot_named w name) (Refuse refusal.NoSpot)
-command_deed w k number (command.Unplug name) = option_map_or (unplugging w k) (spot_named w name) (Refuse refusal.NoSpot)
+command_deed w k number (command.Plug name) = option_map_or (λ x. Plug x) (spot_number w.setup.machine.spots name) (Refuse refusal.NoSpot)
+command_deed w k number (command.Unplug name) = option_map_or (unplugging w k) (spot_number w.setup.machine.spots name) (Refuse refusal.NoSpot)
 
 abbrev pub is_power : Command → Bool
 is_power (command.Suspend name) = true

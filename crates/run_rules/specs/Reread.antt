@@ -1,8 +1,9 @@
 -- What a text of lines says of a run: its events, if each of its lines is that of the event that its caller does next.
-use Rattle.std.specs.Prelude.{ℕ, ◌+◌, Bool, ◌==◌, if◌then◌else◌, List, [], ◌∷◌, ◌++◌, length, take, find, Option, Some, None, option_and_then, bytes_eq, codes, decimal}
+use Rattle.std.specs.Prelude.{ℕ, ◌+◌, Bool, if◌then◌else◌, List, [], ◌∷◌, ◌++◌, length, take, find, Option, Some, None, option_and_then, bytes_eq, codes, decimal}
 use Rattle.std.specs.Option.{option_map_or}
 use Rattle.std.specs.declared.result.Result.{Result}
 use Rattle.std.specs.declared.result.Result.TheVariants.{Ok, Err}
+use Rattle.cf_types.specs.Lines.{lines_of}
 use Rattle.cf_types.specs.Numbers.{below}
 use Rattle.run_rules.specs.declared.deed.Choice.{Choice}
 use Rattle.run_rules.specs.declared.deed.Choice.TheVariants.{Does}
@@ -17,24 +18,14 @@ use Rattle.run_rules.specs.Lines.{line_of, line_of_1}
 
 -- ---- lines
 
--- a byte before the first of some pieces
-abbrev pub onto_first : ℕ → List (List ℕ) → List (List ℕ)
-onto_first b [] = (b ∷ []) ∷ []
-onto_first b (piece ∷ pieces) = (b ∷ piece) ∷ pieces
-
--- the pieces between newlines; behind the last one there may be an empty piece
-abbrev pub pieces_of : List ℕ → List (List ℕ)
-pieces_of [] = [] ∷ []
-pieces_of (b ∷ bs) = if b == 10 then [] ∷ pieces_of bs else onto_first b (pieces_of bs)
-
--- which does not count
+-- of the lines of a text an empty last one does not count
 abbrev pub without_empty_last : List (List ℕ) → List (List ℕ)
 without_empty_last [] = []
 without_empty_last ([] ∷ []) = []
-without_empty_last (piece ∷ pieces) = piece ∷ without_empty_last pieces
+without_empty_last (line ∷ lines) = line ∷ without_empty_last lines
 
-abbrev pub lines_of : List ℕ → List (List ℕ)
-lines_of text = without_empty_last (pieces_of text)
+abbrev pub history_lines : List ℕ → List (List ℕ)
+history_lines text = without_empty_last (lines_of text)
 
 -- ---- a line
 
@@ -82,4 +73,4 @@ reread_from w n [] = Err 0
 reread_from w n (line ∷ rest) = option_map_or (λ f. reread_lines f w (n + 1) rest) (format_of line) (reread_from w (n + 1) rest)
 
 unfoldable pub reread : World → List ℕ → Result (List Event × World) ℕ
-reread w text = reread_from w 1 (lines_of text)
+reread w text = reread_from w 1 (history_lines text)

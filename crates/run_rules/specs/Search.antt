@@ -21,6 +21,16 @@ use Rattle.run_rules.specs.declared.world.Setup.{Setup}
 use Rattle.run_rules.specs.World.{has, same_place, is_number, device_at, row_at, driver_of, attach_of}
 use Rattle.cf_types.specs.Numbers.{below}
 
+-- ---- the best of some numbers
+
+-- of the first n it passes the test, and none that passes has a greater value
+abbrev pub is_best : (ℕ → Bool) → (ℕ → ℕ) → ℕ → ℕ → Bool
+is_best passes value n i = passes i && list_all (λ j. not (passes j) || nat_le (value j) (value i)) (below n)
+
+-- of the first n that pass the test the one of the greatest value, and of equals the first
+abbrev pub first_best : (ℕ → Bool) → (ℕ → ℕ) → ℕ → Option ℕ
+first_best passes value n = find (is_best passes value n) (below n)
+
 -- ---- the winner: after autoconf(9), the best match
 
 -- this project's profile: the last line for the attachment and the spot, else the last for the attachment and all spots, else 0
@@ -70,15 +80,9 @@ is_candidate s live p place x r =
     && nat_lt 0 (match_value s.machine row.attach x))
     (row_at s r) false
 
--- no candidate is better than r: none has a greater match value, and no earlier one an equal value
-unfoldable pub is_winner : Setup → List Dev → ParentRef → Place → ℕ → ℕ → Bool
-is_winner s live p place x r =
-    is_candidate s live p place x r
-    && list_all (λ q. not (is_candidate s live p place x q) || nat_lt (value_of s q x) (value_of s r x)
-    || (value_of s q x == value_of s r x && nat_le r q)) (below (length s.tables.rows))
-
+-- the best candidate by match value
 unfoldable pub winner : Setup → List Dev → ParentRef → Place → ℕ → Option ℕ
-winner s live p place x = find (is_winner s live p place x) (below (length s.tables.rows))
+winner s live p place x = first_best (is_candidate s live p place x) (λ r. value_of s r x) (length s.tables.rows)
 
 -- how far the least free unit is from the first one; of so many numbers one is always free
 unfoldable pub free_after : Setup → List Dev → ℕ → ℕ → ℕ
@@ -133,10 +137,10 @@ places_of t driver (Some a) = At a ∷ []
 places_of t driver None = option_map_or (λ d. map At (interfaces t.attrs t.devices d)) driver (Root ∷ [])
 
 -- whether a place is an indirect bus below this attachment: the last style line for both; direct without one, and at the root
-unfoldable pub style_of : Machine → Option ℕ → Place → Bool
-style_of m attach Root = false
-style_of m None (At a) = false
-style_of m (Some attach) (At a) =
+unfoldable pub is_bus_indirect : Machine → Option ℕ → Place → Bool
+is_bus_indirect m attach Root = false
+is_bus_indirect m None (At a) = false
+is_bus_indirect m (Some attach) (At a) =
     option_map_or (λ line. line.indirect) (find (λ line. line.attach == attach && line.attr == a) (reverse m.styles)) false
 
 -- the turns of one place below a spot: its child spots, or, where it is indirect, the pairs of one of so many rows and a child spot, rows first
@@ -149,14 +153,14 @@ bus_turns m rows true spot e =
 -- the turns of a scan below a device of this driver and attachment on this spot, place by place; without all three below the root
 unfoldable pub turns_of : Tables → Machine → Option ℕ → Option ℕ → Option ℕ → Option ℕ → List Turn
 turns_of t m driver attach spot only =
-    flat_map (λ e. bus_turns m (length t.rows) (style_of m attach e.1) spot e) (enumerate_from 0 (places_of t driver only))
+    flat_map (λ e. bus_turns m (length t.rows) (is_bus_indirect m attach e.1) spot e) (enumerate_from 0 (places_of t driver only))
 
 -- the same of the device of a serial
 abbrev pub scan_places : Setup → List Dev → ℕ → Option ℕ → List Place
 scan_places s live p only = places_of s.tables (driver_at s live p) only
 
 abbrev pub is_indirect : Setup → List Dev → ℕ → Place → Bool
-is_indirect s live p place = style_of s.machine (attach_at s live p) place
+is_indirect s live p place = is_bus_indirect s.machine (attach_at s live p) place
 
 abbrev pub turns_at : Setup → List Dev → ℕ → ℕ × Place → List Turn
 turns_at s live p e = bus_turns s.machine (length s.tables.rows) (is_indirect s live p e.1) (spot_of live p) e

@@ -77,9 +77,9 @@ IsSoundlyDeferred w e = IsTrue (is_live w.live e.child) × OnParent e.key
     OnParent key.Interrupts = ⊤
     OnParent (key.Parent p) = IsTrue (list_any (λ c. list_any (is_scan_of p) c.stack) w.callers)
 
-abbrev pub is_power : Activity → Bool
-is_power (activity.Power kind target) = true
-is_power _ = false
+abbrev pub is_powering : Activity → Bool
+is_powering (activity.Power kind target) = true
+is_powering _ = false
 
 abbrev pub is_empty : {A : Type 0} → List A → Bool
 is_empty [] = true
@@ -92,7 +92,7 @@ IsFreed w k s = AllByRecursion (λ d. d.serial ≡ s → d.condemned ≡ Some k)
 -- a caller: it has the power turn exactly in a power command, it holds what its transfer is on, it has nothing left when it has ended,
 -- it has frames only while it scans, if it does not boot, and what it frees is live and condemned by it
 pub record IsSoundCaller (w : World) (k : ℕ) : Type 0 where
-  pub turn : IsTrue (is_number w.power_owner k) ↔ IsTrue (is_power (caller_at w k).doing)
+  pub turn : IsTrue (is_number w.power_owner k) ↔ IsTrue (is_powering (caller_at w k).doing)
   pub transfer : (t : Ticket) → (caller_at w k).doing ≡ activity.Transfer t → is_held w k t.serial ≡ true
   pub ended : (caller_at w k).doing ≡ activity.Ended → ((caller_at w k).stack ≡ []) × AllByRecursion (λ r. r.caller ≢ k) w.refs
   pub frames : IsTrue (not (k == 0)) → (caller_at w k).stack ≢ [] → (caller_at w k).doing ≡ activity.Scans

@@ -29,7 +29,7 @@ use Rattle.run_rules.proofs.Devices.{all_imp, all_snoc}
 use Rattle.run_rules.proofs.Free.{due_free, due_seen, find_true, winner_below}
 use Rattle.run_rules.proofs.OwnNames.{there}
 use Rattle.run_rules.proofs.Units.{winner_free}
-use Rattle.run_sound.specs.Coming.{IsCall, IsCalled, IsTurn, MayCome}
+use Rattle.run_sound.proofs.Coming.{IsCall, IsCalled, IsTurn, MayCome}
 use Rattle.run_sound.specs.Kept.{Kept, MayRun}
 use Rattle.run_sound.proofs.Callers.{all_or, doing_so, all_filter, not_ended}
 use Rattle.run_sound.proofs.Members.{all_flat, all_map, found_of}
@@ -75,7 +75,7 @@ small_unit s live r may few lt =
     cases row false low = omega (arith, low)
 
 few_live : (w : World) → Kept w → length w.live ≤ length w.setup.machine.spots
-few_live w kept = omega (arith, kept.ranges.few)
+few_live w kept = omega (arith, kept.ranges.devices.few)
 
 -- a winner comes to a spot that is bare and seen
 comes : (w : World) (hidden : List ℕ) (p : ℕ) (place : Place) (x : ℕ) (a : Arrival) → MayRun w.setup → Kept w → Some a ≡ arrival w.setup w.live p place x
@@ -200,7 +200,7 @@ finalise_comes w k s x a listed anew may kept e =
     let shown = shown_inside w k s x (Some a) listed anew call in
     comes w (show_spot w (Some x)).hidden s (place_of_spot w x) x a may kept call.came
     (called_known w k s listed anew kept.sound (doing_so w k (Finalise s (Some x) (Some a) listed anew) e).unended call.called)
-    (bare_at w.live w.hidden x kept.ranges.bare shown.1) (unhidden_gone w.hidden x) shown.0
+    (bare_at w.live w.hidden x kept.ranges.devices.bare shown.1) (unhidden_gone w.hidden x) shown.0
 
 -- where no spot is shown nothing comes
 pub quiet_call : (w : World) (k s : ℕ) (a : Arrival) (listed : Option ℕ) (anew : Bool) → IsCall w k s None (Some a) listed anew → ⊥

@@ -14,7 +14,7 @@ use Rattle.run_rules.specs.declared.deed.Deed.TheVariants.{Detach, Unplug}
 use Rattle.run_rules.specs.declared.deed.Choice.TheVariants.{Does}
 use Rattle.run_rules.specs.Next.{next, hindered, is_hindrance}
 use Rattle.run_rules.specs.After.{after, with_condemner, condemned, doing}
-use Rattle.run_rules.specs.Sound.{IsSoundlyCondemned, IsSoundlyAsleep, is_known, is_power, IsFreed, Sound}
+use Rattle.run_rules.specs.Sound.{IsSoundlyCondemned, IsSoundlyAsleep, is_known, is_powering, IsFreed, Sound}
 use Rattle.run_rules.proofs.Devices.{all_imp, none_of}
 use Rattle.run_sound.proofs.Callers.{all_set, clash, pins_same, caller_here, caller_there, caller_each}
 use Rattle.run_sound.proofs.Members.{not_condemned, of_each, each_of, each_mapped}
@@ -162,7 +162,7 @@ module _ (w : World) (k s : ℕ) (sound : Sound w) (at : IsLater w k) (idle : ((
             (rw at.no_frames tt);
         deferred = deferred_kept doomed w still_live (same_scans u k frees at.no_frames at.no_frames) w.deferred sound.deferred;
         callers = λ j. record {
-          turn = caller_each (λ c. IsTrue (is_number w.power_owner j) ↔ IsTrue (is_power c.doing)) u k j frees at.there
+          turn = caller_each (λ c. IsTrue (is_number w.power_owner j) ↔ IsTrue (is_powering c.doing)) u k j frees at.there
               (λ same. rw same (λ h. clash (is_number w.power_owner k) h (no_turn w k sound (between_power (caller_at w k).doing idle)), λ h. absurd cc)) (λ other. (sound.callers j).turn);
           transfer = caller_each (λ c. (t : Ticket) → c.doing ≡ activity.Transfer t → is_held w j t.serial ≡ true) u k j frees at.there (λ same t e. absurd cc) (λ other. (sound.callers j).transfer);
           ended = caller_each (λ c. c.doing ≡ activity.Ended → (c.stack ≡ []) × AllByRecursion (λ r. r.caller ≢ j) w.refs) u k j frees at.there (λ same e. absurd cc) (λ other. (sound.callers j).ended);

@@ -24,7 +24,7 @@ use Rattle.run_rules.specs.declared.deed.Deed.TheVariants.{Search, EndScan, Begi
 use Rattle.run_rules.specs.declared.deed.Choice.TheVariants.{Does}
 use Rattle.run_rules.specs.Next.{next}
 use Rattle.run_rules.proofs.Setups.{after_setup}
-use Rattle.run_sound.specs.Coming.{HasReason, IsCalled, IsTurn}
+use Rattle.run_sound.proofs.Coming.{HasReason, IsCalled, IsTurn}
 use Rattle.run_sound.specs.Kept.{Kept, MayRun}
 use Rattle.run_sound.proofs.Arrivals.{shown_inside, quiet_call}
 use Rattle.run_sound.proofs.Callers.{caller_here, callers_kept, clash, doing_so, doing_there, ended_is, unended_so}
@@ -402,7 +402,7 @@ pub boot_falls : (w : World) (d : Deed) → MayRun w.setup → Kept w → next w
 boot_falls w d may kept e =
     let n : ℕ = length w.setup.machine.spots in
     let goes : has_ended w 0 ≡ false = (doing_so w 0 d e).unended in
-    let b : Booting n w = record { spots = refl; there = doing_there w 0 d e; goes = goes; few = omega (arith, kept.ranges.few_called goes); some = kept.ranges.some_called goes } in
+    let b : Booting n w = record { spots = refl; there = doing_there w 0 d e; goes = goes; few = omega (arith, (kept.ranges.list goes).few); some = (kept.ranges.list goes).some } in
     let same : length (after w 0 d).setup.machine.spots ≡ n = ap (λ (s : Setup). length s.machine.spots) (after_setup w 0 d) in
     rw (left_is (after w 0 d) n same, left_is w n refl)
-    (deed_falls n w d may kept e b (boot_deed w d kept.ranges.booting e) (has_reason w 0 d e) (comes_fit w 0 d may kept e))
+    (deed_falls n w d may kept e b (boot_deed w d kept.ranges.callers.booting e) (has_reason w 0 d e) (comes_fit w 0 d may kept e))

@@ -24,13 +24,13 @@ use Rattle.run_rules.specs.Next.{first_held, next}
 use Rattle.run_rules.specs.After.{after, arrived, doing, finaliser_done, list_moved, moved_top, released, same_key, show_spot, under_top, with_caller, with_stack, rescan_frame}
 use Rattle.run_rules.specs.Sound.{IsSoundlyDeferred, Sound, is_known, is_scan_of}
 use Rattle.run_rules.proofs.Devices.{all_imp, none_of}
-use Rattle.run_sound.specs.Coming.{IsCall, IsCalled, IsEnd, IsOver, IsPhase, IsScanEnd, IsTurn, MayCome}
+use Rattle.run_sound.proofs.Coming.{IsCall, IsCalled, IsEnd, IsOver, IsPhase, IsScanEnd, IsTurn, MayCome}
 use Rattle.run_sound.specs.Kept.{Kept, MayRun}
 use Rattle.run_sound.proofs.Arrivals.{finalise_comes, live_is_known, none_shown, search_comes}
 use Rattle.run_sound.proofs.Attached.{IsScanner, StaysSound, attached_stays, boot_spared, first_goes, old_known, pinned_spared, scanner_set, sound_pushed}
 use Rattle.run_sound.proofs.Callers.{all_append, all_filter, all_passing, any_set_here, caller_here, callers_kept, clash, doing_so, entries_pin, pinned_by_entry, pinned_by_frame, not_ended, later_test}
 use Rattle.run_sound.proofs.Members.{not_condemned, each_of, live_contained, of_each, one_serial}
-use Rattle.run_sound.specs.Commands.{IsBetween, SearchesAgain}
+use Rattle.run_sound.proofs.Commands.{IsBetween, SearchesAgain}
 use Rattle.run_sound.proofs.Reasons.{has_command_reason, has_reason, is_quiet, quiet_end, quiet_rests}
 use Rattle.run_sound.proofs.Plain.{is_scanned}
 use Rattle.run_sound.proofs.Restacks.{IsSpared, MayBe, sound_restacked}

@@ -18,13 +18,13 @@ use Rattle.run_rules.specs.declared.deed.Deed.TheVariants.{Free}
 use Rattle.run_rules.specs.declared.deed.Choice.TheVariants.{Does}
 use Rattle.run_rules.specs.Next.{next, next_free}
 use Rattle.run_rules.specs.After.{after, with_caller, freed, freeing_target, over}
-use Rattle.run_rules.specs.Sound.{IsApart, IsPlaced, HasSoundDevices, HasSoundRefs, IsSoundlyCondemned, IsSoundlyAsleep, is_known, IsSoundlyDeferred, is_power, IsFreed, Sound}
+use Rattle.run_rules.specs.Sound.{IsApart, IsPlaced, HasSoundDevices, HasSoundRefs, IsSoundlyCondemned, IsSoundlyAsleep, is_known, IsSoundlyDeferred, is_powering, IsFreed, Sound}
 use Rattle.run_sound.specs.Kept.{Kept}
 use Rattle.run_rules.proofs.Devices.{all_imp, all_both, none_of, or_false}
 use Rattle.run_rules.proofs.Turns.{find_filter, find_same}
 use Rattle.run_sound.proofs.Callers.{all_set, all_filter, clash, pins_same, caller_each}
 use Rattle.run_sound.proofs.Members.{of_each, each_of, each_passed, any_passed, later_passed}
-use Rattle.run_sound.specs.Commands.{FreesLast}
+use Rattle.run_sound.proofs.Commands.{FreesLast}
 use Rattle.run_sound.proofs.Reasons.{has_command_reason}
 use Rattle.run_sound.proofs.Trees.{AreRising, rising, parent_cases, any_steps}
 use Rattle.run_sound.proofs.Lasts.{last_found}
@@ -127,7 +127,7 @@ freeable w k s sound why = cases (find (λ d. is_number d.condemned k) (reverse 
 -- what the caller comes to: it goes on, or it is done, and then it condemned nothing else
 record GoesOn (w : World) (k s target : ℕ) (c : Caller) : Type 0 where
   no_frames : c.stack ≡ []
-  no_power : is_power c.doing ≡ false
+  no_power : is_powering c.doing ≡ false
   no_transfer : (t : Ticket) → c.doing ≢ activity.Transfer t
   unended : c.doing ≢ activity.Ended
   target_left : (t : ℕ) → c.doing ≡ activity.Frees t → (t ≡ target) × (t ≢ s)
@@ -268,8 +268,8 @@ module _ (w : World) (k s : ℕ) (x : Dev) (sound : Sound w) (it : IsFreeable w 
           deferred = deferred_live later w (same_scans u k c at.no_frames new.no_frames) w.deferred
               (all_both (IsSoundlyDeferred w) (λ e. (e.child == s) ≡ false) (λ e. is_live later.live e.child ≡ true) (λ e h off. still_live e.child h.0 (eqb-false e.child s off)) w.deferred sound.deferred apart_from.1) sound.deferred;
           callers = λ j. record {
-            turn = caller_each (λ b. IsTrue (is_number w.power_owner j) ↔ IsTrue (is_power b.doing)) u k j c at.there
-                (λ same. rw same (λ h. clash (is_number w.power_owner k) h (no_turn w k sound (rw busy refl)), λ h. clash (is_power c.doing) h new.no_power)) (λ other. (sound.callers j).turn);
+            turn = caller_each (λ b. IsTrue (is_number w.power_owner j) ↔ IsTrue (is_powering b.doing)) u k j c at.there
+                (λ same. rw same (λ h. clash (is_number w.power_owner k) h (no_turn w k sound (rw busy refl)), λ h. clash (is_powering c.doing) h new.no_power)) (λ other. (sound.callers j).turn);
             transfer = caller_each (λ b. (t : Ticket) → b.doing ≡ activity.Transfer t → is_held w j t.serial ≡ true) u k j c at.there (λ same t e. absurd (new.no_transfer t e)) (λ other. (sound.callers j).transfer);
             ended = caller_each (λ b. b.doing ≡ activity.Ended → (b.stack ≡ []) × AllByRecursion (λ r. r.caller ≢ j) w.refs) u k j c at.there (λ same e. absurd (new.unended e)) (λ other. (sound.callers j).ended);
             frames = caller_each (λ b. IsTrue (not (j == 0)) → b.stack ≢ [] → b.doing ≡ activity.Scans) u k j c at.there (λ same z some. absurd (some new.no_frames)) (λ other. (sound.callers j).frames);

@@ -13,7 +13,7 @@ use Rattle.run_rules.specs.References.{given_back, is_of}
 use Rattle.run_rules.proofs.References.{all_left}
 use Rattle.run_rules.proofs.Devices.{all_snoc}
 use Rattle.run_rules.proofs.Setups.{after_setup}
-use Rattle.run_sound.specs.Commands.{IsBetween}
+use Rattle.run_sound.proofs.Commands.{IsBetween}
 use Rattle.run_sound.specs.Kept.{InRange}
 use Rattle.run_sound.specs.Scripts.{IsOfScript}
 use Rattle.run_sound.proofs.Callers.{doing_there}
@@ -26,13 +26,13 @@ positive (suc k) later = omega arith
 
 -- each caller but the one that boots is of a script
 pub of_script : (w : World) (k : ℕ) → InRange w → k ≢ 0 → k < length w.callers → IsOfScript w.setup k
-of_script w k ranges later there = (positive k later, omega (arith, there, ranges.callers))
+of_script w k ranges later there = (positive k later, omega (arith, there, ranges.callers.as_many))
 
 abbrev AreHolders : Setup → List Ref → Type 0
 AreHolders s refs = AllByRecursion (λ r. IsOfScript s r.caller) refs
 
 holders_same : (w : World) (k : ℕ) (d : Deed) → (after w k d).refs ≡ w.refs → InRange w → AreHolders w.setup (after w k d).refs
-holders_same w k d e ranges = rw e ranges.holders
+holders_same w k d e ranges = rw e ranges.callers.holders
 
 holders_less : (of : Setup) (k s : ℕ) (refs : List Ref) → AreHolders of refs → AreHolders of (given_back refs k s)
 holders_less of k s refs h = all_left (λ (r : Ref). IsOfScript of r.caller) (is_of k s) refs h
@@ -41,10 +41,10 @@ stay_holders : (w : World) (k : ℕ) (d : Deed) → InRange w → next w k ≡ D
 unfolding after
 stay_holders w k (Open s sole) ranges e =
     let at : IsBetween w k = (has_command_reason w k (Open s sole) e).begins.between in
-    all_snoc (λ (r : Ref). IsOfScript w.setup r.caller) w.refs (record { serial = s; caller = k }) ranges.holders
+    all_snoc (λ (r : Ref). IsOfScript w.setup r.caller) w.refs (record { serial = s; caller = k }) ranges.callers.holders
     (of_script w k ranges at.later (doing_there w k (Open s sole) e))
-stay_holders w k (Close s) ranges e = holders_less w.setup k s w.refs ranges.holders
-stay_holders w k (Drop s) ranges e = holders_less w.setup k s w.refs ranges.holders
+stay_holders w k (Close s) ranges e = holders_less w.setup k s w.refs ranges.callers.holders
+stay_holders w k (Drop s) ranges e = holders_less w.setup k s w.refs ranges.callers.holders
 stay_holders w k (Search p spot to got) ranges e = holders_same w k (Search p spot to got) (refs_same w k (Search p spot to got) refl refl) ranges
 stay_holders w k (EndScan p) ranges e = holders_same w k (EndScan p) (refs_same w k (EndScan p) refl refl) ranges
 stay_holders w k BeginInterrupts ranges e = holders_same w k BeginInterrupts (refs_same w k BeginInterrupts refl refl) ranges

@@ -16,7 +16,7 @@ use Rattle.run_rules.specs.Next.{next}
 use Rattle.run_rules.specs.References.{count_in, given_back, is_of}
 use Rattle.run_rules.proofs.References.{any_left, count_granted, count_other, count_returned, held_is_counted}
 use Rattle.run_rules.specs.After.{after, freed, freeing_target, listed, over, released}
-use Rattle.run_sound.specs.Commands.{ClosesHeld, FreesLast, OpensFree, ReturnsFirst}
+use Rattle.run_sound.proofs.Commands.{ClosesHeld, FreesLast, OpensFree, ReturnsFirst}
 use Rattle.run_sound.specs.Holding.{GoesUnheld, HoldsLess, HoldsMore, opened_by, returned_by}
 use Rattle.run_sound.proofs.Beside.{IsBeside, call_part, search_part}
 use Rattle.run_sound.proofs.Reasons.{has_command_reason}

@@ -12,7 +12,7 @@ use Rattle.run_rules.specs.declared.deed.Choice.TheVariants.{Does}
 use Rattle.run_rules.specs.World.{World, caller_at, has_ended, is_ended, opening}
 use Rattle.run_rules.specs.Next.{next}
 use Rattle.run_rules.specs.After.{after, freed, freeing_target, listed, over, released, settled}
-use Rattle.run_sound.specs.Coming.{IsEnd}
+use Rattle.run_sound.proofs.Coming.{IsEnd}
 use Rattle.run_sound.specs.Kept.{Kept}
 use Rattle.run_sound.specs.InFull.{InterruptsWork}
 use Rattle.run_sound.proofs.Beside.{IsBeside, call_part, search_part}
@@ -113,7 +113,7 @@ interrupts_after w k d kept e before ended = cases (has_ended w 0) refl
     by_boot goes same =
         let chosen : next w 0 ≡ Does d = ap (next w) (sym same) ∙ e in
         ap (λ (j : ℕ). (after w j d).interrupts_on) same
-        ∙ ends_on w d chosen (boot_deed w d kept.ranges.booting chosen) goes (ap (λ (j : ℕ). has_ended (after w j d) 0) (sym same) ∙ ended)
+        ∙ ends_on w d chosen (boot_deed w d kept.ranges.callers.booting chosen) goes (ap (λ (j : ℕ). has_ended (after w j d) 0) (sym same) ∙ ended)
 
     cases : (b : Bool) → has_ended w 0 ≡ b → (after w k d).interrupts_on ≡ true
     cases true is = stay_on w k d (before is)

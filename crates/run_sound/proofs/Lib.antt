@@ -1,7 +1,10 @@
 pub mod Callers
 pub mod Members
+pub mod Coming
+pub mod Commands
 pub mod Reasons
 pub mod Plain
+pub mod Candidates
 pub mod References
 pub mod Inputs
 pub mod FormedDevices

@@ -11,7 +11,7 @@ use Rattle.run_rules.specs.declared.world.Setup.{Setup}
 use Rattle.run_rules.specs.declared.world.Activity.TheVariants as activity
 use Rattle.run_rules.specs.World.{Caller, beginning, is_live, late_spots, nobody, opening, scan_of, frame_serial}
 use Rattle.run_rules.specs.Search.{is_occupied}
-use Rattle.run_rules.specs.Sound.{IsSoundCaller, IsUnbegun, Sound, is_power}
+use Rattle.run_rules.specs.Sound.{IsSoundCaller, IsUnbegun, Sound, is_powering}
 use Rattle.run_sound.specs.Kept.{InRange, Kept, MayRun}
 use Rattle.run_sound.specs.Left.{free_spots}
 use Rattle.run_sound.proofs.Scripts.{scripts_open}
@@ -30,7 +30,7 @@ all_bare (x ∷ xs) = (refl, all_bare xs)
 
 -- a caller that is in the middle of nothing
 record Rests (c : Caller) : Type 0 where
-  turn : is_power c.doing ≡ false
+  turn : is_powering c.doing ≡ false
   transfer : (t : Ticket) → c.doing ≢ activity.Transfer t
   target : (s : ℕ) → c.doing ≢ activity.Frees s
 
@@ -84,7 +84,7 @@ caller_opens s (suc k) =
     let rests : Rests c = script_rests s.scripts k in
     let empty : c.stack ≡ [] = script_empty s.scripts k in
     record {
-      turn = same_false false (is_power c.doing) refl rests.turn;
+      turn = same_false false (is_powering c.doing) refl rests.turn;
       transfer = λ t e. absurd (rests.transfer t e);
       ended = λ e. (empty, tt);
       frames = λ h some. absurd (some empty);
@@ -108,19 +108,22 @@ sound_opens s = record {
 ranges_open : (s : Setup) → InRange (opening s)
 unfolding opening
 ranges_open s = record {
-  rows = tt;
-  units = tt;
-  spots = tt;
-  bare = all_bare (late_spots s);
+  devices = record {
+    rows = tt;
+    units = tt;
+    spots = tt;
+    bare = all_bare (late_spots s);
+    few = omega (arith, all_free (length s.machine.spots));
+  };
+  callers = record {
+    as_many = omega (arith, length-map s.scripts (λ script. beginning []));
+    booting = inl refl;
+    placed = scripts_open s;
+    tickets = tickets_open s;
+    holders = tt;
+  };
+  list = λ goes. record { few = omega (arith, all_free (length s.machine.spots)); some = λ again. absurd (cc) };
   counted = omega arith;
-  callers = omega (arith, length-map s.scripts (λ script. beginning []));
-  booting = inl refl;
-  placed = scripts_open s;
-  tickets = tickets_open s;
-  holders = tt;
-  few = omega (arith, all_free (length s.machine.spots));
-  few_called = λ h. omega (arith, all_free (length s.machine.spots));
-  some_called = λ h again. absurd (cc);
 }
 
 pub opening_kept : (s : Setup) → MayRun s → Kept (opening s)

@@ -18,10 +18,10 @@ use Rattle.run_rules.specs.declared.deed.Deed.TheVariants.{Refuse, Tell, Plug, U
 use Rattle.run_rules.specs.declared.deed.Choice.TheVariants.{Does}
 use Rattle.run_rules.specs.Next.{next}
 use Rattle.run_rules.specs.After.{after, with_caller, over}
-use Rattle.run_rules.specs.Sound.{HasSoundRefs, IsSoundlyCondemned, IsSoundlyAsleep, is_scan_of, IsSoundlyDeferred, is_power, is_known, IsFreed, Sound}
+use Rattle.run_rules.specs.Sound.{HasSoundRefs, IsSoundlyCondemned, IsSoundlyAsleep, is_scan_of, IsSoundlyDeferred, is_powering, is_known, IsFreed, Sound}
 use Rattle.run_rules.proofs.Devices.{all_imp, all_both}
 use Rattle.run_sound.proofs.Callers.{all_set, clash, is_ended_so, pins_same, caller_there, caller_each, pins_kept, any_set_same, doing_so, doing_there}
-use Rattle.run_sound.specs.Commands.{IsBetween}
+use Rattle.run_sound.proofs.Commands.{IsBetween}
 use Rattle.run_sound.proofs.Reasons.{has_command_reason}
 use Rattle.run_rules.specs.declared.deed.Refusal.{Refusal}
 
@@ -71,7 +71,7 @@ deferred_kept v w live scans es h = deferred_live v w scans es (all_imp (IsSound
 -- what the caller comes to, and the power turn with it, agrees with the rest of the world
 pub record Agrees (w : World) (k : ℕ) (turn : Option ℕ) (c : Caller) : Type 0 where
   pub no_frames : c.stack ≡ []
-  pub own : IsTrue (is_number turn k) ↔ IsTrue (is_power c.doing)
+  pub own : IsTrue (is_number turn k) ↔ IsTrue (is_powering c.doing)
   pub theirs : (j : ℕ) → j ≢ k → is_number turn j ≡ is_number w.power_owner j
   pub frees : (s : ℕ) → (caller_at w k).doing ≡ activity.Frees s → c.doing ≡ activity.Frees s
   pub transfer : (t : Ticket) → c.doing ≡ activity.Transfer t → is_held w k t.serial ≡ true
@@ -109,7 +109,7 @@ sound_caller w k turn c sound at new =
       frames = all_set (λ d. AllByRecursion (λ f. IsTrue (is_known w (frame_serial f))) d.stack) w.callers k c sound.frames (rw new.no_frames tt);
       deferred = deferred_kept v w (λ s h. h) (same_scans u k c at.no_frames new.no_frames) w.deferred sound.deferred;
       callers = λ j. record {
-        turn = caller_each (λ d. IsTrue (is_number turn j) ↔ IsTrue (is_power d.doing)) u k j c at.there (λ same. rw same new.own) (λ other. rw (new.theirs j other) (sound.callers j).turn);
+        turn = caller_each (λ d. IsTrue (is_number turn j) ↔ IsTrue (is_powering d.doing)) u k j c at.there (λ same. rw same new.own) (λ other. rw (new.theirs j other) (sound.callers j).turn);
         transfer = caller_each (λ d. (t : Ticket) → d.doing ≡ activity.Transfer t → is_held w j t.serial ≡ true) u k j c at.there (λ same. rw same new.transfer) (λ other. (sound.callers j).transfer);
         ended = caller_each (λ d. d.doing ≡ activity.Ended → (d.stack ≡ []) × AllByRecursion (λ r. r.caller ≢ j) w.refs) u k j c at.there (λ same e. absurd (new.unended e)) (λ other. (sound.callers j).ended);
         frames = caller_each (λ d. IsTrue (not (j == 0)) → d.stack ≢ [] → d.doing ≡ activity.Scans) u k j c at.there (λ same z some. absurd (some new.no_frames)) (λ other. (sound.callers j).frames);
@@ -134,12 +134,12 @@ pub between_frees : (a : Activity) (s : ℕ) → (a ≡ activity.Idle) ⊎ (a �
 between_frees a s (inl e) h = cc
 between_frees a s (inr e) h = cc
 
-pub between_power : (a : Activity) → (a ≡ activity.Idle) ⊎ (a ≡ activity.Scans) → is_power a ≡ false
+pub between_power : (a : Activity) → (a ≡ activity.Idle) ⊎ (a ≡ activity.Scans) → is_powering a ≡ false
 between_power a (inl e) = rw e refl
 between_power a (inr e) = rw e refl
 
-pub no_turn : (w : World) (k : ℕ) → Sound w → is_power (caller_at w k).doing ≡ false → is_number w.power_owner k ≡ false
-no_turn w k sound off = false_from_ne_true (is_number w.power_owner k) (λ h. clash (is_power (caller_at w k).doing) ((sound.callers k).turn.0 h) off)
+pub no_turn : (w : World) (k : ℕ) → Sound w → is_powering (caller_at w k).doing ≡ false → is_number w.power_owner k ≡ false
+no_turn w k sound off = false_from_ne_true (is_number w.power_owner k) (λ h. clash (is_powering (caller_at w k).doing) ((sound.callers k).turn.0 h) off)
 
 -- its command is over, and then it is idle
 pub agrees_idle : (w : World) (k over : ℕ) (turn : Option ℕ) (stack : List Frame) → stack ≡ [] → is_number turn k ≡ false → ((j : ℕ) → j ≢ k → is_number turn j ≡ is_number w.power_owner j)

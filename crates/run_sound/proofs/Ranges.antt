@@ -12,8 +12,8 @@ use Rattle.run_rules.specs.declared.deed.Choice.TheVariants.{Does}
 use Rattle.run_rules.specs.Next.{next}
 use Rattle.run_rules.specs.After.{after, arrived, attached, finaliser_done, list_moved, moved_top, new_device, released, show_spot, with_stack}
 use Rattle.run_rules.proofs.Setups.{after_setup}
-use Rattle.run_sound.specs.Coming.{IsCall, IsCalled, MayCome}
-use Rattle.run_sound.specs.Kept.{InRange, Kept, MayRun}
+use Rattle.run_sound.proofs.Coming.{IsCall, IsCalled, MayCome}
+use Rattle.run_sound.specs.Kept.{HasBootList, InRange, Kept, MayRun}
 use Rattle.run_sound.specs.Left.{free_spots}
 use Rattle.run_sound.proofs.Arrivals.{finalise_comes, none_shown, search_comes}
 use Rattle.run_sound.proofs.Comings.{Comes, attached_comes}
@@ -21,7 +21,7 @@ use Rattle.run_sound.proofs.Reasons.{has_reason}
 use Rattle.run_sound.proofs.OwnCaller.{IsBootDeed}
 use Rattle.run_sound.proofs.RangesCallers.{boot_deed, boot_did, boots_after, callers_many}
 use Rattle.run_sound.proofs.RangesDeeds.{ComesFit, after_serials, ranged_after, shown_fits}
-use Rattle.run_sound.proofs.RangesOf.{AreRanged, FitsIn, ranged_of}
+use Rattle.run_sound.proofs.RangesOf.{FitsIn}
 use Rattle.run_sound.proofs.Scripts.{scripts_after}
 use Rattle.run_sound.proofs.Tickets.{tickets_after}
 use Rattle.run_sound.proofs.Holders.{holders_after}
@@ -66,12 +66,7 @@ FitsIf w (Some a) = FitsIn w.setup w.live w.hidden (new_device w a)
 
 -- ---- the boot's list
 
--- what is said of it while the boot goes on
-record IsListed (w : World) : Type 0 where
-  few : length w.finalisers + free_spots w.live (length w.setup.machine.spots) ≤ length w.setup.machine.spots
-  some : w.pass_repeats ≡ true → 0 < length w.finalisers
-
-come_listed : (w v : World) (a : Arrival) → Comes w v a → FitsIn w.setup w.live w.hidden (new_device w a) → IsListed w → IsListed v
+come_listed : (w v : World) (a : Arrival) → Comes w v a → FitsIn w.setup w.live w.hidden (new_device w a) → HasBootList w → HasBootList v
 come_listed w v a is fits l =
     let n : ℕ = length w.setup.machine.spots in
     let fewer : free_spots (w.live ++ new_device w a ∷ []) n < free_spots w.live n = free_falls w.live (new_device w a) n fits.spot fits.free in
@@ -80,18 +75,18 @@ come_listed w v a is fits l =
       some = λ h. omega (arith, l.some (rw is.pass_repeats at h), is.no_less);
     }
 
-shown_listed : (w : World) (shown : Option ℕ) → IsListed w → IsListed (show_spot w shown)
+shown_listed : (w : World) (shown : Option ℕ) → HasBootList w → HasBootList (show_spot w shown)
 shown_listed w None l = record { few = l.few; some = l.some }
 shown_listed w (Some x) l = record { few = l.few; some = l.some }
 
-called_listed : (u : World) (k : ℕ) (listed : Option ℕ) (anew answer : Bool) → (is_some listed ≡ true → 0 < length u.finalisers) → IsListed u
-    → IsListed (finaliser_done (list_moved u listed anew answer) k listed answer)
+called_listed : (u : World) (k : ℕ) (listed : Option ℕ) (anew answer : Bool) → (is_some listed ≡ true → 0 < length u.finalisers) → HasBootList u
+    → HasBootList (finaliser_done (list_moved u listed anew answer) k listed answer)
 called_listed u k (Some place) anew answer one l = record { few = l.few; some = λ h. one refl }
 called_listed u k None anew true one l = record { few = l.few; some = l.some }
 called_listed u k None anew false one l = record { few = l.few; some = l.some }
 
 -- a finaliser of the list is called: there is one
-one_there : (w : World) (k s : ℕ) (listed : Option ℕ) (anew : Bool) → IsListed w → IsCalled w k s listed anew → is_some listed ≡ true → 0 < length w.finalisers
+one_there : (w : World) (k s : ℕ) (listed : Option ℕ) (anew : Bool) → HasBootList w → IsCalled w k s listed anew → is_some listed ≡ true → 0 < length w.finalisers
 one_there w k s None anew l called h = absurd cc
 one_there w k s (Some place) false l called h = omega (arith, called.4)
 one_there w k s (Some place) true l called h = l.some called.6
@@ -100,7 +95,7 @@ shown_called : (w : World) (shown : Option ℕ) → (show_spot w shown).finalise
 shown_called w None = refl
 shown_called w (Some x) = refl
 
-arrived_listed : (w : World) (k : ℕ) (got : Option Arrival) (may_defer : Bool) → FitsIf w got → IsListed w → IsListed (arrived w k got may_defer)
+arrived_listed : (w : World) (k : ℕ) (got : Option Arrival) (may_defer : Bool) → FitsIf w got → HasBootList w → HasBootList (arrived w k got may_defer)
 arrived_listed w k None may_defer fits l = l
 arrived_listed w k (Some a) may_defer fits l = come_listed w (attached w k a may_defer) a (attached_comes w k a may_defer) fits l
 
@@ -117,7 +112,7 @@ turn_fits : (w : World) (p spot : ℕ) (to : Position) (got : Option Arrival) �
 turn_fits w p spot to None fits = tt
 turn_fits w p spot to (Some a) fits = fits
 
-listed_after : (w : World) (d : Deed) → next w 0 ≡ Does d → IsBootDeed d → ComesFit w d → IsListed w → IsListed (after w 0 d)
+listed_after : (w : World) (d : Deed) → next w 0 ≡ Does d → IsBootDeed d → ComesFit w d → HasBootList w → HasBootList (after w 0 d)
 unfolding after released
 listed_after w (Search p spot to got) e is fits l =
     arrived_listed (with_stack w 0 (moved_top to (caller_at w 0).stack)) 0 got true (turn_fits w p spot to got fits) (record { few = l.few; some = l.some })
@@ -149,32 +144,27 @@ listed_after w (Unplug x of) e is fits l = absurd is
 listed_after w Tell e is fits l = absurd is
 
 -- while the boot goes on after the deed
-listed_then : (w : World) (k : ℕ) (d : Deed) → MayRun w.setup → Kept w → next w k ≡ Does d → has_ended (after w k d) 0 ≡ false → IsListed (after w k d)
+listed_then : (w : World) (k : ℕ) (d : Deed) → MayRun w.setup → Kept w → next w k ≡ Does d → has_ended (after w k d) 0 ≡ false → HasBootList (after w k d)
 listed_then w k d may kept e goes =
     let did = boot_did w k d e goes in
     let same : k ≡ 0 = did.0 in
     let chosen : next w 0 ≡ Does d = rw same at e in
-    let was : IsListed w = record { few = kept.ranges.few_called did.1; some = kept.ranges.some_called did.1 } in
-    rw same (listed_after w d chosen (boot_deed w d kept.ranges.booting chosen) (comes_fit w 0 d may kept chosen) was)
+    rw same (listed_after w d chosen (boot_deed w d kept.ranges.callers.booting chosen) (comes_fit w 0 d may kept chosen) (kept.ranges.list did.1))
 
 -- ---- all of it
 
 pub ranges_after : (w : World) (k : ℕ) (d : Deed) → MayRun w.setup → Kept w → next w k ≡ Does d → InRange (after w k d)
 ranges_after w k d may kept e =
     let r : InRange w = kept.ranges in
-    let ranged : AreRanged (after w k d).setup (after w k d).live (after w k d).hidden = ranged_after w k d (comes_fit w k d may kept e) (ranged_of w r) in
     record {
-      rows = ranged.rows;
-      units = ranged.units;
-      spots = ranged.spots;
-      bare = ranged.bare;
+      devices = ranged_after w k d (comes_fit w k d may kept e) r.devices;
+      callers = record {
+        as_many = rw (after_setup w k d) (callers_many w k d ∙ r.callers.as_many);
+        booting = boots_after w k d e r.callers.booting;
+        placed = scripts_after w k d e r.callers.placed;
+        tickets = tickets_after w k d e r.callers.tickets;
+        holders = holders_after w k d r e;
+      };
+      list = λ goes. listed_then w k d may kept e goes;
       counted = omega (arith, r.counted, (after_serials w k d).0);
-      callers = rw (after_setup w k d) (callers_many w k d ∙ r.callers);
-      booting = boots_after w k d e r.booting;
-      placed = scripts_after w k d e r.placed;
-      tickets = tickets_after w k d e r.tickets;
-      holders = holders_after w k d r e;
-      few = ranged.few;
-      few_called = λ goes. (listed_then w k d may kept e goes).few;
-      some_called = λ goes. (listed_then w k d may kept e goes).some;
     }

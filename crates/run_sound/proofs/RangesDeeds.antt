@@ -8,7 +8,8 @@ use Rattle.run_rules.specs.declared.deed.Deed.{Deed}
 use Rattle.run_rules.specs.declared.deed.Deed.TheVariants.{Search, EndScan, BeginInterrupts, Finalise, EndCaller, Drop, Refuse, Open, Close, Start, Done, Detach, Free, Rescan, BeginPower, Sleep, Wake, EndPower, Plug, Unplug, Tell}
 use Rattle.run_rules.specs.After.{after, arrived, attached, finaliser_done, freed, freeing_target, list_moved, moved_top, new_device, over, released, show_spot, with_condemner, with_sleep, with_stack}
 use Rattle.run_sound.proofs.Comings.{Comes, attached_comes}
-use Rattle.run_sound.proofs.RangesOf.{AreRanged, FitsIn, KeepsPlace, ranged_come, ranged_less, ranged_map, ranged_seen}
+use Rattle.run_sound.specs.Kept.{AreRanged}
+use Rattle.run_sound.proofs.RangesOf.{FitsIn, KeepsPlace, ranged_come, ranged_less, ranged_map, ranged_seen}
 
 -- the device that comes by a deed, if one does, fits in
 abbrev pub ComesFit : World → Deed → Type 0

@@ -1,27 +1,19 @@
 -- Rows, units and spots of live devices stay in their ranges: when a device comes, when devices go, and when they change.
-use Rattle.std.proofs.Common.{◌≡◌, ◌<◌, ◌≤◌, ℕ, ◌+◌, ◌^◌, Bool, true, false, ◌==◌, cond, List, [], ◌∷◌, ◌++◌, map, length, refl, arith, ◌∙◌, length-append}
+use Rattle.std.proofs.Common.{◌≡◌, ◌<◌, ℕ, ◌+◌, ◌^◌, Bool, true, false, ◌==◌, cond, List, [], ◌∷◌, ◌++◌, map, length, refl, arith, ◌∙◌, length-append}
 use Rattle.std.specs.Prelude.{filter}
 use Rattle.std.specs.List.{AllByRecursion}
 use Rattle.std.proofs.lemmas.List.{length-map}
 use Rattle.std.proofs.lemmas.List.Folds.{list_any-append}
 use Rattle.run_rules.specs.declared.world.Setup.{Setup}
 use Rattle.run_rules.specs.declared.world.Dev.{Dev}
-use Rattle.run_rules.specs.World.{World, has}
+use Rattle.run_rules.specs.World.{has}
 use Rattle.run_rules.specs.Search.{is_occupied}
 use Rattle.run_rules.proofs.Devices.{all_imp, all_snoc, or_false}
-use Rattle.run_sound.specs.Kept.{InRange}
+use Rattle.run_sound.specs.Kept.{AreRanged}
 use Rattle.run_sound.specs.Left.{free_spots}
 use Rattle.run_sound.proofs.Members.{all_map}
 use Rattle.run_sound.proofs.Callers.{all_filter}
 use Rattle.run_sound.proofs.Spots.{few_filter, free_falls, free_map, other_way, same_occupied}
-
--- what is said of the live devices alone
-pub record AreRanged (s : Setup) (live : List Dev) (hidden : List ℕ) : Type 0 where
-  pub rows : AllByRecursion (λ d. d.row < length s.tables.rows) live
-  pub units : AllByRecursion (λ d. d.unit < 2 ^ 32) live
-  pub spots : AllByRecursion (λ d. d.spot < length s.machine.spots) live
-  pub bare : AllByRecursion (λ x. is_occupied live x ≡ false) hidden
-  pub few : length live + free_spots live (length s.machine.spots) ≤ length s.machine.spots
 
 -- a device that may come: its row, unit and spot are in their ranges, and the spot is free and not hidden
 pub record FitsIn (s : Setup) (live : List Dev) (hidden : List ℕ) (d : Dev) : Type 0 where
@@ -30,9 +22,6 @@ pub record FitsIn (s : Setup) (live : List Dev) (hidden : List ℕ) (d : Dev) : 
   pub spot : d.spot < length s.machine.spots
   pub free : is_occupied live d.spot ≡ false
   pub seen : has hidden d.spot ≡ false
-
-pub ranged_of : (w : World) → InRange w → AreRanged w.setup w.live w.hidden
-ranged_of w r = record { rows = r.rows; units = r.units; spots = r.spots; bare = r.bare; few = r.few }
 
 -- ---- a device comes
 

@@ -8,6 +8,7 @@ use Rattle.std.proofs.lemmas.Bool.Decides.{nat_tests}
 use Rattle.cf_types.specs.declared.machine.Command.{Command}
 use Rattle.cf_types.specs.declared.machine.Command.TheVariants as command
 use Rattle.cf_types.specs.declared.machine.Given.{Given}
+use Rattle.cf_types.specs.Lookups.{attr_number, spot_number}
 use Rattle.config_rules.proofs.Parts.{cond_both}
 use Rattle.run_rules.specs.declared.event.PowerKind.{PowerKind}
 use Rattle.run_rules.specs.declared.event.PowerKind.TheVariants as kind
@@ -21,13 +22,14 @@ use Rattle.run_rules.specs.declared.deed.Deed.{Deed}
 use Rattle.run_rules.specs.declared.deed.Deed.TheVariants.{Search, EndScan, BeginInterrupts, Finalise, EndCaller, Drop, Refuse, Open, Close, Start, Done, Detach, Free, Rescan, BeginPower, Sleep, Wake, EndPower, Plug, Unplug, Tell}
 use Rattle.run_rules.specs.declared.deed.Choice.{Choice}
 use Rattle.run_rules.specs.declared.deed.Choice.TheVariants.{Ended, Does}
-use Rattle.run_rules.specs.Next.{next, next_scan, next_boot, finalise, next_free, next_sleep, next_wake, freeing, suspending, waking, powering, hindered, other_turn, is_power, rescan_of, has_nothing, attr_named, wanted_of, telling, spot_named, on_device, on_held, late_spot, command_of, first_held, command_deed, next_command, on_top, by_activity}
+use Rattle.run_rules.specs.Next.{next, next_scan, next_boot, finalise, next_free, next_sleep, next_wake, freeing, suspending, waking, powering, hindered, other_turn, is_power, rescan_of, has_nothing, wanted_of, telling, on_device, on_held, late_spot, command_of, first_held, command_deed, next_command, on_top, by_activity}
 use Rattle.run_rules.specs.References.{count_in}
 use Rattle.run_rules.specs.Search.{due}
 use Rattle.run_rules.proofs.Devices.{or_false}
 use Rattle.run_rules.proofs.Free.{find_true}
-use Rattle.run_sound.specs.Coming.{HasReason, IsCall, IsCalled, IsEnd, IsPhase, IsScanEnd, IsTurn}
-use Rattle.run_sound.specs.Commands.{Begins, HasCommandReason, IsBetween, IsNamed, IsOnly, wakes_below, power_command}
+use Rattle.run_sound.proofs.Coming.{HasReason, IsCall, IsCalled, IsEnd, IsPhase, IsScanEnd, IsTurn}
+use Rattle.run_sound.specs.Scripts.{power_command}
+use Rattle.run_sound.proofs.Commands.{Begins, HasCommandReason, IsBetween, IsNamed, IsOnly, wakes_below}
 use Rattle.run_sound.proofs.Members.{found_contained, found_from_end, contained_live}
 
 -- ---- the reasons of all deeds
@@ -120,7 +122,7 @@ scan_reason : (w : World) (k : ℕ) (said : Command) (d : Dev) (attr : Option (L
 unfolding rescan_of
 scan_reason w k said d None given may at = because _ (may _ refl)
 scan_reason w k said d (Some name) given may at =
-    by_option _ (attr_named w name) _
+    by_option _ (attr_number w.setup.tables.attrs name) _
     (λ a e. by_if (has (offered_by w.setup d.row) a) _ _
     (λ h. by_option _ (wanted_of _ given) _ (λ wanted g. because _ (may _ (a, wanted, e, h, g, refl))) (λ g. because _ (begun _ at))) (λ h. because _ (begun _ at)))
     (λ e. because _ (begun _ at))
@@ -184,9 +186,9 @@ command_reason w k (command.Suspend name) at = power_reason w k name kind.Suspen
 command_reason w k (command.Resume name) at = power_reason w k name kind.Resume at (at.turn refl)
 command_reason w k (command.ResumeTree name) at = power_reason w k name kind.ResumeTree at (at.turn refl)
 command_reason w k (command.Plug name) at =
-    by_option _ (spot_named w name) _ (λ x e. because _ (λ t. record { begins = begun _ at t; name = name; words = refl; spot = e })) (λ e. because _ (begun _ at))
+    by_option _ (spot_number w.setup.machine.spots name) _ (λ x e. because _ (λ t. record { begins = begun _ at t; name = name; words = refl; spot = e })) (λ e. because _ (begun _ at))
 command_reason w k (command.Unplug name) at =
-    by_option _ (spot_named w name) _ (λ x e.
+    by_option _ (spot_number w.setup.machine.spots name) _ (λ x e.
     by_option _ (device_on w.live x) _
     (λ d f. by_option _ (hindered w d.serial k true) _ (λ y h. because _ (begun _ at)) (λ h.
     because _ (λ t. record { begins = begun _ at t; name = name; words = refl; spot = e; dev = d; stands = f; serial = refl; live = found_live w _ d f; free = h })))

@@ -19,7 +19,7 @@ use Rattle.run_rules.specs.Sound.{Sound}
 use Rattle.run_sound.specs.Kept.{InRange, Kept}
 use Rattle.run_rules.proofs.Devices.{all_snoc}
 use Rattle.run_sound.proofs.Callers.{clash}
-use Rattle.run_sound.specs.Commands.{IsBetween}
+use Rattle.run_sound.proofs.Commands.{IsBetween}
 use Rattle.run_sound.proofs.Reasons.{has_command_reason}
 use Rattle.run_sound.proofs.Plain.{AreHeld, IsLater, sound_held, later_held, sound_caller, sound_over, between_later, between_frees, between_power, later_one, no_turn, agrees_idle}
 
@@ -115,7 +115,7 @@ amid_no_frames w k sound later amid = empty (caller_at w k).stack (λ some. amid
 
 -- caller 0 is in the middle of nothing
 pub amid_later : (w : World) (k : ℕ) → InRange w → (caller_at w k).doing ≢ activity.Idle → (caller_at w k).doing ≢ activity.Ended → k ≢ 0
-amid_later w k ranges busy runs same = elim ranges.booting [ inl e ↦ busy (rw same e) | inr e ↦ runs (rw same e) ]
+amid_later w k ranges busy runs same = elim ranges.callers.booting [ inl e ↦ busy (rw same e) | inr e ↦ runs (rw same e) ]
 
 pub sound_done : (w : World) (k : ℕ) (t : Ticket) → Kept w → next w k ≡ Does (Done t) → Sound (after w k (Done t))
 unfolding after

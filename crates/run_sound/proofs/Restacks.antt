@@ -11,7 +11,7 @@ use Rattle.run_rules.specs.declared.world.Activity.{Activity}
 use Rattle.run_rules.specs.declared.world.Activity.TheVariants as activity
 use Rattle.run_rules.specs.World.{World, Caller, caller_at, frame_serial, has_ended, is_held, is_live, is_number, is_pinned}
 use Rattle.run_rules.specs.After.{with_caller}
-use Rattle.run_rules.specs.Sound.{IsFreed, IsSoundBoot, IsSoundCaller, IsSoundlyAsleep, IsSoundlyCondemned, IsSoundlyDeferred, Sound, is_known, is_power, others}
+use Rattle.run_rules.specs.Sound.{IsFreed, IsSoundBoot, IsSoundCaller, IsSoundlyAsleep, IsSoundlyCondemned, IsSoundlyDeferred, Sound, is_known, is_powering, others}
 use Rattle.run_sound.proofs.Callers.{all_set, caller_each, caller_there, clash, entries_pin, frames_pin, any_set_from, stack_pins, unended_so}
 use Rattle.run_sound.proofs.Reasons.{is_quiet}
 use Rattle.run_sound.proofs.Members.{each_of, of_each}
@@ -48,7 +48,7 @@ PinsFew w c entries = (s : ℕ) → (stack_pins s c || entries_pin entries s) �
 
 -- ---- the caller
 
-quiet_power : (a : Activity) → is_quiet a ≡ true → is_power a ≡ false
+quiet_power : (a : Activity) → is_quiet a ≡ true → is_powering a ≡ false
 quiet_power activity.Idle h = refl
 quiet_power activity.Scans h = refl
 quiet_power activity.Ended h = refl
@@ -65,10 +65,10 @@ quiet_transfer a t h e = clash (is_quiet a) h (rw e refl)
 same_turn : (b x y : Bool) → x ≡ false → y ≡ false → (IsTrue b ↔ IsTrue x) → IsTrue b ↔ IsTrue y
 same_turn b x y p q h = rw q (rw p at h)
 
-own_turn : (w : World) (k : ℕ) (c : Caller) → Sound w → MayBe w k c → IsTrue (is_number w.power_owner k) ↔ IsTrue (is_power c.doing)
+own_turn : (w : World) (k : ℕ) (c : Caller) → Sound w → MayBe w k c → IsTrue (is_number w.power_owner k) ↔ IsTrue (is_powering c.doing)
 own_turn w k c sound may = elim may.doing [
   | inl same ↦ rw same (sound.callers k).turn
-  | inr quiet ↦ same_turn (is_number w.power_owner k) (is_power (caller_at w k).doing) (is_power c.doing) (quiet_power (caller_at w k).doing quiet.1) (quiet_power c.doing quiet.0) (sound.callers k).turn
+  | inr quiet ↦ same_turn (is_number w.power_owner k) (is_powering (caller_at w k).doing) (is_powering c.doing) (quiet_power (caller_at w k).doing quiet.1) (quiet_power c.doing quiet.0) (sound.callers k).turn
 ]
 
 own_transfer : (w : World) (k : ℕ) (c : Caller) → Sound w → MayBe w k c → (t : Ticket) → c.doing ≡ activity.Transfer t → is_held w k t.serial ≡ true
@@ -100,7 +100,7 @@ later_one k h e = clash (not (k == 0)) h (rw e refl)
 each_caller : (w : World) (k : ℕ) (c : Caller) (entries : List Deferred) (interrupts_on : Bool) (finalisers hidden : List ℕ) (place : ℕ) (pass_repeats : Bool) → Sound w → MayBe w k c
     → (j : ℕ) → IsSoundCaller (restacked w k c entries interrupts_on finalisers hidden place pass_repeats) j
 each_caller w k c entries interrupts_on finalisers hidden place pass_repeats sound may j = record {
-  turn = caller_each (λ d. IsTrue (is_number w.power_owner j) ↔ IsTrue (is_power d.doing)) w k j c may.there (λ same. rw same (own_turn w k c sound may)) (λ other. (sound.callers j).turn);
+  turn = caller_each (λ d. IsTrue (is_number w.power_owner j) ↔ IsTrue (is_powering d.doing)) w k j c may.there (λ same. rw same (own_turn w k c sound may)) (λ other. (sound.callers j).turn);
   transfer = caller_each (λ d. (t : Ticket) → d.doing ≡ activity.Transfer t → is_held w j t.serial ≡ true) w k j c may.there (λ same. rw same (own_transfer w k c sound may)) (λ other. (sound.callers j).transfer);
   ended = caller_each (λ d. d.doing ≡ activity.Ended → (d.stack ≡ []) × AllByRecursion (λ r. r.caller ≢ j) w.refs) w k j c may.there (λ same. rw same may.ended) (λ other. (sound.callers j).ended);
   frames = caller_each (λ d. IsTrue (not (j == 0)) → d.stack ≢ [] → d.doing ≡ activity.Scans) w k j c may.there (λ same later some. may.scans (later_one k (rw same at later)) some) (λ other. (sound.callers j).frames);

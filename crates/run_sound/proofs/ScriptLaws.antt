@@ -15,7 +15,7 @@ use Rattle.run_rules.specs.Next.{command_of, next}
 use Rattle.run_rules.specs.Run.{number_of}
 use Rattle.run_rules.specs.Sound.{IsSoundlyCondemned}
 use Rattle.run_rules.proofs.Devices.{all_imp}
-use Rattle.run_sound.specs.Commands.{Begins, IsBetween}
+use Rattle.run_sound.proofs.Commands.{Begins, IsBetween}
 use Rattle.run_sound.specs.Kept.{Kept, MayRun}
 use Rattle.run_sound.specs.Scripts.{IsAmid, IsOfScript, script_of}
 use Rattle.run_sound.proofs.Callers.{all_or, doing_there, unended_so, unended_there}
@@ -27,7 +27,7 @@ use Rattle.run_sound.proofs.Scripts.{amid_before, amid_command, begun, command_i
 
 -- who does something is caller 0, or one of at most 16 scripts
 pub doer_low : (w : World) (k : ℕ) (d : Deed) → MayRun w.setup → Kept w → next w k ≡ Does d → k ≤ 16
-doer_low w k d may kept e = omega (arith, doing_there w k d e, kept.ranges.callers, may.few_scripts)
+doer_low w k d may kept e = omega (arith, doing_there w k d e, kept.ranges.callers.as_many, may.few_scripts)
 
 -- who begins a command, or has none left, is of a script
 pub between_script : (w : World) (k : ℕ) (d : Deed) → Kept w → next w k ≡ Does d → IsBetween w k → IsOfScript w.setup k
@@ -40,7 +40,7 @@ amid_script w k kept busy runs = of_script w k kept.ranges (amid_later w k kept.
 -- who holds a reference is one of at most 16
 pub refs_few : (w : World) → MayRun w.setup → Kept w → AllByRecursion (λ r. (1 ≤ r.caller) × (r.caller ≤ 16)) w.refs
 refs_few w may kept =
-    all_imp (λ (r : Ref). IsOfScript w.setup r.caller) (λ (r : Ref). (1 ≤ r.caller) × (r.caller ≤ 16)) (λ r h. (h.0, omega (arith, h.1, may.few_scripts))) w.refs kept.ranges.holders
+    all_imp (λ (r : Ref). IsOfScript w.setup r.caller) (λ (r : Ref). (1 ≤ r.caller) × (r.caller ≤ 16)) (λ r h. (h.0, omega (arith, h.1, may.few_scripts))) w.refs kept.ranges.callers.holders
 
 -- who condemned a device is of a script
 condemner : (w : World) (d : Dev) (k : ℕ) → Kept w → IsSoundlyCondemned w d k → IsOfScript w.setup k
@@ -57,14 +57,14 @@ condemned_by w kept =
 
 -- nowhere, if it boots
 pub boot_over : (w : World) → Kept w → (caller_at w 0).over ≡ 0
-boot_over w kept = omega (arith, (kept.ranges.placed 0).within)
+boot_over w kept = omega (arith, (kept.ranges.callers.placed 0).within)
 
 script_short : (s : Setup) (k : ℕ) → MayRun s → length (script_of s k) ≤ 500
 script_short s zero may = omega arith
 script_short s (suc k) may = all_or (λ (script : List Command). length script ≤ 500) s.scripts k [] may.short_scripts (omega arith)
 
 pub over_low : (w : World) → MayRun w.setup → Kept w → (k : ℕ) → (caller_at w k).over ≤ 500
-over_low w may kept k = omega (arith, (kept.ranges.placed k).within, script_short w.setup k may)
+over_low w may kept k = omega (arith, (kept.ranges.callers.placed k).within, script_short w.setup k may)
 
 -- so the number of its next event is low
 pub number_low : (w : World) → MayRun w.setup → Kept w → (k : ℕ) → number_of w k ≤ 501
@@ -76,24 +76,24 @@ number_low w may kept k = cases (k == 0) (over_low w may kept k)
 
 -- no more of its commands are over than it has
 pub over_within : (w : World) (k : ℕ) → Kept w → k ≢ 0 → (caller_at w k).over ≤ length (slice_index_or w.setup.scripts (k - 1) [])
-over_within w k kept later = rw (script_there w.setup k later) (kept.ranges.placed k).within
+over_within w k kept later = rw (script_there w.setup k later) (kept.ranges.callers.placed k).within
 
 -- and fewer while one goes on, or begins
 pub amid_within : (w : World) (k : ℕ) → Kept w → is_amid (caller_at w k).doing ≡ true → (caller_at w k).over < length (script_of w.setup k)
-amid_within w k kept busy = amid_before (script_of w.setup k) (caller_at w k) (kept.ranges.placed k) busy
+amid_within w k kept busy = amid_before (script_of w.setup k) (caller_at w k) (kept.ranges.callers.placed k) busy
 
 pub begins_within : (w : World) (k : ℕ) (d : Deed) → Begins w k d → (caller_at w k).over < length (script_of w.setup k)
 begins_within w k d b = slice_get_within (script_of w.setup k) (caller_at w k).over b.said (begun w k b.said d b refl)
 
 -- the command that goes on does what the caller is in the middle of
 pub amid_said : (w : World) (k : ℕ) → Kept w → k ≢ 0 → IsAmid (caller_at w k).doing (command_of w k)
-amid_said w k kept later = rw (command_is w k later) (kept.ranges.placed k).amid
+amid_said w k kept later = rw (command_is w k later) (kept.ranges.callers.placed k).amid
 
 pub amid_has : (w : World) (k : ℕ) → Kept w → k ≢ 0 → is_amid (caller_at w k).doing ≡ true → (said : Command) × (command_of w k ≡ Some said)
 amid_has w k kept later busy =
-    let one = amid_command (script_of w.setup k) (caller_at w k) (kept.ranges.placed k) busy in
+    let one = amid_command (script_of w.setup k) (caller_at w k) (kept.ranges.callers.placed k) busy in
     (one.0, command_is w k later ∙ one.1)
 
 -- between two commands it is idle: a rescan without frames is over
 pub between_idle : (w : World) (k : ℕ) → Kept w → IsBetween w k → (caller_at w k).doing ≡ activity.Idle
-between_idle w k kept at = elim at.idle [ inl idle ↦ idle | inr scans ↦ absurd ((kept.ranges.placed k).scans scans at.no_frames) ]
+between_idle w k kept at = elim at.idle [ inl idle ↦ idle | inr scans ↦ absurd ((kept.ranges.callers.placed k).scans scans at.no_frames) ]

@@ -15,8 +15,8 @@ use Rattle.run_rules.specs.declared.deed.Choice.TheVariants.{Does}
 use Rattle.run_rules.specs.Next.{command_of, next}
 use Rattle.run_rules.specs.After.{after, doing, freed, freeing_target, over, pushed, settled, with_caller, rescan_frame}
 use Rattle.run_rules.proofs.Setups.{after_setup}
-use Rattle.run_sound.specs.Commands.{Begins, EndsPower, power_command}
-use Rattle.run_sound.specs.Scripts.{IsAmid, IsInScript, script_of}
+use Rattle.run_sound.proofs.Commands.{Begins, EndsPower}
+use Rattle.run_sound.specs.Scripts.{IsAmid, IsInScript, power_command, script_of}
 use Rattle.run_sound.proofs.Callers.{caller_here, callers_kept, clash, doing_there}
 use Rattle.run_sound.proofs.OwnCaller.{Stays, own_after, own_set}
 use Rattle.run_sound.proofs.RangesCallers.{others_stay}

@@ -20,7 +20,7 @@ use Rattle.run_rules.specs.Search.{bus_turns, driver_at, places_of, turns_of, af
 use Rattle.cf_types.specs.Offers.{interfaces}
 use Rattle.run_rules.specs.Next.{arrival}
 use Rattle.run_rules.proofs.Free.{due_forward, due_wins}
-use Rattle.run_sound.specs.Coming.{IsTurn}
+use Rattle.run_sound.proofs.Coming.{IsTurn}
 use Rattle.run_sound.specs.Kept.{MayRun}
 use Rattle.run_sound.specs.Left.{turns_left}
 use Rattle.run_sound.proofs.Arrivals.{due_inside}

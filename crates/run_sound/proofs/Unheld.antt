@@ -17,7 +17,7 @@ use Rattle.run_rules.specs.Next.{hindered, is_hindrance, next}
 use Rattle.run_rules.specs.After.{after, new_device, with_condemner, with_sleep}
 use Rattle.run_rules.specs.Sound.{IsSoundlyCondemned, Sound}
 use Rattle.run_rules.proofs.Devices.{all_both, all_imp, all_snoc, none_of}
-use Rattle.run_sound.specs.Commands.{IsBetween}
+use Rattle.run_sound.proofs.Commands.{IsBetween}
 use Rattle.run_sound.specs.Holding.{opened_by, returned_by}
 use Rattle.run_sound.specs.Kept.{Kept}
 use Rattle.run_sound.specs.InFull.{HoldNoneCondemned, IsUnheld}

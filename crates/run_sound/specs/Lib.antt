@@ -2,8 +2,6 @@ pub mod Left
 pub mod Kept
 pub mod InFull
 pub mod Calls
-pub mod Coming
-pub mod Commands
 pub mod Scripts
 pub mod Holding
 pub use Rattle.run_rules.specs.World

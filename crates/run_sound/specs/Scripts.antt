@@ -4,11 +4,18 @@ use Rattle.cf_types.specs.declared.machine.Command.{Command}
 use Rattle.cf_types.specs.declared.machine.Command.TheVariants as command
 use Rattle.cf_types.specs.declared.machine.Given.{Given}
 use Rattle.cf_types.specs.declared.machine.Ticket.{Ticket}
+use Rattle.run_rules.specs.declared.event.PowerKind.{PowerKind}
+use Rattle.run_rules.specs.declared.event.PowerKind.TheVariants as kind
 use Rattle.run_rules.specs.declared.world.Setup.{Setup}
 use Rattle.run_rules.specs.declared.world.Activity.{Activity}
 use Rattle.run_rules.specs.declared.world.Activity.TheVariants as activity
 use Rattle.run_rules.specs.World.{Caller}
-use Rattle.run_sound.specs.Commands.{power_command}
+
+-- the power command of a kind: after drvctl(8)
+abbrev pub power_command : PowerKind → List ℕ → Command
+power_command kind.Suspend name = command.Suspend name
+power_command kind.Resume name = command.Resume name
+power_command kind.ResumeTree name = command.ResumeTree name
 
 -- the script of a caller; the one that boots has none
 abbrev pub script_of : Setup → ℕ → List Command

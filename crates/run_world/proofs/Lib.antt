@@ -7,3 +7,4 @@ pub mod Beginnings
 pub mod WantedLaws
 pub mod StepLaws
 pub mod TellLaws
+pub mod MarkedLaws

@@ -16,7 +16,7 @@ use Rattle.run_rules.specs.declared.deed.Choice.TheVariants.{Does}
 use Rattle.run_rules.specs.Next.{next}
 use Rattle.run_rules.specs.After.{show_spot}
 use Rattle.run_sound.specs.Calls.{CallsDevices, IsOfDevice}
-use Rattle.run_sound.specs.Coming.{MayCome, IsCalled}
+use Rattle.run_sound.proofs.Coming.{MayCome, IsCalled}
 use Rattle.run_sound.specs.Kept.{MayRun, Kept}
 use Rattle.run_sound.proofs.Arrivals.{search_comes, finalise_comes, none_shown, top_known}
 use Rattle.run_sound.proofs.Callers.{all_or, not_ended}
@@ -79,4 +79,4 @@ called_live w s None anew kept calls goes called = framed_live w 0 s called.0 ke
 called_live w s (Some place) false kept calls goes called =
     rw called.5 (at_live w.live w.finalisers place (omega (arith, called.3, called.4)) (kept.sound.boot (not_ended w 0 goes)).finalisers)
 called_live w s (Some place) true kept calls goes called =
-    rw called.5 (at_live w.live w.finalisers 0 (kept.ranges.some_called goes called.6) (kept.sound.boot (not_ended w 0 goes)).finalisers)
+    rw called.5 (at_live w.live w.finalisers 0 ((kept.ranges.list goes).some called.6) (kept.sound.boot (not_ended w 0 goes)).finalisers)

@@ -28,7 +28,7 @@ few_over s core k may kept =
 
 -- there are few devices
 pub few_live : (s : Setup) (core : Core) → MayRun s → Kept (world_of s core) → length core.tree.live + 1 < 2 ^ 32
-few_live s core may kept = omega (arith, kept.ranges.few, may.machine.few_spots)
+few_live s core may kept = omega (arith, kept.ranges.devices.few, may.machine.few_spots)
 
 -- and of the one that stands at a place
 pub low_at : (s : Setup) (core : Core) (k : ℕ) (x : CallerState) → MayRun s → Kept (world_of s core) → k < length core.callers.items → x ≡ slice_index_or core.callers.items k x → x.over < 2 ^ 32 - 1

@@ -7,7 +7,8 @@ use Rattle.std.proofs.lemmas.Option.{same_Some}
 use Rattle.cf_types.proofs.PlaceLemmas.{position-map}
 use Rattle.cf_types.specs.declared.machine.Given.{Given}
 use Rattle.cf_types.specs.declared.tables.Locator.{Locator}
-use Rattle.run_rules.specs.Next.{locator_place, wanted_of}
+use Rattle.cf_types.specs.Lookups.{place_of_name}
+use Rattle.run_rules.specs.Next.{wanted_of}
 use Rattle.run_rules.specs.declared.world.Wanted.{Wanted}
 
 abbrev names_of : List Locator → List (List ℕ)
@@ -25,7 +26,7 @@ wanted_next : (locs : List Locator) (g : Given) (gs : List Given) (all : List Wa
 unfolding wanted_of
 wanted_next locs g gs all e = rests (wanted_of (names_of locs) gs) refl e
   where
-    fresh : (rest : List Wanted) → wanted_of (names_of locs) gs ≡ Some rest → (i : ℕ) → locator_place (names_of locs) g.name ≡ Some i → (b : Bool)
+    fresh : (rest : List Wanted) → wanted_of (names_of locs) gs ≡ Some rest → (i : ℕ) → place_of_name (names_of locs) g.name ≡ Some i → (b : Bool)
         → (if b then None else Some (record { place = i; value = g.value } ∷ rest)) ≡ Some all → IsNext locs g gs all
     fresh rest more i at true k = absurd cc
     fresh rest more i at false k = record {
@@ -36,16 +37,16 @@ wanted_next locs g gs all e = rests (wanted_of (names_of locs) gs) refl e
       all_is = sym (same_Some _ all k);
     }
 
-    places : (rest : List Wanted) → wanted_of (names_of locs) gs ≡ Some rest → (o : Option ℕ) → locator_place (names_of locs) g.name ≡ o
+    places : (rest : List Wanted) → wanted_of (names_of locs) gs ≡ Some rest → (o : Option ℕ) → place_of_name (names_of locs) g.name ≡ o
         → option_and_then (λ (i : ℕ). if list_any (λ (v : Wanted). v.place == i) rest then None else Some (record { place = i; value = g.value } ∷ rest)) o ≡ Some all → IsNext locs g gs all
     places rest more None at k = absurd cc
     places rest more (Some i) at k = fresh rest more i at (list_any (λ (v : Wanted). v.place == i) rest) k
 
     rests : (o : Option (List Wanted)) → wanted_of (names_of locs) gs ≡ o
-        → option_and_then (λ (rest : List Wanted). option_and_then (λ (i : ℕ). if list_any (λ (v : Wanted). v.place == i) rest then None else Some (record { place = i; value = g.value } ∷ rest)) (locator_place (names_of locs) g.name)) o ≡ Some all
+        → option_and_then (λ (rest : List Wanted). option_and_then (λ (i : ℕ). if list_any (λ (v : Wanted). v.place == i) rest then None else Some (record { place = i; value = g.value } ∷ rest)) (place_of_name (names_of locs) g.name)) o ≡ Some all
         → IsNext locs g gs all
     rests None more k = absurd cc
-    rests (Some rest) more k = places rest more (locator_place (names_of locs) g.name) refl k
+    rests (Some rest) more k = places rest more (place_of_name (names_of locs) g.name) refl k
 
 -- so far these values, and the others are those of the rest
 pub record IsSoFar (locs : List Locator) (given left : List Given) (list : List Wanted) : Type 0 where

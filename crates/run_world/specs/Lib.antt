@@ -9,3 +9,4 @@ pub mod Arrivals
 pub mod Late
 pub mod Rescans
 pub mod Scripted
+pub mod Marked

@@ -10,6 +10,7 @@ mod rescan_filter;
 mod same_tree;
 mod script;
 mod site;
+mod spot_set;
 mod spots;
 
 pub use activity::{begin, begin_scan, finish, is_ended};
@@ -20,6 +21,5 @@ pub use recent::{Called, Recent, Telling};
 pub use rescan_filter::{locator_place, wanted_by};
 pub use script::{command_of, given_by};
 pub use site::Site;
-pub use spots::{
-    attach_of, driver_name, driver_of, has, has_spot, is_occupied, place_of, policy_of,
-};
+pub use spot_set::SpotSet;
+pub use spots::{attach_of, driver_name, driver_of, has, is_occupied, place_of, policy_of};

@@ -5,6 +5,7 @@ ghost use Rattle.run_world.specs.View.{IsFirst, callers_of};
 
 use crate::caller::{CallerState, new_scan};
 use crate::recent::Recent;
+use crate::spot_set::SpotSet;
 use crate::spots::{is_absent, is_late};
 use cf_types::Memory;
 use defer_queue::Deferred;
@@ -25,8 +26,8 @@ pub struct Core {
     pub units: Units,
     pub refs: Refs,
     /// The spots without hardware, and the late spots that no finalizer has shown yet.
-    pub absent: Vec<u16>,
-    pub hidden: Vec<u16>,
+    pub absent: SpotSet,
+    pub hidden: SpotSet,
     /// Whether interrupts work.
     pub interrupts_on: bool,
     /// The caller that has the power turn.
@@ -47,11 +48,11 @@ pub struct Core {
 }
 
 /// The late spots.
-fn late_spots(alloc: Global, setup: &Setup) -> Result<Vec<u16>, Memory>
+fn late_spots(alloc: Global, setup: &Setup) -> Result<SpotSet, Memory>
     requires few { length setup.now.machine.spots ≤ 1024 }
-    ensures { IfOk result (λ spots. spots.items ≡ world.late_spots setup.now) }
+    ensures { IfOk result (λ spots. spots ≡ world.late_spots setup.now) }
 {
-    let mut spots = Vec::new(alloc);
+    let mut spots = SpotSet::make(alloc);
     for spot in 0..setup.machine.spots.len() as u16 {
         if is_late(setup, spot) {
             spots.push(spot)?;
@@ -61,11 +62,11 @@ fn late_spots(alloc: Global, setup: &Setup) -> Result<Vec<u16>, Memory>
 }
 
 /// The spots without hardware.
-fn absent_spots(alloc: Global, setup: &Setup) -> Result<Vec<u16>, Memory>
+fn absent_spots(alloc: Global, setup: &Setup) -> Result<SpotSet, Memory>
     requires few { length setup.now.machine.spots ≤ 1024 }
-    ensures { IfOk result (λ spots. spots.items ≡ world.absent_spots setup.now) }
+    ensures { IfOk result (λ spots. spots ≡ world.absent_spots setup.now) }
 {
-    let mut spots = Vec::new(alloc);
+    let mut spots = SpotSet::make(alloc);
     for spot in 0..setup.machine.spots.len() as u16 {
         if is_absent(setup, spot) {
             spots.push(spot)?;

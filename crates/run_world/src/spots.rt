@@ -86,14 +86,6 @@ pub fn has(list: &[u32], n: u32) -> bool
     list.iter().any(|x| *x == n)
 }
 
-/// Whether a list has a spot.
-#[inline(always)]
-pub fn has_spot(list: &[u16], spot: u16) -> bool
-    ensures { result ≡ world.has list.now spot }
-{
-    list.iter().any(|x| *x == spot)
-}
-
 /// Whether a live device is on the spot.
 #[inline(always)]
 pub fn is_occupied(tree: &DevTree, spot: u16) -> bool

@@ -5,3 +5,4 @@ pub mod TurnsOf
 pub mod TurnLaws
 pub mod BusLaws
 pub mod SpanLaws
+pub mod StyleLaws

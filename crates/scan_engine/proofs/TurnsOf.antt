@@ -15,7 +15,7 @@ use Rattle.cf_types.specs.Numbers.{below}
 use Rattle.cf_types.specs.Offers.{interfaces}
 use Rattle.run_rules.specs.declared.world.Turn.{Turn}
 use Rattle.run_rules.specs.World.{same_place}
-use Rattle.run_rules.specs.Search.{same_spot, is_child, child_spots, is_before, style_of, places_of, bus_turns, turns_of}
+use Rattle.run_rules.specs.Search.{same_spot, is_child, child_spots, is_before, is_bus_indirect, places_of, bus_turns, turns_of}
 use Rattle.run_rules.specs.Sound.{EachLater}
 use Rattle.run_rules.proofs.Below.{and_both}
 use Rattle.scan_engine.specs.Turns.{IsTurn}
@@ -80,10 +80,10 @@ later_bus m rows true parent e =
 -- ---- all turns
 
 abbrev bus : Tables → Machine → Option ℕ → Option ℕ → ℕ × Place → List Turn
-bus t m attach spot e = bus_turns m (length t.rows) (style_of m attach e.1) spot e
+bus t m attach spot e = bus_turns m (length t.rows) (is_bus_indirect m attach e.1) spot e
 
 attr_is : (t : Tables) (m : Machine) (attach spot : Option ℕ) (e : ℕ × Place) → AllByRecursion (λ u. u.at.attr ≡ e.0) (bus t m attach spot e)
-attr_is t m attach spot e = all_bus (λ u. u.at.attr ≡ e.0) m (length t.rows) (style_of m attach e.1) spot e (λ r x row straight lt child. refl)
+attr_is t m attach spot e = all_bus (λ u. u.at.attr ≡ e.0) m (length t.rows) (is_bus_indirect m attach e.1) spot e (λ r x row straight lt child. refl)
 
 -- each turn stands before all later ones
 pub in_order : (t : Tables) (m : Machine) (driver attach spot only : Option ℕ) → EachLater Earlier (turns_of t m driver attach spot only)
@@ -91,7 +91,7 @@ unfolding turns_of
 in_order t m driver attach spot only =
     let places = enumerate_from 0 (places_of t driver only) in
     later_flat Earlier (bus t m attach spot) places
-    (all_of (λ e. EachLater Earlier (bus t m attach spot e)) places (λ e. later_bus m (length t.rows) (style_of m attach e.1) spot e))
+    (all_of (λ e. EachLater Earlier (bus t m attach spot e)) places (λ e. later_bus m (length t.rows) (is_bus_indirect m attach e.1) spot e))
     (later_weaken (λ a b. a.0 < b.0) (λ a b. AllByRecursion (λ u. AllByRecursion (Earlier u) (bus t m attach spot b)) (bus t m attach spot a)) places
     (λ a b lt. all_weaken (λ u. u.at.attr ≡ a.0) (λ u. AllByRecursion (Earlier u) (bus t m attach spot b)) (bus t m attach spot a)
     (λ u is. all_weaken (λ v. v.at.attr ≡ b.0) (Earlier u) (bus t m attach spot b) (λ v also. by_attr u.at v.at (omega (arith, is, also, lt))) (attr_is t m attach spot b))
@@ -125,7 +125,7 @@ all_turns t m driver attach spot only few =
     let places = places_of t driver only in
     all_flat (IsTurn t m spot) (bus t m attach spot) (enumerate_from 0 places)
     (all_weaken (λ e. (0 ≤ e.0) × (e.0 < 0 + length places)) (λ e. AllByRecursion (IsTurn t m spot) (bus t m attach spot e)) (enumerate_from 0 places)
-    (λ e both. all_bus (IsTurn t m spot) m (length t.rows) (style_of m attach e.1) spot e
+    (λ e both. all_bus (IsTurn t m spot) m (length t.rows) (is_bus_indirect m attach e.1) spot e
     (λ r x row straight lt child. record {
       spot = lt;
       attr = omega (arith, both.1, few_places t driver only few);

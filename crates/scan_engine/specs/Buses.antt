@@ -5,7 +5,7 @@ use Rattle.cf_types.specs.declared.tables.Place.{Place}
 use Rattle.cf_types.specs.declared.tables.Tables.{Tables}
 use Rattle.run_rules.specs.declared.world.Position.{Position}
 use Rattle.run_rules.specs.declared.world.Turn.{Turn}
-use Rattle.run_rules.specs.Search.{bus_turns, style_of}
+use Rattle.run_rules.specs.Search.{bus_turns, is_bus_indirect}
 use Rattle.scan_engine.specs.declared.bus.Bus.{Bus}
 
 -- the turn of a bus at a row and a spot
@@ -18,4 +18,4 @@ begin_in attr from = if attr == from.attr then from else record { attr = attr; r
 
 -- the turns of one place
 abbrev pub place_turns : Tables → Machine → Option ℕ → Option ℕ → ℕ × Place → List Turn
-place_turns t m attach spot e = bus_turns m (length t.rows) (style_of m attach e.1) spot e
+place_turns t m attach spot e = bus_turns m (length t.rows) (is_bus_indirect m attach e.1) spot e

@@ -2,6 +2,7 @@ pub mod Frames
 pub mod Turns
 pub mod Buses
 pub mod Spans
+pub mod Styled
 pub use Rattle.run_rules.specs.World
 pub use Rattle.run_rules.specs.Search
 pub use Rattle.run_rules.specs.After

@@ -6,9 +6,11 @@ mod scan;
 mod spans;
 mod spots;
 mod stack;
+mod styles;
 
 pub use run_rules::{Frame, Position, Turn, Wanted};
 pub use scan::{next_turn, offered};
 pub use spans::{ChildSpans, Span};
 pub use spots::is_child;
 pub use stack::Stack;
+pub use styles::Styles;

@@ -4,16 +4,18 @@ ghost use Rattle.std.specs.List.{enumerate_from};
 ghost use Rattle.std.specs.Option.{option_map_or};
 ghost use Rattle.cf_types.specs.declared.tables.Place.TheVariants.{Root, At};
 ghost use Rattle.cf_types.specs.Offers as offer;
-ghost use Rattle.run_rules.specs.Search.{is_before, style_of, turns_of};
+ghost use Rattle.run_rules.specs.Search.{is_before, turns_of};
 ghost use Rattle.attr_graph.specs.Graphs.{IsGraphOf, declared_by};
 ghost use Rattle.scan_engine.specs.Buses.{place_turns};
 ghost use Rattle.scan_engine.specs.Spans.{HoldsChildren};
+ghost use Rattle.scan_engine.specs.Styled.{AreStylesOf};
 ghost use Rattle.scan_engine.specs.Turns.{IsTurn, first_from};
 
 use crate::bus::{Bus, bus_turn};
 use crate::spans::Span;
+use crate::styles::Styles;
 use attr_graph::Graph;
-use cf_types::{Machine, Place, StyleLine, Tables};
+use cf_types::{Machine, Place, Tables};
 use run_rules::{Position, Turn};
 
 /// The interface attributes that a driver offers, in the order in which they are searched; none if there is no such
@@ -30,46 +32,12 @@ pub fn offered<'a>(graph: &'a Graph, tables: &Tables, device: u32) -> &'a [u32]
     }
 }
 
-#[inline(always)]
-fn last_style(lines: &[StyleLine], attach: u32, attr: u32) -> Option<StyleLine>
-    ensures { result ≡ find (λ line. line.attach == attach && line.attr == attr) (reverse lines.now) }
-{
-    lines
-        .iter()
-        .rev()
-        .copied()
-        .find(|line| line.attach == attach && line.attr == attr)
-}
-
-/// The last style line for an attachment and an attribute; direct without one.
-#[inline(always)]
-fn is_indirect_by(machine: &Machine, attach: u32, attr: u32) -> bool
-    ensures { result ≡ option_map_or (λ line. line.indirect) (find (λ line. line.attach == attach && line.attr == attr) (reverse machine.now.styles)) false }
-{
-    match last_style(machine.styles.items(), attach, attr) {
-        Some(line) => line.indirect,
-        None => false,
-    }
-}
-
-/// Whether a device of this attachment searches a place row by row.
-#[tactic(auto, unfolding(run_rules::specs::Search::style_of))]
-#[inline(always)]
-fn is_indirect(machine: &Machine, attach: Option<u32>, place: Place) -> bool
-    ensures { result ≡ style_of machine.now attach place }
-{
-    match (attach, place) {
-        (_, Place::Root) => false,
-        (None, Place::At(_)) => false,
-        (Some(attach), Place::At(attr)) => is_indirect_by(machine, attach, attr),
-    }
-}
-
 /// The first turn of a place that is not before a position on it or on an earlier place.
 #[inline(always)]
 fn place_turn(
     tables: &Tables,
     machine: &Machine,
+    styles: &Styles,
     attach: Option<u32>,
     spot: Option<u16>,
     span: Span,
@@ -79,6 +47,7 @@ fn place_turn(
 ) -> Option<Turn>
     requires few_rows { length tables.now.rows ≤ 8192 }
     requires few_spots { length machine.now.spots ≤ 1024 }
+    requires styles { AreStylesOf machine.now styles.now }
     requires span { HoldsChildren machine.now spot span }
     requires late { from.attr ≤ attr }
     ensures { first_from (place_turns tables.now machine.now attach spot (attr, place)) from ≡ result }
@@ -86,7 +55,7 @@ fn place_turn(
     let bus = Bus {
         attr,
         place,
-        indirect: is_indirect(machine, attach, place),
+        indirect: styles.is_indirect(attach, place),
     };
     bus_turn(
         machine,
@@ -103,6 +72,7 @@ fn place_turn(
 fn turn_among(
     tables: &Tables,
     machine: &Machine,
+    styles: &Styles,
     attach: Option<u32>,
     spot: Option<u16>,
     span: Span,
@@ -111,13 +81,16 @@ fn turn_among(
 ) -> Option<Turn>
     requires few_rows { length tables.now.rows ≤ 8192 }
     requires few_spots { length machine.now.spots ≤ 1024 }
+    requires styles { AreStylesOf machine.now styles.now }
     requires span { HoldsChildren machine.now spot span }
     requires few { length attrs.now ≤ 64 }
     ensures { first_from (flat_map (place_turns tables.now machine.now attach spot) (enumerate_from 0 (map At attrs.now))) from ≡ result }
 {
     for attr in from.attr..attrs.len() as u16 {
         let place = Place::At(attrs[attr as usize]);
-        match place_turn(tables, machine, attach, spot, span, attr, place, from) {
+        match place_turn(
+            tables, machine, styles, attach, spot, span, attr, place, from,
+        ) {
             Some(turn) => return Some(turn),
             None => {}
         }
@@ -130,6 +103,7 @@ fn turn_among(
 fn root_turn(
     tables: &Tables,
     machine: &Machine,
+    styles: &Styles,
     attach: Option<u32>,
     spot: Option<u16>,
     span: Span,
@@ -137,13 +111,24 @@ fn root_turn(
 ) -> Option<Turn>
     requires few_rows { length tables.now.rows ≤ 8192 }
     requires few_spots { length machine.now.spots ≤ 1024 }
+    requires styles { AreStylesOf machine.now styles.now }
     requires span { HoldsChildren machine.now spot span }
     ensures { first_from (place_turns tables.now machine.now attach spot (0, Root)) from ≡ result }
 {
     if from.attr > 0 {
         return None;
     }
-    place_turn(tables, machine, attach, spot, span, 0, Place::Root, from)
+    place_turn(
+        tables,
+        machine,
+        styles,
+        attach,
+        spot,
+        span,
+        0,
+        Place::Root,
+        from,
+    )
 }
 
 /// The first turn of a scan that is not before a position.
@@ -152,6 +137,7 @@ fn scan_turn(
     tables: &Tables,
     graph: &Graph,
     machine: &Machine,
+    styles: &Styles,
     only: Option<u32>,
     from: Position,
     device: Option<u32>,
@@ -162,31 +148,34 @@ fn scan_turn(
     requires graph { IsGraphOf (declared_by tables.now) graph.now }
     requires few_rows { length tables.now.rows ≤ 8192 }
     requires few_spots { length machine.now.spots ≤ 1024 }
+    requires styles { AreStylesOf machine.now styles.now }
     requires span { HoldsChildren machine.now spot span }
     requires few_offered { (d : ℕ) → length (offer.interfaces tables.now.attrs tables.now.devices d) ≤ 64 }
     ensures { first_from (turns_of tables.now machine.now device attach spot only) from ≡ result }
 {
     match only {
-        Some(attr) => turn_among(tables, machine, attach, spot, span, &[attr], from),
+        Some(attr) => turn_among(tables, machine, styles, attach, spot, span, &[attr], from),
         None => match device {
             Some(device) => {
                 let attrs = offered(graph, tables, device);
-                turn_among(tables, machine, attach, spot, span, attrs, from)
+                turn_among(tables, machine, styles, attach, spot, span, attrs, from)
             }
-            None => root_turn(tables, machine, attach, spot, span, from),
+            None => root_turn(tables, machine, styles, attach, spot, span, from),
         },
     }
 }
 
 /// The first turn of a scan, due or not, that is not before a position; none if there is none. The scan is that of a
 /// device by its driver, attachment and spot, or, without all three, that of the root; it is of one attribute alone if
-/// one is given. All spots below its own are in the span. It takes no memory, and looks at nothing before the position.
+/// one is given. The styles are those
+/// of the machine, and all spots below the scan's own are in the span. It takes no memory, and looks at nothing before the position.
 /// See autoconf(9).
 #[inline(always)]
 pub fn next_turn(
     tables: &Tables,
     graph: &Graph,
     machine: &Machine,
+    styles: &Styles,
     only: Option<u32>,
     from: Position,
     device: Option<u32>,
@@ -197,6 +186,7 @@ pub fn next_turn(
     requires graph { IsGraphOf (declared_by tables.now) graph.now }
     requires few_rows { length tables.now.rows ≤ 8192 }
     requires few_spots { length machine.now.spots ≤ 1024 }
+    requires styles { AreStylesOf machine.now styles.now }
     requires span { HoldsChildren machine.now spot span }
     requires few_offered { (d : ℕ) → length (offer.interfaces tables.now.attrs tables.now.devices d) ≤ 64 }
     ensures next { first_from (turns_of tables.now machine.now device attach spot only) from ≡ result }
@@ -204,6 +194,6 @@ pub fn next_turn(
     ensures forward { IfSome result (λ t. is_before t.at from ≡ false) }
 {
     scan_turn(
-        tables, graph, machine, only, from, device, attach, spot, span,
+        tables, graph, machine, styles, only, from, device, attach, spot, span,
     )
 }

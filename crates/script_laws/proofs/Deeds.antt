@@ -15,7 +15,7 @@ use Rattle.run_rules.specs.World.{World, Caller, caller_at, has_ended, is_ended,
 use Rattle.run_rules.specs.Next.{command_of, next}
 use Rattle.run_rules.specs.After.{after, condemned, doing, freed, freeing_target, over, pushed, referred, rescan_frame, settled, unreferred, with_caller}
 use Rattle.run_rules.specs.Run.{answered, printed, reply_of, told}
-use Rattle.run_sound.specs.Commands.{Begins, EndsPower}
+use Rattle.run_sound.proofs.Commands.{Begins, EndsPower}
 use Rattle.run_sound.specs.Kept.{Kept}
 use Rattle.run_sound.proofs.Callers.{caller_here, callers_kept, doing_so, doing_there}
 use Rattle.run_sound.proofs.OwnCaller.{own_finalised, own_interrupts, own_scan_over, own_searched}

@@ -11,7 +11,7 @@ use Rattle.cf_types.specs.declared.code.script.TheConstants.{OUT_OF_RANGE, WRONG
 use Rattle.config_rules.specs.Cut.{◌>>=◌}
 use Rattle.config_rules.specs.Form.{given}
 use Rattle.script_text.specs.WatchText.{between}
-use Rattle.config_rules.specs.ScriptText.{is_number, is_value, natural_within, number_within, within}
+use Rattle.config_rules.specs.ScriptText.{spells_number, is_value, natural_within, number_within, value_within}
 
 -- ---- what a chunk reads as
 
@@ -24,7 +24,7 @@ by_range : (fits : Bool) (v : ℤ) → within_by (cond fits (Value v) OutOfRange
 by_range true v = refl
 by_range false v = refl
 
-within_by-read_of : (o : Option ℤ) → within_by (read_of o) ≡ within in_range o
+within_by-read_of : (o : Option ℤ) → within_by (read_of o) ≡ value_within in_range o
 within_by-read_of None = refl
 within_by-read_of (Some v) = by_range (in_range v) v
 
@@ -44,7 +44,7 @@ is_read-read_of : (o : Option ℤ) → is_read (read_of o) ≡ is_some o
 is_read-read_of None = refl
 is_read-read_of (Some v) = read_either (in_range v) v
 
-pub number_is : (r : NumberRead) (word : List ℕ) → r ≡ read_of (number word) → is_read r ≡ is_number word
+pub number_is : (r : NumberRead) (word : List ℕ) → r ≡ read_of (number word) → is_read r ≡ spells_number word
 number_is r word e = ap is_read e ∙ is_read-read_of (number word)
 
 -- ---- a range within that of all numbers
@@ -57,13 +57,13 @@ abbrev within_if : Bool → ℤ → Result ℤ ℕ
 within_if b v = cond b (Ok v) (Err OUT_OF_RANGE)
 
 abbrev natural : (ℤ → Bool) → Option ℤ → Result ℕ ℕ
-natural fits o = within fits o >>= λ v. Ok (nat_abs v)
+natural fits o = value_within fits o >>= λ v. Ok (nat_abs v)
 
 far_if : (fits : ℤ → Bool) (b : Bool) (v : ℤ) (code : ℕ) → Narrow fits → in_range v ≡ b → within_if b v ≡ Err code → natural fits (Some v) ≡ Err code
 far_if fits true v code narrow r h = absurd (cc)
 far_if fits false v code narrow r h = ap (λ b. within_if b v >>= λ n. Ok (nat_abs n)) (narrow v r) ∙ ap (λ (r : Result ℤ ℕ). r >>= λ n. Ok (nat_abs n)) h
 
-bad_of : (fits : ℤ → Bool) (o : Option ℤ) (code : ℕ) → Narrow fits → within in_range o ≡ Err code → natural fits o ≡ Err code
+bad_of : (fits : ℤ → Bool) (o : Option ℤ) (code : ℕ) → Narrow fits → value_within in_range o ≡ Err code → natural fits o ≡ Err code
 bad_of fits None code narrow h = ap (λ (r : Result ℤ ℕ). r >>= λ n. Ok (nat_abs n)) h
 bad_of fits (Some v) code narrow h = far_if fits (in_range v) v code narrow refl h
 
@@ -75,7 +75,7 @@ is_if : (b : Bool) (v w : ℤ) → within_if b v ≡ Ok w → v ≡ w
 is_if true v w h = cc
 is_if false v w h = absurd (cc)
 
-good_of : (o : Option ℤ) (w : ℤ) → within in_range o ≡ Ok w → o ≡ Some w
+good_of : (o : Option ℤ) (w : ℤ) → value_within in_range o ≡ Ok w → o ≡ Some w
 good_of None w h = absurd (cc)
 good_of (Some v) w h = ap Some (is_if (in_range v) v w h)
 

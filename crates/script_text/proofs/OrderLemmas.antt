@@ -6,10 +6,11 @@ use Rattle.std.specs.Option.{option_map_or}
 use Rattle.std.proofs.lemmas.List.Elements.{filter_map-append}
 use Rattle.cf_text.specs.Shapes.{number}
 use Rattle.cf_types.specs.declared.code.script.TheConstants.{OUT_OF_RANGE, WRONG_WORDS}
-use Rattle.config_rules.specs.Cut.{lines_of, ◌>>=◌}
+use Rattle.cf_types.specs.Lines.{lines_of}
+use Rattle.config_rules.specs.Cut.{◌>>=◌}
 use Rattle.config_rules.specs.Form.{given, ◌or◌}
 use Rattle.config_rules.specs.MachineText.{has_bad_byte, words_of}
-use Rattle.config_rules.specs.ScriptText.{bad_turns, is_caller, is_number, is_turn, natural_within, order_of, turns_code, turns_of, unless_bad, within}
+use Rattle.config_rules.specs.ScriptText.{bad_turns, is_caller, spells_number, is_turn, natural_within, order_of, turns_code, turns_of, unless_bad, value_within}
 use Rattle.config_rules.proofs.ScriptLaws.{bad_turns_from}
 use Rattle.machine_text.proofs.TextLemmas.{empty_word, not_empty}
 use Rattle.machine_text.specs.declared.stop.LineStop.{LineStop}
@@ -19,7 +20,7 @@ use Rattle.script_text.specs.Left.{AddsTurns, AddsWords, Gives, Leaves, stop_at}
 -- ---- one word
 
 abbrev natural : (ℤ → Bool) → Option ℤ → Result ℕ ℕ
-natural fits o = within fits o >>= λ v. Ok (nat_abs v)
+natural fits o = value_within fits o >>= λ v. Ok (nat_abs v)
 
 abbrev natural_if : Bool → ℤ → Result ℕ ℕ
 natural_if b v = cond b (Ok v) (Err OUT_OF_RANGE) >>= λ v. Ok (nat_abs v)
@@ -53,19 +54,19 @@ word_none word {more = more} left h = ap some_left left ∙ ap (λ b. cond b (wo
 
 -- ---- all of them are numbers
 
-pub numbers_left : (word : List ℕ) {parts more : List (List ℕ)} → parts ≡ word ∷ more → (length word == 0 || is_number word) ≡ true → list_all is_number (some_left more) ≡ list_all is_number (some_left parts)
+pub numbers_left : (word : List ℕ) {parts more : List (List ℕ)} → parts ≡ word ∷ more → (length word == 0 || spells_number word) ≡ true → list_all spells_number (some_left more) ≡ list_all spells_number (some_left parts)
 numbers_left word {parts = parts} {more = more} left fine = cases (length word == 0) refl fine
   where
-    cases : (b : Bool) → (length word == 0) ≡ b → (b || is_number word) ≡ true → list_all is_number (some_left more) ≡ list_all is_number (some_left parts)
-    cases true e k = ap (list_all is_number) (sym (word_none word left (empty_word word e)))
-    cases false e k = ap (λ b. b && list_all is_number (some_left more)) (sym k) ∙ ap (list_all is_number) (sym (word_here word left (not_empty word e)))
+    cases : (b : Bool) → (length word == 0) ≡ b → (b || spells_number word) ≡ true → list_all spells_number (some_left more) ≡ list_all spells_number (some_left parts)
+    cases true e k = ap (list_all spells_number) (sym (word_none word left (empty_word word e)))
+    cases false e k = ap (λ b. b && list_all spells_number (some_left more)) (sym k) ∙ ap (list_all spells_number) (sym (word_here word left (not_empty word e)))
 
-pub no_number : (word : List ℕ) {parts more : List (List ℕ)} → parts ≡ word ∷ more → (length word == 0 || is_number word) ≡ false → list_all is_number (some_left parts) ≡ false
+pub no_number : (word : List ℕ) {parts more : List (List ℕ)} → parts ≡ word ∷ more → (length word == 0 || spells_number word) ≡ false → list_all spells_number (some_left parts) ≡ false
 no_number word {parts = parts} {more = more} left fine = cases (length word == 0) refl fine
   where
-    cases : (b : Bool) → (length word == 0) ≡ b → (b || is_number word) ≡ false → list_all is_number (some_left parts) ≡ false
+    cases : (b : Bool) → (length word == 0) ≡ b → (b || spells_number word) ≡ false → list_all spells_number (some_left parts) ≡ false
     cases true e k = absurd cc
-    cases false e k = ap (list_all is_number) (word_here word left (not_empty word e)) ∙ ap (λ b. b && list_all is_number (some_left more)) k
+    cases false e k = ap (list_all spells_number) (word_here word left (not_empty word e)) ∙ ap (λ b. b && list_all spells_number (some_left more)) k
 
 -- ---- and each is that of a caller
 
@@ -102,7 +103,7 @@ both_true true b h = (refl, h)
 both_true false b h = absurd cc
 
 -- callers are spelled by numbers
-callers_are_numbers : (callers : ℕ) (ws : List (List ℕ)) → list_all (is_turn callers) ws ≡ true → list_all is_number ws ≡ true
+callers_are_numbers : (callers : ℕ) (ws : List (List ℕ)) → list_all (is_turn callers) ws ≡ true → list_all spells_number ws ≡ true
 callers_are_numbers callers [] h = refl
 callers_are_numbers callers (w ∷ ws) h =
     let both = both_true (is_turn callers w) (list_all (is_turn callers) ws) h in
@@ -114,7 +115,7 @@ code_by bad numbers turns = given (bad || not numbers) WRONG_WORDS or given (not
 -- a line of callers has no code
 pub no_code : (callers : ℕ) (line : List ℕ) → has_bad_byte line ≡ false → list_all (is_turn callers) (words_of line) ≡ true → turns_code callers line ≡ None
 no_code callers line fine all =
-    ap (λ b. code_by b (list_all is_number (words_of line)) (list_all (is_turn callers) (words_of line))) fine
+    ap (λ b. code_by b (list_all spells_number (words_of line)) (list_all (is_turn callers) (words_of line))) fine
     ∙ ap (λ b. code_by false b (list_all (is_turn callers) (words_of line))) (callers_are_numbers callers (words_of line) all)
     ∙ ap (code_by false true) all
 

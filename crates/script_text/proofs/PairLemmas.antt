@@ -9,7 +9,7 @@ use Rattle.cf_text.specs.Shapes.{in_range}
 use Rattle.config_rules.specs.Cut.{◌>>=◌}
 use Rattle.config_rules.proofs.CutLaws.{both_left, both_right}
 use Rattle.machine_text.specs.Words.{seen}
-use Rattle.config_rules.specs.ScriptText.{are_pairs, given_in, io_form, is_number, is_operand, number_within, operand}
+use Rattle.config_rules.specs.ScriptText.{are_pairs, given_in, io_form, spells_number, is_operand, number_within, operand}
 
 abbrev pub with_given : List Given → Result (List Given) ℕ → Result (List Given) ℕ
 with_given front r = r >>= λ more. Ok (front ++ more)
@@ -27,7 +27,7 @@ two_words (x ∷ y ∷ ws) h = ap (λ rest. x.now ∷ y.now ∷ seen rest) (take
 -- ---- pairs of operands and numbers
 
 pub more_pairs : (name value : List ℕ) (ws : List (List ℕ)) → are_pairs (name ∷ value ∷ ws) ≡ true → are_pairs ws ≡ true
-more_pairs name value ws h = both_right (is_operand name && is_number value) (are_pairs ws) h
+more_pairs name value ws h = both_right (is_operand name && spells_number value) (are_pairs ws) h
 
 abbrev operand_by : Bool → List ℕ → Result (List ℕ) ℕ
 operand_by b name = cond b (Ok name) (Err WRONG_WORDS)
@@ -38,7 +38,7 @@ operand_if false name code t h = cc
 
 -- the name of a pair is an operand
 pub no_code : (name value : List ℕ) (ws : List (List ℕ)) (code : ℕ) → are_pairs (name ∷ value ∷ ws) ≡ true → operand name ≡ Err code → ⊥
-no_code name value ws code h e = operand_if (is_operand name) name code (both_left (is_operand name) (is_number value) (both_left (is_operand name && is_number value) (are_pairs ws) h)) e
+no_code name value ws code h e = operand_if (is_operand name) name code (both_left (is_operand name) (spells_number value) (both_left (is_operand name && spells_number value) (are_pairs ws) h)) e
 
 same_if : (b : Bool) (word name : List ℕ) → operand_by b word ≡ Ok name → name ≡ word
 same_if true word name h = cc

@@ -4,10 +4,11 @@ use Rattle.std.specs.List.{enumerate_from, list_any}
 use Rattle.std.specs.Option.{option_map_or}
 use Rattle.std.specs.Result.{result_ok}
 use Rattle.cf_types.specs.declared.code.script.TheConstants.{NO_COMMAND, WRONG_WORDS}
-use Rattle.config_rules.specs.Cut.{lines_of, ◌>>=◌}
+use Rattle.cf_types.specs.Lines.{lines_of}
+use Rattle.config_rules.specs.Cut.{◌>>=◌}
 use Rattle.config_rules.specs.Form.{given, ◌or◌}
 use Rattle.config_rules.specs.MachineText.{has_bad_byte, words_of}
-use Rattle.config_rules.specs.ScriptText.{is_number, natural_within, unless_bad}
+use Rattle.config_rules.specs.ScriptText.{spells_number, natural_within, unless_bad}
 use Rattle.script_text.specs.declared.watch_code.TheConstants.{NOT_SUBSCRIBED, SUBSCRIBED_TWICE, TOO_MANY_LINES}
 use Rattle.script_text.specs.declared.watch_line.WatchLine.{WatchLine}
 use Rattle.script_text.specs.declared.watch_line.WatchLine.TheVariants.{Boot, Read, Sub, Turn}
@@ -41,7 +42,7 @@ turn_line callers _ = Err WRONG_WORDS
 -- a subscriber from 1 to 16 and a number of notes from 1 to 64; the shapes of both come before the range of either
 abbrev pub subscriber_of : List ℕ → List ℕ → Result (ℕ × ℕ) ℕ
 subscriber_of who many =
-    if is_number who && is_number many
+    if spells_number who && spells_number many
     then (natural_within (between 1 16) who >>= λ s. natural_within (between 1 64) many >>= λ n. Ok (s, n))
     else Err WRONG_WORDS
 

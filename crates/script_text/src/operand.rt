@@ -1,7 +1,7 @@
 ghost use Rattle.std.specs.Prelude.{◌≡◌, ◌≤◌, IfOk, IfSome, IsTrue, length, nat_abs};
 ghost use Rattle.cf_text.specs.Shapes.{in_range};
 ghost use Rattle.config_rules.specs.Form.{given};
-ghost use Rattle.config_rules.specs.ScriptText.{is_caller, is_number, is_operand, is_value, natural_within, number_within, one_operand, operand, operand_or_none};
+ghost use Rattle.config_rules.specs.ScriptText.{is_caller, spells_number, is_operand, is_value, natural_within, number_within, one_operand, operand, operand_or_none};
 ghost use Rattle.machine_text.specs.Words.{seen};
 ghost use Rattle.script_text.specs.Left.{Leaves};
 ghost use Rattle.script_text.specs.WatchText.{between};
@@ -58,8 +58,8 @@ pub fn operand_or_none(alloc: Global, words: &[&[u8]]) -> Result<Option<Name>, L
 }
 
 /// Whether a word spells a number of any size.
-pub fn is_number(word: &[u8]) -> bool
-    ensures { result ≡ is_number word.now }
+pub fn spells_number(word: &[u8]) -> bool
+    ensures { result ≡ spells_number word.now }
 {
     match read_number(word) {
         NumberRead::Not => false,

@@ -1,11 +1,11 @@
 ghost use Rattle.std.specs.Prelude.{◌≡◌, ◌≤◌, ◌==◌, ◌||◌, All, IfOk, if◌then◌else◌, length};
 ghost use Rattle.std.specs.List.{list_all};
 ghost use Rattle.cf_types.specs.declared.code.script.TheConstants.{OUT_OF_RANGE, WRONG_WORDS};
-ghost use Rattle.config_rules.specs.ScriptText.{is_number, order_of};
+ghost use Rattle.config_rules.specs.ScriptText.{spells_number, order_of};
 ghost use Rattle.machine_text.specs.Words.{parted};
 ghost use Rattle.script_text.specs.Left.{AddsTurns, AddsWords, Gives};
 
-use crate::operand::{caller_number, is_number};
+use crate::operand::{caller_number, spells_number};
 use crate::stop::ScriptStop;
 use cf_text::is_space;
 use cf_types::List;
@@ -15,14 +15,14 @@ use std::alloc::Global;
 
 /// Whether a part between spaces is empty or spells a number.
 fn is_fine(part: &[u8]) -> bool
-    ensures { result ≡ (length part.now == 0 || is_number part.now) }
+    ensures { result ≡ (length part.now == 0 || spells_number part.now) }
 {
-    part.is_empty() || is_number(part)
+    part.is_empty() || spells_number(part)
 }
 
 /// Whether each word between spaces and tabs spells a number.
 fn are_numbers(bytes: &[u8]) -> bool
-    ensures { result ≡ list_all is_number (parted bytes.now) }
+    ensures { result ≡ list_all spells_number (parted bytes.now) }
 {
     for part in bytes.split(|&byte| is_space(byte)) {
         if !is_fine(part) {
@@ -46,7 +46,7 @@ fn add_words(turns: &mut List<u8>, callers: u8, bytes: &[u8]) -> Result<(), Line
 
 /// The code of words of which one names no caller. It depends on whether a word is no number at all.
 fn code_of(bytes: &[u8]) -> u8
-    ensures { result ≡ (if list_all is_number (parted bytes.now) then OUT_OF_RANGE else WRONG_WORDS) }
+    ensures { result ≡ (if list_all spells_number (parted bytes.now) then OUT_OF_RANGE else WRONG_WORDS) }
 {
     if are_numbers(bytes) {
         code::OUT_OF_RANGE

@@ -3,7 +3,7 @@ ghost use Rattle.config_rules.specs.ScriptText.{are_pairs, given_in, pairs_of};
 ghost use Rattle.machine_text.specs.Words.{seen};
 ghost use Rattle.script_text.specs.Left.{Leaves};
 
-use crate::operand::{is_number, is_operand, operand, written_value};
+use crate::operand::{is_operand, operand, spells_number, written_value};
 use cf_types::code::script as code;
 use cf_types::{Given, List};
 use machine_text::LineStop;
@@ -18,7 +18,7 @@ fn are_pairs(words: &[&[u8]]) -> bool
 {
     let mut rest = words;
     while let [name, value, more @ ..] = rest {
-        if !is_operand(*name) || !is_number(*value) {
+        if !is_operand(*name) || !spells_number(*value) {
             return false;
         }
         rest = more;

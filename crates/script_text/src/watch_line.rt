@@ -4,7 +4,7 @@ ghost use Rattle.machine_text.specs.Words.{seen};
 ghost use Rattle.script_text.specs.Left.{Leaves, Says};
 ghost use Rattle.script_text.specs.WatchText.{FormedWatchLine, boot_line, subscriber_in, subscriber_of, turn_line, watch_by, watch_verb, watch_word, watch_words};
 
-use crate::operand::{is_number, number_between};
+use crate::operand::{number_between, spells_number};
 use cf_types::code::script as code;
 use machine_text::LineStop;
 
@@ -88,7 +88,7 @@ fn subscriber_of(who: &[u8], many: &[u8]) -> Result<(u8, u8), LineStop>
     ensures who { IfOk result (λ pair. (1 ≤ pair.0) × (pair.0 ≤ 16)) }
     ensures many { IfOk result (λ pair. (1 ≤ pair.1) × (pair.1 ≤ 64)) }
 {
-    if !is_number(who) || !is_number(many) {
+    if !spells_number(who) || !spells_number(many) {
         return Err(LineStop::Code(code::WRONG_WORDS));
     }
     let who = number_between(1, MAX_SUBSCRIBERS, who)?;

@@ -22,7 +22,7 @@ use Rattle.run_rules.specs.After.{after, listed, new_device, with_condemner, wit
 use Rattle.run_rules.specs.Laws.{attached_below, freed_name}
 use Rattle.run_rules.specs.Next.{arrival, command_of, name_at, next, place_of_spot}
 use Rattle.run_rules.specs.Run.{answered, printed, reply_of, shown_of, spot_name, told}
-use Rattle.run_sound.specs.Coming.{IsCall, IsTurn, MayCome}
+use Rattle.run_sound.proofs.Coming.{IsCall, IsTurn, MayCome}
 use Rattle.run_sound.specs.Holding.{GoesUnheld}
 use Rattle.run_sound.specs.Kept.{Kept, MayRun}
 use Rattle.run_sound.proofs.Arrivals.{brings, finalise_comes, none_shown, search_comes}

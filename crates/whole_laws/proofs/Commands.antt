@@ -23,8 +23,8 @@ use Rattle.run_rules.specs.Run.{Run, Step, answered, event_of, printed, reply_of
 use Rattle.run_rules.proofs.Devices.{all_both, all_imp}
 use Rattle.run_rules.proofs.Runs.{event_caller}
 use Rattle.run_rules.proofs.Setups.{after_setup, run_setup}
-use Rattle.run_sound.specs.Coming.{IsCall, IsPhase, IsScanEnd, IsTurn}
-use Rattle.run_sound.specs.Commands.{Begins, EndsPower, FreesLast, ReturnsFirst, SendsToSleep, Wakes}
+use Rattle.run_sound.proofs.Coming.{IsCall, IsPhase, IsScanEnd, IsTurn}
+use Rattle.run_sound.proofs.Commands.{Begins, EndsPower, FreesLast, ReturnsFirst, SendsToSleep, Wakes}
 use Rattle.run_sound.specs.Kept.{Kept}
 use Rattle.run_sound.specs.Scripts.{script_of}
 use Rattle.run_sound.proofs.Callers.{caller_here, clash, doing_so, doing_there, later_test}
@@ -193,7 +193,7 @@ module _ (w : World) (k : ℕ) (d : Deed) (kept : Kept w) (later : k ≢ 0) (e :
   none_left c = sym (command_is w k later) ∙ c.over
 
   all_over : IsClosing w k d → length script ≡ now.over
-  all_over c = omega (arith, get_none script now.over (none_left c), (kept.ranges.placed k).within)
+  all_over c = omega (arith, get_none script now.over (none_left c), (kept.ranges.callers.placed k).within)
 
   closing_rests : IsClosing w k d → is_amid now.doing ≡ false
   closing_rests c = cases (is_amid now.doing) refl

@@ -22,7 +22,8 @@ use Rattle.run_rules.specs.World.{World, Caller, caller_at, device_at, parent_na
 use Rattle.run_rules.specs.Next.{name_at, next}
 use Rattle.run_rules.specs.After.{after}
 use Rattle.run_rules.specs.Run.{Step, answer_of, answered, event_of, number_of, printed, reply_of, told}
-use Rattle.run_sound.specs.Commands.{Begins, OpensFree, open_command, power_command}
+use Rattle.run_sound.specs.Scripts.{power_command}
+use Rattle.run_sound.proofs.Commands.{Begins, OpensFree, open_command}
 use Rattle.run_sound.proofs.Callers.{caller_here, clash, doing_there}
 use Rattle.run_sound.proofs.Members.{live_contained}
 use Rattle.run_sound.proofs.RangesCallers.{others_stay}

@@ -26,7 +26,7 @@ use Rattle.run_rules.specs.Next.{by_activity, command_of, name_at, next}
 use Rattle.run_rules.specs.After.{after, doing, freed, freeing_target, over, settled}
 use Rattle.run_rules.specs.Run.{Step, answer_of, answered, event_of, number_of, printed, told}
 use Rattle.run_rules.proofs.Setups.{after_setup}
-use Rattle.run_sound.specs.Commands.{StartsHeld}
+use Rattle.run_sound.proofs.Commands.{StartsHeld}
 use Rattle.run_sound.specs.Kept.{Kept, MayRun}
 use Rattle.run_sound.proofs.Callers.{caller_here, clash, doing_so, doing_there}
 use Rattle.run_sound.proofs.Members.{live_contained}

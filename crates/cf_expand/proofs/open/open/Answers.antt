@@ -1,14 +1,14 @@
 use Rattle.std.proofs.Common.{◌∙◌, sym, refl}
-use Rattle.cf_expand.proofs.ReaderLemmas.{opened_reads, uncut_reads, within_text}
+use Rattle.cf_expand.proofs.ReaderLemmas.{cutting_is, opened_reads, uncut_reads}
 use Rattle.cf_expand.proofs.open.open.Goals as goal
 
 pub returns-in-Ok-clause-below : goal.returns-in-Ok-clause-below
 returns-in-Ok-clause-below c =
-    (refl, refl, within_text c.deref.result.now c.from_vec.result c.in-Ok.tokens (c.deref.ensures.value ∙ sym c.from_vec.ensures) c.in-Ok.ensures.cut)
+    (refl, refl, cutting_is c.deref.result.now c.from_vec.result c.in-Ok.cutting (c.deref.ensures.value ∙ sym c.from_vec.ensures) c.in-Ok.ensures.cut c.in-Ok.ensures.closed c.in-Ok.ensures.rest)
 
 pub returns-in-Ok-clause-read : goal.returns-in-Ok-clause-read
 returns-in-Ok-clause-read c = λ files around.
-    opened_reads c.args.levels files around c.args.name c.args.text.items c.from_vec.result c.deref.result.now c.items.result.now c.in-Ok.tokens c.files_len-number.result c.args.progress.now c.push_file.new.self
+    opened_reads c.args.levels files around c.args.name c.args.text.items c.from_vec.result c.deref.result.now c.items.result.now c.in-Ok.cutting c.files_len-number.result c.args.progress.now c.push_file.new.self
     c.files_len-number.ensures c.from_vec.ensures c.deref.ensures.value c.items.ensures c.in_ok-push_file.ensures c.in-Ok.ensures.exact
 
 pub returns-in-Err-Fault-clause-read : goal.returns-in-Err-Fault-clause-read

@@ -1,6 +1,6 @@
 use Rattle.std.proofs.Common.{◌≡◌, ◌+◌, ◌-◌, ◌≤◌, [], length}
 use Rattle.std.specs.Prelude.{IfSome}
-use Rattle.config_rules.specs.Cut.{lines_of}
+use Rattle.cf_types.specs.Lines.{lines_of}
 use Rattle.cf_lexer.specs.Lines.{lines_from}
 use Rattle.cf_lexer.proofs.PlaceLemmas.{place_of}
 use Rattle.cf_lexer.proofs.TextWords.{finish}

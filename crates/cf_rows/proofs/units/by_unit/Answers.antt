@@ -15,7 +15,7 @@ loop-instance-init c = rw c.new-groups.ensures.items (no_groups (get nat_eq c.ne
 
 pub loop-instance-preserved : goal.loop-instance-preserved
 loop-instance-preserved c =
-    elim c.match-unit_of.branch [
+    elim c.match-own_unit.branch [
       | in-Some+in_ok-add w ↦ rw (w.groups-is, w.places-is) (
           more_groups c.args.own.now c.loop-instance.instance-index c.instance-item.result _ _ c.loop-instance-test.true c.instance-item.is
           (w.in_ok-add.ensures (seen (take c.loop-instance.instance-index c.args.own.now)) c.loop-instance.invariant)

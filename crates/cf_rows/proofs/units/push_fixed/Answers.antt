@@ -9,7 +9,7 @@ use Rattle.cf_rows.proofs.units.push_fixed.Goals.{then-is_some+in_ok-push, else-
 
 pub loop-instance-preserved : goal.loop-instance-preserved
 loop-instance-preserved c =
-    let test : not (same_mark c.instance-item.result.now.mark Star) ≡ is_some c.unit_of.result = fixed_test c.instance-item.result.now ∙ ap is_some (sym c.unit_of.ensures) in
+    let test : not (same_mark c.instance-item.result.now.mark Star) ≡ is_some c.own_unit.result = fixed_test c.instance-item.result.now ∙ ap is_some (sym c.own_unit.ensures) in
     elim c.if-is_some.branch [
       | then-is_some+in_ok-push w ↦ rw w.ordered-is (
           push_passing (λ (i : Instance). not (same_mark i.mark Star)) c.args.own.now c.loop-instance.ordered.items _ _ c.loop-instance.instance-index c.instance-item.result c.loop-instance-test.true c.instance-item.is

@@ -9,7 +9,7 @@ use Rattle.cf_rows.proofs.units.push_starred.Goals.{then-is_none+in_ok-push, els
 
 pub loop-instance-preserved : goal.loop-instance-preserved
 loop-instance-preserved c =
-    let test : same_mark c.instance-item.result.now.mark Star ≡ is_none c.unit_of.result = star_test c.instance-item.result.now ∙ ap is_none (sym c.unit_of.ensures) in
+    let test : same_mark c.instance-item.result.now.mark Star ≡ is_none c.own_unit.result = star_test c.instance-item.result.now ∙ ap is_none (sym c.own_unit.ensures) in
     elim c.if-is_none.branch [
       | then-is_none+in_ok-push w ↦ rw w.ordered-is (
           push_passing (λ (i : Instance). same_mark i.mark Star) c.args.own.now c.loop-instance.ordered.items _ _ c.loop-instance.instance-index c.instance-item.result c.loop-instance-test.true c.instance-item.is

@@ -15,20 +15,20 @@ loop-instance-init c = none_ascend
 
 pub overflow_add-least : goal.overflow_add-least
 overflow_add-least c =
-    let small : c.in-Some.unit ≤ 65535 = small_unit c.args.own.now c.loop-instance.instance-index c.instance-item.result c.in-Some.unit c.requires c.loop-instance-test.true c.instance-item.is (sym c.unit_of.ensures ∙ c.in-Some.is) in
+    let small : c.in-Some.unit ≤ 65535 = small_unit c.args.own.now c.loop-instance.instance-index c.instance-item.result c.in-Some.unit c.requires c.loop-instance-test.true c.instance-item.is (sym c.own_unit.ensures ∙ c.in-Some.is) in
     omega arith
 
 pub loop-instance-preserved : goal.loop-instance-preserved
 loop-instance-preserved c =
     let more = seen_more c.args.own.now c.loop-instance.instance-index c.instance-item.result c.loop-instance-test.true c.instance-item.is in
-    elim c.match-unit_of.branch [
+    elim c.match-own_unit.branch [
       | in-Some+else-unit-least w ↦ rw (more, w.least-is) (
           ascending_unit (seen (take c.loop-instance.instance-index c.args.own.now)) c.instance-item.result.now c.loop-instance.least w.in-Some.unit c.loop-instance.invariant
-          (sym c.unit_of.ensures ∙ w.in-Some.is) (grind (arith, nat_tests, w.if-unit-least.false))
+          (sym c.own_unit.ensures ∙ w.in-Some.is) (grind (arith, nat_tests, w.if-unit-least.false))
           )
       | in_default w ↦ rw (more, w.least-is) (
           ascending_star (seen (take c.loop-instance.instance-index c.args.own.now)) c.instance-item.result.now c.loop-instance.least c.loop-instance.invariant
-          (sym c.unit_of.ensures ∙ w.in_default.is)
+          (sym c.own_unit.ensures ∙ w.in_default.is)
           )
     ]
 

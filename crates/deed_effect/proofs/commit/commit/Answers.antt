@@ -12,7 +12,7 @@ use Rattle.run_sound.proofs.Reasons.{has_reason}
 use Rattle.deed_effect.proofs.EffectLaws.{command_is_left}
 use Rattle.run_world.proofs.StepLaws.{deed_arrives}
 use Rattle.run_world.proofs.TellLaws.{few_over, low_at}
-use Rattle.run_sound.specs.Coming.{HasReason, IsCall, IsScanEnd, IsTurn}
+use Rattle.run_sound.proofs.Coming.{HasReason, IsCall, IsScanEnd, IsTurn}
 use Rattle.scan_engine.specs.Frames.{is_scanning}
 use Rattle.run_world.specs.Arrivals.{MayArrive}
 use Rattle.run_world.specs.Arrivals.{got_of}

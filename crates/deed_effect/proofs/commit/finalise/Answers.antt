@@ -70,7 +70,7 @@ returns-then-is_none-clause-ok c = λ of.
     let set : callers_of (slice_set cs k c.leave.new.self) ≡ slice_set w.callers k (framed (caller_at w k) (under_top (caller_at w k).stack)) =
     map_set caller_of cs k c.leave.new.self ∙ ap (slice_set (callers_of cs) k) (c.leave.ensures.caller ∙ ap (λ (x : Caller). framed x (under_top x.stack)) was)
     ∙ ap (λ (xs : List Caller). slice_set xs k (framed (caller_at w k) (under_top (caller_at w k).stack))) here in
-    let hidden : c.show.new.hidden.items ≡ w.hidden =
+    let hidden : c.show.new.hidden ≡ w.hidden =
     hidden_now w (world_of s c.arrive.new.core) k c.args.got c.args.shown _ c.in_ok-arrive.ensures.ok c.show.ensures ∙ ap (shown_now w.hidden) quiet in
     frame_over w _ k of c.args.shown c.args.got c.args.listed c.args.anew quiet nothing c.in-None.is
     (rw (hidden, set) (ap (λ (v : World). record v { hidden = w.hidden; callers = slice_set w.callers k (framed (caller_at w k) (under_top (caller_at w k).stack)) }) same)))

@@ -46,7 +46,7 @@ do_plain-requires c =
     record {
       books = c.requires.books;
       sound = c.requires.kept.sound.devices;
-      rows = c.requires.kept.ranges.rows;
+      rows = c.requires.kept.ranges.devices.rows;
       caller = c.requires.caller;
       low = subst (λ (x : Caller). x.over < 4294967295) (sym (state_is c.args.core.now.callers.items c.args.caller)) (over_fits w c.args.caller c.requires.may c.requires.kept);
       may = may_do w c.args.caller c.args.deed.now c.requires.may c.requires.kept c.requires.chosen;

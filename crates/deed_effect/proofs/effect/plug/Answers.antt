@@ -3,4 +3,4 @@ use Rattle.deed_effect.proofs.effect.plug.Goals as goal
 
 pub returns-clause-world : goal.returns-clause-world
 unfolding after
-returns-clause-world c = λ s. (rw c.remove_spot.ensures.items at c.finish.ensures.world s)
+returns-clause-world c = λ s. (rw c.remove.ensures at c.finish.ensures.world s)

@@ -17,8 +17,8 @@ returns-in-Some-clause-books c = λ s b.
 
 pub returns-in-Some-clause-ok : goal.returns-in-Some-clause-ok
 unfolding after
-returns-in-Some-clause-ok c = λ s. rw c.in-Some.is (rw (c.condemn.ensures, c.in_ok-pull.ensures.ok) at c.begin.ensures.world s)
+returns-in-Some-clause-ok c = λ s. rw c.in-Some.is (rw (c.condemn.ensures, c.in_ok-put_first.ensures.ok) at c.begin.ensures.world s)
 
 pub returns-in-None-clause-ok : goal.returns-in-None-clause-ok
 unfolding after
-returns-in-None-clause-ok c = λ s. rw c.in-None.is (rw c.in_ok-pull.ensures.ok at c.finish.ensures.world s)
+returns-in-None-clause-ok c = λ s. rw c.in-None.is (rw c.in_ok-put_first.ensures.ok at c.finish.ensures.world s)

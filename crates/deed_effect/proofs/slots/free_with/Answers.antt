@@ -19,7 +19,7 @@ bury_slot-requires g c =
     let apart = c.requires.kept.sound.devices.apart in
     let x = c.in-Some.device in
     let at : device_at w.live c.args.of ≡ Some x = sym c.get.ensures ∙ c.in-Some.is in
-    let inside : x.spot < length w.setup.machine.spots = found_in (λ d. d.spot < length w.setup.machine.spots) (λ d. d.serial == c.args.of) w.live x c.requires.kept.ranges.spots at in
+    let inside : x.spot < length w.setup.machine.spots = found_in (λ d. d.spot < length w.setup.machine.spots) (λ d. d.serial == c.args.of) w.live x c.requires.kept.ranges.devices.spots at in
     let last = (has_command_reason w c.args.caller (FreeDeed c.args.of) c.requires.chosen).last in
     ap (λ (xs : List SlotState). slice_get xs x.spot) c.requires.agree ∙ slot_condemned w c.args.of x apart at (next_condemned w.setup w.live c.args.caller c.args.of x apart last at) inside
 
@@ -44,7 +44,7 @@ returns-in-Ok-clause-agree g c =
     let apart = c.requires.kept.sound.devices.apart in
     let x = c.in-Some.device in
     let at : device_at w.live c.args.of ≡ Some x = sym c.get.ensures ∙ c.in-Some.is in
-    let inside : x.spot < length w.setup.machine.spots = found_in (λ d. d.spot < length w.setup.machine.spots) (λ d. d.serial == c.args.of) w.live x c.requires.kept.ranges.spots at in
+    let inside : x.spot < length w.setup.machine.spots = found_in (λ d. d.spot < length w.setup.machine.spots) (λ d. d.serial == c.args.of) w.live x c.requires.kept.ranges.devices.spots at in
     c.in-Ok.ensures.freed ∙ ap (λ (xs : List SlotState). slice_set xs x.spot Free) c.requires.agree ∙ slot_freed w c.args.of x apart at inside ∙ slots_free w c.args.caller c.args.of ∙ ap slots_of (sym c.free.ensures.world)
 
 pub returns-in-Err-clause-halt : goal.returns-in-Err-clause-halt
@@ -67,7 +67,7 @@ pub free-requires-clause-sound : goal.free-requires-clause-sound
 free-requires-clause-sound g c = c.requires.kept.sound.devices
 
 pub free-requires-clause-rows : goal.free-requires-clause-rows
-free-requires-clause-rows g c = c.requires.kept.ranges.rows
+free-requires-clause-rows g c = c.requires.kept.ranges.devices.rows
 
 pub free-requires-clause-caller : goal.free-requires-clause-caller
 free-requires-clause-caller g c = c.requires.caller

@@ -10,7 +10,7 @@ use Rattle.deed_event.proofs.event.deed_event.Goals as goal
 pub deed_act-requires-clause-names : goal.deed_act-requires-clause-names
 deed_act-requires-clause-names c = record {
   bounded = bounded c.args.setup.now c.requires.may;
-  rows = c.requires.kept.ranges.rows;
+  rows = c.requires.kept.ranges.devices.rows;
   recent = c.requires.recent;
 }
 

@@ -44,7 +44,7 @@ pub next_step-requires : goal.next_step-requires
 next_step-requires g c = record {
   may = record {
     kept = c.requires.kept;
-    caller = omega (arith, c.requires.caller, c.requires.kept.kept.ranges.callers, length-map c.args.core.now.callers.items caller_of);
+    caller = omega (arith, c.requires.caller, c.requires.kept.kept.ranges.callers.as_many, length-map c.args.core.now.callers.items caller_of);
     agree = c.requires.agree;
     goes_on = c.in-None.is;
   };

@@ -11,7 +11,7 @@ returns-in-Done-clause-stepped g c =
     let t = c.in-Done.ticket in
     let chosen = rw c.in-Done.is at c.requires.chosen in
     record {
-      step = (c.requires.may.goes_on, c.requires.may.kept.kept.ranges.tickets c.args.caller t (has_command_reason w c.args.caller (Done t) chosen), chosen, c.of_transfer.ensures, refl);
+      step = (c.requires.may.goes_on, c.requires.may.kept.kept.ranges.callers.tickets c.args.caller t (has_command_reason w c.args.caller (Done t) chosen), chosen, c.of_transfer.ensures, refl);
       kept = c.requires.may.kept;
       agree = c.requires.may.agree;
       falls = λ did. absurd did;

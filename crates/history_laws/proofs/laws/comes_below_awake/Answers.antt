@@ -1,4 +1,4 @@
-use Rattle.history_laws.specs.Always.{ComesBelowAwake}
+use Rattle.run_rules.specs.Laws.{ComesBelowAwake}
 use Rattle.history_laws.proofs.Always.{of_lawful}
 use Rattle.history_laws.proofs.laws.comes_below_awake.Goals as goal
 

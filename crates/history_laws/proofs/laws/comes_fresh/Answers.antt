@@ -1,4 +1,4 @@
-use Rattle.history_laws.specs.Always.{ComesFresh}
+use Rattle.run_rules.specs.Laws.{ComesFresh}
 use Rattle.history_laws.proofs.Always.{of_lawful}
 use Rattle.history_laws.proofs.laws.comes_fresh.Goals as goal
 

@@ -1,4 +1,4 @@
-use Rattle.history_laws.specs.Always.{FreesChildless}
+use Rattle.run_rules.specs.Laws.{FreesChildless}
 use Rattle.history_laws.proofs.Always.{of_lawful}
 use Rattle.history_laws.proofs.laws.freed_childless.Goals as goal
 

@@ -1,4 +1,4 @@
-use Rattle.history_laws.specs.Always.{FreesUnheld}
+use Rattle.run_rules.specs.Laws.{FreesUnheld}
 use Rattle.history_laws.proofs.Always.{of_lawful}
 use Rattle.history_laws.proofs.laws.freed_unheld.Goals as goal
 

@@ -1,4 +1,4 @@
-use Rattle.history_laws.specs.Always.{HoldsAlone}
+use Rattle.run_rules.specs.Laws.{HoldsAlone}
 use Rattle.history_laws.proofs.Always.{of_run}
 use Rattle.history_laws.proofs.LawsHold.{sole_alone}
 use Rattle.history_laws.proofs.laws.held_alone.Goals as goal

@@ -1,4 +1,4 @@
-use Rattle.history_laws.specs.Always.{HoldsInUse}
+use Rattle.run_rules.specs.Laws.{HoldsInUse}
 use Rattle.history_laws.proofs.Always.{of_lawful}
 use Rattle.history_laws.proofs.laws.held_in_use.Goals as goal
 

@@ -1,4 +1,4 @@
-use Rattle.history_laws.specs.Always.{HoldsLiving}
+use Rattle.run_rules.specs.Laws.{HoldsLiving}
 use Rattle.history_laws.proofs.Always.{of_run}
 use Rattle.history_laws.proofs.LawsHold.{dead_unheld}
 use Rattle.history_laws.proofs.laws.held_living.Goals as goal

@@ -1,4 +1,4 @@
-use Rattle.history_laws.specs.Always.{SleepsBelow}
+use Rattle.run_rules.specs.Laws.{SleepsBelow}
 use Rattle.history_laws.proofs.Always.{of_run}
 use Rattle.history_laws.proofs.LawsHold.{sleeping_below}
 use Rattle.history_laws.proofs.laws.sleep_below.Goals as goal

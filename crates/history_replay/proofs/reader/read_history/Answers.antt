@@ -2,7 +2,7 @@ use Rattle.std.proofs.Common.{◌+◌, ◌∙◌, refl, arith, ap, subst, sym}
 use Rattle.plain_world.specs.declared.world.Plain.{Plain}
 use Rattle.plain_world.specs.Plain.{world_of}
 use Rattle.plain_world.specs.Rules.{setup_by}
-use Rattle.run_rules.specs.Reread.{lines_of, reread_lines}
+use Rattle.run_rules.specs.Reread.{history_lines, reread_lines}
 use Rattle.history_replay.specs.Going.{IsGoing}
 use Rattle.history_replay.specs.Stops.{IsRead}
 use Rattle.history_replay.proofs.Readings.{all_passed, head_met, line_passed, none_passed, not_some}
@@ -25,7 +25,7 @@ returns-in-Some-format_of-clause-read c =
     let head =
     head_met (world_of (setup_by c.args.rules.now) c.args.plain.now) c.args.text.now c.loop-line.number c.loop-line.left.now c.in-Some.line.now c.in-Some.rest.now c.in-Some-format_of.format c.loop-line.invariant.passed
     c.in-Some.ensures (sym c.format_of.ensures ∙ c.in-Some-format_of.is) in
-    let here = ap (λ (p : Plain). reread_lines c.in-Some-format_of.format (world_of (setup_by c.args.rules.now) p) (c.loop-line.number + 1) (lines_of c.in-Some.rest.now)) (sym c.loop-line.invariant.same) in
+    let here = ap (λ (p : Plain). reread_lines c.in-Some-format_of.format (world_of (setup_by c.args.rules.now) p) (c.loop-line.number + 1) (history_lines c.in-Some.rest.now)) (sym c.loop-line.invariant.same) in
     subst (λ r. IsRead r c.read_behind_head.result (world_of (setup_by c.args.rules.now) c.read_behind_head.new.plain)) (sym (head ∙ here)) c.read_behind_head.ensures.read
 
 pub loop-line-preserved : goal.loop-line-preserved

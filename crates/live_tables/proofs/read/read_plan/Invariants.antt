@@ -1,6 +1,6 @@
 use Rattle.std.proofs.Common.{◌≡◌, ◌+◌, drop, length}
 use Rattle.std.specs.List.{enumerate_from}
-use Rattle.config_rules.specs.Cut.{lines_of}
+use Rattle.cf_types.specs.Lines.{lines_of}
 use Rattle.live_rules.specs.PlanText.{FormedPlan, after_lines, plan_of}
 use Rattle.live_tables.proofs.read.read_plan.Given as goal
 

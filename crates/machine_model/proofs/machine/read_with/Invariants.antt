@@ -1,5 +1,5 @@
 use Rattle.std.proofs.Common.{◌≡◌, ◌+◌, length, drop}
-use Rattle.config_rules.specs.Cut.{lines_of}
+use Rattle.cf_types.specs.Lines.{lines_of}
 use Rattle.config_rules.specs.MachineText.{after_lines, no_machine, word_lines}
 use Rattle.machine_model.specs.Indexed.{IsDraft}
 use Rattle.machine_model.proofs.MachineLemmas.{words_from}

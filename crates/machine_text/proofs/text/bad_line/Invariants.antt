@@ -1,5 +1,5 @@
 use Rattle.std.proofs.Common.{◌≡◌, ◌+◌, length, drop}
-use Rattle.config_rules.specs.Cut.{lines_of}
+use Rattle.cf_types.specs.Lines.{lines_of}
 use Rattle.config_rules.specs.MachineText.{bad_line}
 use Rattle.machine_text.proofs.TextLemmas.{bad_from}
 use Rattle.machine_text.proofs.text.bad_line.Given as goal

@@ -8,7 +8,7 @@ pub returns-in_err-turn-clause-due : goal.returns-in_err-turn-clause-due
 returns-in_err-turn-clause-due c =
     let core = c.args.core.now in
     sym c.loop-turn.invariant
-    ∙ none_due c.args.site.now.setup core.tree.live core.absent.items core.hidden.items c.args.serial c.args.only c.args.filter.now c.loop-turn.position c.args.by.now
+    ∙ none_due c.args.site.now.setup core.tree.live core.absent core.hidden c.args.serial c.args.only c.args.filter.now c.loop-turn.position c.args.by.now
     c.requires.by c.in_err-turn.ensures.next
     ∙ sym c.from_residual.ensures
 
@@ -16,7 +16,7 @@ pub returns-then-is_due-clause-due : goal.returns-then-is_due-clause-due
 returns-then-is_due-clause-due c =
     let core = c.args.core.now in
     sym c.loop-turn.invariant
-    ∙ this_due c.args.site.now.setup core.tree.live core.absent.items core.hidden.items c.args.serial c.args.only c.args.filter.now c.loop-turn.position c.args.by.now c.in_ok-turn.turn
+    ∙ this_due c.args.site.now.setup core.tree.live core.absent core.hidden c.args.serial c.args.only c.args.filter.now c.loop-turn.position c.args.by.now c.in_ok-turn.turn
     c.requires.by c.in_ok-turn.ensures.next (c.is_due.ensures ∙ c.if-is_due.true)
 
 pub loop-turn-smaller : goal.loop-turn-smaller
@@ -26,7 +26,7 @@ loop-turn-smaller c =
 pub loop-turn-preserved : goal.loop-turn-preserved
 loop-turn-preserved c =
     let core = c.args.core.now in
-    gone_on c.args.site.now.setup core.tree.live core.absent.items core.hidden.items c.args.serial c.args.only c.args.filter.now c.loop-turn.position c.next_position-position.result c.args.by.now
+    gone_on c.args.site.now.setup core.tree.live core.absent core.hidden c.args.serial c.args.only c.args.filter.now c.loop-turn.position c.next_position-position.result c.args.by.now
     c.in_ok-turn.turn c.requires.by c.in_ok-turn.ensures.next (c.is_due.ensures ∙ c.if-is_due.false) c.next_position-position.ensures.behind c.next_position-position.ensures.bus
     c.next_position-position.ensures.idle
     ∙ c.loop-turn.invariant

@@ -14,8 +14,8 @@ returns-in-Some c =
 
 pub plan_boot-requires-clause-called : goal.plan_boot-requires-clause-called
 plan_boot-requires-clause-called c =
-    c.requires.kept.ranges.some_called
-    (subst (λ (k : ℕ). has_ended (world_of c.args.site.now.setup c.args.core.now) k ≡ false) c.if-caller-eq0.true c.requires.goes)
+    (c.requires.kept.ranges.list
+    (subst (λ (k : ℕ). has_ended (world_of c.args.site.now.setup c.args.core.now) k ≡ false) c.if-caller-eq0.true c.requires.goes)).some
 
 pub returns-then-caller-eq0 : goal.returns-then-caller-eq0
 returns-then-caller-eq0 c =

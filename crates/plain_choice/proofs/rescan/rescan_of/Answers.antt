@@ -7,11 +7,12 @@ use Rattle.cf_types.specs.Offers.{interfaces}
 use Rattle.cf_types.specs.declared.machine.Given.{Given}
 use Rattle.cf_types.specs.declared.tables.Locator.{Locator}
 use Rattle.cf_types.specs.declared.tables.Place.TheVariants.{At}
+use Rattle.cf_types.specs.Lookups.{attr_number}
 use Rattle.run_rules.specs.declared.deed.Deed.TheVariants.{Refuse, Rescan}
 use Rattle.run_rules.specs.declared.deed.Refusal.TheVariants as refusal
 use Rattle.run_rules.specs.declared.world.Dev.{Dev}
 use Rattle.run_rules.specs.declared.world.Wanted.{Wanted}
-use Rattle.run_rules.specs.Next.{attr_named, rescan_of, wanted_of}
+use Rattle.run_rules.specs.Next.{rescan_of, wanted_of}
 use Rattle.run_rules.specs.World.{World, has, offered_by}
 use Rattle.plain_world.specs.Plain.{world_of}
 use Rattle.plain_world.specs.Rules.{setup_by}
@@ -22,16 +23,16 @@ use Rattle.plain_choice.proofs.rescan.rescan_of.Goals.{in-Some-2, in-None}
 abbrev items_of : Option (Vec Wanted Global) → Option (List Wanted)
 items_of list = option_map (λ v. v.items) list
 
-no_attr : (w : World) (d : Dev) (attr : Option (List ℕ)) (given : List Given) (name : List ℕ) → attr ≡ Some name → attr_named w name ≡ None → rescan_of w d attr given ≡ Refuse refusal.BadAttribute
+no_attr : (w : World) (d : Dev) (attr : Option (List ℕ)) (given : List Given) (name : List ℕ) → attr ≡ Some name → attr_number w.setup.tables.attrs name ≡ None → rescan_of w d attr given ≡ Refuse refusal.BadAttribute
 unfolding rescan_of
 no_attr w d attr given name is none = rw (is, none) refl
 
-not_offered : (w : World) (d : Dev) (attr : Option (List ℕ)) (given : List Given) (name : List ℕ) (a : ℕ) → attr ≡ Some name → attr_named w name ≡ Some a → has (offered_by w.setup d.row) a ≡ false
+not_offered : (w : World) (d : Dev) (attr : Option (List ℕ)) (given : List Given) (name : List ℕ) (a : ℕ) → attr ≡ Some name → attr_number w.setup.tables.attrs name ≡ Some a → has (offered_by w.setup d.row) a ≡ false
     → rescan_of w d attr given ≡ Refuse refusal.BadAttribute
 unfolding rescan_of
 not_offered w d attr given name a is at off = rw (is, at, off) refl
 
-on_attr : (w : World) (d : Dev) (attr : Option (List ℕ)) (given : List Given) (name : List ℕ) (a : ℕ) (o : Option (List Wanted)) → attr ≡ Some name → attr_named w name ≡ Some a
+on_attr : (w : World) (d : Dev) (attr : Option (List ℕ)) (given : List Given) (name : List ℕ) (a : ℕ) (o : Option (List Wanted)) → attr ≡ Some name → attr_number w.setup.tables.attrs name ≡ Some a
     → has (offered_by w.setup d.row) a ≡ true → wanted_of (map (λ l. l.name) (locators_at w.setup.tables.attrs (At a))) given ≡ o
     → rescan_of w d attr given ≡ option_map_or (λ wanted. Rescan d.serial (Some a)) o (Refuse refusal.BadLocator)
 unfolding rescan_of

@@ -1,9 +1,9 @@
 use Rattle.std.proofs.Common.{◌∙◌, length}
-use Rattle.run_rules.specs.Search.{style_of}
+use Rattle.run_rules.specs.Search.{is_bus_indirect}
 use Rattle.scan_engine.proofs.BusLaws.{bus_from}
 use Rattle.scan_engine.proofs.scan.place_turn.Goals as goal
 
 pub returns : goal.returns
 returns c =
-    bus_from c.args.machine.now (length c.args.tables.now.rows) (style_of c.args.machine.now c.args.attach c.args.place) c.args.spot (c.args.attr, c.args.place) c.args.from c.requires.late
-    ∙ (rw (c.begin.ensures, c.is_indirect.ensures, c.len.ensures) at c.bus_turn.ensures)
+    bus_from c.args.machine.now (length c.args.tables.now.rows) (is_bus_indirect c.args.machine.now c.args.attach c.args.place) c.args.spot (c.args.attr, c.args.place) c.args.from c.requires.late
+    ∙ (rw (c.begin.ensures, c.is_indirect.ensures c.args.machine.now c.requires.styles, c.len.ensures) at c.bus_turn.ensures)

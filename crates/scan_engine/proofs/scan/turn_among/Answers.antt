@@ -1,13 +1,13 @@
 use Rattle.std.proofs.Common.{arith, length, slice_index_or, not}
 use Rattle.cf_types.specs.declared.tables.Place.TheVariants.{At}
-use Rattle.run_rules.specs.Search.{is_before, style_of}
+use Rattle.run_rules.specs.Search.{is_before, is_bus_indirect}
 use Rattle.scan_engine.specs.Buses.{place_turns}
 use Rattle.scan_engine.proofs.BusLaws.{bus_before, places_is, places_none}
 use Rattle.scan_engine.proofs.scan.turn_among.Goals as goal
 
 pub loop-attr-init : goal.loop-attr-init
 loop-attr-init c = λ k lt.
-    bus_before c.args.machine.now (length c.args.tables.now.rows) (style_of c.args.machine.now c.args.attach (At (slice_index_or c.args.attrs.now k 0))) c.args.spot
+    bus_before c.args.machine.now (length c.args.tables.now.rows) (is_bus_indirect c.args.machine.now c.args.attach (At (slice_index_or c.args.attrs.now k 0))) c.args.spot
     (k, At (slice_index_or c.args.attrs.now k 0)) c.args.from lt
 
 pub returns-in-Some : goal.returns-in-Some

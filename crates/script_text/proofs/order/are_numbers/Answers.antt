@@ -3,7 +3,7 @@ use Rattle.std.specs.Prelude.{filter, nat_lt}
 use Rattle.std.specs.List.{list_all}
 use Rattle.std.proofs.lemmas.Iterator.Splits.{YieldsList-from_slice_split}
 use Rattle.config_rules.specs.Cut.{is_space}
-use Rattle.config_rules.specs.ScriptText.{is_number}
+use Rattle.config_rules.specs.ScriptText.{spells_number}
 use Rattle.machine_text.proofs.TextLemmas.{left_at, left_none}
 use Rattle.script_text.proofs.OrderLemmas.{no_number, numbers_left}
 use Rattle.script_text.proofs.order.are_numbers.Goals as goal
@@ -24,4 +24,4 @@ returns-then-not-is_fine c =
 pub returns : goal.returns
 returns c =
     let none = left_none (YieldsList-from_slice_split _ is_space c.args.bytes.now (cc) (cc) (cc) (λ x r q k. search (rules, tests))) c.loop-part.yielded _ c.loop-part.yielded_by _ _ c.in-None.is c.next.ensures.steps in
-    ap (λ (ps : List (List ℕ)). list_all is_number (filter (λ w. nat_lt 0 (length w)) ps)) (sym none) ∙ c.loop-part.invariant.left
+    ap (λ (ps : List (List ℕ)). list_all spells_number (filter (λ w. nat_lt 0 (length w)) ps)) (sym none) ∙ c.loop-part.invariant.left

@@ -1,5 +1,5 @@
 use Rattle.std.proofs.Common.{◌≡◌, ◌+◌, ◌++◌, length, drop}
-use Rattle.config_rules.specs.Cut.{lines_of}
+use Rattle.cf_types.specs.Lines.{lines_of}
 use Rattle.config_rules.specs.ScriptText.{bad_turns}
 use Rattle.config_rules.proofs.ScriptLaws.{bad_turns_from}
 use Rattle.script_text.proofs.OrderLemmas.{turns_in}

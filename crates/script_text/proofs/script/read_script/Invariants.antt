@@ -1,5 +1,5 @@
 use Rattle.std.proofs.Common.{◌≡◌, ◌+◌, ◌++◌, length, drop}
-use Rattle.config_rules.specs.Cut.{lines_of}
+use Rattle.cf_types.specs.Lines.{lines_of}
 use Rattle.config_rules.specs.ScriptText.{bad_sayings, commands_in}
 use Rattle.config_rules.proofs.ScriptLaws.{bad_said, commands_said, said_from}
 use Rattle.script_text.proofs.script.read_script.Given as goal

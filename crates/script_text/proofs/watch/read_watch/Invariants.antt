@@ -1,5 +1,5 @@
 use Rattle.std.proofs.Common.{[], ◌≡◌, ◌+◌, ◌++◌, All, length, drop}
-use Rattle.config_rules.specs.Cut.{lines_of}
+use Rattle.cf_types.specs.Lines.{lines_of}
 use Rattle.script_text.specs.WatchText.{FormedWatchLine, lines_said, watch_sayings}
 use Rattle.script_text.proofs.WatchLemmas.{bad_after, said_from}
 use Rattle.script_text.proofs.watch.read_watch.Given as goal

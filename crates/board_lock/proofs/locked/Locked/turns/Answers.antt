@@ -1,22 +1,28 @@
-use Rattle.std.proofs.Common.{◌∙◌, ◌∷◌, ap, refl, subst, sym}
-use Rattle.run_rules.specs.World.{World}
-use Rattle.board_lock.specs.Seats.{SeatShown}
-use Rattle.board_lock.specs.Turning.{AfterEvents}
-use Rattle.board_lock.proofs.Turns.{event_keeps}
+use Rattle.std.proofs.Common.{None, arith, subst, sym}
+use Rattle.board_lock.specs.Turning.{TriesAre}
+use Rattle.board_lock.proofs.Turns.{answered, event_more, none_yet, tried}
 use Rattle.board_lock.proofs.locked.Locked.turns.Goals as goal
 
-pub loop-preserved : goal.loop-preserved
-loop-preserved g c =
-    let w : World = g.N.Naming.opening in
-    let so = c.loop.invariant in
-    let event = c.is_quiet.ensures c.if-not-is_quiet.false in
-    let done = c.in_ok-turn.ensures in
-    let keeps = event_keeps w c.loop.seat c.in_ok-turn.turn c.turn.new.seat event done in
-    record {
-      earlier = c.in_ok-turn.turn ∷ so.earlier;
-      middle = c.turn.new.seat;
-      events = (c.loop.seat, subst (λ (m : SeatShown). AfterEvents w c.args.seat.now so.earlier m) (sym so.last) so.events, event, done);
-      caller = keeps.0 ∙ ap (λ (x : SeatShown). x.caller) so.last ∙ so.caller;
-      stops = keeps.1 ∙ ap (λ (x : SeatShown). x.stops) so.last ∙ so.stops;
-      last = refl;
-    }
+pub loop-many-init : goal.loop-many-init
+loop-many-init g c = none_yet g.N.Naming.opening c.args.seat.now
+
+pub loop-many-preserved : goal.loop-many-preserved
+loop-many-preserved g c =
+    event_more g.N.Naming.opening c.args.seat.now c.loop-many.seat c.loop-many._many c.in_ok-turn.turn c.turn.new.seat c.loop-many.invariant (c.is_quiet.ensures c.if-not-is_quiet.false)
+    c.in_ok-turn.ensures
+
+pub returns-in_err-turn : goal.returns-in_err-turn
+returns-in_err-turn g c =
+    let below = c.loop-many-test.true in
+    subst (λ z. TriesAre g.N.Naming.opening c.args.seat.now z c.turn.new.seat) (sym c.from_residual.ensures)
+    (tried g.N.Naming.opening c.args.seat.now c.loop-many.seat c.loop-many._many None c.turn.new.seat (omega arith) c.loop-many.invariant c.in_err-turn.ensures)
+
+pub returns-then-not-is_quiet : goal.returns-then-not-is_quiet
+returns-then-not-is_quiet g c =
+    let below = c.loop-many-test.true in
+    answered g.N.Naming.opening c.args.seat.now c.loop-many.seat c.loop-many._many c.in_ok-turn.turn c.turn.new.seat (omega arith) c.loop-many.invariant c.in_ok-turn.ensures
+
+pub returns : goal.returns
+returns g c =
+    let end = c.loop-many.auto._many-end (omega arith) in
+    tried g.N.Naming.opening c.args.seat.now c.loop-many.seat c.loop-many._many c.turn-2.result c.turn-2.new.seat (omega arith) c.loop-many.invariant c.turn-2.ensures

@@ -1,6 +1,5 @@
-use Rattle.std.proofs.Common.{None}
-use Rattle.board_lock.specs.Turning.{TriesAre}
+use Rattle.board_lock.specs.Turning.{EventsAre}
 use Rattle.board_lock.proofs.locked.Locked.turns.Given as goal
 
-abbrev pub invariant-loop : goal.invariant-loop
-invariant-loop g l = TriesAre g.N.Naming.opening l.initial.seat None l.seat
+abbrev pub invariant-loop-many : goal.invariant-loop-many
+invariant-loop-many g l = EventsAre g.N.Naming.opening l.initial.seat l._many l.seat

@@ -9,7 +9,7 @@ pub returns-clause-names : goal.returns-clause-names
 returns-clause-names c =
     let b = c.self.inside in
     let kept = c.self.invariant in
-    rw (← c.self.view_is) (names_own b.site.setup b.core.tree.live (formed_devices b.site.setup.tables kept.may.tables) kept.kept.ranges.rows kept.kept.ranges.units kept.kept.sound.devices.apart)
+    rw (← c.self.view_is) (names_own b.site.setup b.core.tree.live (formed_devices b.site.setup.tables kept.may.tables) kept.kept.ranges.devices.rows kept.kept.ranges.devices.units kept.kept.sound.devices.apart)
 
 pub returns-clause-reliable : goal.returns-clause-reliable
 returns-clause-reliable c =
@@ -24,7 +24,7 @@ returns-clause-thorough c =
     rw (← c.self.view_is) (thorough b.site.setup b.core.events.items (world_of b.site.setup b.core) kept.may kept.run)
 
 pub returns-clause-spots : goal.returns-clause-spots
-returns-clause-spots c = rw (← c.self.view_is) c.self.invariant.kept.ranges.spots
+returns-clause-spots c = rw (← c.self.view_is) c.self.invariant.kept.ranges.devices.spots
 
 pub returns-clause-scripts : goal.returns-clause-scripts
 returns-clause-scripts c = rw (← c.self.view_is) c.self.invariant.may.few_scripts

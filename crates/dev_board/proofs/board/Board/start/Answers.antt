@@ -8,11 +8,11 @@ use Rattle.run_world.specs.Scripted.{FormedScripts}
 use Rattle.dev_board.proofs.ScriptedLaws.{scripts_may}
 use Rattle.dev_board.proofs.board.Board.start.Goals as goal
 
-pub site_of-requires-clause-graph : goal.site_of-requires-clause-graph
-site_of-requires-clause-graph c = c.requires.tables.graph
+pub make-requires-clause-graph : goal.make-requires-clause-graph
+make-requires-clause-graph c = c.requires.tables.graph
 
-pub site_of-requires-clause-bounded : goal.site_of-requires-clause-bounded
-site_of-requires-clause-bounded c =
+pub make-requires-clause-bounded : goal.make-requires-clause-bounded
+make-requires-clause-bounded c =
     bounded (record { tables = c.args.tables; machine = c.args.machine; scripts = c.args.scripts })
     (scripts_may c.args.tables c.args.machine c.args.scripts c.requires.tables c.requires.machine c.requires.few_scripts c.requires.scripts)
 

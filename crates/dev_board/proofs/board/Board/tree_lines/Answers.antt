@@ -11,7 +11,7 @@ use Rattle.dev_board.proofs.board.Board.tree_lines.Goals as goal
 pub tree_of-requires-clause-names : goal.tree_of-requires-clause-names
 tree_of-requires-clause-names c = record {
   bounded = c.self.inside.site.bounded;
-  rows = c.self.invariant.kept.ranges.rows;
+  rows = c.self.invariant.kept.ranges.devices.rows;
   recent = c.self.invariant.books.recent;
 }
 

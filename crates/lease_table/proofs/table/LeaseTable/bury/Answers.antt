@@ -5,6 +5,7 @@ use prog.Atomic.{either}
 use Rattle.ref_ledger.specs.declared.state.SlotState.TheVariants.{Condemned}
 use Rattle.lease_table.specs.Shown.{states_in}
 use Rattle.lease_table.specs.Leases.{Buries, next_generation, slot_at}
+use Rattle.lease_table.specs.Words.{said}
 use Rattle.lease_table.proofs.Keeps.{peeks, buries, rule}
 use Rattle.lease_table.proofs.States.{known_state, none_noticed}
 use Rattle.lease_table.proofs.table.LeaseTable.bury.Goals as goal
@@ -37,7 +38,7 @@ compare_exchange-found-requires c =
     let many = c.keeper.invariant.1 in
     let inside = known.0 in
     let clear : word % 2 ^ 16 ≡ 0 = sym c.low_of-mask.ensures ∙ c.if-mask-ne0.false in
-    let same : u.me.0 ≡ s.me.0 = c.load-word.ensures.2.view ∙ none_noticed (word % 2 ^ 16) s.me.0 c.args.slot word clear in
+    let same : u.me.0 ≡ s.me.0 = c.load-word.ensures.2.view ∙ none_noticed (word % 2 ^ 16) s.me.0 c.args.slot (said word) clear in
     let long = subst (λ z. c.args.slot < length z.standing.slots) (sym same) inside in
     let next : c.free_word.result ≡ next_generation (slot_at u.me.0.standing c.args.slot).generation * 2 ^ 18 =
     c.free_word.ensures ∙ ap (λ g. next_generation g * 2 ^ 18) (c.load-word.ensures.2.says.generation ∙ ap (λ z. (slot_at z.standing c.args.slot).generation) (sym same)) in (

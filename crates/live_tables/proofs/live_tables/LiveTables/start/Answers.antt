@@ -5,12 +5,12 @@ use Rattle.run_rules.specs.World.{setup_of}
 use Rattle.run_world.proofs.InputLaws.{bounded}
 use Rattle.live_tables.proofs.live_tables.LiveTables.start.Goals as goal
 
-pub site_of-requires-clause-graph : goal.site_of-requires-clause-graph
-site_of-requires-clause-graph c = c.requires.tables.graph
+pub make-requires-clause-graph : goal.make-requires-clause-graph
+make-requires-clause-graph c = c.requires.tables.graph
 
-pub site_of-requires-clause-bounded : goal.site_of-requires-clause-bounded
-site_of-requires-clause-bounded c =
-    rw c.make.ensures
+pub make-requires-clause-bounded : goal.make-requires-clause-bounded
+make-requires-clause-bounded c =
+    rw c.make-scripts.ensures
     (bounded (setup_of c.args.tables c.args.machine []) (record { tables = c.requires.tables; machine = c.requires.machine; few_scripts = omega arith; short_scripts = tt }))
 
 pub on_site-requires-clause-devices : goal.on_site-requires-clause-devices
@@ -18,4 +18,4 @@ on_site-requires-clause-devices c = rw c.in-Ok.ensures c.requires.tables.graph.f
 
 pub returns-in-Ok-clause-site : goal.returns-in-Ok-clause-site
 returns-in-Ok-clause-site c =
-    subst (λ (s : Setup). IfOk c.on_site.result (λ it. it.site ≡ record { setup = s; groups = c.args.groups })) (c.in-Ok.ensures ∙ ap (setup_of c.args.tables c.args.machine) c.make.ensures) c.on_site.ensures.site
+    subst (λ (s : Setup). IfOk c.on_site.result (λ it. it.site ≡ record { setup = s; groups = c.args.groups })) (c.in-Ok.ensures ∙ ap (setup_of c.args.tables c.args.machine) c.make-scripts.ensures) c.on_site.ensures.site
