@@ -4,3 +4,4 @@ pub mod HeadLaws
 pub mod IndexLaws
 pub mod ListedLaws
 pub mod OwnLaws
+pub mod LeaderLaws

@@ -4,3 +4,4 @@ pub use Rattle.run_rules.specs.Search
 pub mod Own
 pub mod Found
 pub mod Heads
+pub mod Leaders

@@ -1,16 +1,18 @@
 //! The best row for a spot.
-ghost use Rattle.std.specs.Prelude.{◌≡◌, ◌≤◌, List, find, length, nat_lt, true};
+ghost use Rattle.std.specs.Prelude.{◌≡◌, ◌≤◌, ℕ, List, [], find, length, nat_lt, slice_index_or, true};
 ghost use Rattle.std.specs.Option.{option_map_or};
 ghost use Rattle.run_rules.specs.declared.world.Dev.{Dev};
 ghost use Rattle.run_rules.specs.declared.world.Setup.{Setup};
-ghost use Rattle.run_rules.specs.Search.{winner};
+ghost use Rattle.run_rules.specs.Search as rule;
 ghost use Rattle.attr_graph.specs.Graphs.{IsGraphOf, declared_by};
 ghost use Rattle.match_search.specs.Best.{best_row, live_rows, may_take, worth};
 ghost use Rattle.match_search.specs.Index as listed;
 ghost use Rattle.match_search.specs.Index.{IsIndexOf};
+ghost use Rattle.match_search.specs.Leaders.{AreLeadersOf};
 
 use crate::fits::{attr_at, fits, found_or, names_parent, parent_offers, passes, same_place};
 use crate::index::RowIndex;
+use crate::leaders::Leaders;
 use crate::live::LiveRows;
 use crate::value::match_value;
 use attr_graph::Graph;
@@ -124,27 +126,28 @@ fn first_open(tables: &Tables, live: &LiveRows, parent: ParentRef, rows: &[u16])
         .find(|row| is_open_to(tables, live, parent, *row))
 }
 
-/// The best row for a spot. If the spot is at the place, only the rows that suit it are looked at, the best first.
+/// The best row for a spot, where some rows have the same first open one as those of the index. If the spot is at the
+/// place, only they are looked at.
 #[inline(always)]
-fn best_row_of(
+fn best_among(
     tables: &Tables,
     graph: &Graph,
-    index: &RowIndex,
     machine: &Machine,
     live: &LiveRows,
     parent: ParentRef,
     place: Place,
     spot: u16,
+    rows: &[u16],
 ) -> Option<u32>
     requires graph { IsGraphOf (declared_by tables.now) graph.now }
-    requires index { IsIndexOf tables.now machine.now index.now }
     requires few { length tables.now.rows ≤ 8192 }
-    ensures { result ≡ best_row tables.now machine.now live.now parent place spot }
+    ensures { (index : List (List ℕ)) → IsIndexOf tables.now machine.now index → find (listed.is_open_to tables.now live.now parent) rows.now ≡ find (listed.is_open_to tables.now live.now parent) (slice_index_or index spot [])
+        → result ≡ best_row tables.now machine.now live.now parent place spot }
 {
     if !hangs_at(machine, spot, place) {
         return best_of_all(tables, graph, machine, live, parent, place, spot);
     }
-    match first_open(tables, live, parent, index.rows(spot)) {
+    match first_open(tables, live, parent, rows) {
         Some(row) => {
             if parent_offers(graph, tables, parent, place) {
                 Some(u32::from(row))
@@ -176,7 +179,48 @@ pub fn best(
     ensures row { result ≡ best_row tables.now machine.now live.now parent place spot }
 
     // So it is the winner in each world whose rows are live as the truth values say.
-    ensures winner { (s : Setup) (devices : List Dev) → s.tables ≡ tables.now → s.machine ≡ machine.now → live.now ≡ live_rows s devices → winner s devices parent place spot ≡ result }
+    ensures winner { (s : Setup) (devices : List Dev) → s.tables ≡ tables.now → s.machine ≡ machine.now → live.now ≡ live_rows s devices → rule.winner s devices parent place spot ≡ result }
 {
-    best_row_of(tables, graph, index, machine, live, parent, place, spot)
+    best_among(
+        tables,
+        graph,
+        machine,
+        live,
+        parent,
+        place,
+        spot,
+        index.rows(spot),
+    )
+}
+
+/// The same in a world, whose rows are live as its devices say: rows that differ in nothing that liveness and parents go by
+/// are passed at one look.
+#[inline(always)]
+pub fn winner(
+    tables: &Tables,
+    graph: &Graph,
+    index: &RowIndex,
+    leaders: &Leaders,
+    machine: &Machine,
+    live: &LiveRows,
+    parent: ParentRef,
+    place: Place,
+    spot: u16,
+) -> Option<u32>
+    requires graph { IsGraphOf (declared_by tables.now) graph.now }
+    requires index { IsIndexOf tables.now machine.now index.now }
+    requires leaders { AreLeadersOf tables.now index.now leaders.now }
+    requires few { length tables.now.rows ≤ 8192 }
+    ensures { (s : Setup) (devices : List Dev) → s.tables ≡ tables.now → s.machine ≡ machine.now → live.now ≡ live_rows s devices → rule.winner s devices parent place spot ≡ result }
+{
+    best_among(
+        tables,
+        graph,
+        machine,
+        live,
+        parent,
+        place,
+        spot,
+        leaders.rows(index, spot),
+    )
 }

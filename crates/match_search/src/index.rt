@@ -142,6 +142,13 @@ impl RowIndex {
         Ok(RowIndex { lists })
     }
 
+    /// How many spots there are.
+    pub fn count(&self) -> usize
+        ensures { result ≡ length self.now }
+    {
+        self.lists.len()
+    }
+
     /// The rows that suit a spot at its own place, the best first. It takes no memory.
     #[inline(always)]
     pub fn rows(&self, spot: u16) -> &[u16]

@@ -5,13 +5,16 @@ mod choice;
 mod fits;
 mod heads;
 mod index;
+mod kinds;
+mod leaders;
 mod live;
 mod own;
 mod value;
 mod values;
 
-pub use choice::best;
+pub use choice::{best, winner};
 pub use fits::found_at;
 pub use index::RowIndex;
+pub use leaders::Leaders;
 pub use live::LiveRows;
 pub use run_rules::ParentRef;

@@ -7,7 +7,7 @@ ghost use Rattle.run_world.specs.View.{Books};
 use crate::unit::unit_of;
 use cf_types::Place;
 use dev_tree::DevTree;
-use match_search::best;
+use match_search::winner;
 use run_rules::{Arrival, ParentRef, Setup};
 use run_world::{Core, Site, driver_of};
 
@@ -31,10 +31,11 @@ fn winner_below(site: &Site, core: &Core, named: ParentRef, place: Place, spot: 
     requires { Books site.now.setup core.now }
     ensures { rule.winner site.now.setup core.now.tree.live named place spot ≡ result }
 {
-    best(
+    winner(
         &site.setup.tables,
         &site.graph,
         &site.index,
+        &site.leaders,
         &site.setup.machine,
         &core.rows,
         named,

@@ -4,14 +4,18 @@ use cf_types::{Memory, Row, Tables, put_decimal};
 use run_rules::ParentRef;
 use std::alloc::Global;
 
-/// A live device: its serial, its driver and unit, the serial of its parent, 0 for the root, and its spot.
+/// A live device: its serial, the number of its row, its driver and unit, the serial of its parent, 0 for the root, and
+/// its spot; whether it sleeps, and which caller is about to free it.
 #[derive(Clone, Copy)]
 pub struct Device {
     pub serial: u64,
+    pub row: u32,
     pub driver: u32,
     pub unit: u32,
     pub parent: u64,
     pub spot: u16,
+    pub asleep: bool,
+    pub condemned: Option<u8>,
 }
 
 /// The name under which a device is known.
@@ -37,6 +41,34 @@ pub fn device_named(
         }
     }
     Ok(None)
+}
+
+/// The device of a serial.
+pub fn device_at(devices: &[Device], serial: u64) -> Option<Device> {
+    devices
+        .iter()
+        .find(|device| device.serial == serial)
+        .copied()
+}
+
+/// The device on a spot.
+pub fn device_on(devices: &[Device], spot: u16) -> Option<Device> {
+    devices.iter().find(|device| device.spot == spot).copied()
+}
+
+/// Whether a device is another one, or below it.
+pub fn is_under(devices: &[Device], serial: u64, above: u64) -> bool {
+    let mut current = serial;
+    for _device in devices {
+        if current == above {
+            return true;
+        }
+        match device_at(devices, current) {
+            Some(device) => current = device.parent,
+            None => return false,
+        }
+    }
+    false
 }
 
 /// Whether a device is on a spot.

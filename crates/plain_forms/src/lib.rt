@@ -5,6 +5,8 @@
 mod devices;
 mod follower;
 mod refs;
+mod replies;
 mod search;
+mod world;
 
 pub use follower::{Followed, follow};

@@ -14,6 +14,13 @@ pub fn is_held(refs: &[Held], serial: u64) -> bool {
     refs.iter().any(|held| held.serial == serial)
 }
 
+/// How many references a caller has to a device.
+pub fn count_of(refs: &[Held], serial: u64, caller: u8) -> usize {
+    refs.iter()
+        .filter(|held| held.serial == serial && held.caller == caller)
+        .count()
+}
+
 /// Removes one reference of a caller to a device. Returns whether there was one.
 pub fn give_back(refs: &mut Vec<Held>, serial: u64, caller: u8) -> bool {
     let place = refs

@@ -67,7 +67,7 @@ fn attrs_of(alloc: Global, tables: &Tables, driver: u32) -> Result<Vec<bool>, Me
 }
 
 /// Whether the root, or a device, offers a place.
-fn offers(
+pub fn offers(
     alloc: Global,
     tables: &Tables,
     parent: Option<Device>,
@@ -85,6 +85,13 @@ fn offers(
         }
         _ => Ok(false),
     }
+}
+
+/// Whether a driver offers any place at which devices are searched.
+pub fn offers_any(alloc: Global, tables: &Tables, driver: u32) -> Result<bool, Memory> {
+    let marks = attrs_of(alloc, tables, driver)?;
+    let mut attrs = tables.attrs.items().iter().zip(&marks);
+    Ok(attrs.any(|(attr, marked)| attr.iface && *marked))
 }
 
 /// Whether the locator values of a row fit those that are found at a spot.

@@ -1,3 +1,4 @@
 pub mod MaskLaws
+pub mod PlaceLaws
 pub mod HeldLaws
 pub mod LedgerLaws

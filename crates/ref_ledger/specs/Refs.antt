@@ -1,5 +1,5 @@
 -- References that count, and sole use: this project's profile.
-use Rattle.std.specs.Prelude.{◌≡◌, ℕ, ◌≤◌, ◌==◌, Bool, true, List, [], ◌∷◌, ◌++◌, count_by, filter, map}
+use Rattle.std.specs.Prelude.{◌≡◌, ℕ, ◌≤◌, ◌==◌, Bool, true, List, [], ◌∷◌, ◌++◌, count_by}
 use Rattle.std.specs.List.{All}
 use Rattle.run_rules.specs.declared.world.Ref.{Ref}
 use Rattle.run_rules.specs.World.{has, holds_in}
@@ -49,10 +49,6 @@ returned ledger serial caller = record {
 pub record IsSoleHolder (ledger : Ledger) (serial caller : ℕ) : Type 0 where
   pub sole : has ledger.sole serial ≡ true
   pub held : holds_in ledger.refs caller serial ≡ true
-
--- the serials of the devices that the caller holds
-abbrev pub serials_of : List Ref → ℕ → List ℕ
-serials_of refs caller = map (λ r. r.serial) (filter (λ r. r.caller == caller) refs)
 
 -- the least serial of a device that the caller holds
 pub record IsLeastHeld (refs : List Ref) (caller serial : ℕ) : Type 0 where

@@ -2,6 +2,9 @@
 #![tactic(auto)]
 
 mod buried;
+#[cfg(test)]
+mod listed;
+mod masks;
 mod plain;
 mod refs;
 mod slots;

@@ -1,9 +1,9 @@
-ghost use Rattle.std.specs.Prelude.{◌≡◌, ◌==◌, ℕ, ◌≤◌, min, false, true, find, position, length, option_map, IfOk, MatchOption, OnOk, OnErr};
-ghost use Rattle.std.specs.List.{All, reduce};
+ghost use Rattle.std.specs.Prelude.{◌≡◌, ◌==◌, ◌+◌, ℕ, ◌≤◌, if◌then◌else◌, false, true, find, option_map, position, length, vec_len, vec_capacity, IfOk, MatchOption, OnOk, OnErr};
 ghost use Rattle.run_rules.specs.World.{has, holds_in, refers_to};
-ghost use Rattle.run_rules.specs.References.{count_in, given_back, holder_mask, holds_on, is_of, shared_again};
-ghost use Rattle.ref_ledger.specs.Refs.{IsHolder, IsLeastHeld, IsSoleHolder, MayGrant, granted, no_references, returned, serials_of};
+ghost use Rattle.run_rules.specs.References.{count_in, given_back, holder_mask, holds_on, is_of, shared_again, sole_with};
+ghost use Rattle.ref_ledger.specs.Refs.{IsHolder, IsLeastHeld, IsSoleHolder, MayGrant, granted, no_references, returned};
 
+use crate::masks::{Mask, add_caller, first_with, has_bit, mask_of, remove_caller};
 use cf_types::{Hold, List, Memory};
 use run_rules::Ref;
 use std::alloc::Global;
@@ -11,45 +11,25 @@ use std::marker::Model;
 
 /// The references to devices: each is held by a caller from 1 to 16, who may have up to 15 to one device, or the only
 /// one that there may be. Contracts see the list of them in the order in which they were granted, and the devices held
-/// solely.
+/// solely. The masks of the callers tell at once who holds a device; the list is gone over where references are counted
+/// and given back.
 #[derive(Drop)]
 pub struct Refs {
     refs: Vec<Ref>,
     sole: Vec<u64>,
+    /// The callers of each device that is held.
+    masks: Vec<Mask>,
 }
 
 impl Model for Refs {
-    ghost use Rattle.ref_ledger.specs.Refs.{IsKept, Ledger};
+    ghost use Rattle.ref_ledger.specs.Refs.{Ledger};
+    ghost use Rattle.ref_ledger.specs.Masks.{IsIndexed};
 
     ghost Value = { Ledger };
 
     ghost view = { λ ledger. record { refs = ledger.refs.items; sole = ledger.sole.items } };
 
-    ghost invariant = { λ ledger. IsKept ledger.refs.items ledger.sole.items };
-}
-
-/// Who holds a device: bit k-1 is caller k.
-fn mask_of(refs: &[Ref], serial: u64) -> u16
-    requires { All (λ r. IsHolder r.caller) refs.now }
-    ensures { result ≡ holder_mask refs.now serial }
-{
-    let mut holders = 0;
-    for held in refs {
-        if held.serial == serial {
-            holders |= 1 << (held.caller - 1);
-        }
-    }
-    holders
-}
-
-/// The least serial of a device that a caller holds.
-fn least_held(refs: &[Ref], caller: u8) -> Option<u64>
-    ensures { result ≡ reduce min (serials_of refs.now caller) }
-{
-    refs.iter()
-        .filter(|held| held.caller == caller)
-        .map(|held| held.serial)
-        .min()
+    ghost invariant = { λ ledger. IsIndexed ledger.refs.items ledger.sole.items ledger.masks.items };
 }
 
 /// The place of the first reference of a caller to a device.
@@ -76,6 +56,14 @@ fn share_again(sole: &mut Vec<u64>, serial: u64)
     sole.retain(|&held| held != serial);
 }
 
+/// Whether a caller has a reference to a device.
+fn refers_still(refs: &[Ref], serial: u64, caller: u8) -> bool
+    ensures { result ≡ holds_in refs.now caller serial }
+{
+    refs.iter()
+        .any(|held| held.serial == serial && held.caller == caller)
+}
+
 /// How many references a caller has to a device.
 fn count_of(refs: &[Ref], serial: u64, caller: u8) -> usize
     ensures { result ≡ count_in refs.now caller serial }
@@ -94,6 +82,23 @@ fn first_caller(refs: &[Ref], serial: u64) -> Option<u8>
         .map(|held| held.caller)
 }
 
+/// How many places a device takes among those that are held solely.
+fn room_for(sole: bool) -> usize
+    ensures { result ≡ if sole then 1 else 0 }
+{
+    if sole { 1 } else { 0 }
+}
+
+/// Adds a device to those that are held solely, if it is, in a list that has room.
+fn mark_sole(marked: &mut Vec<u64>, serial: u64, sole: bool)
+    requires { vec_len marked.old + (if sole then 1 else 0) ≤ vec_capacity marked.old }
+    ensures { marked.new.items ≡ sole_with marked.old.items serial sole }
+{
+    if sole {
+        let _ = marked.push(serial);
+    }
+}
+
 impl Refs {
     /// No references. It takes no memory.
     pub fn make(alloc: Global) -> Refs
@@ -102,6 +107,7 @@ impl Refs {
         Refs {
             refs: Vec::new(alloc),
             sole: Vec::new(alloc),
+            masks: Vec::new(alloc),
         }
     }
 
@@ -113,11 +119,11 @@ impl Refs {
         ensures ok { OnOk result (self.new ≡ granted self.old serial caller sole) }
         ensures err { OnErr result (self.new ≡ self.old) }
     {
+        self.masks.reserve(1)?;
+        self.sole.reserve(room_for(sole))?;
         self.refs.push(Ref { serial, caller })?;
-        if sole && self.sole.push(serial).is_err() {
-            let _ = self.refs.pop();
-            return Err(Memory);
-        }
+        mark_sole(&mut self.sole, serial, sole);
+        add_caller(&mut self.masks, serial, caller);
         Ok(())
     }
 
@@ -128,15 +134,16 @@ impl Refs {
     {
         take_out(&mut self.refs, serial, caller);
         share_again(&mut self.sole, serial);
+        if !refers_still(&self.refs, serial, caller) {
+            remove_caller(&mut self.masks, serial, caller);
+        }
     }
 
     /// Whether the caller holds the device.
     pub fn holds(&self, serial: u64, caller: u8) -> bool
         ensures { result ≡ holds_in self.now.refs caller serial }
     {
-        self.refs
-            .iter()
-            .any(|held| held.serial == serial && held.caller == caller)
+        has_bit(mask_of(&self.masks, serial), caller)
     }
 
     /// How many references the caller has to the device, 0 to 15.
@@ -144,7 +151,11 @@ impl Refs {
         ensures count { result ≡ count_in self.now.refs caller serial }
         ensures few { result ≤ 15 }
     {
-        count_of(&self.refs, serial, caller) as u8
+        if self.holds(serial, caller) {
+            count_of(&self.refs, serial, caller) as u8
+        } else {
+            0
+        }
     }
 
     /// The caller that has the only reference to the device; none if nobody has the device solely.
@@ -169,14 +180,14 @@ impl Refs {
     pub fn refers(&self, serial: u64) -> bool
         ensures { result ≡ refers_to self.now.refs serial }
     {
-        self.refs.iter().any(|held| held.serial == serial)
+        mask_of(&self.masks, serial) != 0
     }
 
     /// Who holds the device: bit k-1 is caller k.
     pub fn holders(&self, serial: u64) -> u16
         ensures { result ≡ holder_mask self.now.refs serial }
     {
-        mask_of(&self.refs, serial)
+        mask_of(&self.masks, serial)
     }
 
     /// What each caller holds of the device, by caller; those that do not hold it are left out.
@@ -184,6 +195,9 @@ impl Refs {
         ensures { IfOk result (λ holds. holds ≡ holds_on self.now.refs self.now.sole serial) }
     {
         let mut holds = List::make(alloc);
+        if !self.refers(serial) {
+            return Ok(holds);
+        }
         let sole = self.is_sole(serial);
         for index in 0..16u8 {
             let caller = index + 1;
@@ -203,7 +217,7 @@ impl Refs {
     pub fn first_held(&self, caller: u8) -> Option<u64>
         ensures { MatchOption result ((s : ℕ) → holds_in self.now.refs caller s ≡ false) (IsLeastHeld self.now.refs caller) }
     {
-        least_held(&self.refs, caller)
+        first_with(&self.masks, caller)
     }
 
     /// How many references there are; each counts.

@@ -1,7 +1,6 @@
 //! The next turn of a scan.
-ghost use Rattle.std.specs.Prelude.{◌≡◌, ◌≤◌, ℕ, ◌==◌, ◌&&◌, false, find, flat_map, length, map, reverse, IfSome};
+ghost use Rattle.std.specs.Prelude.{◌≡◌, ◌≤◌, ℕ, false, flat_map, length, map, IfSome};
 ghost use Rattle.std.specs.List.{enumerate_from};
-ghost use Rattle.std.specs.Option.{option_map_or};
 ghost use Rattle.cf_types.specs.declared.tables.Place.TheVariants.{Root, At};
 ghost use Rattle.cf_types.specs.Offers as offer;
 ghost use Rattle.run_rules.specs.Search.{is_before, turns_of};

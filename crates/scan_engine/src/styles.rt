@@ -1,5 +1,5 @@
 //! The styles of buses, by attachment and attribute.
-ghost use Rattle.std.specs.Prelude.{◌≡◌, ◌<◌, ◌==◌, ◌&&◌, ℕ, List, [], ◌∷◌, ◌++◌, false, if◌then◌else◌, length, IfOk, OnOk};
+ghost use Rattle.std.specs.Prelude.{◌≡◌, ◌<◌, ◌==◌, ℕ, List, [], ◌∷◌, ◌++◌, false, if◌then◌else◌, length, IfOk, OnOk};
 ghost use Rattle.cf_types.specs.declared.machine.Machine.{Machine};
 ghost use Rattle.cf_types.specs.declared.machine.StyleLine.{StyleLine as Line};
 ghost use Rattle.run_rules.specs.Search.{is_bus_indirect};

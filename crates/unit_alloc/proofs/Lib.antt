@@ -1,2 +1,3 @@
+pub mod BitmapLaws
 pub mod FreeLaws
 pub mod TakenLaws

@@ -1,5 +1,6 @@
 -- Which units of devices are taken: for each device a list of units, of which no clause tells the order.
-use Rattle.std.specs.Prelude.{◌≡◌, ℕ, ◌<◌, ◌≤◌, Bool, true, false, not, ◌&&◌, ◌||◌, ◌==◌, List, [], Option, IfSome, length}
+use Rattle.std.specs.Prelude.{◌≡◌, ℕ, ◌<◌, ◌≤◌, ◌*◌, ◌/◌, ◌%◌, ◌^◌, max, Bool, true, false, not, ◌&&◌, ◌||◌, ◌==◌, List, [], filter, length}
+use Rattle.std.specs.Int.{bit_at}
 use Rattle.std.specs.List.{count_by, slice_index_or}
 use Rattle.cf_types.specs.Gather.{is_in}
 use Rattle.cf_types.specs.Numbers.{below}
@@ -12,13 +13,27 @@ is_taken taken device unit = is_in unit (slice_index_or taken device [])
 abbrev pub PassesFew : (ℕ → Bool) → Type 0
 PassesFew test = (n : ℕ) → count_by test (below n) ≤ 1024
 
--- all numbers below the first one are in the list, and none from the second one on; one that is known to be free is not in it,
--- and each that is stands there once
-pub record AreBetween (all_below none_from : ℕ) (known_free : Option ℕ) (units : List ℕ) : Type 0 where
-  pub below : (n : ℕ) → n < all_below → is_in n units ≡ true
-  pub from : (n : ℕ) → none_from ≤ n → is_in n units ≡ false
-  pub free : IfSome known_free (λ n. is_in n units ≡ false)
-  pub once : (n : ℕ) → count_by (λ y. y == n) units ≤ 1
+-- whether a unit is set in a bitmap: bit k of word w stands for unit 64 * w + k
+abbrev pub is_set : List ℕ → ℕ → Bool
+is_set words n = bit_at (slice_index_or words (n / 64) 0) (n % 64) == 1
+
+-- the units that are set in a bitmap, in their order
+unfoldable pub units_of : List ℕ → List ℕ
+units_of words = filter (is_set words) (below (64 * length words))
+
+-- a bitmap has room for each unit below 2 ^ 32 and no more, and all units of the words before this one are set
+pub record AreFull (full : ℕ) (words : List ℕ) : Type 0 where
+  pub short : length words ≤ 2 ^ 26
+  pub before : (n : ℕ) → n < 64 * full → is_set words n ≡ true
+
+-- at least so many words, and the same units are set
+pub record IsGrown (old : List ℕ) (count : ℕ) (new : List ℕ) : Type 0 where
+  pub words : length new ≡ max (length old) count
+  pub set : (n : ℕ) → is_set new n ≡ is_set old n
+
+-- this unit is in the second list, too, and else nothing is another
+abbrev pub IsWith : ℕ → List ℕ → List ℕ → Type 0
+IsWith unit old new = (n : ℕ) → is_in n new ≡ (is_in n old || unit == n)
 
 -- this unit is in the second list no longer, and else nothing is another
 abbrev pub IsWithout : ℕ → List ℕ → List ℕ → Type 0

@@ -1,7 +1,7 @@
 ghost use Rattle.std.specs.Prelude.{◌≡◌, ◌<◌, ◌≤◌, false, true, length, IfOk, OnOk, OnErr};
 ghost use Rattle.unit_alloc.specs.Taken.{GivenBack, IsLeastFree, NoneTaken, PassesFew, TakenToo, is_taken};
 
-use crate::list::UnitList;
+use crate::map::UnitMap;
 use cf_types::Memory;
 use std::alloc::Global;
 use std::marker::Model;
@@ -10,7 +10,7 @@ use std::marker::Model;
 /// fixes.
 #[derive(Drop)]
 pub struct Units {
-    lists: Vec<UnitList>,
+    maps: Vec<UnitMap>,
 }
 
 impl Model for Units {
@@ -18,7 +18,7 @@ impl Model for Units {
 
     ghost Value = { List (List ℕ) };
 
-    ghost view = { λ units. units.lists.items };
+    ghost view = { λ units. units.maps.items };
 }
 
 impl Units {
@@ -26,11 +26,11 @@ impl Units {
     pub fn make(alloc: Global, devices: u32) -> Result<Units, Memory>
         ensures { IfOk result (NoneTaken devices) }
     {
-        let mut lists = Vec::new(alloc);
+        let mut maps = Vec::with_capacity(alloc, devices as usize)?;
         for _device in 0..devices {
-            lists.push(UnitList::make(alloc))?;
+            maps.push(UnitMap::make(alloc))?;
         }
-        Ok(Units { lists })
+        Ok(Units { maps })
     }
 
     /// The least unit of a device that is at least the first one and not taken, as a starred row gives it. It takes no
@@ -41,7 +41,7 @@ impl Units {
         requires few { PassesFew (is_taken self.now device) }
         ensures { IsLeastFree (is_taken self.now device) first result }
     {
-        self.lists[device as usize].pick(first)
+        self.maps[device as usize].pick(first)
     }
 
     /// Takes a unit of a device that is not taken. At `Memory` all is as before.
@@ -51,7 +51,7 @@ impl Units {
         ensures ok { OnOk result (TakenToo self.old self.new device unit) }
         ensures err { OnErr result (self.new ≡ self.old) }
     {
-        self.lists[device as usize].take(unit)
+        self.maps[device as usize].take(unit)
     }
 
     /// Gives back a unit of a device that is taken. It takes no memory.
@@ -60,6 +60,6 @@ impl Units {
         requires taken { is_taken self.old device unit ≡ true }
         ensures { GivenBack self.old self.new device unit }
     {
-        self.lists[device as usize].give(unit);
+        self.maps[device as usize].give(unit);
     }
 }

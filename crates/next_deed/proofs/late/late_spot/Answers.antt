@@ -1,7 +1,6 @@
-use Rattle.std.proofs.Common.{length, ◌∙◌, sym, arith, inl, inr}
+use Rattle.std.proofs.Common.{length, ◌∙◌, arith, inl, inr}
 use Rattle.std.proofs.lemmas.Bool.{cases_lt}
 use Rattle.run_rules.proofs.Below.{find-is, find-none}
-use Rattle.scan_engine.specs.Spans.{Covers}
 use Rattle.next_deed.proofs.LateLaws.{late_outside}
 use Rattle.next_deed.proofs.late.late_spot.Goals as goal
 

@@ -1,4 +1,4 @@
-use Rattle.std.proofs.Common.{◌≡◌, ◌∙◌, ℕ, List, Bool, sym, ap, false, slice_index_or, rules, subst}
+use Rattle.std.proofs.Common.{◌∙◌, ℕ, List, Bool, sym, ap, false, slice_index_or, rules, subst}
 use Rattle.std.proofs.lemmas.Fn.{filter_same}
 use Rattle.run_world.specs.Marked.{AreMarked}
 use Rattle.run_world.proofs.MarkedLaws.{marked_less, none_less}

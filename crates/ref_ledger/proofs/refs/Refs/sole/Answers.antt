@@ -11,4 +11,4 @@ returns-then-is_sole c =
     let P : Option ℕ → Type 0 = λ o. MatchOption o (has c.args.self.now.sole c.args.serial ≡ false) (IsSoleHolder c.args.self.now c.args.serial) in
     let refs = c.deref.ensures.value ∙ ap (λ (l : Ledger). l.refs) c.self.view_is in
     subst P (sym (c.first_caller.ensures ∙ ap (λ rs. option_map (λ (r : Ref). r.caller) (find (λ (r : Ref). r.serial == c.args.serial) rs)) refs))
-    (sole_is c.args.self.now c.args.serial (subst IsKeptLedger c.self.view_is c.self.invariant) (sym c.is_sole.ensures ∙ c.if-is_sole.true))
+    (sole_is c.args.self.now c.args.serial (subst IsKeptLedger c.self.view_is c.self.invariant.kept) (sym c.is_sole.ensures ∙ c.if-is_sole.true))

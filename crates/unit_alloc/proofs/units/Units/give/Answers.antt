@@ -6,7 +6,7 @@ use Rattle.unit_alloc.proofs.units.Units.give.Goals as goal
 
 pub returns : goal.returns
 returns c =
-    let lists : List (List ℕ) = c.self.inside.lists.items in
+    let lists : List (List ℕ) = c.self.inside.maps.items in
     let within : c.args.device < length lists = omega (arith, ap length c.self.view_is, c.requires.device) in
     let was : c.index_mut.result.now ≡ slice_index_or lists c.args.device [] = c.index_mut.ensures.value ∙ get_or_default lists c.args.device _ [] within in
     subst (λ (old : List (List ℕ)). GivenBack old (slice_set lists c.args.device c.give.new.self) c.args.device c.args.unit) c.self.view_is
