@@ -1,4 +1,4 @@
-use Rattle.std.proofs.Common.{◌≡◌, ◌∙◌, Bool, false, Option, Some, None, option_map, refl, ap}
+use Rattle.std.proofs.Common.{◌≡◌, ◌∙◌, ◌&&◌, ◌==◌, Bool, false, Option, Some, None, find, option_map, reverse, refl, ap}
 use Rattle.std.specs.Option.{option_map_or}
 use Rattle.cf_types.specs.declared.machine.StyleLine.{StyleLine}
 use Rattle.plain_search.proofs.turns.is_indirect_by.Goals as goal
@@ -9,4 +9,5 @@ said (Some l) = refl
 
 pub returns : goal.returns
 returns c =
-    c.is_indirect.ensures ∙ ap (λ (o : Option Bool). option_map_or (λ (b : Bool). b) o false) (c.args.seeker.now.styled c.args.attach c.args.attr) ∙ said _
+    c.is_indirect.ensures ∙ ap (λ (o : Option Bool). option_map_or (λ (b : Bool). b) o false) (c.args.seeker.now.styled c.args.attach c.args.attr)
+    ∙ said (find (λ line. line.attach == c.args.attach && line.attr == c.args.attr) (reverse c.args.seeker.now.rules.now.machine.now.styles))
