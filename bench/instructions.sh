@@ -1,6 +1,6 @@
 #!/bin/sh
-# Counts the instructions of one call of `ioconf` on each of five made configurations, which do not depend on what else the
-# machine does. Usage: bench/instructions.sh [PROGRAM]; PROGRAM is another one with the words of devconf. It needs valgrind.
+# Counts the instructions of one call of `ioconf` and `files` on the kernels of the examples, and of `ioconf` on each of five made
+# configurations. They do not depend on what else the machine does. Usage: bench/instructions.sh [PROGRAM]; PROGRAM is another one with the words of devconf. It needs valgrind.
 set -e
 top=$(cd "$(dirname "$0")/.." && pwd)
 command -v valgrind >/dev/null || { echo "bench/instructions.sh: valgrind is needed" >&2; exit 1; }
@@ -78,9 +78,25 @@ rows() {
     }'
 }
 
+# The millions of instructions of a call with these words in this folder of the examples, or `-` if the program has no such words.
+real() {
+    label=$1
+    cd "$top/examples/$2"
+    shift 2
+    if valgrind --tool=callgrind --callgrind-out-file=/dev/null "$program" "$@" 2>"$folder/counted" >"$folder/written"; then
+        awk -v label="$label" '/refs:/ { gsub(",", "", $NF); printf "%-16s %6.2f million instructions\n", label, $NF / 1000000 }' "$folder/counted"
+    else
+        printf '%-16s %6s\n' "$label" -
+    fi
+}
+
+real "amd64, ioconf" amd64 ioconf GENERIC
+real "amd64, files" amd64 files GENERIC
+real "small PC, ioconf" pc ioconf GENERIC
+real "board, ioconf" arm ioconf BOARD
 for shape in all_kinds negations tokens names rows; do
     rm -f "$folder"/*
     "$shape" | in_parts
     (cd "$folder" && valgrind --tool=callgrind --callgrind-out-file=/dev/null "$program" ioconf conf 2>counted >written)
-    awk -v shape="$shape" '/refs:/ { gsub(",", "", $NF); printf "%-10s %6.0f million instructions\n", shape, $NF / 1000000 }' "$folder/counted"
+    awk -v shape="$shape" '/refs:/ { gsub(",", "", $NF); printf "%-16s %6.0f million instructions\n", shape, $NF / 1000000 }' "$folder/counted"
 done

@@ -1,6 +1,6 @@
 #!/bin/sh
-# Counts the instructions of boots, plays and a replay at the limits of a machine, which do not depend on what else the machine
-# does. Usage: bench/runs.sh [PROGRAM]; PROGRAM is another one with the words of devconf. It needs valgrind.
+# Counts the instructions of boots, plays, a replay and an upgrade of the examples' kernels on real machines, then of boots, plays and a
+# replay at the limits of a machine. They do not depend on what else the machine does. Usage: bench/runs.sh [PROGRAM]; PROGRAM is another one with the words of devconf. It needs valgrind.
 set -e
 top=$(cd "$(dirname "$0")/.." && pwd)
 command -v valgrind >/dev/null || { echo "bench/runs.sh: valgrind is needed" >&2; exit 1; }
@@ -68,10 +68,39 @@ make_play() {
 row() {
     label=$1
     shift
-    valgrind --tool=callgrind --callgrind-out-file=/dev/null "$program" "$@" 2>counted >written
-    awk -v label="$label" '/refs:/ { gsub(",", "", $NF); printf "%-16s %8.2f million instructions\n", label, $NF / 1000000 }' counted
+    if valgrind --tool=callgrind --callgrind-out-file=/dev/null "$program" "$@" 2>"$folder/counted" >"$folder/written"; then
+        awk -v label="$label" '/refs:/ { gsub(",", "", $NF); printf "%-17s %8.2f million instructions\n", label, $NF / 1000000 }' "$folder/counted"
+    else
+        printf '%-17s %8s\n' "$label" -
+    fi
 }
 
+# What the server's disk driver is tried with: a script that opens a disk, reads, and lets it go, and one that searches its bus.
+make_scripts() {
+    printf '%s\n' 'open sd0' 'io sd0 1' 'close sd0' >uses
+    printf '%s\n' 'rescan pci0' 'list scsibus0' 'tree' >looks
+    printf '%s\n' '1 2 1 2 1 1 2 2 1 2 2 2 2 2 2 2' >uses.order
+}
+
+# A boot, a play, and a replay and an upgrade of what it printed, of this kernel of the examples on this machine.
+real() {
+    run=$1
+    kernel=$top/examples/$2
+    machine=$top/examples/machines/$3
+    order=$4
+    shift 4
+    cd "$kernel"
+    row "$run, boot" boot GENERIC "$machine"
+    row "$run, play" play GENERIC "$machine" "$order" "$@"
+    cp "$folder/written" "$folder/history"
+    row "$run, replay" replay GENERIC "$machine" "$folder/history" "$@"
+    row "$run, upgrade" upgrade GENERIC "$machine" "$folder/history" "$@"
+    cd "$folder"
+}
+
+make_scripts
+real server amd64 server "$folder/uses.order" "$folder/uses" "$folder/looks"
+real "small PC" pc pc "$top/examples/detach.order" "$top/examples/hold.script" "$top/examples/detach.script"
 make_rows
 row "boot, direct" boot rows direct
 row "boot, indirect" boot rows indirect
