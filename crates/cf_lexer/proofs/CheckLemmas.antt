@@ -1,8 +1,8 @@
 -- What is wrong with a line, part by part and byte by byte.
-use Rattle.std.proofs.Common.{◌≡◌, ℕ, zero, suc, ◌+◌, ◌<◌, ◌≤◌, Bool, true, false, cond, Option, Some, None, Result, List, [], ◌∷◌, length, take, drop, refl, ap, sym, ◌∙◌, subst, arith, Ok, Err, one-add, add-one, inl, inr, ◌⊎◌, ◌++◌, length-drop}
-use Rattle.std.specs.Prelude.{◌==◌, ◌||◌, IfSome}
+use Rattle.std.proofs.Common.{◌≡◌, ℕ, zero, suc, ◌+◌, ◌<◌, ◌≤◌, Bool, true, false, cond, Option, Some, None, Result, List, [], ◌∷◌, length, drop, refl, ap, sym, ◌∙◌, subst, arith, Ok, Err, add-one, inl, inr, ◌⊎◌, length-drop}
+use Rattle.std.specs.Prelude.{◌==◌, ◌||◌}
 use Rattle.std.specs.List.{prefix_len}
-use Rattle.std.proofs.lemmas.Bool.{false_from_ne_true, or_cases}
+use Rattle.std.proofs.lemmas.Bool.{or_cases}
 use Rattle.std.proofs.lemmas.List.{drop-drop}
 use Rattle.std.proofs.lemmas.List.Sums.{prefix_len-le-length}
 use Rattle.cf_types.specs.declared.stmt.Token.{Token}
@@ -10,10 +10,8 @@ use Rattle.cf_types.specs.declared.stmt.TokenKind.TheVariants as kind
 use Rattle.cf_types.specs.Lines.{lines_of}
 use Rattle.config_rules.specs.Cut.{Part, all_parts, at_line, is_chunk_byte, is_mark_byte, is_space, parts_of, token, ◌>>=◌}
 use Rattle.cf_lexer.specs.declared.front.Front.{Front}
-use Rattle.cf_lexer.specs.declared.line.LexStop.{LexStop}
-use Rattle.cf_lexer.specs.declared.line.LexStop.TheVariants.{Fault, Memory}
-use Rattle.cf_lexer.specs.Check.{ByteGoes, GoesBy, TellsFault, code_of, error_of, fault_from}
-use Rattle.cf_lexer.specs.Front.{IsWithin, front_at, is_plain_byte, span}
+use Rattle.cf_lexer.specs.Check.{ByteGoes, GoesBy, code_of, error_of}
+use Rattle.cf_lexer.specs.Front.{IsWithin, front_at, is_plain_byte}
 use Rattle.cf_lexer.specs.Line.{GoesOn, span_tokens, with_line}
 use Rattle.cf_lexer.specs.Lines.{first_of, head_line, lines_behind, lines_from, rest_of}
 use Rattle.cf_lexer.proofs.LineLemmas.{blank_goes_on, chunk_goes_on, line_ends, line_goes_on, line_stops, mark_goes_on}

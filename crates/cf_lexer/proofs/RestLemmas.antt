@@ -1,8 +1,7 @@
 -- What is left of a text from a statement on.
-use Rattle.std.proofs.Common.{◌≡◌, ℕ, zero, suc, ◌+◌, ◌-◌, ◌<◌, ◌≤◌, ◌&&◌, ◌||◌, Bool, true, false, cond, not, Option, Some, None, Result, List, [], ◌∷◌, ◌++◌, length, take, drop, refl, ap, sym, ◌∙◌, subst, arith, Ok, Err, append_assoc, append-nil, length-append}
-use Rattle.std.specs.Prelude.{All, IfErr, IfSome, ◌==◌, bytes_eq, find, slice_range, take_while}
+use Rattle.std.proofs.Common.{◌≡◌, ℕ, ◌+◌, ◌-◌, ◌<◌, ◌≤◌, ◌&&◌, ◌||◌, Bool, true, false, cond, not, Option, Some, None, Result, List, [], ◌∷◌, ◌++◌, length, take, drop, refl, ap, sym, ◌∙◌, subst, arith, Ok, Err, append_assoc, append-nil, length-append}
+use Rattle.std.specs.Prelude.{All, IfErr, IfSome, ◌==◌, find, slice_range, take_while}
 use Rattle.std.specs.List.{list_any, onto_first, prefix_len}
-use Rattle.std.proofs.lemmas.Bool.{false_from_ne_true}
 use Rattle.std.proofs.lemmas.List.Elements.{All-append, All-cons, All-head, All-nil, All-tail}
 use Rattle.std.proofs.lemmas.List.Folds.{length-prefix_len}
 use Rattle.cf_types.specs.declared.code.configuration.TheConstants.{BAD_BYTE}

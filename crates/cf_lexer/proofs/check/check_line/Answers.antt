@@ -1,6 +1,6 @@
 use Rattle.std.proofs.Common.{◌<◌, ◌+◌, ◌-◌, ◌∙◌, length, get_or, take, drop, ap, sym, arith, Some, None}
 use Rattle.cf_lexer.specs.Lines.{head_line}
-use Rattle.cf_lexer.proofs.CheckLemmas.{Behind, byte_is, goes_behind, over_here, stuck_here}
+use Rattle.cf_lexer.proofs.CheckLemmas.{Behind, byte_is, goes_behind, over_here}
 use Rattle.cf_lexer.proofs.PlaceLemmas.{at_here, newline_here, text_done}
 use Rattle.cf_lexer.proofs.check.check_line.Goals as goal
 

@@ -1,4 +1,4 @@
-use Rattle.std.proofs.Common.{rules, ◌≡◌, ℕ, ◌<◌, ◌≤◌, ◌∙◌, sym, arith, refl, length, get_or}
+use Rattle.std.proofs.Common.{rules, ◌<◌, ◌≤◌, ◌∙◌, sym, arith, refl, length}
 use Rattle.std.proofs.lemmas.Bool.Decides.{nat_tests}
 use Rattle.cf_lexer.proofs.QuoteLemmas.{byte_within, ends_here, ends_text, other_is, quoted_is}
 use Rattle.cf_lexer.proofs.front.quoted.Goals as goal
