@@ -227,7 +227,7 @@ suits_within t m place x r = elim (cases_lt r (length t.rows)) [
     and_true true = refl
     and_true false = refl
 
-best_first_is : (t : Tables) (m : Machine) (place : Place) (x : ℕ) (xs ys : List Candidate) (rows : List ℕ) → xs ≡ candidates t m place x (length t.rows)
+pub best_first_is : (t : Tables) (m : Machine) (place : Place) (x : ℕ) (xs ys : List Candidate) (rows : List ℕ) → xs ≡ candidates t m place x (length t.rows)
     → IsPermutation xs ys → IsSorted by_value ys → rows ≡ map (λ c. c.row) ys → AreBestFirst t m place x rows
 best_first_is t m place x xs ys rows is moved sorted e = rw e (record {
   each = λ r.
@@ -237,8 +237,3 @@ best_first_is t m place x xs ys rows is moved sorted e = rw e (record {
       (sym (list_any-IsPermutation (is_off t m x) xs ys moved) ∙ ap (list_any (is_off t m x)) is ∙ none_off t m x (filter (suits t m place x) (below (length t.rows))))
       (later_all ys (λ k d lt. rw add-one at (sorted k d (omega arith) (omega arith))))) less within;
 })
-
-pub best_first_ok : {E : Type 0} (t : Tables) (m : Machine) (place : Place) (x : ℕ) (xs ys : List Candidate) (r : Result (Vec ℕ Global) E) → xs ≡ candidates t m place x (length t.rows)
-    → IsPermutation xs ys → IsSorted by_value ys → IfOk r (λ rows. rows.items ≡ map (λ c. c.row) ys) → IfOk r (λ rows. AreBestFirst t m place x rows.items)
-best_first_ok t m place x xs ys (Ok rows) is moved sorted e = best_first_is t m place x xs ys rows.items is moved sorted e
-best_first_ok t m place x xs ys (Err e) is moved sorted h = tt

@@ -9,7 +9,7 @@ use Rattle.std.proofs.lemmas.Option.{slice_get_past}
 use Rattle.cf_types.specs.declared.machine.Machine.{Machine}
 use Rattle.cf_types.specs.declared.machine.Spot.{Spot}
 use Rattle.cf_types.specs.declared.tables.Tables.{Tables}
-use Rattle.plain_rows.specs.Suited.{AreBestFirst, AreSuited}
+use Rattle.plain_rows.specs.Suited.{AreSuited, FindsBest}
 
 abbrev pub items_of : List (Vec ℕ Global) → List (List ℕ)
 items_of lists = map (λ list. list.items) lists
@@ -17,7 +17,7 @@ items_of lists = map (λ list. list.items) lists
 -- it is made for the first n spots
 pub record IsIndexedTo (t : Tables) (m : Machine) (n : ℕ) (index : List (List ℕ)) : Type 0 where
   pub spots : length index ≡ n
-  pub rows : (x : ℕ) → x < n → ForSome (slice_get m.spots x) (λ spot. AreBestFirst t m spot.place x (slice_index_or index x []))
+  pub rows : (x : ℕ) → x < n → ForSome (slice_get m.spots x) (λ spot. FindsBest t m spot.place x (slice_index_or index x []))
 
 pub indexed_none : (t : Tables) (m : Machine) → IsIndexedTo t m 0 []
 indexed_none t m = record { spots = refl; rows = λ x lt. absurd (omega arith) }
@@ -40,23 +40,23 @@ some_same : {X : Type 0} (x y : X) → Some x ≡ Some y → x ≡ y
 some_same x y e = cc
 
 pub indexed_more : (t : Tables) (m : Machine) (n : ℕ) (spot : Spot) (lists new : List (Vec ℕ Global)) (list : Vec ℕ Global) → n < length m.spots → spot ≡ get_or m.spots n spot
-    → AreBestFirst t m spot.place n list.items → new ≡ lists ++ list ∷ [] → IsIndexedTo t m n (items_of lists) → IsIndexedTo t m (n + 1) (items_of new)
+    → FindsBest t m spot.place n list.items → new ≡ lists ++ list ∷ [] → IsIndexedTo t m n (items_of lists) → IsIndexedTo t m (n + 1) (items_of new)
 indexed_more t m n spot lists new list lt at best e h =
     let same : items_of new ≡ items_of lists ++ list.items ∷ [] = ap items_of e ∙ map-append (λ (v : Vec ℕ Global). v.items) lists (list ∷ []) in
     subst (IsIndexedTo t m (n + 1)) (sym same) (record {
       spots = omega (arith, length-append (items_of lists) (list.items ∷ []), h.spots);
       rows = λ x less. elim (cases_lt x n) [
         | inl under ↦ λ s is.
-            subst (AreBestFirst t m s.place x) (sym (front (items_of lists) (list.items ∷ []) x [] (omega (arith, h.spots)))) (h.rows x under s is)
+            subst (FindsBest t m s.place x) (sym (front (items_of lists) (list.items ∷ []) x [] (omega (arith, h.spots)))) (h.rows x under s is)
         | inr above ↦
             let here : x ≡ n = omega arith in
-            subst (λ i. ForSome (slice_get m.spots i) (λ s. AreBestFirst t m s.place i (slice_index_or (items_of lists ++ list.items ∷ []) i []))) (sym here)
+            subst (λ i. ForSome (slice_get m.spots i) (λ s. FindsBest t m s.place i (slice_index_or (items_of lists ++ list.items ∷ []) i []))) (sym here)
             (λ s is.
             let its : spot ≡ s = some_same spot s (sym (got m.spots n spot lt at) ∙ is) in
             let rows : slice_index_or (items_of lists ++ list.items ∷ []) n [] ≡ list.items =
             subst (λ i. slice_index_or (items_of lists ++ list.items ∷ []) i [] ≡ list.items) h.spots (last (items_of lists) list.items []) in
-            subst (λ (u : Spot). AreBestFirst t m u.place n (slice_index_or (items_of lists ++ list.items ∷ []) n [])) its
-            (subst (AreBestFirst t m spot.place n) (sym rows) best))
+            subst (λ (u : Spot). FindsBest t m u.place n (slice_index_or (items_of lists ++ list.items ∷ []) n [])) its
+            (subst (FindsBest t m spot.place n) (sym rows) best))
       ];
     })
 

@@ -1,3 +1,5 @@
 pub mod OwnLaws
 pub mod IndexLaws
 pub mod CandidateLaws
+pub mod AlikeLaws
+pub mod StyleLaws

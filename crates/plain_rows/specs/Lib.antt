@@ -2,3 +2,4 @@ pub mod Values
 pub mod Own
 pub mod Suited
 pub mod Taken
+pub mod Styles

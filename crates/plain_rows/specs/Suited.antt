@@ -1,8 +1,9 @@
 -- Which rows suit a spot before any device is live, and which of two is the better there.
-use Rattle.std.specs.Prelude.{◌≡◌, ◌<◌, ℕ, Bool, false, ◌&&◌, ◌||◌, ◌==◌, nat_lt, List, [], length, map, filter, slice_get}
+use Rattle.std.specs.Prelude.{◌≡◌, ◌<◌, ℕ, Bool, true, false, ◌&&◌, ◌||◌, ◌==◌, nat_lt, List, [], length, map, filter, find, slice_get, Option, Some, None, option_map}
 use Rattle.std.specs.List.{slice_index_or}
 use Rattle.std.specs.Option.{option_map_or, ForSome}
 use Rattle.cf_types.specs.declared.machine.Machine.{Machine}
+use Rattle.cf_types.specs.declared.tables.ParentSpec.{ParentSpec}
 use Rattle.cf_types.specs.declared.tables.Place.{Place}
 use Rattle.cf_types.specs.declared.tables.Tables.{Tables}
 use Rattle.cf_types.specs.Gather.{is_in}
@@ -40,7 +41,28 @@ pub record AreBestFirst (t : Tables) (m : Machine) (place : Place) (x : ℕ) (ro
   pub each : (r : ℕ) → is_in r rows ≡ suits t m place x r
   pub order : (i j : ℕ) → i < j → j < length rows → is_better t m x (slice_index_or rows j 0) (slice_index_or rows i 0) ≡ false
 
--- for each spot the rows that suit it at its own place, the best first
+-- what decides whether a row is open, once the devices and the parent are known: its driver, its unit, whether it is starred, and the
+-- parent that it names
+abbrev pub key_of : Tables → ℕ → Option (ℕ × ℕ × Bool × Option ParentSpec)
+key_of t r = option_map (λ row. (row.device, row.unit, row.star, row.parent)) (slice_get t.rows r)
+
+-- a test answers alike for rows that are alike
+abbrev pub TellsAlike : Tables → (ℕ → Bool) → Type 0
+TellsAlike t p = (q r : ℕ) → key_of t q ≡ key_of t r → p q ≡ p r
+
+-- by such a test the same row is found in two lists
+abbrev pub FindsAlike : Tables → List ℕ → List ℕ → Type 0
+FindsAlike t all rows = (p : ℕ → Bool) → TellsAlike t p → find p rows ≡ find p all
+
+-- by such a test the first that passes suits the spot at the place, and no row that suits it and passes is better; where none passes, no row
+-- that suits it does
+pub record FindsBest (t : Tables) (m : Machine) (place : Place) (x : ℕ) (rows : List ℕ) : Type 0 where
+  pub none : (p : ℕ → Bool) → TellsAlike t p → find p rows ≡ None → (r : ℕ) → suits t m place x r ≡ true → p r ≡ false
+  pub suited : (p : ℕ → Bool) → TellsAlike t p → (b : ℕ) → find p rows ≡ Some b → suits t m place x b ≡ true
+  pub passes : (p : ℕ → Bool) → TellsAlike t p → (b : ℕ) → find p rows ≡ Some b → p b ≡ true
+  pub best : (p : ℕ → Bool) → TellsAlike t p → (b : ℕ) → find p rows ≡ Some b → (r : ℕ) → suits t m place x r ≡ true → p r ≡ true → is_better t m x r b ≡ false
+
+-- for each spot rows by which the best at its own place is found
 pub record AreSuited (t : Tables) (m : Machine) (lists : List (List ℕ)) : Type 0 where
   pub spots : length lists ≡ length m.spots
-  pub rows : (x : ℕ) → ForSome (slice_get m.spots x) (λ spot. AreBestFirst t m spot.place x (slice_index_or lists x []))
+  pub rows : (x : ℕ) → ForSome (slice_get m.spots x) (λ spot. FindsBest t m spot.place x (slice_index_or lists x []))

@@ -1,22 +1,24 @@
 //! The rows that suit each spot, the best first.
-ghost use Rattle.std.specs.Prelude.{◌≡◌, ◌≤◌, ◌&&◌, nat_lt, [], length, map, IfOk};
+ghost use Rattle.std.specs.Prelude.{◌≡◌, ◌≤◌, ◌<◌, ◌-◌, ◌&&◌, nat_lt, [], length, map, IfOk, IsTrue};
 ghost use Rattle.std.specs.List.{slice_index_or};
 ghost use Rattle.cf_types.specs.Locators.{locators_at, submatch};
 ghost use Rattle.run_rules.specs.Search.{found_at};
 ghost use Rattle.run_rules.specs.World as world;
-ghost use Rattle.plain_rows.specs.Suited.{AreBestFirst, AreSuited, candidates};
+ghost use Rattle.plain_rows.specs.Suited.{AreSuited, FindsAlike, FindsBest, candidates, key_of};
+ghost use Rattle.plain_rows.specs.declared.suited.Candidate.{Candidate as Given};
 ghost use Rattle.plain_rows.specs.Values.{AreValuesAt};
 
 use crate::lines::own_lines;
 use crate::values::{set_values, value_of, values_at};
-use cf_types::{Locs, Machine, Memory, Place, Row, Tables};
+use cf_types::{Locs, Machine, Memory, ParentSpec, Place, Row, Tables};
 use locator_rules::submatch;
 use std::alloc::Global;
 use std::cmp::Reverse;
 use std::marker::Model;
 
 /// For each spot the rows that suit it at its own place: those of a match value above 0 whose locator values fit what is
-/// found there, the best first. Contracts see a list of rows for each spot.
+/// found there, the best first. Of rows one after the other that are alike only the first is there, since no other is ever
+/// taken. Contracts see a list of rows for each spot.
 #[derive(Drop)]
 pub struct Suited {
     lists: Vec<Vec<u32>>,
@@ -104,13 +106,50 @@ fn suiting_rows(
     Ok(list)
 }
 
-/// The rows of candidates.
-fn rows_of(list: &Vec<Candidate>) -> Result<Vec<u32>, Memory>
-    ensures { IfOk result (λ rows. rows.items ≡ map (λ c. c.row) list.now.items) }
+/// Whether two parents that rows name are the same.
+fn same_parent(a: Option<ParentSpec>, b: Option<ParentSpec>) -> bool
+    ensures { IsTrue result → a ≡ b }
 {
-    let mut rows = Vec::with_capacity(*list.allocator(), list.len())?;
-    for candidate in list {
-        rows.push(candidate.row)?;
+    match (a, b) {
+        (None, None) => true,
+        (Some(a), Some(b)) => a.device == b.device && a.unit == b.unit,
+        _ => false,
+    }
+}
+
+/// Whether two rows are of one driver and unit, both starred or not, and name the same parent: no search takes the second.
+fn is_alike(tables: &Tables, first: u32, second: u32) -> bool
+    ensures { IsTrue result → key_of tables.now first ≡ key_of tables.now second }
+{
+    let rows = tables.rows.items();
+    match (rows.get(first as usize), rows.get(second as usize)) {
+        (Some(a), Some(b)) => {
+            a.device == b.device
+                && a.unit == b.unit
+                && a.star == b.star
+                && same_parent(a.parent, b.parent)
+        }
+        _ => false,
+    }
+}
+
+/// Whether the candidate at a place is alike to the one before it.
+fn repeats(tables: &Tables, list: &[Candidate], place: usize) -> bool
+    requires { place < length list.now }
+    ensures { IsTrue result → (0 < place) × ((c d : Given) → key_of tables.now (slice_index_or list.now (place - 1) c).row ≡ key_of tables.now (slice_index_or list.now place d).row) }
+{
+    place > 0 && is_alike(tables, list[place - 1].row, list[place].row)
+}
+
+/// The rows of candidates, without those that are alike to the one before.
+fn rows_of(tables: &Tables, list: &Vec<Candidate>) -> Result<Vec<u32>, Memory>
+    ensures { IfOk result (λ rows. FindsAlike tables.now (map (λ c. c.row) list.now.items) rows.items) }
+{
+    let mut rows = Vec::new(*list.allocator());
+    for place in 0..list.len() {
+        if !repeats(tables, list, place) {
+            rows.push(list[place].row)?;
+        }
     }
     Ok(rows)
 }
@@ -125,11 +164,11 @@ fn best_first(
 ) -> Result<Vec<u32>, Memory>
     requires few { length tables.now.rows ≤ 8192 }
     requires values { AreValuesAt machine.now spot values.now.items }
-    ensures { IfOk result (λ rows. AreBestFirst tables.now machine.now place spot rows.items) }
+    ensures { IfOk result (λ rows. FindsBest tables.now machine.now place spot rows.items) }
 {
     let mut list = suiting_rows(tables, machine, values, place, spot)?;
     list.sort()?;
-    rows_of(&list)
+    rows_of(tables, &list)
 }
 
 impl Suited {

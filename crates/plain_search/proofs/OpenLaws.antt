@@ -2,13 +2,14 @@
 use Rattle.std.proofs.Common.{◌≡◌, ℕ, suc, ◌+◌, ◌<◌, ◌≤◌, Bool, true, false, not, ◌&&◌, ◌||◌, ◌==◌, nat_lt, cond, List, [], ◌∷◌, length, find, Option, Some, None, slice_get, slice_index_or, refl, sym, ◌∙◌, ap, subst, inl, inr, eq-eqb, arith}
 use Rattle.std.specs.List.{AllByRecursion, count_by, list_any}
 use Rattle.std.specs.Option.{option_map_or}
-use Rattle.std.specs.Prelude.{◌⊎◌}
+use Rattle.std.specs.Prelude.{option_map}
 use Rattle.std.proofs.lemmas.Bool.{cases_lt, eqb-true}
 use Rattle.std.proofs.lemmas.Bool.Decides.{nat_tests}
 use Rattle.std.proofs.lemmas.List.Sums.{sum_by-append}
 use Rattle.std.proofs.lemmas.Option.{slice_get_past}
 use Rattle.cf_types.specs.declared.machine.Machine.{Machine}
 use Rattle.cf_types.specs.declared.machine.Spot.{Spot}
+use Rattle.cf_types.specs.declared.tables.ParentSpec.{ParentSpec}
 use Rattle.cf_types.specs.declared.tables.Place.{Place}
 use Rattle.cf_types.specs.declared.tables.Place.TheVariants.{Root, At}
 use Rattle.cf_types.specs.declared.tables.Row.{Row}
@@ -23,75 +24,12 @@ use Rattle.run_rules.specs.World.{driver_of, row_at, same_place}
 use Rattle.run_rules.proofs.Below.{and_both}
 use Rattle.run_rules.proofs.Turns.{find_same}
 use Rattle.run_rules.proofs.Winner.{IsBest, winner_is}
-use Rattle.plain_rows.specs.Suited.{AreBestFirst, AreSuited, is_better, suits}
+use Rattle.plain_rows.specs.Suited.{AreSuited, FindsBest, TellsAlike, key_of, suits}
 use Rattle.plain_rows.specs.Taken.{AreTakers, one_if, takers}
 use Rattle.plain_search.specs.Open.{hangs_at, is_open_to, open_by}
 
--- ---- the first of a list that passes
-
-or_cases : (a b : Bool) → (a || b) ≡ true → (a ≡ true) ⊎ (b ≡ true)
-or_cases true b h = inl refl
-or_cases false b h = inr h
-
 clash : (b : Bool) → b ≡ true → b ≡ false → ⊥
 clash b h k = absurd cc
-
-or_right : (a b : Bool) → b ≡ true → (a || b) ≡ true
-or_right true b h = refl
-or_right false b h = h
-
-all_in : (P : ℕ → Type 0) (xs : List ℕ) (q : ℕ) → AllByRecursion P xs → is_in q xs ≡ true → P q
-all_in P [] q all h = absurd cc
-all_in P (x ∷ xs) q all h = elim (or_cases (x == q) (is_in q xs) h) [
-  | inl here ↦ subst P (eqb-true x q here) all.0
-  | inr more ↦ all_in P xs q all.1 more
-]
-
-none_passes : (p : ℕ → Bool) (xs : List ℕ) → find p xs ≡ None → (q : ℕ) → is_in q xs ≡ true → p q ≡ false
-none_passes p [] e q h = absurd cc
-none_passes p (x ∷ xs) e q h = cases (λ k more. none_passes p xs k q more) (p x) refl e
-  where
-    cases : (find p xs ≡ None → is_in q xs ≡ true → p q ≡ false) → (b : Bool) → p x ≡ b → cond b (Some x) (find p xs) ≡ None → p q ≡ false
-    cases rest true here k = absurd cc
-    cases rest false here k = elim (or_cases (x == q) (is_in q xs) h) [
-      | inl same ↦ subst (λ i. p i ≡ false) (eqb-true x q same) here
-      | inr more ↦ rest k more
-    ]
-
--- it is there and passes, and each other one that passes comes after it
-record IsFirst (p : ℕ → Bool) (R : ℕ → ℕ → Type 0) (xs : List ℕ) (b : ℕ) : Type 0 where
-  there : is_in b xs ≡ true
-  passes : p b ≡ true
-  others : (q : ℕ) → is_in q xs ≡ true → p q ≡ true → (q ≡ b) ⊎ R b q
-
-some_same : (x y : ℕ) → Some x ≡ Some y → x ≡ y
-some_same x y e = cc
-
-first_passes : (p : ℕ → Bool) (R : ℕ → ℕ → Type 0) (xs : List ℕ) (b : ℕ) → EachLater R xs → find p xs ≡ Some b → IsFirst p R xs b
-first_passes p R [] b order e = absurd cc
-first_passes p R (x ∷ xs) b order e = cases (λ k. first_passes p R xs b order.1 k) (p x) refl e
-  where
-    cases : (find p xs ≡ Some b → IsFirst p R xs b) → (t : Bool) → p x ≡ t → cond t (Some x) (find p xs) ≡ Some b → IsFirst p R (x ∷ xs) b
-    cases more true here k =
-        let same : x ≡ b = some_same x b k in
-        subst (IsFirst p R (x ∷ xs)) same (record {
-          there = ap (λ t. t || is_in x xs) (eq-eqb x x refl);
-          passes = here;
-          others = λ q h pass. elim (or_cases (x == q) (is_in q xs) h) [
-            | inl it ↦ inl (sym (eqb-true x q it))
-            | inr later ↦ inr (all_in (R x) xs q order.0 later)
-          ];
-        })
-    cases more false here k =
-        let rest = more k in
-        record {
-          there = or_right (x == b) (is_in b xs) rest.there;
-          passes = rest.passes;
-          others = λ q h pass. elim (or_cases (x == q) (is_in q xs) h) [
-            | inl it ↦ absurd (clash (p q) pass (subst (λ i. p i ≡ false) (eqb-true x q it) here))
-            | inr later ↦ rest.others q later pass
-          ];
-        }
 
 -- ---- which rows are candidates
 
@@ -141,14 +79,19 @@ suits_within s place x r h = elim (cases_lt r (length s.tables.rows)) [
   | inr past ↦ let no_row : false ≡ true = rw (slice_get_past s.tables.rows r past) at h in absurd cc
 ]
 
--- each comes before each later one
-places_all : (P : ℕ → Type 0) (xs : List ℕ) → ((i : ℕ) → i < length xs → P (slice_index_or xs i 0)) → AllByRecursion P xs
-places_all P [] h = tt
-places_all P (x ∷ xs) h = (h 0 (omega arith), places_all P xs (λ i lt. h (suc i) (omega arith)))
+-- whether a row is open depends on its driver, its unit, its star and its parent alone
+abbrev open_of : Setup → List Dev → ParentRef → Option (ℕ × ℕ × Bool × Option ParentSpec) → Bool
+open_of s live p o = option_map_or (λ k. (k.2 || not (is_taken s live k.0 k.1)) && names_parent k.3 p) o false
 
-pairs_later : (R : ℕ → ℕ → Type 0) (xs : List ℕ) → ((i j : ℕ) → i < j → j < length xs → R (slice_index_or xs i 0) (slice_index_or xs j 0)) → EachLater R xs
-pairs_later R [] h = tt
-pairs_later R (x ∷ xs) h = (places_all (R x) xs (λ j lt. h 0 (suc j) (omega arith) (omega arith)), pairs_later R xs (λ i j less within. h (suc i) (suc j) (omega arith) (omega arith)))
+open_by_key : (s : Setup) (live : List Dev) (p : ParentRef) (i : ℕ) → is_open_to s live p i ≡ open_of s live p (key_of s.tables i)
+open_by_key s live p i = cases (slice_get s.tables.rows i)
+  where
+    cases : (o : Option Row) → option_map_or (λ row. is_live_row s live row && names_parent row.parent p) o false ≡ open_of s live p (option_map (λ row. (row.device, row.unit, row.star, row.parent)) o)
+    cases None = refl
+    cases (Some row) = refl
+
+open_alike : (s : Setup) (live : List Dev) (p : ParentRef) → TellsAlike s.tables (is_open_to s live p)
+open_alike s live p q r same = open_by_key s live p q ∙ ap (open_of s live p) same ∙ sym (open_by_key s live p r)
 
 -- ---- the first open one is the best
 
@@ -158,36 +101,31 @@ not_above v w q b h = grind (arith, nat_tests)
 below_earlier : (v w q b : ℕ) → (nat_lt w v || (v == w && nat_lt q b)) ≡ false → q < b → v < w
 below_earlier v w q b h lt = grind (arith, nat_tests)
 
-listed_best : (s : Setup) (live : List Dev) (p : ParentRef) (place : Place) (x : ℕ) (rows : List ℕ) → parent_offers s.tables p place ≡ true → AreBestFirst s.tables s.machine place x rows
+listed_best : (s : Setup) (live : List Dev) (p : ParentRef) (place : Place) (x : ℕ) (rows : List ℕ) → parent_offers s.tables p place ≡ true → FindsBest s.tables s.machine place x rows
     → IsBest (is_candidate s live p place x) (λ q. value_of s q x) (length s.tables.rows) (find (is_open_to s live p) rows)
 listed_best s live p place x rows offered h = cases (find (is_open_to s live p) rows) refl
   where
-    -- a candidate is listed and open
-    both : (q : ℕ) → is_candidate s live p place x q ≡ true → (is_open_to s live p q ≡ true) × (is_in q rows ≡ true)
-    both q may =
-        let parts = and_both (is_open_to s live p q) (suits s.tables s.machine place x q) (sym (candidate_is s live p place x q offered) ∙ may) in
-        (parts.0, h.each q ∙ parts.1)
+    tells : TellsAlike s.tables (is_open_to s live p)
+    tells = open_alike s live p
 
-    fails : (q : ℕ) (b : Bool) → is_candidate s live p place x q ≡ b → (is_in q rows ≡ true → is_open_to s live p q ≡ false) → b ≡ false
+    -- a candidate is open and suits
+    both : (q : ℕ) → is_candidate s live p place x q ≡ true → (is_open_to s live p q ≡ true) × (suits s.tables s.machine place x q ≡ true)
+    both q may = and_both (is_open_to s live p q) (suits s.tables s.machine place x q) (sym (candidate_is s live p place x q offered) ∙ may)
+
+    fails : (q : ℕ) (b : Bool) → is_candidate s live p place x q ≡ b → (suits s.tables s.machine place x q ≡ true → is_open_to s live p q ≡ false) → b ≡ false
     fails q false e shut = refl
-    fails q true e shut = let parts = both q e in let shut_too : is_open_to s live p q ≡ false = shut parts.1 in absurd (clash (is_open_to s live p q) parts.0 shut_too)
+    fails q true e shut = let parts = both q e in absurd (clash (is_open_to s live p q) parts.0 (shut parts.1))
 
     cases : (o : Option ℕ) → find (is_open_to s live p) rows ≡ o → IsBest (is_candidate s live p place x) (λ q. value_of s q x) (length s.tables.rows) o
-    cases None e = λ q lt. fails q (is_candidate s live p place x q) refl (none_passes (is_open_to s live p) rows e q)
+    cases None e = λ q lt. fails q (is_candidate s live p place x q) refl (h.none (is_open_to s live p) tells e q)
     cases (Some b) e =
-        let first = first_passes (is_open_to s live p) (λ q r. is_better s.tables s.machine x r q ≡ false) rows b (pairs_later (λ q r. is_better s.tables s.machine x r q ≡ false) rows h.order) e in
-        let suited : suits s.tables s.machine place x b ≡ true = sym (h.each b) ∙ first.there in
+        let suited = h.suited (is_open_to s live p) tells b e in
+        let passes = h.passes (is_open_to s live p) tells b e in
         record {
           in_range = suits_within s place x b suited;
-          candidate = candidate_is s live p place x b offered ∙ rw (first.passes, suited) refl;
-          no_greater = λ q lt may. let parts = both q may in elim (first.others q parts.1 parts.0) [
-            | inl same ↦ rw same (omega arith)
-            | inr after ↦ not_above (value_of s q x) (value_of s b x) q b after
-          ];
-          no_earlier = λ q lt may. let parts = both q may in elim (first.others q parts.1 parts.0) [
-            | inl same ↦ absurd (omega arith)
-            | inr after ↦ below_earlier (value_of s q x) (value_of s b x) q b after lt
-          ];
+          candidate = candidate_is s live p place x b offered ∙ rw (passes, suited) refl;
+          no_greater = λ q lt may. let parts = both q may in not_above (value_of s q x) (value_of s b x) q b (h.best (is_open_to s live p) tells b e q parts.1 parts.0);
+          no_earlier = λ q lt may. let parts = both q may in below_earlier (value_of s q x) (value_of s b x) q b (h.best (is_open_to s live p) tells b e q parts.1 parts.0) lt;
         }
 
 -- ---- of the list of a spot
@@ -199,12 +137,12 @@ place_is Root (At b) h = absurd cc
 place_is (At a) Root h = absurd cc
 
 listed : (s : Setup) (place : Place) (x : ℕ) (lists : List (List ℕ)) → AreSuited s.tables s.machine lists → hangs_at s.machine x place ≡ true
-    → AreBestFirst s.tables s.machine place x (slice_index_or lists x [])
+    → FindsBest s.tables s.machine place x (slice_index_or lists x [])
 listed s place x lists h at = cases (slice_get s.machine.spots x) refl at
   where
-    cases : (o : Option Spot) → slice_get s.machine.spots x ≡ o → option_map_or (λ spot. same_place spot.place place) o false ≡ true → AreBestFirst s.tables s.machine place x (slice_index_or lists x [])
+    cases : (o : Option Spot) → slice_get s.machine.spots x ≡ o → option_map_or (λ spot. same_place spot.place place) o false ≡ true → FindsBest s.tables s.machine place x (slice_index_or lists x [])
     cases None e k = absurd cc
-    cases (Some spot) e k = subst (λ u. AreBestFirst s.tables s.machine u x (slice_index_or lists x [])) (place_is spot.place place k) (h.rows x spot e)
+    cases (Some spot) e k = subst (λ u. FindsBest s.tables s.machine u x (slice_index_or lists x [])) (place_is spot.place place k) (h.rows x spot e)
 
 -- ---- by how many devices have the driver and the unit of a row
 

@@ -10,7 +10,7 @@ ghost use Rattle.plain_world.specs.Rules.{AreFit, setup_by};
 
 use crate::seeker::Seeker;
 use cf_types::Memory;
-use plain_rows::{Suited, Taken};
+use plain_rows::{Styles, Suited, Taken};
 use plain_world::{Live, Rules, device_at, driver_of};
 use run_rules::{Arrival, Deed, Dev};
 use std::alloc::Global;
@@ -100,10 +100,12 @@ impl<'a> Seeker<'a> {
     {
         let suited = Suited::make(alloc, rules.tables, rules.machine)?;
         let taken = Taken::make(alloc, rules.tables.rows.items())?;
+        let styles = Styles::make(alloc, rules.machine.styles.items())?;
         Ok(Seeker {
             rules,
             suited,
             taken,
+            styles,
         })
     }
 

@@ -1,17 +1,20 @@
 //! What the search for the next deed uses.
 ghost use Rattle.std.specs.Prelude.{◌≡◌, length};
+ghost use Rattle.plain_rows.specs.Styles.{AreStyles};
 ghost use Rattle.plain_rows.specs.Suited.{AreSuited};
 
-use plain_rows::{Suited, Taken};
+use plain_rows::{Styles, Suited, Taken};
 use plain_world::Rules;
 
-/// What the search for the next deed uses: the rules of a run, for each spot the rows that suit it, and for each row how
+/// What the search for the next deed uses: the rules of a run, for each spot the rows that suit it, the styles, and for each row how
 /// many live devices have its driver and unit.
 #[derive(Drop)]
 pub struct Seeker<'a> {
     pub rules: &'a Rules<'a>,
     pub suited: Suited,
     pub taken: Taken,
+    pub styles: Styles,
     pub ghost listed: { AreSuited rules.now.tables.now rules.now.machine.now suited },
+    pub ghost styled: { AreStyles rules.now.machine.now.styles styles },
     pub ghost counted: { length taken ≡ length rules.now.tables.now.rows },
 }

@@ -13,7 +13,7 @@ ghost use Rattle.plain_search.specs.Open.{Follows, hangs_at};
 
 use crate::matches::{arrival, parent_offers, parent_ref, winner};
 use crate::seeker::Seeker;
-use cf_types::{Place, StyleLine};
+use cf_types::Place;
 use plain_world::{
     Plain, Rules, attach_of, device_at, driver_of, found_at, has_spot, is_occupied, offered,
     same_place, stretch_at,
@@ -281,35 +281,22 @@ fn bus_turn(
     }
 }
 
-fn last_style(lines: &[StyleLine], attach: u32, attr: u32) -> Option<StyleLine>
-    ensures { result ≡ find (λ line. line.attach == attach && line.attr == attr) (reverse lines.now) }
-{
-    lines
-        .iter()
-        .rev()
-        .copied()
-        .find(|line| line.attach == attach && line.attr == attr)
-}
-
 /// The last style line for an attachment and an attribute; direct without one.
-fn is_indirect_by(rules: &Rules, attach: u32, attr: u32) -> bool
-    ensures { result ≡ option_map_or (λ line. line.indirect) (find (λ line. line.attach == attach && line.attr == attr) (reverse rules.now.machine.now.styles)) false }
+fn is_indirect_by(seeker: &Seeker, attach: u32, attr: u32) -> bool
+    ensures { result ≡ option_map_or (λ line. line.indirect) (find (λ line. line.attach == attach && line.attr == attr) (reverse seeker.now.rules.now.machine.now.styles)) false }
 {
-    match last_style(rules.machine.styles.items(), attach, attr) {
-        Some(line) => line.indirect,
-        None => false,
-    }
+    seeker.styles.is_indirect(attach, attr)
 }
 
 /// Whether a device of this attachment searches a place row by row.
 #[tactic(auto, unfolding(run_rules::specs::Search::is_bus_indirect))]
-fn is_indirect(rules: &Rules, attach: Option<u32>, place: Place) -> bool
-    ensures { result ≡ rule.is_bus_indirect rules.now.machine.now attach place }
+fn is_indirect(seeker: &Seeker, attach: Option<u32>, place: Place) -> bool
+    ensures { result ≡ rule.is_bus_indirect seeker.now.rules.now.machine.now attach place }
 {
     match (attach, place) {
         (_, Place::Root) => false,
         (None, Place::At(_)) => false,
-        (Some(attach), Place::At(attr)) => is_indirect_by(rules, attach, attr),
+        (Some(attach), Place::At(attr)) => is_indirect_by(seeker, attach, attr),
     }
 }
 
@@ -346,7 +333,7 @@ fn place_turn(seeker: &Seeker, plain: &Plain, scan: &Going, attr: u16, place: Pl
     let bus = Bus {
         attr,
         place,
-        indirect: is_indirect(seeker.rules, attach, place),
+        indirect: is_indirect(seeker, attach, place),
         offered: parent_offers(seeker.rules, scan.parent, place),
     };
     bus_turn(seeker, plain, scan, spot_of_device(scan.device), bus)
