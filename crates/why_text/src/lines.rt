@@ -1,0 +1,89 @@
+//! The lines of all rows at a spot.
+ghost use Rattle.std.specs.Prelude.{◌≡◌, IfOk, length, map, max};
+ghost use Rattle.why_text.specs.WhyText.{column, head_text, others_text, reason_lines, row_text, told_lines};
+ghost use Rattle.why_text.specs.Looks.{place_in, setup_in};
+ghost use Rattle.plain_world.specs.Rules.{AreFit};
+
+use crate::head::put_head;
+use crate::look::Look;
+use crate::named::place_name;
+use crate::row::row_line;
+use cf_types::{List, Memory, Tables, Text, put_bytes, put_decimal};
+use match_reasons::{RowReason, Told, told_of};
+use plain_world::place_of;
+use std::alloc::Global;
+
+/// The greater of a length and that of the head of a row.
+fn wider(alloc: Global, tables: &Tables, number: u32, width: usize) -> Result<usize, Memory>
+    ensures { IfOk result (λ wide. wide ≡ max width (length (head_text tables.now number))) }
+{
+    let mut head = Vec::new(alloc);
+    put_head(&mut head, tables, number)?;
+    Ok(width.max(head.as_slice().len()))
+}
+
+/// The length of the longest head.
+fn column(alloc: Global, tables: &Tables, rows: &[RowReason]) -> Result<usize, Memory>
+    ensures { IfOk result (λ width. width ≡ column tables.now rows.now) }
+{
+    let mut width = 0usize;
+    for told in rows {
+        let wide = wider(alloc, tables, told.row, width)?;
+        width = wide;
+    }
+    Ok(width)
+}
+
+/// The lines of these rows.
+fn row_lines(
+    alloc: Global,
+    look: &Look,
+    takes: &[u8],
+    width: usize,
+    rows: &[RowReason],
+) -> Result<Vec<Text>, Memory>
+    ensures { IfOk result (λ lines. lines.items ≡ map (row_text takes.now width (setup_in look.now) look.now.live.now.devices look.now.parent look.now.spot) rows.now) }
+{
+    let mut lines = Vec::new(alloc);
+    for told in rows {
+        lines.push(row_line(alloc, look, takes, width, *told)?)?;
+    }
+    Ok(lines)
+}
+
+/// The line that counts the rows that are not told.
+fn others_line(alloc: Global, look: &Look, others: u32) -> Result<Text, Memory>
+    ensures { IfOk result (λ line. line ≡ others_text look.now.rules.now.tables.now (place_in look.now) others) }
+{
+    let mut line = Vec::new(alloc);
+    put_bytes(&mut line, b"rows of drivers that do not attach at ")?;
+    put_bytes(
+        &mut line,
+        place_name(look.rules.tables, place_of(look.rules, look.spot)),
+    )?;
+    put_bytes(&mut line, b": ")?;
+    put_decimal(&mut line, i64::from(others))?;
+    Ok(List::from_vec(line))
+}
+
+/// The lines of what is told of a spot.
+fn told_lines(alloc: Global, look: &Look, takes: &[u8], told: &Told) -> Result<Vec<Text>, Memory>
+    ensures { IfOk result (λ lines. lines.items ≡ told_lines takes.now (setup_in look.now) look.now.live.now.devices look.now.parent look.now.spot told.now) }
+{
+    let rows = told.rows.items();
+    let width = column(alloc, look.rules.tables, rows)?;
+    let mut lines = row_lines(alloc, look, takes, width, rows)?;
+    let last = others_line(alloc, look, told.others)?;
+    lines.push(last)?;
+    Ok(lines)
+}
+
+/// A line for each row whose device has an attachment at the place of the spot, with the reason why the row does not take
+/// the spot, or with these words if it has none; then a line with the count of the other rows.
+pub fn reason_lines(alloc: Global, look: &Look, takes: &[u8]) -> Result<Vec<Text>, Memory>
+    requires { AreFit look.now.rules.now }
+    ensures { IfOk result (λ lines. lines.items ≡ reason_lines takes.now (setup_in look.now) look.now.live.now.devices look.now.parent look.now.spot) }
+{
+    let told = told_of(alloc, look.rules, look.live, look.parent, look.spot)?;
+    told_lines(alloc, look, takes, &told)
+}

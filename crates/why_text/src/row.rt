@@ -1,0 +1,68 @@
+//! The line of a row.
+ghost use Rattle.std.specs.Prelude.{◌≡◌, ◌++◌, IfOk, OnOk, replicate};
+ghost use Rattle.why_text.specs.WhyText.{padded, row_reason_text, row_text, why_text};
+ghost use Rattle.why_text.specs.Looks.{setup_in};
+
+use crate::head::put_head;
+use crate::look::Look;
+use crate::words::put_reason;
+use cf_types::{List, Memory, Text, put_bytes};
+use match_reasons::{Reason, RowReason};
+use plain_world::row_at;
+use std::alloc::Global;
+
+/// So many blanks.
+fn put_blanks(out: &mut Vec<u8>, count: usize) -> Result<(), Memory>
+    ensures { OnOk result (out.new.items ≡ out.old.items ++ replicate count 32) }
+{
+    for _place in 0..count {
+        out.push(b' ')?;
+    }
+    Ok(())
+}
+
+/// Blanks behind a text, up to a column.
+fn pad(line: &mut Vec<u8>, width: usize) -> Result<(), Memory>
+    ensures { OnOk result (line.new.items ≡ padded width line.old.items) }
+{
+    let length = line.as_slice().len();
+    put_blanks(line, width.saturating_sub(length))
+}
+
+/// Why the row of a number does not take the spot; nothing if there is no such row.
+fn put_reason_of(out: &mut Vec<u8>, look: &Look, number: u32, reason: Reason) -> Result<(), Memory>
+    ensures { OnOk result (out.new.items ≡ out.old.items ++ row_reason_text (setup_in look.now) look.now.live.now.devices look.now.parent look.now.spot number reason) }
+{
+    match row_at(look.rules, number) {
+        Some(row) => put_reason(out, look, number, row, reason),
+        None => Ok(()),
+    }
+}
+
+/// Why a row does not take the spot, or these words if it does.
+fn put_why(out: &mut Vec<u8>, look: &Look, takes: &[u8], told: RowReason) -> Result<(), Memory>
+    ensures { OnOk result (out.new.items ≡ out.old.items ++ why_text takes.now (setup_in look.now) look.now.live.now.devices look.now.parent look.now.spot told) }
+{
+    match told.reason {
+        Some(reason) => put_reason_of(out, look, told.row, reason),
+        None => put_bytes(out, takes),
+    }
+}
+
+/// The line of a row: its head, and why it does not take the spot, or these words if it does.
+pub fn row_line(
+    alloc: Global,
+    look: &Look,
+    takes: &[u8],
+    width: usize,
+    told: RowReason,
+) -> Result<Text, Memory>
+    ensures { IfOk result (λ line. line ≡ row_text takes.now width (setup_in look.now) look.now.live.now.devices look.now.parent look.now.spot told) }
+{
+    let mut line = Vec::new(alloc);
+    put_head(&mut line, look.rules.tables, told.row)?;
+    pad(&mut line, width)?;
+    put_bytes(&mut line, b"  ")?;
+    put_why(&mut line, look, takes, told)?;
+    Ok(List::from_vec(line))
+}
