@@ -82,12 +82,12 @@ left_out_words() {
 }
 
 long_free() {
-    one_line 524000 'file a' ' ,' >part
+    one_line 520000 'file a x' '|x' >part
     each "$1" 'include "part"' >conf
 }
 
 short_free() {
-    one_line 8100 'file a' ' ,' >part
+    one_line 8100 'file a x' '|x' >part
     each "$1" 'include "part"' >conf
 }
 
