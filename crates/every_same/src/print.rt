@@ -135,7 +135,7 @@ fn hardware_print(plain: &Plain) -> u64
         .refs
         .iter()
         .fold(print, |print, held| mix_ref(print, held));
-    mix_spots(mix_spots(print, &plain.absent), &plain.hidden)
+    mix_spots(mix_spots(print, plain.absent.spots()), plain.hidden.spots())
 }
 
 /// A print with deferred scans more.

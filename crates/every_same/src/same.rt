@@ -152,8 +152,8 @@ pub fn same_world(a: &Plain, b: &Plain) -> bool
     a.live.is_same(&b.live)
         && same_all(&a.refs, &b.refs)
         && same_all(&a.sole, &b.sole)
-        && same_all(&a.absent, &b.absent)
-        && same_all(&a.hidden, &b.hidden)
+        && same_all(a.absent.spots(), b.absent.spots())
+        && same_all(a.hidden.spots(), b.hidden.spots())
         && a.interrupts_on == b.interrupts_on
         && a.power_owner == b.power_owner
         && same_all(&a.deferred, &b.deferred)

@@ -284,13 +284,6 @@ pub fn search(
     arrive(alloc, rules, plain, caller, got, true)
 }
 
-/// Removes a spot from a list.
-pub fn remove_spot(spots: &mut Vec<u16>, spot: u16)
-    ensures { spots.new.items ≡ filter (λ y. not (y == spot)) spots.old.items }
-{
-    spots.retain(|other| *other != spot);
-}
-
 /// A late spot is seen from now on.
 fn show(plain: &mut Plain, spot: Option<u16>)
     ensures world { (s : Setup) → world_of s plain.new ≡ after.show_spot (world_of s plain.old) spot }
@@ -298,7 +291,7 @@ fn show(plain: &mut Plain, spot: Option<u16>)
     ensures next { plain.new.live.next ≡ plain.old.live.next }
 {
     if let Some(spot) = spot {
-        remove_spot(&mut plain.hidden, spot);
+        plain.hidden.remove(spot);
     }
 }
 

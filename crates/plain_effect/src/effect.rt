@@ -1,5 +1,5 @@
 //! The world after a deed of a command. See drvctl(8), config_detach(9) and pmf(9).
-ghost use Rattle.std.specs.Prelude.{◌≡◌, ◌<◌, ◌-◌, ◌^◌, ◌∷◌, [], not, ◌==◌, true, IfOk, OnOk, filter, map, position};
+ghost use Rattle.std.specs.Prelude.{◌≡◌, ◌<◌, ◌-◌, ◌^◌, true, IfOk, OnOk, position};
 ghost use Rattle.run_rules.specs.After as after;
 ghost use Rattle.run_rules.specs.Next as next;
 ghost use Rattle.run_rules.specs.References.{given_back, is_of, shared_again};
@@ -10,9 +10,7 @@ ghost use Rattle.plain_effect.specs.Effects.{HasPlace, is_quiet};
 ghost use Rattle.plain_world.specs.Plain.{HasCaller, state_at, world_of};
 ghost use Rattle.plain_world.specs.Rules.{AreFit, setup_by};
 
-use crate::after::{
-    begin, begin_interrupts, end_scan, finalise, finish, push, remove_spot, search,
-};
+use crate::after::{begin, begin_interrupts, end_scan, finalise, finish, push, search};
 use cf_types::{Command, Given, Memory};
 use plain_world::{Caller, Plain, Rules, command_of, wanted_by};
 use run_rules::{Activity, Deed, Frame, Position, Ref};
@@ -175,15 +173,6 @@ fn rescan(
     push(plain, caller, frame)
 }
 
-/// The hardware of a spot goes.
-fn pull(absent: &mut Vec<u16>, spot: u16) -> Result<(), Memory>
-    ensures { OnOk result (absent.new.items ≡ spot ∷ filter (λ y. not (y == spot)) absent.old.items) }
-{
-    remove_spot(absent, spot);
-    absent.insert(0, spot)?;
-    Ok(())
-}
-
 /// A device and all that is below it are condemned: the caller frees them from now on.
 fn detach(alloc: Global, plain: &mut Plain, caller: u8, of: u64) -> Result<(), Memory>
     requires caller { HasCaller plain.old caller 500 }
@@ -206,7 +195,7 @@ fn unplug(
     requires caller { HasCaller plain.old caller 500 }
     ensures { (s : Setup) → OnOk result (world_of s plain.new ≡ after.after (world_of s plain.old) caller (deeds.Unplug spot of)) }
 {
-    pull(&mut plain.absent, spot)?;
+    plain.absent.put_first(spot)?;
     match of {
         Some(serial) => detach(alloc, plain, caller, serial),
         None => {
@@ -261,7 +250,7 @@ fn do_quietly(plain: &mut Plain, caller: u8, deed: &Deed)
         Deed::Sleep { of } => rest(plain, of, true),
         Deed::Wake { of } => rest(plain, of, false),
         Deed::Plug { spot } => {
-            remove_spot(&mut plain.absent, spot);
+            plain.absent.remove(spot);
             finish(plain, caller);
         }
         Deed::Refuse(_) => finish(plain, caller),

@@ -3,3 +3,4 @@ pub mod Ready
 pub mod Kept
 pub mod Stands
 pub mod StretchLaws
+pub mod MarkLaws

@@ -4,3 +4,4 @@ pub mod Standing
 pub mod Noted
 pub mod Wanted
 pub mod Stretches
+pub mod Marks

@@ -6,6 +6,7 @@ mod live;
 mod look;
 mod rules;
 mod script;
+mod spot_list;
 mod spots;
 mod stretch;
 mod wanted;
@@ -18,10 +19,11 @@ pub use look::{
     is_sole, is_under, refers, spot_of,
 };
 pub use rules::{
-    Rules, attach_of, attr_named, driver_of, found_at, has, has_spot, is_bad, is_nothing,
-    is_number, offered, place_of, policy_of, row_at, same_place, spot_named,
+    Rules, attach_of, attr_named, driver_of, found_at, has, is_bad, is_nothing, is_number, offered,
+    place_of, policy_of, row_at, same_place, spot_named,
 };
 pub use script::{command_at, command_of, has_ended, over_of};
+pub use spot_list::SpotList;
 pub use stretch::{Stretch, stretch_at, stretches_of};
 pub use wanted::{wanted_by, wanted_of};
 pub use world::{Plain, copied, opening};

@@ -9,6 +9,7 @@ ghost use Rattle.plain_world.specs.Rules.{setup_by, AreFit};
 use crate::caller::Caller;
 use crate::live::Live;
 use crate::rules::Rules;
+use crate::spot_list::SpotList;
 use cf_types::Memory;
 use run_rules::{Deferred, Ref};
 use std::alloc::Global;
@@ -22,8 +23,8 @@ pub struct Plain {
     pub refs: Vec<Ref>,
     pub sole: Vec<u64>,
     /// The spots without hardware, and the late spots that no finalizer has shown yet.
-    pub absent: Vec<u16>,
-    pub hidden: Vec<u16>,
+    pub absent: SpotList,
+    pub hidden: SpotList,
     /// Whether interrupts work.
     pub interrupts_on: bool,
     /// The caller that has the power turn.
@@ -59,11 +60,11 @@ fn is_absent(rules: &Rules, spot: u16) -> bool
 }
 
 /// The late spots.
-fn late_spots(alloc: Global, rules: &Rules) -> Result<Vec<u16>, Memory>
+fn late_spots(alloc: Global, rules: &Rules) -> Result<SpotList, Memory>
     requires { AreFit rules.now }
-    ensures { IfOk result (λ spots. spots.items ≡ world.late_spots (setup_by rules.now)) }
+    ensures { IfOk result (λ spots. spots ≡ world.late_spots (setup_by rules.now)) }
 {
-    let mut spots = Vec::new(alloc);
+    let mut spots = SpotList::make(alloc);
     for spot in 0..rules.machine.spots.len() as u16 {
         if is_late(rules, spot) {
             spots.push(spot)?;
@@ -73,11 +74,11 @@ fn late_spots(alloc: Global, rules: &Rules) -> Result<Vec<u16>, Memory>
 }
 
 /// The spots without hardware.
-fn absent_spots(alloc: Global, rules: &Rules) -> Result<Vec<u16>, Memory>
+fn absent_spots(alloc: Global, rules: &Rules) -> Result<SpotList, Memory>
     requires { AreFit rules.now }
-    ensures { IfOk result (λ spots. spots.items ≡ world.absent_spots (setup_by rules.now)) }
+    ensures { IfOk result (λ spots. spots ≡ world.absent_spots (setup_by rules.now)) }
 {
-    let mut spots = Vec::new(alloc);
+    let mut spots = SpotList::make(alloc);
     for spot in 0..rules.machine.spots.len() as u16 {
         if is_absent(rules, spot) {
             spots.push(spot)?;
@@ -142,8 +143,8 @@ pub fn copied(alloc: Global, plain: &Plain) -> Result<Plain, Memory>
     let live = plain.live.copied(alloc)?;
     let refs = Vec::from_slice(alloc, &plain.refs)?;
     let sole = Vec::from_slice(alloc, &plain.sole)?;
-    let absent = Vec::from_slice(alloc, &plain.absent)?;
-    let hidden = Vec::from_slice(alloc, &plain.hidden)?;
+    let absent = plain.absent.copied(alloc)?;
+    let hidden = plain.hidden.copied(alloc)?;
     let deferred = Vec::from_slice(alloc, &plain.deferred)?;
     let finalisers = Vec::from_slice(alloc, &plain.finalisers)?;
     let callers = copied_callers(alloc, &plain.callers)?;
