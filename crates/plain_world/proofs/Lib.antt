@@ -4,3 +4,4 @@ pub mod Kept
 pub mod Stands
 pub mod StretchLaws
 pub mod MarkLaws
+pub mod TallyLaws

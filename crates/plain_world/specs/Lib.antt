@@ -5,3 +5,4 @@ pub mod Noted
 pub mod Wanted
 pub mod Stretches
 pub mod Marks
+pub mod Tallies
