@@ -1,4 +1,4 @@
-ghost use Rattle.std.specs.Prelude.{◌≡◌, false, ◌==◌, ◌++◌, ◌∷◌, [], length, MatchOption, OnOk, OnErr};
+ghost use Rattle.std.specs.Prelude.{◌≡◌, false, ◌==◌, ◌++◌, ◌∷◌, [], length, map, MatchOption, OnOk, OnErr};
 ghost use Rattle.std.specs.List.{All, list_any};
 ghost use Rattle.run_rules.specs.After as after;
 ghost use Rattle.defer_queue.specs.Queue.{IsLastPlace, TakesLast, entry_of, entries_of};
@@ -84,6 +84,16 @@ impl Deferred {
             .iter()
             .filter(|entry| same_key(entry.key, key))
             .count()
+    }
+
+    /// Appends the devices whose scans are deferred.
+    pub fn add_children(&self, serials: &mut Vec<u64>) -> Result<(), Memory>
+        ensures { OnOk result (serials.new.items ≡ serials.old.items ++ map (λ e. e.child) self.now) }
+    {
+        for entry in &self.entries {
+            serials.push(entry.child)?;
+        }
+        Ok(())
     }
 
     /// Whether a scan of the device is deferred.

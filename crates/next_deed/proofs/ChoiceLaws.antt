@@ -1,8 +1,10 @@
 -- What keeps devices from going, and which device is found.
-use Rattle.std.proofs.Common.{◌≡◌, ◌<◌, ◌||◌, ◌&&◌, ◌==◌, not, ℕ, Bool, true, false, cond, List, [], ◌∷◌, map, filter, find, Option, Some, None, refl, sym, ap, ◌∙◌, eq-eqb, ne_eqb, arith}
+use Rattle.std.proofs.Common.{◌≡◌, ◌<◌, ◌||◌, ◌&&◌, ◌==◌, not, ℕ, ◌+◌, Bool, true, false, cond, List, [], ◌∷◌, ◌++◌, length, get_or, take, map, filter, find, Option, Some, None, refl, sym, ap, ◌∙◌, eq-eqb, ne_eqb, arith}
 use Rattle.std.specs.Prelude.{IsTrue}
 use Rattle.std.specs.List.{AllByRecursion, Contains, list_any}
 use Rattle.std.specs.Option.{option_map_or}
+use Rattle.std.proofs.lemmas.List.Folds.{list_any-append, list_any_more}
+use Rattle.run_rules.specs.declared.world.Deferred.{Deferred}
 use Rattle.run_rules.specs.declared.world.Dev.{Dev}
 use Rattle.run_rules.specs.declared.world.Setup.{Setup}
 use Rattle.run_rules.specs.World.{World, device_at, device_on, frame_serial, has, holds_in, is_live, is_pinned, is_under, policy_of, serial_of}
@@ -45,6 +47,28 @@ pub pinned_put_off : (s : Setup) (c : Core) (x : ℕ) (cs : List CallerState) (f
     → put ≡ list_any (λ e. e.child == x) c.deferred → put ≡ is_pinned (world_of s c) x
 pinned_put_off s c x cs framed put same is off put_is =
     put_is ∙ sym (pins_are s c x ∙ ap (λ b. b || list_any (λ e. e.child == x) c.deferred) (ap (list_any (λ c. list_any (λ f. frame_serial f == x) c.stack.frames)) (sym same) ∙ sym is ∙ off))
+
+-- the serials of one more caller's frames
+pub pins_more : (cs : List CallerState) (i x : ℕ) (c : CallerState) (old new : List ℕ) → i < length cs → c ≡ get_or cs i c
+    → has old x ≡ list_any (λ c. list_any (λ f. frame_serial f == x) c.stack.frames) (take i cs) → has new x ≡ (has old x || list_any (λ f. frame_serial f == x) c.stack.frames)
+    → has new x ≡ list_any (λ c. list_any (λ f. frame_serial f == x) c.stack.frames) (take (i + 1) cs)
+pins_more cs i x c old new lt is so_far more =
+    more ∙ ap (λ b. b || list_any (λ f. frame_serial f == x) c.stack.frames) so_far
+    ∙ ap (λ (d : CallerState). list_any (λ c. list_any (λ f. frame_serial f == x) c.stack.frames) (take i cs) || list_any (λ f. frame_serial f == x) d.stack.frames) is
+    ∙ sym (list_any_more (λ (c : CallerState). list_any (λ f. frame_serial f == x) c.stack.frames) cs i c lt)
+
+any_child : (x : ℕ) (es : List Deferred) → has (map (λ e. e.child) es) x ≡ list_any (λ e. e.child == x) es
+any_child x [] = refl
+any_child x (e ∷ es) = ap (λ b. e.child == x || b) (any_child x es)
+
+-- with those of the scans that were put off they are the serials of all that is pinned
+pub pinned_all : (s : Setup) (c : Core) (x : ℕ) (cs : List CallerState) (old new : List ℕ) → cs ≡ c.callers.items
+    → has old x ≡ list_any (λ c. list_any (λ f. frame_serial f == x) c.stack.frames) cs → new ≡ old ++ map (λ e. e.child) c.deferred → has new x ≡ is_pinned (world_of s c) x
+pinned_all s c x cs old new same so_far e =
+    ap (λ xs. has xs x) e ∙ list_any-append (λ y. y == x) old (map (λ e. e.child) c.deferred)
+    ∙ ap (λ b. b || has (map (λ e. e.child) c.deferred) x) (so_far ∙ ap (list_any (λ c. list_any (λ f. frame_serial f == x) c.stack.frames)) same)
+    ∙ ap (λ b. list_any (λ c. list_any (λ f. frame_serial f == x) c.stack.frames) c.callers.items || b) (any_child x c.deferred)
+    ∙ sym (pins_are s c x)
 
 -- ---- what is found has its own serial
 
@@ -107,15 +131,18 @@ each_marked p (d ∷ ds) later = (
       (λ e lt is. skip_marked p d ds e.serial lt ∙ is) ds later.0 (each_marked p ds later.1),
 )
 
+all_of : (P : Dev → Type 0) (ds : List Dev) → ((d : Dev) → P d) → AllByRecursion P ds
+all_of P [] h = tt
+all_of P (d ∷ ds) h = (h d, all_of P ds h)
+
 pub marks_are : (w : World) (m : Marked) (target : ℕ) (forced : Bool) → Kept w
-    → m.pinned ≡ serials_where (λ d. is_pinned w d.serial) w.live → m.undetachable ≡ serials_where (λ d. (policy_of w.setup d.row).nodetach) w.live → AreMarksOf w target forced m
+    → ((x : ℕ) → has m.pinned x ≡ is_pinned w x) → ((x : ℕ) → has m.undetachable x ≡ has (serials_where (λ d. (policy_of w.setup d.row).nodetach) w.live) x) → AreMarksOf w target forced m
 marks_are w m target forced kept pinned undetachable =
     record {
-      pinned = all_imp (λ (d : Dev). has (serials_where (λ e. is_pinned w e.serial) w.live) d.serial ≡ is_pinned w d.serial) (λ d. IsTrue (is_under w.live target d.serial) → has m.pinned d.serial ≡ is_pinned w d.serial)
-          (λ d is under. ap (λ xs. has xs d.serial) pinned ∙ is) w.live (each_marked (λ d. is_pinned w d.serial) w.live (serials_rise w kept));
+      pinned = all_of (λ d. IsTrue (is_under w.live target d.serial) → has m.pinned d.serial ≡ is_pinned w d.serial) w.live (λ d under. pinned d.serial);
       undetachable = λ may. all_imp (λ (d : Dev). has (serials_where (λ e. (policy_of w.setup e.row).nodetach) w.live) d.serial ≡ (policy_of w.setup d.row).nodetach)
           (λ d. IsTrue (is_under w.live target d.serial) → has m.undetachable d.serial ≡ (policy_of w.setup d.row).nodetach)
-          (λ d is under. ap (λ xs. has xs d.serial) undetachable ∙ is) w.live (each_marked (λ d. (policy_of w.setup d.row).nodetach) w.live (serials_rise w kept));
+          (λ d is under. undetachable d.serial ∙ is) w.live (each_marked (λ d. (policy_of w.setup d.row).nodetach) w.live (serials_rise w kept));
     }
 
 pub hindered_by : (w : World) (m : Marked) (s k : ℕ) (forced : Bool) → AreMarksOf w s forced m → serial_of (hindrance w.live w.refs m s k forced) ≡ serial_of (hindered w s k forced)

@@ -3,14 +3,14 @@ ghost use Rattle.std.specs.Prelude.{◌≡◌, ◌==◌, [], ℕ, Bool, IfOk, Is
 ghost use Rattle.std.specs.List.{list_any};
 ghost use Rattle.run_rules.specs.Next as next;
 ghost use Rattle.run_rules.specs.World as world;
-ghost use Rattle.run_rules.specs.World.{frame_serial};
+ghost use Rattle.run_rules.specs.World.{frame_serial, has};
 ghost use Rattle.run_rules.specs.declared.world.Setup as from;
 ghost use Rattle.detach_engine.specs.Hindrance.{AreMarksOf};
 ghost use Rattle.run_sound.specs.Kept.{Kept};
 ghost use Rattle.next_deed.specs.Choices.{keeps, serials_where};
 ghost use Rattle.run_world.specs.View.{world_of};
 
-use cf_types::{List, Memory};
+use cf_types::Memory;
 use detach_engine::{Marks, hindered};
 use run_rules::{Dev, Setup};
 use run_world::{CallerState, Core, policy_of};
@@ -30,24 +30,23 @@ pub fn is_pinned(core: &Core, serial: u64) -> bool
     is_framed(&core.callers, serial) || core.deferred.pinned(serial)
 }
 
-/// The live devices that a frame or a deferred scan is for.
-fn pinned_of(alloc: Global, core: &Core) -> Result<List<u64>, Memory>
-    ensures { (s : from.Setup) → IfOk result (λ list. list ≡ serials_where (λ d. world.is_pinned (world_of s core.now) d.serial) core.now.tree.live) }
+/// The devices that a frame or a deferred scan is for.
+fn pinned_of(alloc: Global, core: &Core) -> Result<Vec<u64>, Memory>
+    ensures { (s : from.Setup) (serial : ℕ) → IfOk result (λ pinned. has pinned.items serial ≡ world.is_pinned (world_of s core.now) serial) }
 {
-    let mut serials = List::make(alloc);
-    for device in core.tree.devices() {
-        if is_pinned(core, device.serial) {
-            serials.push(device.serial)?;
-        }
+    let mut serials = Vec::new(alloc);
+    for caller in &core.callers {
+        caller.stack.add_serials(&mut serials)?;
     }
+    core.deferred.add_children(&mut serials)?;
     Ok(serials)
 }
 
 /// The live devices whose driver does not support detaching.
-fn undetachable_of(alloc: Global, setup: &Setup, core: &Core) -> Result<List<u64>, Memory>
-    ensures { IfOk result (λ list. list ≡ serials_where (λ d. (world.policy_of setup.now d.row).nodetach) core.now.tree.live) }
+fn undetachable_of(alloc: Global, setup: &Setup, core: &Core) -> Result<Vec<u64>, Memory>
+    ensures { IfOk result (λ list. list.items ≡ serials_where (λ d. (world.policy_of setup.now d.row).nodetach) core.now.tree.live) }
 {
-    let mut serials = List::make(alloc);
+    let mut serials = Vec::new(alloc);
     for device in core.tree.devices() {
         if policy_of(setup, device.row).nodetach {
             serials.push(device.serial)?;

@@ -1,11 +1,13 @@
 -- In each world somebody does something, or nobody does.
-use Rattle.std.proofs.Common.{◌≡◌, ◌≢◌, ◌<◌, ◌⊎◌, ℕ, zero, suc, ◌==◌, Bool, true, false, refl, sym, subst, ◌∙◌, inl, inr, eqb-true, arith, length}
+use Rattle.std.proofs.Common.{◌≡◌, ◌≢◌, ◌<◌, ◌⊎◌, ℕ, zero, suc, ◌==◌, ◌&&◌, if◌then◌else◌, not, Bool, true, false, refl, sym, subst, ◌∙◌, inl, inr, eqb-true, arith, length}
 use Rattle.std.proofs.lemmas.Bool.{eqb-false}
 use Rattle.run_rules.specs.declared.deed.Deed.{Deed}
 use Rattle.run_rules.specs.declared.deed.Choice.{Choice}
 use Rattle.run_rules.specs.declared.deed.Choice.TheVariants.{Ended, Waits, Does}
-use Rattle.run_rules.specs.Next.{next}
-use Rattle.run_rules.specs.World.{World}
+use Rattle.run_rules.specs.declared.world.Wait.{Wait}
+use Rattle.run_rules.specs.declared.world.Wait.TheVariants as wait
+use Rattle.run_rules.specs.Next.{by_activity, next}
+use Rattle.run_rules.specs.World.{World, caller_at, has_ended}
 use Rattle.run_sound.proofs.Callers.{doing_there}
 use Rattle.progress_laws.specs.Still.{NobodyDoes, SomebodyDoes}
 
@@ -38,3 +40,12 @@ does_or_not w (suc n) = elim (does_or_not w n) [ inl some ↦ inl some | inr non
 -- who does something is one of the callers
 pub somebody_or_nobody : (w : World) → SomebodyDoes w ⊎ NobodyDoes w
 somebody_or_nobody w = elim (does_or_not w (length w.callers)) [ inl some ↦ inl some | inr none ↦ inr (λ k d e. none k (doing_there w k d e) d e) ]
+
+-- who waits has not ended
+pub waiting_unended : (w : World) (k : ℕ) (why : Wait) → next w k ≡ Waits why → has_ended w k ≡ false
+unfolding next
+waiting_unended w k why e = ends (has_ended w k) refl e
+  where
+    ends : (b : Bool) → has_ended w k ≡ b → (if b then Ended else (if not (k == 0) && not (has_ended w 0) then Waits wait.Boot else by_activity w k (caller_at w k).doing)) ≡ Waits why → has_ended w k ≡ false
+    ends true h waits = absurd cc
+    ends false h waits = h

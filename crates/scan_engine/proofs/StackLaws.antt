@@ -1,5 +1,5 @@
 -- A stack's list, whose last item is the top.
-use Rattle.std.proofs.Common.{◌≡◌, ◌<◌, ◌-◌, ℕ, Bool, true, false, ◌||◌, List, [], ◌∷◌, ◌++◌, length, reverse, slice_set, get_or, refl, sym, ap, ◌∙◌, subst, arith}
+use Rattle.std.proofs.Common.{◌≡◌, ◌<◌, ◌-◌, ℕ, Bool, true, false, ◌||◌, ◌==◌, List, [], ◌∷◌, ◌++◌, length, map, reverse, slice_set, get_or, refl, sym, ap, ◌∙◌, subst, arith}
 use Rattle.std.specs.List.{list_any}
 use Rattle.std.proofs.lemmas.List.{get_or_push, reverse-append, reverse-reverse, length-append}
 use Rattle.std.proofs.Math.Seq.{set-append_seam}
@@ -8,6 +8,7 @@ use Rattle.run_rules.specs.declared.world.Frame.{Frame}
 use Rattle.run_rules.specs.declared.world.Frame.TheVariants.{Scan, Finaliser}
 use Rattle.run_rules.specs.declared.world.Position.{Position}
 use Rattle.run_rules.specs.After.{moved_top}
+use Rattle.run_rules.specs.World.{frame_serial, has}
 use Rattle.scan_engine.specs.Frames.{moved}
 
 turned : (a b : Bool) → (a || (b || false)) ≡ (b || a)
@@ -51,3 +52,12 @@ top_moved to items n frame now long some is moves =
 pub none_moved : (to : Position) (items : List Frame) (n : ℕ) → n ≡ length items → (0 < n → ⊥) → reverse items ≡ moved_top to (reverse items)
 none_moved to [] n long none = refl
 none_moved to (x ∷ xs) n long none = absurd (none (omega (arith, long)))
+
+any_serial : (s : ℕ) (frames : List Frame) → has (map frame_serial frames) s ≡ list_any (λ f. frame_serial f == s) frames
+any_serial s [] = refl
+any_serial s (f ∷ fs) = ap (λ b. frame_serial f == s || b) (any_serial s fs)
+
+-- the serials of these frames are there too
+pub serials_more : (old new : List ℕ) (frames : List Frame) (s : ℕ) → new ≡ old ++ map frame_serial frames → has new s ≡ (has old s || list_any (λ f. frame_serial f == s) frames)
+serials_more old new frames s e =
+    ap (λ xs. has xs s) e ∙ list_any-append (λ x. x == s) old (map frame_serial frames) ∙ ap (λ b. has old s || b) (any_serial s frames)

@@ -1,7 +1,7 @@
 //! What a caller goes on with.
-ghost use Rattle.std.specs.Prelude.{◌≡◌, ◌<◌, ◌≤◌, ◌+◌, ◌==◌, [], ◌∷◌, length, IsTrue, OnErr, OnOk, option_copied};
+ghost use Rattle.std.specs.Prelude.{◌≡◌, ◌<◌, ◌≤◌, ◌+◌, ◌||◌, ◌==◌, ℕ, [], ◌∷◌, ◌++◌, length, map, IsTrue, OnErr, OnOk, option_copied};
 ghost use Rattle.std.specs.List.{list_any};
-ghost use Rattle.run_rules.specs.World.{frame_serial};
+ghost use Rattle.run_rules.specs.World.{frame_serial, has};
 ghost use Rattle.run_rules.specs.After.{moved_top, under_top};
 ghost use Rattle.scan_engine.specs.Frames.{is_scanning, moved, top_of};
 
@@ -45,6 +45,16 @@ fn has_frame(frames: &[Frame], serial: u64) -> bool
     ensures { result ≡ list_any (λ f. frame_serial f == serial) frames.now }
 {
     frames.iter().any(|frame| serial_of(frame) == serial)
+}
+
+/// Appends the serials of the devices that these frames are for.
+fn add_serials(frames: &[Frame], serials: &mut Vec<u64>) -> Result<(), Memory>
+    ensures { OnOk result (serials.new.items ≡ serials.old.items ++ map frame_serial frames.now) }
+{
+    for frame in frames {
+        serials.push(serial_of(frame))?;
+    }
+    Ok(())
 }
 
 /// Moves a scan to a position.
@@ -119,6 +129,14 @@ impl Stack {
         ensures room { self.old.room ≤ self.new.room }
     {
         let _ = self.frames.pop();
+    }
+
+    /// Appends the serials of the devices that the frames are for, and so pin.
+    pub fn add_serials(&self, serials: &mut Vec<u64>) -> Result<(), Memory>
+        ensures { (serial : ℕ) → OnOk result (has serials.new.items serial ≡ (has serials.old.items serial || list_any (λ f. frame_serial f == serial) self.now.frames)) }
+    {
+        add_serials(&self.frames, serials)?;
+        Ok(())
     }
 
     /// Whether a frame is for the device of this serial, and so pins it.
