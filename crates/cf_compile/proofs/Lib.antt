@@ -4,3 +4,4 @@ pub mod InstLaws
 pub mod TableLaws
 pub mod CompileLaws
 pub mod EmptiedLaws
+pub mod QuietLaws

@@ -1,5 +1,5 @@
 -- What the placed statements are judged to be, and how far a loop over them has come.
-use Rattle.std.specs.Prelude.{◌≡◌, ℕ, ◌≤◌, List, [], ◌++◌, length, take, drop, Option, Some, None}
+use Rattle.std.specs.Prelude.{◌≡◌, ℕ, ◌≤◌, Bool, true, false, List, [], ◌++◌, length, take, drop, Option, Some, None}
 use Rattle.cf_types.specs.declared.instance.Instance.{Instance}
 use Rattle.cf_types.specs.declared.stmt.Placed.{Placed}
 use Rattle.cf_types.specs.declared.stmt.Stmt.{Stmt}
@@ -16,6 +16,17 @@ use Rattle.cf_declare.specs.SoFar.{SoFar}
 abbrev pub instance_at : Declared → ℕ → Stmt → Option Instance
 instance_at d place (stmt.Inst base mark at pairs flags) = if_joined place mark flags (join d base at pairs)
 instance_at d place _ = None
+
+-- a statement that may have a code, may declare something or is an instance
+abbrev pub is_judged : Stmt → Bool
+is_judged (stmt.Define name locs needs) = true
+is_judged (stmt.Class name) = true
+is_judged (stmt.DefPseudo name locs needs) = true
+is_judged (stmt.Device name locs needs) = true
+is_judged (stmt.Attach device places name needs) = true
+is_judged (stmt.Inst base mark at pairs flags) = true
+is_judged (stmt.PseudoDevice name count) = true
+is_judged _ = false
 
 -- what they declare with the surviving instances, where none has a code, or else the first code
 abbrev pub Judges : List (List ℕ) → List Placed → Verdict → Type 0

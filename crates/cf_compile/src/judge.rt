@@ -7,7 +7,7 @@ ghost use Rattle.cf_declare.specs.Limits.{HasFewLocators};
 ghost use Rattle.config_rules.specs.Fault.{code_of, is_instance, refusal, stmts_of};
 ghost use Rattle.config_rules.specs.Select.{kept};
 ghost use Rattle.config_rules.specs.Written.{AreWritten};
-ghost use Rattle.cf_compile.specs.Judged.{Judges, instance_at};
+ghost use Rattle.cf_compile.specs.Judged.{Judges, instance_at, is_judged};
 
 use cf_declare::{Declarations, MAX_INSTANCES};
 use cf_rows::file_name;
@@ -59,9 +59,26 @@ fn push_kept(
     Ok(())
 }
 
-/// The first code of a statement, given what is declared and the number of instances so far. If it has none, what it
-/// declares is added, and an instance is appended if it survives.
-fn judge_statement(
+/// Whether a statement may have a code, may declare something or is an instance.
+#[inline(always)]
+fn is_judged(stmt: &Stmt) -> bool
+    ensures { result ≡ is_judged stmt.now }
+{
+    matches!(
+        stmt,
+        Stmt::Define { .. }
+            | Stmt::Class { .. }
+            | Stmt::DefPseudo { .. }
+            | Stmt::Device { .. }
+            | Stmt::Attach { .. }
+            | Stmt::Inst { .. }
+            | Stmt::PseudoDevice { .. }
+    )
+}
+
+/// Judges a statement that may have a code, may declare something or is an instance, as `judge_statement` does.
+#[inline(never)]
+fn judge_any(
     alloc: Global,
     standing: &mut Standing,
     count: usize,
@@ -103,6 +120,32 @@ fn judge_statement(
         }
         Err(code) => Ok(Some(code)),
     }
+}
+
+/// The first code of a statement, given what is declared and the number of instances so far. If it has none, what it
+/// declares is added, and an instance is appended if it survives. Most statements have nothing of that.
+#[tactic(auto, using(crate::proofs::QuietLaws::quiet_code, crate::proofs::QuietLaws::quiet_declared, crate::proofs::QuietLaws::quiet_kept))]
+#[inline(always)]
+fn judge_statement(
+    alloc: Global,
+    standing: &mut Standing,
+    count: usize,
+    place: u32,
+    stmt: &Stmt,
+    is_kept: bool,
+) -> Result<Option<u8>, Memory>
+    requires fits { FitsDeclared standing.old.declarations }
+    requires few { HasFewLocators stmt.now }
+    requires attrs { length standing.old.declarations.attrs < 65536 }
+    requires devices { length standing.old.declarations.devices < 65536 }
+    ensures code { IfOk result (λ code. code ≡ code_of standing.old.declarations count stmt.now) }
+    ensures declared { IfOk result (λ code. code ≡ None → standing.new.declarations ≡ declare standing.old.declarations stmt.now) }
+    ensures kept { IfOk result (λ code. code ≡ None → standing.new.instances ≡ standing.old.instances ++ (if is_kept then option_to_list (instance_at standing.old.declarations place stmt.now) else [])) }
+{
+    if is_judged(stmt) {
+        return judge_any(alloc, standing, count, place, stmt, is_kept);
+    }
+    Ok(None)
 }
 
 /// How many instances a statement is.

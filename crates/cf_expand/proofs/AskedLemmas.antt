@@ -16,10 +16,12 @@ use Rattle.cf_io.specs.Asked.{Asks, AsksFront}
 use Rattle.cf_io.specs.Load.{asked_behind}
 use Rattle.cf_expand.specs.Asked.{AsksStep}
 use Rattle.cf_expand.specs.Lines.{statement_of}
+use Rattle.cf_expand.proofs.ItemLaws.{items_read}
 use Rattle.cf_io.proofs.AskedLemmas.{front_all, front_behind, front_more}
 use Rattle.config_rules.specs.Cut.{cut_of, is_stop, statements}
 use Rattle.config_rules.specs.Form.{form_fault, form_of}
-use Rattle.config_rules.specs.Reading.{Files, Here, Level, Reader, Reading, Statement, asking, by_load, condition_of, holds, include, is_misplaced, is_placed, levels_after, levels_behind, names_declared, nothing_read, place, pop_prefix, read_cut, read_end, read_first, read_placed, read_statement, read_statements, reader, refused, statements_in, treat, under_prefix}
+use Rattle.config_rules.specs.Reading.{Files, Here, Reader, Reading, Statement, asking, by_load, condition_of, holds, names_declared, nothing_read, place, pop_prefix, read_cut, read_first, reader, refused, statements_in, under_prefix}
+use Rattle.cf_expand.specs.Levels.{Level, include, is_misplaced, is_placed, levels_after, levels_behind, read_end, read_placed, read_statement, read_statements, treat}
 
 -- a later reading has asked for what an earlier one has, and perhaps for more behind it
 pub record Grows (old new : Reading) : Type 0 where
@@ -127,7 +129,8 @@ statements_grow files below on here levels (s ∷ ss) r =
     cond_grows (is_some read.fault) r read rest first (grows_then r read rest first (statements_grow files below on here (levels_behind r.placed s levels) ss read))
 
 cut_grows : (files : Files) (below : Reader) → ReadsOn below → (here : Here) (text : List ℕ) (cut : Result (List Token) (ℕ × ℕ)) (r : Reading) → Grows r (read_cut files below here text cut r)
-cut_grows files below on here text (Ok tokens) r = statements_grow files below on here [] (statements_in text tokens) r
+cut_grows files below on here text (Ok tokens) r =
+    subst (λ (x : Reading). Grows r x) (items_read files below here (statements_in text tokens) r) (statements_grow files below on here [] (statements_in text tokens) r)
 cut_grows files below on here text (Err fault) r = same_grows r (refused here.file fault.0 fault.1 r) refl
 
 pub reader_grows : (n : ℕ) (files : Files) → ReadsOn (reader n files)

@@ -1,6 +1,7 @@
 pub mod AskedLemmas
 pub mod ConditionLemmas
 pub mod StatementLemmas
+pub mod ItemLaws
 pub mod ReaderLemmas
 pub mod PathLemmas
 pub mod ReadLemmas

@@ -6,7 +6,8 @@ use Rattle.cf_types.specs.declared.stmt.CondWord.{CondWord}
 use Rattle.cf_types.specs.declared.stmt.Piece.{Piece}
 use Rattle.cf_types.specs.declared.stmt.Stmt.{Stmt}
 use Rattle.config_rules.specs.Form.{Form}
-use Rattle.config_rules.specs.Reading.{Files, Here, Level, Reader, Reading, Statement, condition_of, include, is_placed, read_placed, read_statement, reader, treat}
+use Rattle.config_rules.specs.Reading.{Files, Here, Reader, Reading, Statement, condition_of, reader}
+use Rattle.cf_expand.specs.Levels.{Level, include, is_placed, read_placed, read_statement, treat}
 use Rattle.config_rules.specs.Written.{IsWritten}
 use Rattle.config_rules.proofs.WrittenLaws.{form_written}
 use Rattle.cf_expand.specs.declared.source.Include.{Include}

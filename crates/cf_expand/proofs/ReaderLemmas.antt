@@ -2,11 +2,13 @@
 use Rattle.std.proofs.Common.{◌≡◌, ℕ, ◌+◌, ◌==◌, List, [], ◌∷◌, ◌++◌, length, true, refl, ap, sym, ◌∙◌, subst, add-one}
 use Rattle.std.specs.Prelude.{Ok, Err}
 use Rattle.config_rules.specs.Cut.{Cut, cut_of}
-use Rattle.config_rules.specs.Reading.{Files, Here, Reading, statements_in, read_cut, read_statements, reader, refused}
+use Rattle.config_rules.specs.Reading.{Files, Here, Reading, statements_in, read_cut, reader, refused}
+use Rattle.cf_expand.specs.Levels.{read_statements}
 use Rattle.cf_grammar.proofs.CutWithin.{within_cut}
 use Rattle.cf_lexer.specs.Rest.{MayRest, all_tokens, is_closed}
 use Rattle.cf_lexer.specs.declared.rest.Cutting.{Cutting}
 use Rattle.cf_expand.specs.Steps.{IsCutting}
+use Rattle.cf_expand.proofs.ItemLaws.{items_read}
 
 abbrev pub first_here : ℕ → ℕ → List ℕ → Reading → Here
 first_here n around name r = record { file = name; number = length r.files; around = around; deepest = n == 0 }
@@ -29,7 +31,8 @@ pub opened_reads : (n : ℕ) (files : Files) (around : ℕ) (name text shown len
     → read_statements files (reader n files) (record { file = name; number = number; around = around; deepest = n == 0 }) [] (statements_in shown (all_tokens shown c)) new ≡ reader (n + 1) files around name text old
 opened_reads n files around name text shown lent listed c number old new ek es el en ew ec =
     let whole : reader (n + 1) files around name text old ≡ read_statements files (reader n files) (first_here n around name old) [] (statements_in text (all_tokens text c)) (with_file name old) =
-    reader_more n files around name text old ∙ ap (λ made. read_cut files (reader n files) (first_here n around name old) text made (with_file name old)) (ap cut_of (sym el) ∙ ec ∙ ap (λ (x : List ℕ). Ok (all_tokens x c)) el) in
+    reader_more n files around name text old ∙ ap (λ made. read_cut files (reader n files) (first_here n around name old) text made (with_file name old)) (ap cut_of (sym el) ∙ ec ∙ ap (λ (x : List ℕ). Ok (all_tokens x c)) el)
+    ∙ sym (items_read files (reader n files) (first_here n around name old) (statements_in text (all_tokens text c)) (with_file name old)) in
     rw (ek, es, ew, en) (sym whole)
 
 -- a file that can't be cut

@@ -11,7 +11,8 @@ use Rattle.cf_lexer.specs.Rest.{Passes, all_tokens, first_condition, is_closed, 
 use Rattle.cf_lexer.specs.declared.rest.Cutting.{Cutting}
 use Rattle.cf_lexer.proofs.RestLemmas.{IsPlain, IsQuiet, split_at}
 use Rattle.config_rules.specs.Cut.{is_stop, statements}
-use Rattle.config_rules.specs.Reading.{Files, Here, Level, Reader, Reading, Statement, condition_of, is_live, levels_behind, read_statement, read_statements, statements_in}
+use Rattle.config_rules.specs.Reading.{Files, Here, Reader, Reading, Statement, condition_of, statements_in}
+use Rattle.cf_expand.specs.Levels.{Level, is_live, levels_behind, read_statement, read_statements}
 use Rattle.cf_expand.specs.Lines.{Parts, statement_of}
 use Rattle.cf_expand.specs.Steps.{IsCutting}
 use Rattle.cf_expand.specs.Unread.{PassesTo, Refills, Uncut, all_left}

@@ -1,6 +1,6 @@
 -- The innermost open condition.
 use Rattle.std.specs.Prelude.{ℕ, Bool, false, List, [], ◌∷◌, Option, Some, None}
-use Rattle.config_rules.specs.Reading.{Level}
+use Rattle.cf_expand.specs.Levels.{Level}
 
 -- whether its branch that is open now is that of `else`
 abbrev pub is_behind_else : List Level → Bool

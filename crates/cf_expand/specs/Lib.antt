@@ -1,4 +1,5 @@
 pub mod Asked
+pub mod Levels
 pub mod Lines
 pub mod Conditions
 pub mod Loaded

@@ -6,7 +6,8 @@ use Rattle.cf_types.specs.declared.stmt.Stmt.TheVariants as stmt
 use Rattle.cf_expand.specs.declared.statement.Head.{Head}
 use Rattle.cf_expand.specs.Asked.{AsksIn}
 use Rattle.cf_grammar.specs.Statement.{AreWithin}
-use Rattle.config_rules.specs.Reading.{Files, Here, Level, condition_of, Statement, Reader, Reading, include, statements_in, place, pop_prefix, read_statements, reader, refused, treat, under_prefix}
+use Rattle.config_rules.specs.Reading.{Files, Here, condition_of, Statement, Reader, Reading, statements_in, place, pop_prefix, reader, refused, under_prefix}
+use Rattle.cf_expand.specs.Levels.{Level, include, read_statements, treat}
 use Rattle.cf_lexer.specs.Rest.{MayRest, all_tokens, is_closed}
 use Rattle.cf_lexer.specs.declared.rest.Cutting.{Cutting}
 use Rattle.cf_expand.specs.declared.source.Include.{Include}

@@ -1,5 +1,6 @@
 ghost use Rattle.std.specs.Prelude.{◌≡◌, [], ◌∷◌, length, OnOk};
-ghost use Rattle.config_rules.specs.Reading.{branches, closes, is_else, is_live, is_misplaced, is_placed, levels_after, next_branch, opened, opens};
+ghost use Rattle.config_rules.specs.Reading.{branches, closes, is_else, opens};
+ghost use Rattle.cf_expand.specs.Levels.{is_live, is_misplaced, is_placed, levels_after, next_branch, opened};
 ghost use Rattle.cf_expand.specs.Conditions.{innermost, is_behind_else};
 
 use cf_types::{CondWord, Memory};
@@ -54,7 +55,7 @@ struct Condition {
 }
 
 impl Model for Condition {
-    ghost use Rattle.config_rules.specs.Reading.{Level};
+    ghost use Rattle.cf_expand.specs.Levels.{Level};
 
     ghost Value = { Level };
 
@@ -89,7 +90,7 @@ pub struct Conditions {
 
 impl Model for Conditions {
     ghost use Rattle.std.specs.Prelude.{List};
-    ghost use Rattle.config_rules.specs.Reading.{Level};
+    ghost use Rattle.cf_expand.specs.Levels.{Level};
 
     ghost Value = { List Level };
 

@@ -1,5 +1,6 @@
 ghost use Rattle.std.specs.Prelude.{◌≡◌, ℕ, ◌+◌, ◌-◌, ◌≤◌, ◌<◌, [], ◌∷◌, IfOk, IfSome, OnOk, length};
-ghost use Rattle.config_rules.specs.Reading.{Files as Told, Statement, asking, include, nothing_read, read_first, reader};
+ghost use Rattle.config_rules.specs.Reading.{Files as Told, Statement, asking, nothing_read, read_first, reader};
+ghost use Rattle.cf_expand.specs.Levels.{include};
 ghost use Rattle.cf_io.specs.Asked.{Asks};
 ghost use Rattle.cf_expand.specs.Asked.{AsksAt, AsksStep};
 ghost use Rattle.cf_expand.specs.Loaded.{IsLoaded, IsShort};

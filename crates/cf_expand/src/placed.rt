@@ -1,4 +1,4 @@
-ghost use Rattle.std.specs.Prelude.{◌≡◌, ℕ, ◌<◌, ◌||◌, [], ◌∷◌, ◌++◌, List as Items, OnErr, OnOk, length};
+ghost use Rattle.std.specs.Prelude.{◌≡◌, ℕ, ◌<◌, ◌||◌, [], ◌∷◌, ◌++◌, List as Items, OnErr, OnOk, length, vec_capacity};
 ghost use Rattle.std.specs.Option.{option_copied};
 ghost use Rattle.config_rules.specs.Reading.{declares, is_declared};
 ghost use Rattle.config_rules.specs.Written.{AreWritten, IsWritten};
@@ -57,6 +57,29 @@ fn is_declared(placed: &[Placed], name: &[u8]) -> bool
         }
     }
     false
+}
+
+/// For how many statements there is room at first: as many as a kernel has. Room that is not filled is never touched, and
+/// a list of this size grows without being moved.
+const FIRST_ROOM: usize = 2_048;
+
+/// Makes room for one more statement.
+#[inline(never)]
+#[cold]
+fn make_room(items: &mut Vec<Placed>) -> Result<(), Memory>
+    ensures same { items.new.items ≡ items.old.items }
+    ensures room { OnOk result (length items.new.items < vec_capacity items.new) }
+{
+    let more = if items.is_empty() { FIRST_ROOM } else { 1 };
+    items.reserve(more)?;
+    Ok(())
+}
+
+/// Frees a statement for which there is no memory. What frees it stays out of the function that places each statement.
+#[inline(never)]
+#[cold]
+fn discard(placed: Placed) {
+    drop(placed);
 }
 
 /// The placed statements, which keep the limits of the language, with a set of the names that the statements before the
@@ -120,7 +143,12 @@ impl PlacedList {
         ensures { OnOk result (self.new ≡ self.old ++ placed ∷ []) }
     {
         let is_condition = matches!(placed.stmt, Stmt::Cond { .. });
-        self.items.reserve(1)?;
+        if self.items.len() >= self.items.capacity() {
+            if let Err(stop) = make_room(&mut self.items) {
+                discard(placed);
+                return Err(stop);
+            }
+        }
         self.items.push_reserved(placed);
         if is_condition {
             self.note_all()?;

@@ -1,7 +1,8 @@
 ghost use Rattle.std.specs.Prelude.{◌≡◌, ℕ, ◌-◌, ◌<◌, IfOk, IfSome, OnOk, Some, length};
 ghost use Rattle.cf_io.specs.Asked.{Asks};
 ghost use Rattle.config_rules.specs.Written.{AreWritten, IsWritten};
-ghost use Rattle.config_rules.specs.Reading.{nothing_read, read_end, read_placed, read_statement, reader, reading};
+ghost use Rattle.config_rules.specs.Reading.{nothing_read, reader, reading};
+ghost use Rattle.cf_expand.specs.Levels.{read_end, read_placed, read_statement};
 ghost use Rattle.cf_expand.specs.Asked.{AsksIn};
 ghost use Rattle.cf_expand.specs.Stop.{Counted};
 ghost use Rattle.cf_expand.specs.Steps.{AsksTreating, IsCutting, Treats, WhereTold, entered, expanded, here_of};

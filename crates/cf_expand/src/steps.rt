@@ -1,6 +1,7 @@
 ghost use Rattle.std.specs.Prelude.{◌≡◌, ℕ, ◌<◌, IfOk, IfSome, OnOk, if◌then◌else◌, length};
 ghost use Rattle.cf_types.specs.declared.code.configuration.TheConstants.{BAD_NESTING};
-ghost use Rattle.config_rules.specs.Reading.{Statement, condition_of, is_misplaced, refused, treat};
+ghost use Rattle.config_rules.specs.Reading.{Statement, condition_of, refused};
+ghost use Rattle.cf_expand.specs.Levels.{is_misplaced, treat};
 ghost use Rattle.config_rules.specs.Written.{IsWritten};
 ghost use Rattle.cf_expand.specs.Steps.{Follows, here_of, turned};
 

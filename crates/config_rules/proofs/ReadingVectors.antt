@@ -91,7 +91,7 @@ unfolding parts_within table form_of is_left_out form_fault reader reading
 asked_in_order = (refl, refl, refl)
 
 -- at the greatest depth no file is asked for, also for `cinclude`
-too_deep : include (files []) (λ around name bytes r. r) (record { file = codes "conf"; number = 0; around = 0; deepest = true }) [] (record { line = 1; pieces = [] }) (codes "x") true nothing_read ≡ refused (codes "conf") 1 20 nothing_read
+too_deep : include (files []) (λ around name bytes r. r) (record { file = codes "conf"; number = 0; around = 0; deepest = true }) (record { line = 1; pieces = [] }) (codes "x") true nothing_read ≡ refused (codes "conf") 1 20 nothing_read
 too_deep = refl
 
 -- an include stands before the statements of its file, also where that can not be cut

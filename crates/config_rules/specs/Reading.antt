@@ -1,7 +1,7 @@
 -- The statements that are placed: the named file with its includes, without the parts that are left out. Includes,
 -- prefixes and conditions follow config(5). How a path is joined to a prefix, what balances in which file, the limits
 -- and the codes are this project's profile.
-use Rattle.std.specs.Prelude.{ℕ, zero, suc, ◌+◌, ◌-◌, Bool, true, false, not, ◌&&◌, ◌||◌, ◌==◌, nat_le, if◌then◌else◌, List, [], ◌∷◌, ◌++◌, length, take, drop, map, slice_index, bytes_eq, find, Option, Some, None, is_some, Result, Ok, Err}
+use Rattle.std.specs.Prelude.{ℕ, zero, suc, ◌+◌, Bool, true, false, not, ◌&&◌, ◌||◌, ◌==◌, nat_le, if◌then◌else◌, List, [], ◌∷◌, ◌++◌, length, take, drop, map, slice_index, bytes_eq, find, Option, Some, None, is_some, Result, Ok, Err}
 use Rattle.std.specs.List.{list_any}
 use Rattle.std.specs.Option.{option_map_or}
 use Rattle.cf_types.specs.declared.code.configuration.TheConstants.{FILE_ABSENT, FILE_TOO_LONG, TOO_MANY_FILES, BAD_NESTING, NO_PREFIX, TOO_MANY_STATEMENTS}
@@ -34,15 +34,6 @@ line_at (t ∷ ts) = t.line
 -- the statements of a text
 abbrev pub statements_in : List ℕ → List Token → List Statement
 statements_in text tokens = map (λ ts. record { line = line_at ts; pieces = pieces text ts }) (statements tokens)
-
--- an open condition: the line of its opening; whether the part that it stands in is not left out, whether a branch
--- was taken, whether the branch that is open now is not left out, and whether that is the one of `else`
-pub record Level : Type 0 where
-  pub line : ℕ
-  pub outer : Bool
-  pub taken : Bool
-  pub live : Bool
-  pub last : Bool
 
 -- what was read so far, the files that were asked for, also those that are not there, and the first fault
 pub record Reading : Type 0 where
@@ -114,45 +105,89 @@ holds (Some ElifNDef) declared = not declared
 holds (Some Else) declared = true
 holds _ declared = false
 
--- the innermost level comes first
-abbrev pub is_live : List Level → Bool
-is_live [] = true
-is_live (l ∷ levels) = l.live
+-- the condition of a statement holds behind what was read
+abbrev pub is_met : Statement → Reading → Bool
+is_met s r = holds (condition_of s) (names_declared r.placed s)
 
--- a statement with this word stands in a part that is not left out; one that goes on with a condition stands where the
--- condition stands
-abbrev pub is_placed : Option CondWord → List Level → Bool
-is_placed word [] = true
-is_placed word (l ∷ levels) = if branches word || closes word then l.outer else l.live
+-- ---- items
 
--- a condition word without an open condition, behind its `else`, or one that opens a condition where there is no room
--- for a further one
-abbrev pub is_misplaced : ℕ → Option CondWord → List Level → Bool
-is_misplaced room word levels =
-    (opens word && nat_le room (length levels))
-    || ((branches word || closes word) && length levels == 0)
-    || (branches word && list_any (λ l. l.last) (take 1 levels))
+-- what stands in a file, one behind the other: statements, and conditions. A condition is the statement that opens it,
+-- the items of its first branch, and the branches behind that.
+mutual
+  pub data Items : Type 0 where
+    nothing : Items
+    statement : Statement → Items → Items
+    condition : Statement → Items → Branches → Items → Items
 
--- the condition that is opened on this line within these
-abbrev pub opened : ℕ → Bool → List Level → Level
-opened line holds levels =
-    record { line = line; outer = is_live levels; taken = is_live levels && holds; live = is_live levels && holds; last = false }
+  -- further branches, that of `else` last, up to the statement that ends the condition, if there is one
+  pub data Branches : Type 0 where
+    branch : Statement → Items → Branches → Branches
+    otherwise : Statement → Items → Option Statement → Branches
+    ended : Option Statement → Branches
 
--- a condition whose next branch begins, perhaps the last one; it is taken where no earlier one was
-abbrev pub next_branch : Bool → Bool → Level → Level
-next_branch holds last l = record l { taken = l.taken || (l.outer && holds); live = l.outer && not l.taken && holds; last = last }
+-- some items behind others
+abbrev pub followed_by : Items → Items → Items
+followed_by nothing more = more
+followed_by (statement s items) more = statement s (followed_by items more)
+followed_by (condition s inside further items) more = condition s inside further (followed_by items more)
 
--- the levels behind a statement with this word on this line, whose condition holds or doesn't
-abbrev pub levels_after : Option CondWord → ℕ → Bool → List Level → List Level
-levels_after word line holds [] = if opens word then opened line holds [] ∷ [] else []
-levels_after word line holds (l ∷ levels) =
-    if opens word then opened line holds (l ∷ levels) ∷ l ∷ levels
-    else (if branches word then next_branch holds (is_else word) l ∷ levels
-    else (if closes word then levels else l ∷ levels))
+-- a statement that goes on with a condition or ends one, and the items up to the next such statement
+pub record Part : Type 0 where
+  pub word : Statement
+  pub items : Items
 
--- the levels behind a statement, after the statements that were placed
-abbrev pub levels_behind : List Placed → Statement → List Level → List Level
-levels_behind placed s levels = levels_after (condition_of s) s.line (holds (condition_of s) (names_declared placed s)) levels
+-- a file from some place on: the items up to the first statement that belongs to a condition opened before that place,
+-- and the parts from there on
+pub record Rest : Type 0 where
+  pub items : Items
+  pub parts : List Part
+
+-- no statement is left
+abbrev pub no_rest : Rest
+no_rest = record { items = nothing; parts = [] }
+
+-- the statement with which these parts begin
+abbrev pub next_word : List Part → Option Statement
+next_word [] = None
+next_word (p ∷ parts) = Some p.word
+
+-- the branches with which a condition goes on
+abbrev pub branches_in : List Part → Branches
+branches_in [] = ended None
+branches_in (p ∷ parts) =
+    if is_else (condition_of p.word) then otherwise p.word p.items (next_word parts)
+    else (if branches (condition_of p.word) then branch p.word p.items (branches_in parts) else ended (Some p.word))
+
+-- what stands behind its `endif`
+abbrev pub behind_end : List Part → Rest
+behind_end [] = no_rest
+behind_end (p ∷ parts) = if closes (condition_of p.word) then record { items = p.items; parts = parts } else behind_end parts
+
+-- a condition that this statement opens
+abbrev pub with_condition : Statement → Rest → Rest → Rest
+with_condition s rest behind =
+    record { items = condition s rest.items (branches_in rest.parts) behind.items; parts = behind.parts }
+
+-- a statement with this word, and the rest of its file
+abbrev pub put : Option CondWord → Statement → Rest → Rest
+put word s rest =
+    if opens word then with_condition s rest (behind_end rest.parts)
+    else (if branches word || closes word then record { items = nothing; parts = record { word = s; items = rest.items } ∷ rest.parts }
+    else record { items = statement s rest.items; parts = rest.parts })
+
+-- these statements as a rest of a file
+abbrev pub rest_of : List Statement → Rest
+rest_of [] = no_rest
+rest_of (s ∷ ss) = put (condition_of s) s (rest_of ss)
+
+-- a statement for which no condition is open stands for itself
+abbrev pub stray : Option Statement → Items
+stray None = nothing
+stray (Some s) = statement s nothing
+
+-- the items of a file that has these statements, up to the first for which no condition is open
+abbrev pub items_of : List Statement → Items
+items_of ss = followed_by (rest_of ss).items (stray (next_word (rest_of ss).parts))
 
 -- ---- prefixes
 
@@ -163,7 +198,8 @@ under_prefix (top ∷ prefixes) path = if slice_index path 0 == 47 then path els
 
 -- ---- reading
 
--- the file that is read: its name and number, how many conditions are open around it, and whether it may include none
+-- where a statement stands: the name and number of its file, how many conditions are open around it, and whether it may
+-- include nothing
 pub record Here : Type 0 where
   pub file : List ℕ
   pub number : ℕ
@@ -192,58 +228,87 @@ by_load here s optional passed read None r = if optional then passed else refuse
 by_load here s optional passed read (Some text) r = if nat_le (length text) 1048576 then read text else refused here.file s.line FILE_TOO_LONG r
 
 -- a file too deep or too many is not asked for
-abbrev pub include : Files → Reader → Here → List Level → Statement → List ℕ → Bool → Reading → Reading
-include files below here levels s path optional r =
+abbrev pub include : Files → Reader → Here → Statement → List ℕ → Bool → Reading → Reading
+include files below here s path optional r =
     if here.deepest || nat_le 4096 (length r.files) then refused here.file s.line TOO_MANY_FILES r
     else (let name = under_prefix r.prefixes path in
     let asked = asking name r in
     let placed = place here s (stmt.Include path optional) asked in
-    by_load here s optional placed (λ text. below (here.around + length levels) name text placed) (files name) asked)
+    by_load here s optional placed (λ text. below here.around name text placed) (files name) asked)
 
 -- the top prefix goes, where there is one
 abbrev pub pop_prefix : Here → Statement → List (List ℕ) → Reading → Reading
 pop_prefix here s [] r = refused here.file s.line NO_PREFIX r
 pop_prefix here s (top ∷ prefixes) r = place here s (stmt.Prefix None) (record r { prefixes = prefixes })
 
--- a statement that has a form
-abbrev pub treat : Files → Reader → Here → List Level → Statement → Stmt → Reading → Reading
-treat files below here levels s (stmt.Include path optional) r = include files below here levels s path optional r
-treat files below here levels s (stmt.Prefix None) r = pop_prefix here s r.prefixes r
-treat files below here levels s (stmt.Prefix (Some path)) r =
+-- a statement that has a form; a condition word may be misplaced
+abbrev pub treat : Files → Reader → Here → Bool → Statement → Stmt → Reading → Reading
+treat files below here misplaced s (stmt.Include path optional) r = include files below here s path optional r
+treat files below here misplaced s (stmt.Prefix None) r = pop_prefix here s r.prefixes r
+treat files below here misplaced s (stmt.Prefix (Some path)) r =
     place here s (stmt.Prefix (Some path)) (record r { prefixes = under_prefix r.prefixes path ∷ r.prefixes })
-treat files below here levels s (stmt.Cond word name) r =
-    if is_misplaced (16 - here.around) (condition_of s) levels then refused here.file s.line BAD_NESTING r else place here s (stmt.Cond word name) r
-treat files below here levels s form r = place here s form r
+treat files below here misplaced s (stmt.Cond word name) r =
+    if misplaced then refused here.file s.line BAD_NESTING r else place here s (stmt.Cond word name) r
+treat files below here misplaced s form r = place here s form r
 
 -- a statement of a part that is not left out
-abbrev pub read_placed : Files → Reader → Here → List Level → Statement → Reading → Reading
-read_placed files below here levels s r =
+abbrev pub read_placed : Files → Reader → Here → Bool → Statement → Reading → Reading
+read_placed files below here misplaced s r =
     if nat_le 65536 (length r.placed) then refused here.file s.line TOO_MANY_STATEMENTS r
     else option_map_or (λ code. refused here.file s.line code r) (form_fault s.pieces)
-    (option_map_or (λ form. treat files below here levels s form r) (form_of true s.pieces) r)
+    (option_map_or (λ form. treat files below here misplaced s form r) (form_of true s.pieces) r)
 
 -- in a part that is left out only the first word is looked at, for the nesting
-abbrev pub read_statement : Files → Reader → Here → List Level → Statement → Reading → Reading
-read_statement files below here levels s r =
-    if is_placed (condition_of s) levels then read_placed files below here levels s r
-    else (if is_misplaced (16 - here.around) (condition_of s) levels then refused here.file s.line BAD_NESTING r else r)
+abbrev pub read_statement : Files → Reader → Bool → Here → Bool → Statement → Reading → Reading
+read_statement files below live here misplaced s r =
+    if live then read_placed files below here misplaced s r
+    else (if misplaced then refused here.file s.line BAD_NESTING r else r)
 
--- at the end of a file no condition may be open; the innermost is named
-abbrev pub read_end : Here → List Level → Reading → Reading
-read_end here [] r = r
-read_end here (l ∷ levels) r = refused here.file l.line BAD_NESTING r
+-- a condition ends with `endif`; where the file ends before, the opening is named
+abbrev pub read_end : Files → Reader → Bool → Here → ℕ → Option Statement → Reading → Reading
+read_end files below live here line None r = refused here.file line BAD_NESTING r
+read_end files below live here line (Some s) r = read_statement files below live here (not (closes (condition_of s))) s r
 
--- the statements of a file, up to the first fault
-abbrev pub read_statements : Files → Reader → Here → List Level → List Statement → Reading → Reading
-read_statements files below here levels [] r = read_end here levels r
-read_statements files below here levels (s ∷ ss) r =
-    if is_some (read_statement files below here levels s r).fault
-    then read_statement files below here levels s r
-    else read_statements files below here (levels_behind r.placed s levels) ss (read_statement files below here levels s r)
+-- reads on behind what was read, up to the first fault
+infixl 2 ◌before◌
+abbrev pub ◌before◌ : Reading → (Reading → Reading) → Reading
+r before next = if is_some r.fault then r else next r
+
+-- within one condition more
+abbrev pub within : Here → Here
+within here = record here { around = here.around + 1 }
+
+-- items, in a part that is live or left out: the words of a condition are read where it stands, and of its branches the
+-- first whose condition holds is live. Sixteen conditions may be open at once.
+abbrev mutual
+  pub read_items : Files → Reader → Bool → Here → Items → Reading → Reading
+  read_items files below live here nothing r = r
+  read_items files below live here (statement s items) r =
+      read_statement files below live here (is_some (condition_of s)) s r
+      before read_items files below live here items
+  read_items files below live here (condition s inside further items) r =
+      let chosen = live && is_met s r in
+      read_statement files below live here (nat_le 16 here.around) s r
+      before read_items files below chosen (within here) inside
+      before read_branches files below live (live && not chosen) here s.line further
+      before read_items files below live here items
+
+  -- the branches of the condition that was opened on this line, of which one may still be chosen or none
+  pub read_branches : Files → Reader → Bool → Bool → Here → ℕ → Branches → Reading → Reading
+  read_branches files below live free here line (branch s inside further) r =
+      let chosen = free && is_met s r in
+      read_statement files below live here false s r
+      before read_items files below chosen (within here) inside
+      before read_branches files below live (free && not chosen) here line further
+  read_branches files below live free here line (otherwise s inside end) r =
+      read_statement files below live here false s r
+      before read_items files below free (within here) inside
+      before read_end files below live here line end
+  read_branches files below live free here line (ended end) r = read_end files below live here line end r
 
 -- a file is cut whole before its statements are looked at
 abbrev pub read_cut : Files → Reader → Here → List ℕ → Result (List Token) (ℕ × ℕ) → Reading → Reading
-read_cut files below here text (Ok tokens) r = read_statements files below here [] (statements_in text tokens) r
+read_cut files below here text (Ok tokens) r = read_items files below true here (items_of (statements_in text tokens)) r
 read_cut files below here text (Err fault) r = refused here.file fault.0 fault.1 r
 
 -- reads a file that may have so many levels of files, itself counted

@@ -1,72 +1,42 @@
 -- The rows that suit a spot, in their order and then the best first.
-use Rattle.std.proofs.Common.{◌≡◌, ℕ, zero, suc, ◌+◌, ◌<◌, Bool, true, false, not, ◌&&◌, ◌||◌, ◌==◌, nat_lt, List, [], ◌∷◌, ◌++◌, length, map, filter, Some, get_or, slice_get, cond, append-nil, refl, sym, ◌∙◌, ap, inl, inr, add-one, eq-eqb, arith, Less, Equal, Ordering}
+use Rattle.std.proofs.Common.{◌≡◌, ℕ, zero, suc, ◌<◌, Bool, true, false, not, ◌&&◌, ◌||◌, ◌==◌, nat_lt, List, [], ◌∷◌, length, map, filter, Some, get_or, slice_get, refl, sym, ◌∙◌, ap, add-one, eq-eqb, arith, Less, Equal, Ordering}
 use Rattle.std.specs.Global.{Global}
 use Rattle.std.specs.Prelude.{IfOk, Result, Ok, Err, Vec}
 use Rattle.std.specs.List.{AllByRecursion, list_any}
 use Rattle.std.specs.List.Sorted.{IsPermutation, IsSorted}
 use Rattle.std.specs.Ordering.{is_lt, nat_cmp, ordering_then}
-use Rattle.std.proofs.lemmas.Bool.{cases_lt, ne_eqb, eqb-true}
+use Rattle.std.proofs.lemmas.Bool.{eqb-true}
 use Rattle.std.proofs.lemmas.Bool.Decides.{nat_tests}
 use Rattle.std.proofs.lemmas.Cmp.{by_ranked, ranked}
-use Rattle.std.proofs.lemmas.List.Elements.{filter-append}
 use Rattle.std.proofs.lemmas.List.Sorted.{list_any-IsPermutation}
-use Rattle.std.proofs.lemmas.List.{map-append}
-use Rattle.std.proofs.lemmas.Option.{slice_get_past}
-use Rattle.std.proofs.Math.Bool.{or-false}
-use Rattle.cf_types.proofs.OfferLemmas.{is_in-append}
 use Rattle.cf_types.specs.declared.machine.Machine.{Machine}
 use Rattle.cf_types.specs.declared.tables.Place.{Place}
 use Rattle.cf_types.specs.declared.tables.Row.{Row}
 use Rattle.cf_types.specs.declared.tables.Tables.{Tables}
 use Rattle.cf_types.specs.Gather.{is_in}
 use Rattle.cf_types.specs.Locators.{locators_at, submatch}
-use Rattle.cf_types.specs.Numbers.{below}
 use Rattle.run_rules.specs.Search.{found_at, match_value}
 use Rattle.run_rules.specs.Sound.{EachLater}
 use Rattle.run_rules.specs.World.{same_place}
 use Rattle.match_search.specs.Best.{worth}
-use Rattle.match_search.specs.Index.{AreBestFirst, candidate, candidates, is_better, suits}
+use Rattle.match_search.specs.Index.{AreBestFirst, candidate, is_better, suits}
+use Rattle.match_search.specs.Sought.{AreCandidates, suits_at}
+use Rattle.match_search.specs.declared.index.Sought.{Sought}
 use Rattle.match_search.specs.declared.index.Candidate.{Candidate}
 
--- ---- one row more
+-- ---- one row
 
-got : {X : Type 0} (xs : List X) (i : ℕ) (x : X) → i < length xs → x ≡ get_or xs i x → slice_get xs i ≡ Some x
+pub got : {X : Type 0} (xs : List X) (i : ℕ) (x : X) → i < length xs → x ≡ get_or xs i x → slice_get xs i ≡ Some x
 got [] i x lt e = absurd (omega arith)
 got (y ∷ ys) zero x lt e = ap Some (sym e)
 got (y ∷ ys) (suc i) x lt e = got ys i x (omega arith) e
 
-filter_more : (p : ℕ → Bool) (i : ℕ) → filter p (below (i + 1)) ≡ filter p (below i) ++ filter p (i ∷ [])
-filter_more p i = rw add-one (filter-append p (below i) (i ∷ []))
-
-abbrev test : Tables → Machine → Place → ℕ → Row → ℕ → Bool
+abbrev pub test : Tables → Machine → Place → ℕ → Row → ℕ → Bool
 test t m place x row value = same_place row.place place && nat_lt 0 value && submatch (locators_at t.attrs place) row.locs (found_at m x)
 
-suits_is : (t : Tables) (m : Machine) (place : Place) (x i value : ℕ) (row : Row) (b : Bool) → slice_get t.rows i ≡ Some row → value ≡ match_value m row.attach x
+pub suits_is : (t : Tables) (m : Machine) (place : Place) (x i value : ℕ) (row : Row) (b : Bool) → slice_get t.rows i ≡ Some row → value ≡ match_value m row.attach x
     → b ≡ test t m place x row value → suits t m place x i ≡ b
 suits_is t m place x i value row b at is e = rw at (sym (e ∙ ap (test t m place x row) is))
-
-pub one_taken : (t : Tables) (m : Machine) (place : Place) (x i value : ℕ) (row : Row) (xs ys : List Candidate) (b : Bool) → i < length t.rows → row ≡ get_or t.rows i row
-    → value ≡ match_value m row.attach x → b ≡ test t m place x row value → b ≡ true
-    → xs ≡ candidates t m place x i → ys ≡ xs ++ (record { value = record { 0 = value }; row = i }) ∷ [] → ys ≡ candidates t m place x (i + 1)
-one_taken t m place x i value row xs ys b lt at is e pass old new =
-    let here : slice_get t.rows i ≡ Some row = got t.rows i row lt at in
-    let passes : suits t m place x i ≡ true = suits_is t m place x i value row b here is e ∙ pass in
-    let worth_is : worth t m i x ≡ value = rw here (sym is) in
-    let kept : filter (suits t m place x) (below (i + 1)) ≡ filter (suits t m place x) (below i) ++ i ∷ [] =
-    filter_more (suits t m place x) i ∙ ap (λ (c : Bool). filter (suits t m place x) (below i) ++ cond c (i ∷ []) []) passes in
-    new ∙ ap (λ zs. zs ++ (record { value = record { 0 = value }; row = i }) ∷ []) old
-    ∙ ap (λ v. candidates t m place x i ++ (record { value = record { 0 = v }; row = i }) ∷ []) (sym worth_is)
-    ∙ sym (map-append (candidate t m x) (filter (suits t m place x) (below i)) (i ∷ [])) ∙ ap (map (candidate t m x)) (sym kept)
-
-pub one_passed : (t : Tables) (m : Machine) (place : Place) (x i value : ℕ) (row : Row) (xs : List Candidate) (b : Bool) → i < length t.rows → row ≡ get_or t.rows i row
-    → value ≡ match_value m row.attach x → b ≡ test t m place x row value → b ≡ false
-    → xs ≡ candidates t m place x i → xs ≡ candidates t m place x (i + 1)
-one_passed t m place x i value row xs b lt at is e fail old =
-    let here : slice_get t.rows i ≡ Some row = got t.rows i row lt at in
-    let fails : suits t m place x i ≡ false = suits_is t m place x i value row b here is e ∙ fail in
-    let kept : filter (suits t m place x) (below (i + 1)) ≡ filter (suits t m place x) (below i) ++ [] =
-    filter_more (suits t m place x) i ∙ ap (λ (c : Bool). filter (suits t m place x) (below i) ++ cond c (i ∷ []) []) fails in
-    old ∙ ap (map (candidate t m x)) (sym (kept ∙ append-nil (filter (suits t m place x) (below i))))
 
 -- ---- the best first
 
@@ -152,81 +122,46 @@ in_candidates : (t : Tables) (m : Machine) (x r : ℕ) (rs : List ℕ) → list_
 in_candidates t m x r [] = refl
 in_candidates t m x r (q ∷ rs) = ap (λ b. q == r || b) (in_candidates t m x r rs)
 
-in_last : (b : Bool) (n r : ℕ) → is_in r (cond b (n ∷ []) []) ≡ (b && n == r)
-in_last true n r = or-false (n == r)
-in_last false n r = refl
-
-low : (a b : Bool) → ((a && true) || (b && false)) ≡ (a && true)
-low true true = refl
-low true false = refl
-low false true = refl
-low false false = refl
-
-same : (a : Bool) → ((a && false) || (a && true)) ≡ (a && true)
-same true = refl
-same false = refl
-
-high : (a b : Bool) → ((a && false) || (b && false)) ≡ (a && false)
-high true true = refl
-high true false = refl
-high false true = refl
-high false false = refl
-
-one_above : (p : ℕ → Bool) (n r : ℕ) → ((p r && nat_lt r n) || (p n && n == r)) ≡ (p r && nat_lt r (suc n))
-one_above p n r = elim (cases_lt r n) [
-  | inl less ↦
-      let here : nat_lt r n ≡ true = grind (arith, nat_tests) in
-      let after : nat_lt r (suc n) ≡ true = grind (arith, nat_tests) in
-      let other : (n == r) ≡ false = ne_eqb n r (λ e. absurd (omega arith)) in
-      rw (here, after, other) (low (p r) (p n))
-  | inr past ↦ elim (cases_lt n r) [
-    | inl beyond ↦
-        let here : nat_lt r n ≡ false = grind (arith, nat_tests) in
-        let after : nat_lt r (suc n) ≡ false = grind (arith, nat_tests) in
-        let other : (n == r) ≡ false = ne_eqb n r (λ e. absurd (omega arith)) in
-        rw (here, after, other) (high (p r) (p n))
-    | inr le ↦
-        let e : r ≡ n = omega arith in
-        let here : nat_lt n n ≡ false = grind (arith, nat_tests) in
-        let after : nat_lt n (suc n) ≡ true = grind (arith, nat_tests) in
-        let itself : (n == n) ≡ true = eq-eqb n n refl in
-        rw e (rw (here, after, itself) (same (p n)))
-  ]
-]
-
-in_kept : (p : ℕ → Bool) (n r : ℕ) → is_in r (filter p (below n)) ≡ (p r && nat_lt r n)
-in_kept p zero r = none (p r)
+-- a number is left by a filter exactly where it is there and passes
+pub in_kept : (p : ℕ → Bool) (rs : List ℕ) (r : ℕ) → is_in r (filter p rs) ≡ (p r && is_in r rs)
+in_kept p [] r = none (p r)
   where
-    none : (b : Bool) → false ≡ (b && nat_lt r 0)
-    none true = grind (arith, nat_tests)
+    none : (b : Bool) → false ≡ (b && false)
+    none true = refl
     none false = refl
-in_kept p (suc n) r =
-    ap (is_in r) (filter-append p (below n) (n ∷ [])) ∙ is_in-append r (filter p (below n)) (cond (p n) (n ∷ []) [])
-    ∙ ap (λ b. b || is_in r (cond (p n) (n ∷ []) [])) (in_kept p n r) ∙ ap (λ b. (p r && nat_lt r n) || b) (in_last (p n) n r) ∙ one_above p n r
-
--- a row beyond the last suits nothing
-suits_within : (t : Tables) (m : Machine) (place : Place) (x r : ℕ) → (suits t m place x r && nat_lt r (length t.rows)) ≡ suits t m place x r
-suits_within t m place x r = elim (cases_lt r (length t.rows)) [
-  | inl less ↦ let inside : nat_lt r (length t.rows) ≡ true = grind (arith, nat_tests) in rw inside (and_true (suits t m place x r))
-  | inr past ↦ rw (slice_get_past t.rows r past) refl
-]
+in_kept p (q ∷ rs) r = by_test (q == r) (p q) refl refl (in_kept p rs r)
   where
-    and_true : (b : Bool) → (b && true) ≡ b
-    and_true true = refl
-    and_true false = refl
+    by_test : (b c : Bool) → (q == r) ≡ b → p q ≡ c → is_in r (filter p rs) ≡ (p r && is_in r rs) → is_in r (filter p (q ∷ rs)) ≡ (p r && (q == r || is_in r rs))
+    by_test true true e f later =
+        let here : p r ≡ true = ap p (sym (eqb-true q r e)) ∙ f in
+        rw (f, e, here) refl
+    by_test true false e f later =
+        let here : p r ≡ false = ap p (sym (eqb-true q r e)) ∙ f in
+        rw (f, here) (later ∙ rw here refl)
+    by_test false true e f later = rw (f, e) later
+    by_test false false e f later = rw (f, e) later
 
-best_first_is : (t : Tables) (m : Machine) (place : Place) (x : ℕ) (xs ys : List Candidate) (rows : List ℕ) → xs ≡ candidates t m place x (length t.rows)
-    → IsPermutation xs ys → IsSorted by_value ys → rows ≡ map (λ c. c.row) ys → AreBestFirst t m place x rows
-best_first_is t m place x xs ys rows is moved sorted e = rw e (record {
+all_kept : (p : ℕ → Bool) (rs : List ℕ) (r : ℕ) → (p r ≡ true → is_in r rs ≡ true) → is_in r (filter p rs) ≡ p r
+all_kept p rs r h = in_kept p rs r ∙ by_value (p r) refl
+  where
+    by_value : (b : Bool) → p r ≡ b → (p r && is_in r rs) ≡ p r
+    by_value true e = rw e (h e)
+    by_value false e = rw e refl
+
+best_first_is : (s : Sought) (xs ys : List Candidate) (rows : List ℕ) → AreCandidates s xs
+    → IsPermutation xs ys → IsSorted by_value ys → rows ≡ map (λ c. c.row) ys → AreBestFirst s.tables.now s.machine.now s.place s.spot rows
+best_first_is s xs ys rows is moved sorted e = rw e (record {
   each = λ r.
-      in_rows r ys ∙ sym (list_any-IsPermutation (λ (c : Candidate). c.row == r) xs ys moved) ∙ ap (list_any (λ (c : Candidate). c.row == r)) is
-      ∙ in_candidates t m x r (filter (suits t m place x) (below (length t.rows))) ∙ in_kept (suits t m place x) (length t.rows) r ∙ suits_within t m place x r;
-  order = rows_ordered t m x ys
-      (sym (list_any-IsPermutation (is_off t m x) xs ys moved) ∙ ap (list_any (is_off t m x)) is ∙ none_off t m x (filter (suits t m place x) (below (length t.rows))))
+      in_rows r ys ∙ sym (list_any-IsPermutation (λ (c : Candidate). c.row == r) xs ys moved) ∙ ap (list_any (λ (c : Candidate). c.row == r)) is.are
+      ∙ in_candidates s.tables.now s.machine.now s.spot r (filter (suits_at s) is.rows) ∙ all_kept (suits_at s) is.rows r (is.all r);
+  order = rows_ordered s.tables.now s.machine.now s.spot ys
+      (sym (list_any-IsPermutation (is_off s.tables.now s.machine.now s.spot) xs ys moved) ∙ ap (list_any (is_off s.tables.now s.machine.now s.spot)) is.are
+      ∙ none_off s.tables.now s.machine.now s.spot (filter (suits_at s) is.rows))
       (later_all ys (λ k d lt. rw add-one at (sorted k d (omega arith) (omega arith))));
 })
 
-pub best_first_ok : {E : Type 0} (t : Tables) (m : Machine) (place : Place) (x : ℕ) (xs ys : List Candidate) (r : Result (Vec ℕ Global) E) → xs ≡ candidates t m place x (length t.rows)
-    → IsPermutation xs ys → IsSorted by_value ys → IfOk r (λ rows. rows.items ≡ map (λ c. c.row) ys) → IfOk r (λ rows. AreBestFirst t m place x rows.items)
-best_first_ok t m place x xs ys (Ok rows) is moved sorted e = best_first_is t m place x xs ys rows.items is moved sorted e
-best_first_ok t m place x xs ys (Err e) is moved sorted h = tt
+pub best_first_ok : {E : Type 0} (s : Sought) (xs ys : List Candidate) (r : Result (Vec ℕ Global) E) → AreCandidates s xs
+    → IsPermutation xs ys → IsSorted by_value ys → IfOk r (λ rows. rows.items ≡ map (λ c. c.row) ys)
+    → IfOk r (λ rows. AreBestFirst s.tables.now s.machine.now s.place s.spot rows.items)
+best_first_ok s xs ys (Ok rows) is moved sorted e = best_first_is s xs ys rows.items is moved sorted e
+best_first_ok s xs ys (Err e) is moved sorted h = tt

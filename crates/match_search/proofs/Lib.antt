@@ -1,6 +1,6 @@
 pub mod BestLaws
 pub mod CandidateLaws
-pub mod HeadLaws
+pub mod PlacedLaws
 pub mod IndexLaws
 pub mod ListedLaws
 pub mod OwnLaws

@@ -1,5 +1,5 @@
 -- What is known of the rows before any device: which of them suit a spot, and which of two is the better there.
-use Rattle.std.specs.Prelude.{◌≡◌, ℕ, Bool, false, not, ◌&&◌, ◌||◌, ◌==◌, nat_lt, List, [], length, map, filter, find, reverse, slice_get, Option, Some, None, is_some}
+use Rattle.std.specs.Prelude.{◌≡◌, ℕ, Bool, false, not, ◌&&◌, ◌||◌, ◌==◌, nat_lt, List, [], length, find, reverse, slice_get, Option, Some, None, is_some}
 use Rattle.std.specs.List.{slice_index_or}
 use Rattle.std.specs.Option.{option_map_or, ForSome}
 use Rattle.cf_types.specs.declared.machine.Machine.{Machine}
@@ -7,7 +7,6 @@ use Rattle.cf_types.specs.declared.machine.MatchLine.{MatchLine}
 use Rattle.cf_types.specs.declared.tables.Place.{Place}
 use Rattle.cf_types.specs.declared.tables.Tables.{Tables}
 use Rattle.cf_types.specs.Gather.{is_in}
-use Rattle.cf_types.specs.Numbers.{below}
 use Rattle.cf_types.specs.Locators.{locators_at, submatch}
 use Rattle.run_rules.specs.declared.world.ParentRef.{ParentRef}
 use Rattle.run_rules.specs.Search.{found_at, match_value, names_parent}
@@ -43,10 +42,6 @@ is_better t m x r q = nat_lt (worth t m q x) (worth t m r x) || (worth t m r x =
 -- a row with its match value
 abbrev pub candidate : Tables → Machine → ℕ → ℕ → Candidate
 candidate t m x r = record { value = record { 0 = worth t m r x }; row = r }
-
--- those of the first n rows that suit the spot at the place
-abbrev pub candidates : Tables → Machine → Place → ℕ → ℕ → List Candidate
-candidates t m place x n = map (candidate t m x) (filter (suits t m place x) (below n))
 
 -- just the rows that suit the spot at the place, and none is better than one before it
 pub record AreBestFirst (t : Tables) (m : Machine) (place : Place) (x : ℕ) (rows : List ℕ) : Type 0 where

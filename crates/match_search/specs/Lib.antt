@@ -3,5 +3,6 @@ pub mod Index
 pub use Rattle.run_rules.specs.Search
 pub mod Own
 pub mod Found
-pub mod Heads
+pub mod Placed
+pub mod Sought
 pub mod Leaders

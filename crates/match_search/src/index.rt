@@ -1,17 +1,18 @@
 //! The rows that suit each spot, the best first.
-ghost use Rattle.std.specs.Prelude.{◌≡◌, ◌≤◌, ◌&&◌, nat_lt, [], length, map, IfOk};
+ghost use Rattle.std.specs.Prelude.{◌≡◌, ◌≤◌, ◌++◌, [], length, map, IfOk, OnOk};
 ghost use Rattle.std.specs.List.{slice_index_or};
-ghost use Rattle.cf_types.specs.Locators.{submatch};
-ghost use Rattle.run_rules.specs.World as world;
+ghost use Rattle.match_search.specs.Index.{AreBestFirst, AreValuesAt, IsIndexOf};
+ghost use Rattle.cf_types.specs.Locators.{locators_at};
 ghost use Rattle.match_search.specs.Found.{locators_in};
-ghost use Rattle.match_search.specs.Heads.{first_locator, head_of};
-ghost use Rattle.match_search.specs.Index.{AreBestFirst, AreValuesAt, IsIndexOf, candidates};
+ghost use Rattle.match_search.specs.Placed.{ArePlaced};
+ghost use Rattle.match_search.specs.Sought.{AreCandidates, HaveAll, candidate_at, candidates_in, first_locator};
+ghost use Rattle.run_rules.specs.Search.{found_at};
 
-use crate::fits::{attr_at, found_or, passes, same_place};
-use crate::heads::{FirstLocator, RowHead, could_pass, first_locator, heads_of};
+use crate::fits::{attr_at, found_at, found_or, passes, same_place};
 use crate::own::own_lines;
+use crate::placed::{PlaceKey, PlacedRows};
 use crate::values::{set_values, value_of, values_at};
-use cf_types::{Attr, Locs, Machine, Memory, Place, Row, Tables};
+use cf_types::{Attr, Locs, Machine, Memory, Place, Tables};
 use std::alloc::Global;
 use std::cmp::Reverse;
 use std::marker::Model;
@@ -38,57 +39,112 @@ struct Candidate {
     row: u16,
 }
 
-/// Whether a row of this match value suits a place with the locators of this attribute, at which these values are
-/// found. Most rows that do not are ruled out by what is compared first.
-#[inline(always)]
-fn is_suited(
-    place: Place,
-    attr: Option<&Attr>,
-    first: Option<FirstLocator>,
-    found: &Locs,
-    head: &RowHead,
-    row: &Row,
-    value: u32,
-) -> bool
-    requires head { head.now ≡ head_of row.now }
-    requires first { first ≡ first_locator (locators_in attr) found.now }
-    ensures { result ≡ (world.same_place row.now.place place && nat_lt 0 value && submatch (locators_in attr.entry) row.now.locs found.now) }
-{
-    same_place(head.place, place)
-        && 0 < value
-        && could_pass(first, head.first)
-        && passes(attr, row, found)
-}
-
-/// The rows that suit a spot at a place, in their order.
-fn suiting_rows(
-    tables: &Tables,
-    heads: &Vec<RowHead>,
-    machine: &Machine,
-    values: &Vec<u32>,
+/// What is looked for: rows of these tables that suit a spot of the machine at its place, with the match values of
+/// attachments there.
+#[derive(Clone, Copy)]
+struct Sought<'a> {
+    tables: &'a Tables,
+    machine: &'a Machine,
+    values: &'a Vec<u32>,
     place: Place,
     spot: u16,
-) -> Result<Vec<Candidate>, Memory>
-    requires few { length tables.now.rows ≤ 65536 }
-    requires heads { heads.now.items ≡ map head_of tables.now.rows }
-    requires values { AreValuesAt machine.now spot values.now.items }
-    ensures { IfOk result (λ list. list.items ≡ candidates tables.now machine.now place spot (length tables.now.rows)) }
+}
+
+/// The first locator of a place: its default, and the value that is found at a spot.
+#[derive(Clone, Copy)]
+struct FirstLocator {
+    default: Option<i64>,
+    found: i64,
+}
+
+/// The candidate that a row is, if it suits the spot, at which these values are found.
+fn candidate_of(
+    sought: &Sought,
+    attr: Option<&Attr>,
+    found: &Locs,
+    number: u16,
+) -> Option<Candidate>
+    requires values { AreValuesAt sought.now.machine.now sought.now.spot sought.now.values.now.items }
+    requires attr { locators_in attr ≡ locators_at sought.now.tables.now.attrs sought.now.place }
+    requires found { found.now ≡ found_at sought.now.machine.now sought.now.spot }
+    ensures { result ≡ candidate_at sought.now number }
+{
+    let row = sought.tables.rows.items().get(number as usize)?;
+    let value = value_of(sought.values, row.attach);
+    if same_place(row.place, sought.place) && 0 < value && passes(attr, row, found) {
+        Some(Candidate {
+            value: Reverse(value),
+            row: number,
+        })
+    } else {
+        None
+    }
+}
+
+/// Adds those of some rows that suit the spot.
+fn add_candidates(sought: &Sought, rows: &[u16], list: &mut Vec<Candidate>) -> Result<(), Memory>
+    requires values { AreValuesAt sought.now.machine.now sought.now.spot sought.now.values.now.items }
+    ensures { OnOk result (list.new.items ≡ list.old.items ++ candidates_in sought.now rows.now) }
 {
     let none = Locs::make();
-    let attr = attr_at(tables, place);
-    let found = found_or(machine, spot, &none);
-    let first = first_locator(attr, found);
-    let mut list = Vec::new(*values.allocator());
-    for (number, row) in tables.rows.items().iter().enumerate() {
-        let head = &heads[number];
-        let value = value_of(values, head.attach);
-        if is_suited(place, attr, first, found, head, row, value) {
-            list.push(Candidate {
-                value: Reverse(value),
-                row: number as u16,
-            })?;
+    let attr = attr_at(sought.tables, sought.place);
+    let found = found_or(sought.machine, sought.spot, &none);
+    for row in rows {
+        if let Some(candidate) = candidate_of(sought, attr, found, *row) {
+            list.push(candidate)?;
         }
     }
+    Ok(())
+}
+
+/// The first locator of the spot's place, with the first value that is found there, if there are both.
+fn first_locator(sought: &Sought) -> Option<FirstLocator>
+    ensures { result ≡ first_locator (locators_at sought.now.tables.now.attrs sought.now.place) (found_at sought.now.machine.now sought.now.spot) }
+{
+    let locator = attr_at(sought.tables, sought.place)?.locs.items().first()?;
+    let found = *found_at(sought.machine, sought.spot).first()?;
+    Some(FirstLocator {
+        default: locator.default,
+        found,
+    })
+}
+
+/// Two lists of rows, among which are all that suit the spot: of those at its place the ones with the first value that
+/// is found there, and the ones with the default of the first locator.
+fn rows_for<'a>(sought: &Sought, placed: &'a PlacedRows) -> (&'a [u16], &'a [u16])
+    requires placed { ArePlaced sought.now.tables.now.rows placed.now }
+    ensures { HaveAll sought.now (result.0.now ++ result.1.now) }
+{
+    let place = sought.place;
+    let Some(first) = first_locator(sought) else {
+        return (placed.rows(PlaceKey { place, first: None }), &[]);
+    };
+    let found = placed.rows(PlaceKey {
+        place,
+        first: Some(first.found),
+    });
+    match first.default {
+        Some(default) if default != first.found => {
+            let wild = PlaceKey {
+                place,
+                first: Some(default),
+            };
+            (found, placed.rows(wild))
+        }
+        _ => (found, &[]),
+    }
+}
+
+/// The rows that suit the spot.
+fn suiting_rows(sought: &Sought, placed: &PlacedRows) -> Result<Vec<Candidate>, Memory>
+    requires placed { ArePlaced sought.now.tables.now.rows placed.now }
+    requires values { AreValuesAt sought.now.machine.now sought.now.spot sought.now.values.now.items }
+    ensures { IfOk result (λ list. AreCandidates sought.now list.items) }
+{
+    let (some, others) = rows_for(sought, placed);
+    let mut list = Vec::new(*sought.values.allocator());
+    add_candidates(sought, some, &mut list)?;
+    add_candidates(sought, others, &mut list)?;
     Ok(list)
 }
 
@@ -103,21 +159,13 @@ fn rows_of(list: &Vec<Candidate>) -> Result<Vec<u16>, Memory>
     Ok(rows)
 }
 
-/// The rows that suit a spot at a place, the best first.
-fn best_first(
-    tables: &Tables,
-    heads: &Vec<RowHead>,
-    machine: &Machine,
-    values: &Vec<u32>,
-    place: Place,
-    spot: u16,
-) -> Result<Vec<u16>, Memory>
-    requires few { length tables.now.rows ≤ 65536 }
-    requires heads { heads.now.items ≡ map head_of tables.now.rows }
-    requires values { AreValuesAt machine.now spot values.now.items }
-    ensures { IfOk result (λ rows. AreBestFirst tables.now machine.now place spot rows.items) }
+/// The rows that suit the spot, the best first.
+fn best_first(sought: &Sought, placed: &PlacedRows) -> Result<Vec<u16>, Memory>
+    requires placed { ArePlaced sought.now.tables.now.rows placed.now }
+    requires values { AreValuesAt sought.now.machine.now sought.now.spot sought.now.values.now.items }
+    ensures { IfOk result (λ rows. AreBestFirst sought.now.tables.now sought.now.machine.now sought.now.place sought.now.spot rows.items) }
 {
-    let mut list = suiting_rows(tables, heads, machine, values, place, spot)?;
+    let mut list = suiting_rows(sought, placed)?;
     list.sort()?;
     rows_of(&list)
 }
@@ -129,14 +177,21 @@ impl RowIndex {
         requires few_spots { length machine.now.spots ≤ 65536 }
         ensures { IfOk result (IsIndexOf tables.now machine.now) }
     {
-        let heads = heads_of(alloc, tables.rows.items())?;
+        let placed = PlacedRows::make(alloc, tables.rows.items())?;
         let mut everywhere = Vec::new(alloc);
         set_values(&mut everywhere, machine.matches.items(), None)?;
         let own = own_lines(alloc, machine.spots.items(), machine.matches.items())?;
         let mut lists = Vec::with_capacity(alloc, machine.spots.len())?;
         for (number, spot) in machine.spots.items().iter().enumerate() {
             let values = values_at(&everywhere, machine, &own[number], number as u16)?;
-            let rows = best_first(tables, &heads, machine, &values, spot.place, number as u16)?;
+            let sought = Sought {
+                tables,
+                machine,
+                values: &values,
+                place: spot.place,
+                spot: number as u16,
+            };
+            let rows = best_first(&sought, &placed)?;
             lists.push(rows)?;
         }
         Ok(RowIndex { lists })

@@ -3,12 +3,12 @@
 
 mod choice;
 mod fits;
-mod heads;
 mod index;
 mod kinds;
 mod leaders;
 mod live;
 mod own;
+mod placed;
 mod value;
 mod values;
 

@@ -1,6 +1,7 @@
 use Rattle.std.proofs.Common.{◌∙◌, ap, arith, length, [], ◌∷◌}
 use Rattle.cf_io.proofs.AskedLemmas.{front_all}
-use Rattle.config_rules.specs.Reading.{include, reader, under_prefix}
+use Rattle.config_rules.specs.Reading.{reader, under_prefix}
+use Rattle.cf_expand.specs.Levels.{include}
 use Rattle.cf_expand.proofs.AskedLemmas.{all_grown, include_front, include_grows, reader_grows, stopped, within_limits}
 use Rattle.cf_expand.specs.Steps.{here_of}
 use Rattle.cf_expand.proofs.open.open_include.Goals as goal

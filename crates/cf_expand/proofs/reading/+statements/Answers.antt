@@ -1,14 +1,15 @@
 use Rattle.std.proofs.Common.{◌≡◌, ◌+◌, ◌<◌, ◌∙◌, ◌++◌, arith, List, [], length, ap, refl, sym, subst, Some}
 use Rattle.cf_types.specs.declared.stmt.Token.{Token}
 use Rattle.cf_grammar.specs.Statement.{AreWithin}
-use Rattle.config_rules.specs.Reading.{Level, Reading, Statement, holds, levels_behind, names_declared, read_placed, read_statement, read_statements, reader, statements_in, treat}
+use Rattle.config_rules.specs.Reading.{Reading, Statement, holds, names_declared, reader, statements_in}
+use Rattle.cf_expand.specs.Levels.{Level, levels_behind, read_placed, read_statement, read_statements, treat}
 use Rattle.cf_expand.proofs.AskedLemmas.{all_grown, asked_still, at_end, at_fault, asks_same, beyond, follows, front_grown, front_same, reader_grows, rest_grows, statements_grow, placed_grows, stopped_all, treat_grows, whole_grows}
 use Rattle.cf_lexer.specs.Rest.{all_tokens, is_closed}
 use Rattle.cf_expand.specs.Unread.{Uncut, all_left}
 use Rattle.cf_expand.proofs.UnreadLemmas.{fewer_left, first_within, kept_only, last_kept, none_left, passed_left, passed_reads, rest_closed, split_within, started, suffix_within, whole_splits}
 use Rattle.cf_expand.proofs.ReadLemmas.{included, included_whole, on_ok, placed_form, placed_here, room_below}
 use Rattle.cf_expand.specs.Lines.{statement_of}
-use Rattle.cf_expand.specs.Steps.{entered, here_of}
+use Rattle.cf_expand.specs.Steps.{entered, here_of, treated}
 use Rattle.cf_expand.proofs.reading.+statements.Goals as goal
 
 pub read_directive-returns-clause-read : goal.read_directive-returns-clause-read
@@ -68,6 +69,15 @@ read_placed-returns-in-Ok-clause-read g t c = λ named e.
     (λ h. λ around room. h around c.args.statement.now room c.head.ensures
     ∙ placed_form named (reader source.levels named) (here_of around source) c.args.conditions.now c.args.statement.now c.in-Ok.stmt c.args.progress.now c.read.new.progress few c.in-Ok.ensures.form c.read.ensures.same)
 
+pub read_placed-returns-in-Ok-clause-asked : goal.read_placed-returns-in-Ok-clause-asked
+read_placed-returns-in-Ok-clause-asked g t c = λ named e start around room before.
+    let source = c.args.source.now in
+    let s = c.args.statement.now in
+    let few : length c.args.progress.now.placed < 65536 = omega arith in
+    asks_same (treated named around source c.args.conditions.now s c.in-Ok.stmt c.read.new.progress) (read_placed named (reader source.levels named) (here_of around source) c.args.conditions.now s c.args.progress.now) c.read_formed.result start _
+    (placed_form named (reader source.levels named) (here_of around source) c.args.conditions.now s c.in-Ok.stmt c.args.progress.now c.read.new.progress few c.in-Ok.ensures.form c.read.ensures.same)
+    (c.read_formed.ensures.asked s c.head.ensures named e start around room (asked_still _ _ start _ (ap (λ (r : Reading). r.asked) c.read.ensures.same) before))
+
 pub read_placed-returns-in-Err-Memory-clause-asked : goal.read_placed-returns-in-Err-Memory-clause-asked
 read_placed-returns-in-Err-Memory-clause-asked g t c = λ named e start around room before.
     let source = c.args.source.now in
@@ -81,6 +91,14 @@ read_with_include-returns-then-is_placed-clause-read g t c = λ named e.
     on_ok c.read_placed.result (c.read_placed.ensures.read named e)
     (λ h. λ around room. h around room
     ∙ placed_here named (reader source.levels named) (here_of around source) c.args.conditions.now c.args.statement.now c.word-word.result c.args.progress.now c.word-word.ensures (sym c.is_placed.ensures ∙ c.if-is_placed.true))
+
+pub read_with_include-returns-then-is_placed-clause-asked : goal.read_with_include-returns-then-is_placed-clause-asked
+read_with_include-returns-then-is_placed-clause-asked g t c = λ named e start around room before.
+    let source = c.args.source.now in
+    let s = c.args.statement.now in
+    asks_same (read_placed named (reader source.levels named) (here_of around source) c.args.conditions.now s c.args.progress.now) (read_statement named (reader source.levels named) (here_of around source) c.args.conditions.now s c.args.progress.now) c.read_placed.result start _
+    (placed_here named (reader source.levels named) (here_of around source) c.args.conditions.now s c.word-word.result c.args.progress.now c.word-word.ensures (sym c.is_placed.ensures ∙ c.if-is_placed.true))
+    (c.read_placed.ensures.asked named e start around room before)
 
 pub read_source-returns-in_err-read_with_include-clause-asked : goal.read_source-returns-in_err-read_with_include-clause-asked
 read_source-returns-in_err-read_with_include-clause-asked g t c = λ named e start around room before.

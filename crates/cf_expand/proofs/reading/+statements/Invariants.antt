@@ -1,7 +1,8 @@
 use Rattle.std.proofs.Common.{◌≡◌, ℕ, ◌+◌, ◌-◌, ◌*◌, true, Option, Some, List, [], length}
 use Rattle.cf_io.specs.Load.{asked_behind}
 use Rattle.cf_grammar.specs.Statement.{AreWithin}
-use Rattle.config_rules.specs.Reading.{Files, statements_in, read_statements, reader}
+use Rattle.config_rules.specs.Reading.{Files, statements_in, reader}
+use Rattle.cf_expand.specs.Levels.{read_statements}
 use Rattle.cf_lexer.specs.Rest.{all_tokens, is_closed}
 use Rattle.cf_expand.specs.Steps.{here_of}
 use Rattle.cf_expand.specs.Unread.{all_left}

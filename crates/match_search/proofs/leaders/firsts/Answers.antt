@@ -1,4 +1,4 @@
-use Rattle.std.proofs.Common.{◌∙◌, ◌+◌, ◌++◌, ◌∷◌, [], sym, ap, subst, take}
+use Rattle.std.proofs.Common.{◌∙◌, ◌++◌, ◌∷◌, [], sym, ap, subst, take}
 use Rattle.std.proofs.lemmas.List.{take_more}
 use Rattle.match_search.specs.Leaders.{AreLeaders}
 use Rattle.match_search.proofs.LeaderLaws.{AreNoted, noted_still, noted_too, pushed, skipped}

@@ -1,5 +1,4 @@
-use Rattle.std.proofs.Common.{◌≡◌, ◌<◌, ◌≤◌, ◌++◌, [], List, Option, Some, length, drop, ap, sym, subst, arith}
-use Rattle.cf_types.specs.declared.stmt.Token.{Token}
+use Rattle.std.proofs.Common.{◌<◌, ◌≤◌, ◌++◌, Option, length, drop, ap, sym, subst, arith}
 use Rattle.cf_lexer.specs.declared.rest.Rest.{Rest}
 use Rattle.cf_lexer.specs.Rest.{rest_tokens}
 use Rattle.cf_expand.specs.Unread.{PassesTo, Refills, Uncut}
