@@ -133,9 +133,10 @@ fn hardware_print(plain: &Plain) -> u64
     );
     let print = plain
         .refs
+        .list()
         .iter()
         .fold(print, |print, held| mix_ref(print, held));
-    mix_spots(mix_spots(print, &plain.absent), &plain.hidden)
+    mix_spots(mix_spots(print, plain.absent.spots()), plain.hidden.spots())
 }
 
 /// A print with deferred scans more.
@@ -161,7 +162,10 @@ fn whole_print(plain: &Plain) -> u64
     ensures { (s : Setup) → result ≡ whole_print (world_of s plain.now) }
 {
     let print = mix_option(hardware_print(plain), plain.power_owner);
-    mix_callers(mix_all_deferred(print, &plain.deferred), &plain.callers)
+    mix_callers(
+        mix_all_deferred(print, plain.deferred.list()),
+        &plain.callers,
+    )
 }
 
 /// The print of a world.

@@ -150,13 +150,13 @@ pub fn same_world(a: &Plain, b: &Plain) -> bool
     ensures { (s : Setup) → IsTrue result ↔ (world_of s a.now ≡ world_of s b.now) }
 {
     a.live.is_same(&b.live)
-        && same_all(&a.refs, &b.refs)
+        && same_all(a.refs.list(), b.refs.list())
         && same_all(&a.sole, &b.sole)
-        && same_all(&a.absent, &b.absent)
-        && same_all(&a.hidden, &b.hidden)
+        && same_all(a.absent.spots(), b.absent.spots())
+        && same_all(a.hidden.spots(), b.hidden.spots())
         && a.interrupts_on == b.interrupts_on
         && a.power_owner == b.power_owner
-        && same_all(&a.deferred, &b.deferred)
+        && same_all(a.deferred.list(), b.deferred.list())
         && same_all(&a.finalisers, &b.finalisers)
         && a.next_finaliser == b.next_finaliser
         && a.pass_repeats == b.pass_repeats

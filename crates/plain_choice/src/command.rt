@@ -14,8 +14,7 @@ use crate::rescan::rescanning;
 use cf_types::{Command, Given, Memory, Name, Ticket};
 use plain_names::device_named;
 use plain_world::{
-    Plain, Rules, count, device_on, holds, is_bad, is_pinned, is_sole, is_under, policy_of, refers,
-    spot_named,
+    Plain, Rules, device_on, is_bad, is_pinned, is_sole, is_under, policy_of, spot_named,
 };
 use run_rules::{Deed, Dev, PowerKind, Refusal};
 use std::alloc::Global;
@@ -44,7 +43,7 @@ fn open(
         Ok(Deed::Refuse(Refusal::Gone))
     } else if is_sole(&plain.sole, device.serial) {
         Ok(Deed::Refuse(Refusal::Exclusive))
-    } else if count(&plain.refs, caller, device.serial) < 15 {
+    } else if plain.refs.count(caller, device.serial) < 15 {
         Ok(Deed::Open {
             of: device.serial,
             sole: false,
@@ -63,7 +62,7 @@ fn open_sole(alloc: Global, rules: &Rules, plain: &Plain, name: &Name) -> Result
     };
     if device.condemned.is_some() {
         Ok(Deed::Refuse(Refusal::Gone))
-    } else if refers(&plain.refs, device.serial) {
+    } else if plain.refs.refers(device.serial) {
         Ok(Deed::Refuse(Refusal::Shared))
     } else {
         Ok(Deed::Open {
@@ -86,7 +85,7 @@ fn close(
     let Some(device) = named(alloc, rules, plain, name)? else {
         return Ok(Deed::Refuse(Refusal::NotHeld));
     };
-    if holds(&plain.refs, caller, device.serial) {
+    if plain.refs.holds(caller, device.serial) {
         Ok(Deed::Close { of: device.serial })
     } else {
         Ok(Deed::Refuse(Refusal::NotHeld))
@@ -121,7 +120,7 @@ fn io(rules: &Rules, plain: &Plain, caller: u8, number: u32, found: Option<Dev>,
     let Some(device) = found else {
         return Deed::Refuse(Refusal::NotHeld);
     };
-    if !holds(&plain.refs, caller, device.serial) {
+    if !plain.refs.holds(caller, device.serial) {
         Deed::Refuse(Refusal::NotHeld)
     } else if device.asleep {
         Deed::Refuse(Refusal::Asleep)
@@ -145,7 +144,7 @@ fn is_hindrance(
         && ((!forced && policy_of(rules, device.row).nodetach)
             || is_pinned(plain, device.serial)
             || device.condemned.is_some()
-            || holds(&plain.refs, caller, device.serial))
+            || plain.refs.holds(caller, device.serial))
 }
 
 /// The first device that keeps the target's subtree from being freed. See config_detach(9).

@@ -10,7 +10,7 @@ ghost use Rattle.plain_world.specs.Rules.{AreFit, setup_by};
 use cf_types::Place;
 use plain_search::{Seeker, arrival};
 use plain_world::{
-    Plain, Rules, device_at, driver_of, has, has_spot, is_number, offered, place_of,
+    Plain, Rules, device_at, driver_of, has, is_number, offered, place_of, stretch_at,
 };
 use run_rules::{Deed, Dev};
 
@@ -42,19 +42,19 @@ fn is_late_below(rules: &Rules, plain: &Plain, device: Dev, spot: u16) -> bool
     requires { AreFit rules.now }
     ensures { result ≡ is_late_below (world_of (setup_by rules.now) plain.now) device spot }
 {
-    let hidden = has_spot(&plain.hidden, spot);
-    let absent = has_spot(&plain.absent, spot);
-    let below = hangs_below(rules, device, spot);
-    hidden && !absent && below
+    plain.hidden.has(spot) && !plain.absent.has(spot) && hangs_below(rules, device, spot)
 }
 
-/// The first spot that is late, hidden and present, and is below a device.
+/// The first spot that is late, hidden and present, and is below a device. It costs a look at each spot of the stretch below the
+/// device.
 #[tactic(auto, unfolding(run_rules::specs::Next::late_spot))]
 fn late_spot(rules: &Rules, plain: &Plain, device: Dev) -> Option<u16>
     requires { AreFit rules.now }
     ensures { next.late_spot (world_of (setup_by rules.now) plain.now) device ≡ result }
 {
-    for spot in 0..rules.machine.spots.len() as u16 {
+    let below = stretch_at(rules.stretches, Some(device.spot));
+    let end = below.end.min(rules.machine.spots.len() as u16);
+    for spot in below.first..end {
         if is_late_below(rules, plain, device, spot) {
             return Some(spot);
         }

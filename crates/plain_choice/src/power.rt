@@ -8,8 +8,8 @@ ghost use Rattle.plain_world.specs.Plain.{world_of};
 ghost use Rattle.plain_choice.specs.Power.{sleeping};
 ghost use Rattle.plain_world.specs.Rules.{setup_by};
 
-use plain_world::{Live, Plain, Rules, holds, is_live, is_pinned, is_under, policy_of, refers};
-use run_rules::{Choice, Deed, Dev, PowerEnd, PowerKind, Ref, Wait};
+use plain_world::{Live, Plain, Refs, Rules, is_live, is_pinned, is_under, policy_of};
+use run_rules::{Choice, Deed, Dev, PowerEnd, PowerKind, Wait};
 
 /// Whether a caller condemned a device.
 fn is_condemned_by(device: &Dev, caller: u8) -> bool
@@ -40,7 +40,7 @@ pub fn freeing(plain: &Plain, caller: u8) -> Choice
 {
     match next_free(plain.live.devices(), caller) {
         Some(serial) => {
-            if refers(&plain.refs, serial) {
+            if plain.refs.refers(serial) {
                 Choice::Waits(Wait::Refs(serial))
             } else {
                 Choice::Does(Deed::Free { of: serial })
@@ -152,12 +152,12 @@ pub fn powering(rules: &Rules, plain: &Plain, kind: PowerKind, target: u64) -> C
 }
 
 /// The first device that a caller holds.
-fn first_held(live: &[Dev], references: &[Ref], caller: u8) -> Option<Dev>
+fn first_held(live: &[Dev], references: &Refs, caller: u8) -> Option<Dev>
     ensures { result ≡ find (λ d. world.holds_in references.now caller d.serial) live.now }
 {
     live.iter()
         .copied()
-        .find(|device| holds(references, caller, device.serial))
+        .find(|device| references.holds(caller, device.serial))
 }
 
 /// What a caller does after its last command: it returns what it holds, and then it ends.

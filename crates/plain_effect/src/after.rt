@@ -1,5 +1,5 @@
 //! The world after a deed: what becomes of callers, frames and attached devices.
-ghost use Rattle.std.specs.Prelude.{◌≡◌, ◌<◌, ◌+◌, ◌-◌, ◌^◌, ◌==◌, not, filter, ℕ, IfSome, OnOk};
+ghost use Rattle.std.specs.Prelude.{◌≡◌, ◌<◌, ◌+◌, ◌-◌, ◌^◌, ℕ, IfSome, OnOk};
 ghost use Rattle.run_rules.specs.After as after;
 ghost use Rattle.run_rules.specs.World as world;
 ghost use Rattle.run_rules.specs.declared.world.Setup.{Setup};
@@ -9,9 +9,7 @@ ghost use Rattle.plain_world.specs.Plain.{HasCaller, state_at, world_of};
 ghost use Rattle.plain_world.specs.Rules.{AreFit, setup_by};
 
 use cf_types::{Memory, Policy};
-use plain_world::{
-    Plain, Rules, driver_of, has_ended, is_nothing, new_scan, offered, policy_of, same_key,
-};
+use plain_world::{Plain, Rules, driver_of, has_ended, is_nothing, new_scan, offered, policy_of};
 use run_rules::{Activity, Arrival, Deferred, Frame, Key, Placing, Position};
 use std::alloc::Global;
 
@@ -41,20 +39,13 @@ pub fn push(plain: &mut Plain, caller: u8, frame: Frame) -> Result<(), Memory>
     plain.callers[caller as usize].push(frame)
 }
 
-/// Removes what was put off to a key.
-fn forget(deferred: &mut Vec<Deferred>, which: Key)
-    ensures { deferred.new.items ≡ filter (λ e. not (after.same_key e.key which)) deferred.old.items }
-{
-    deferred.retain(|put_off| !same_key(put_off.key, which));
-}
-
 /// The deferred scans to a key begin.
 fn release(alloc: Global, plain: &mut Plain, caller: u8, which: Key) -> Result<(), Memory>
     requires { HasCaller plain.old caller 600 }
     ensures { (s : Setup) → OnOk result (world_of s plain.new ≡ after.released (world_of s plain.old) caller which (state_at plain.old.callers.items caller).stack) }
 {
-    plain.callers[caller as usize].release(alloc, &plain.deferred, which)?;
-    forget(&mut plain.deferred, which);
+    plain.callers[caller as usize].release(alloc, plain.deferred.list(), which)?;
+    plain.deferred.forget(which);
     Ok(())
 }
 
@@ -284,13 +275,6 @@ pub fn search(
     arrive(alloc, rules, plain, caller, got, true)
 }
 
-/// Removes a spot from a list.
-pub fn remove_spot(spots: &mut Vec<u16>, spot: u16)
-    ensures { spots.new.items ≡ filter (λ y. not (y == spot)) spots.old.items }
-{
-    spots.retain(|other| *other != spot);
-}
-
 /// A late spot is seen from now on.
 fn show(plain: &mut Plain, spot: Option<u16>)
     ensures world { (s : Setup) → world_of s plain.new ≡ after.show_spot (world_of s plain.old) spot }
@@ -298,7 +282,7 @@ fn show(plain: &mut Plain, spot: Option<u16>)
     ensures next { plain.new.live.next ≡ plain.old.live.next }
 {
     if let Some(spot) = spot {
-        remove_spot(&mut plain.hidden, spot);
+        plain.hidden.remove(spot);
     }
 }
 

@@ -1,8 +1,8 @@
 //! The world after a deed of a command. See drvctl(8), config_detach(9) and pmf(9).
-ghost use Rattle.std.specs.Prelude.{◌≡◌, ◌<◌, ◌-◌, ◌^◌, ◌∷◌, [], not, ◌==◌, true, IfOk, OnOk, filter, map, position};
+ghost use Rattle.std.specs.Prelude.{◌≡◌, ◌<◌, ◌-◌, ◌^◌, true, IfOk, OnOk};
 ghost use Rattle.run_rules.specs.After as after;
 ghost use Rattle.run_rules.specs.Next as next;
-ghost use Rattle.run_rules.specs.References.{given_back, is_of, shared_again};
+ghost use Rattle.run_rules.specs.References.{shared_again};
 ghost use Rattle.run_rules.specs.declared.deed.Deed.TheVariants as deeds;
 ghost use Rattle.run_rules.specs.declared.world.Activity.TheVariants as activity;
 ghost use Rattle.run_rules.specs.declared.world.Setup.{Setup};
@@ -10,41 +10,22 @@ ghost use Rattle.plain_effect.specs.Effects.{HasPlace, is_quiet};
 ghost use Rattle.plain_world.specs.Plain.{HasCaller, state_at, world_of};
 ghost use Rattle.plain_world.specs.Rules.{AreFit, setup_by};
 
-use crate::after::{
-    begin, begin_interrupts, end_scan, finalise, finish, push, remove_spot, search,
-};
+use crate::after::{begin, begin_interrupts, end_scan, finalise, finish, push, search};
 use cf_types::{Command, Given, Memory};
 use plain_world::{Caller, Plain, Rules, command_of, wanted_by};
 use run_rules::{Activity, Deed, Frame, Position, Ref};
 use std::alloc::Global;
 
 /// A caller has one reference more to a device, which may be the only one.
-fn refer(plain: &mut Plain, caller: u8, of: u64, sole: bool) -> Result<(), Memory>
+fn refer(alloc: Global, plain: &mut Plain, caller: u8, of: u64, sole: bool) -> Result<(), Memory>
     ensures world { (s : Setup) → OnOk result (world_of s plain.new ≡ after.referred (world_of s plain.old) caller of sole) }
     ensures callers { plain.new.callers.items ≡ plain.old.callers.items }
 {
-    plain.refs.push(Ref { serial: of, caller })?;
+    plain.refs.push(alloc, Ref { serial: of, caller })?;
     if sole {
         plain.sole.push(of)?;
     }
     Ok(())
-}
-
-/// The place of the first reference of a caller to a device.
-fn place_of(refs: &[Ref], caller: u8, of: u64) -> Option<usize>
-    ensures { result ≡ position (is_of caller of) refs.now }
-{
-    refs.iter()
-        .position(|held| held.serial == of && held.caller == caller)
-}
-
-/// Removes one reference of a caller to a device, if it has any.
-fn take_out(refs: &mut Vec<Ref>, caller: u8, of: u64)
-    ensures { refs.new.items ≡ given_back refs.old.items caller of }
-{
-    if let Some(place) = place_of(refs, caller, of) {
-        refs.remove(place);
-    }
 }
 
 /// Removes a device from those that are held solely.
@@ -59,7 +40,7 @@ fn give_back(plain: &mut Plain, caller: u8, of: u64)
     ensures world { (s : Setup) → world_of s plain.new ≡ after.unreferred (world_of s plain.old) caller of }
     ensures callers { plain.new.callers.items ≡ plain.old.callers.items }
 {
-    take_out(&mut plain.refs, caller, of);
+    plain.refs.take_out(caller, of);
     share_again(&mut plain.sole, of);
 }
 
@@ -175,15 +156,6 @@ fn rescan(
     push(plain, caller, frame)
 }
 
-/// The hardware of a spot goes.
-fn pull(absent: &mut Vec<u16>, spot: u16) -> Result<(), Memory>
-    ensures { OnOk result (absent.new.items ≡ spot ∷ filter (λ y. not (y == spot)) absent.old.items) }
-{
-    remove_spot(absent, spot);
-    absent.insert(0, spot)?;
-    Ok(())
-}
-
 /// A device and all that is below it are condemned: the caller frees them from now on.
 fn detach(alloc: Global, plain: &mut Plain, caller: u8, of: u64) -> Result<(), Memory>
     requires caller { HasCaller plain.old caller 500 }
@@ -206,7 +178,7 @@ fn unplug(
     requires caller { HasCaller plain.old caller 500 }
     ensures { (s : Setup) → OnOk result (world_of s plain.new ≡ after.after (world_of s plain.old) caller (deeds.Unplug spot of)) }
 {
-    pull(&mut plain.absent, spot)?;
+    plain.absent.put_first(spot)?;
     match of {
         Some(serial) => detach(alloc, plain, caller, serial),
         None => {
@@ -218,11 +190,11 @@ fn unplug(
 
 /// A reference is granted.
 #[tactic(auto, unfolding(run_rules::specs::After::after))]
-fn open(plain: &mut Plain, caller: u8, of: u64, sole: bool) -> Result<(), Memory>
+fn open(alloc: Global, plain: &mut Plain, caller: u8, of: u64, sole: bool) -> Result<(), Memory>
     requires { HasCaller plain.old caller 500 }
     ensures { (s : Setup) → OnOk result (world_of s plain.new ≡ after.after (world_of s plain.old) caller (deeds.Open of sole)) }
 {
-    refer(plain, caller, of, sole)?;
+    refer(alloc, plain, caller, of, sole)?;
     finish(plain, caller);
     Ok(())
 }
@@ -261,7 +233,7 @@ fn do_quietly(plain: &mut Plain, caller: u8, deed: &Deed)
         Deed::Sleep { of } => rest(plain, of, true),
         Deed::Wake { of } => rest(plain, of, false),
         Deed::Plug { spot } => {
-            remove_spot(&mut plain.absent, spot);
+            plain.absent.remove(spot);
             finish(plain, caller);
         }
         Deed::Refuse(_) => finish(plain, caller),
@@ -304,7 +276,7 @@ pub fn apply(
             anew,
             ..
         } => finalise(alloc, rules, plain, caller, shown, got, listed, anew),
-        Deed::Open { of, sole } => open(plain, caller, of, sole),
+        Deed::Open { of, sole } => open(alloc, plain, caller, of, sole),
         Deed::Detach { of } => detach(alloc, plain, caller, of),
         Deed::Rescan { of, only } => rescan(alloc, rules, plain, caller, of, only),
         Deed::Unplug { spot, of } => unplug(alloc, plain, caller, spot, of),

@@ -9,8 +9,8 @@ ghost use Rattle.plain_world.specs.Rules.{AreFit, setup_by};
 
 use crate::names::{device_named, parent_name, unit_name};
 use cf_types::{DevLine, Hold, List, Memory, Name};
-use plain_world::{Plain, Rules, count, holds, is_sole};
-use run_rules::{DepthName, Dev, Ref};
+use plain_world::{Plain, Refs, Rules, is_sole};
+use run_rules::{DepthName, Dev};
 use std::alloc::Global;
 
 /// The names of the children of a device, or of the root for 0, by serial.
@@ -186,7 +186,7 @@ pub fn tree_names(
 /// Who holds a device, by caller.
 fn holds_on(
     alloc: Global,
-    references: &[Ref],
+    references: &Refs,
     sole: &[u64],
     serial: u64,
 ) -> Result<List<Hold>, Memory>
@@ -197,10 +197,10 @@ fn holds_on(
     let sole = is_sole(sole, serial);
     for index in 0..16u8 {
         let caller = index + 1;
-        if holds(references, caller, serial) {
+        if references.holds(caller, serial) {
             list.push(Hold {
                 caller,
-                count: count(references, caller, serial) as u8,
+                count: references.count(caller, serial) as u8,
                 sole,
             })?;
         }
@@ -218,7 +218,7 @@ fn line_of(
     device: &Dev,
 ) -> Result<DevLine, Memory>
     requires fit { AreFit rules.now }
-    requires counted { (k s : ℕ) → refs.count_in plain.now.refs.items k s ≤ 15 }
+    requires counted { (k s : ℕ) → refs.count_in plain.now.refs k s ≤ 15 }
     ensures { IfOk result (λ line. line ≡ rule.dev_line (world_of (setup_by rules.now) plain.now) (depth, device.now)) }
 {
     let name = unit_name(alloc, rules, device.row, device.unit)?;
@@ -240,7 +240,7 @@ fn line_of(
 pub fn tree_lines(alloc: Global, rules: &Rules, plain: &Plain) -> Result<List<DevLine>, Memory>
     requires fit { AreFit rules.now }
     requires few { length plain.now.live.devices ≤ 1024 }
-    requires counted { (k s : ℕ) → refs.count_in plain.now.refs.items k s ≤ 15 }
+    requires counted { (k s : ℕ) → refs.count_in plain.now.refs k s ≤ 15 }
     ensures { IfOk result (λ lines. lines ≡ rule.tree_lines (world_of (setup_by rules.now) plain.now)) }
 {
     let placed = all_below(alloc, plain.live.devices(), 0, 0)?;

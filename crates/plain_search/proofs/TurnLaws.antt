@@ -28,7 +28,7 @@ use Rattle.plain_search.specs.Open.{hangs_at}
 -- ---- the row that takes a spot
 
 abbrev open_at : Rules → Plain → Going → ℕ → Bool
-open_at r p g x = is_open r.machine.now p.live.devices p.absent.items p.hidden.items g.filter.now x
+open_at r p g x = is_open r.machine.now p.live.devices p.absent p.hidden g.filter.now x
 
 abbrev winner_of : Rules → Plain → Going → Bus → ℕ → Option ℕ
 winner_of r p g b x = winner_at (setup_by r) p.live.devices g.serial b.place x

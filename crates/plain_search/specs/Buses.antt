@@ -27,7 +27,7 @@ IsOffered r g b = b.offered ≡ parent_offers r.tables.now g.parent b.place
 
 -- a scan takes a turn that is due and not before its position
 abbrev pub takes : Rules → Plain → Going → Turn → Bool
-takes r p g t = not (is_before t.at g.from) && is_due (setup_by r) p.live.devices p.absent.items p.hidden.items g.serial g.filter.now t
+takes r p g t = not (is_before t.at g.from) && is_due (setup_by r) p.live.devices p.absent p.hidden g.serial g.filter.now t
 
 -- the turn of a bus at a row and a spot
 abbrev pub turn_on : Bus → ℕ → ℕ → Turn

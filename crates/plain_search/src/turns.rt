@@ -15,7 +15,7 @@ use crate::matches::{arrival, parent_offers, parent_ref, winner};
 use crate::seeker::Seeker;
 use cf_types::Place;
 use plain_world::{
-    Plain, Rules, attach_of, device_at, driver_of, found_at, has_spot, is_occupied, offered,
+    Plain, Rules, attach_of, device_at, driver_of, found_at, is_occupied, offered,
     same_place, stretch_at,
 };
 use run_rules::{Deed, Dev, ParentRef, Position, Turn, Wanted};
@@ -43,10 +43,10 @@ fn passes_filter(rules: &Rules, spot: u16, filter: &[Wanted]) -> bool
 #[inline(always)]
 #[tactic(auto, unfolding(run_rules::specs::Search::is_open))]
 fn is_open(rules: &Rules, plain: &Plain, filter: &[Wanted], spot: u16) -> bool
-    ensures { result ≡ rule.is_open rules.now.machine.now plain.now.live.devices plain.now.absent.items plain.now.hidden.items filter.now spot }
+    ensures { result ≡ rule.is_open rules.now.machine.now plain.now.live.devices plain.now.absent plain.now.hidden filter.now spot }
 {
-    let absent = has_spot(&plain.absent, spot);
-    let hidden = has_spot(&plain.hidden, spot);
+    let absent = plain.absent.has(spot);
+    let hidden = plain.hidden.has(spot);
     let occupied = is_occupied(&plain.live, spot);
     let passes = passes_filter(rules, spot, filter);
     !absent && !hidden && !occupied && passes
@@ -376,7 +376,7 @@ fn turn_of_all(seeker: &Seeker, plain: &Plain, scan: &Going) -> Option<Turn>
 #[tactic(auto, unfolding(run_rules::specs::Search::due))]
 fn due_turn(seeker: &Seeker, plain: &Plain, scan: &Going, only: Option<u32>) -> Option<Turn>
     requires may { MaySearch seeker.now plain.now scan.now }
-    ensures { rule.due (setup_by seeker.now.rules.now) plain.now.live.devices plain.now.absent.items plain.now.hidden.items scan.now.serial only scan.now.filter.now scan.now.from ≡ result }
+    ensures { rule.due (setup_by seeker.now.rules.now) plain.now.live.devices plain.now.absent plain.now.hidden scan.now.serial only scan.now.filter.now scan.now.from ≡ result }
 {
     match only {
         Some(attr) => turn_among(seeker, plain, scan, &[attr]),
@@ -419,7 +419,7 @@ pub fn next_scan(
     requires fit { AreFit seeker.now.rules.now }
     requires few { length plain.now.live.devices ≤ 1024 }
     requires follows { Follows seeker.now plain.now.live.devices }
-    ensures { next.next_scan (setup_by seeker.now.rules.now) plain.now.live.devices plain.now.absent.items plain.now.hidden.items serial only filter.now from ≡ result }
+    ensures { next.next_scan (setup_by seeker.now.rules.now) plain.now.live.devices plain.now.absent plain.now.hidden serial only filter.now from ≡ result }
 {
     let scan = Going {
         serial,

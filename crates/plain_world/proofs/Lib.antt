@@ -3,3 +3,5 @@ pub mod Ready
 pub mod Kept
 pub mod Stands
 pub mod StretchLaws
+pub mod MarkLaws
+pub mod TallyLaws

@@ -1,11 +1,9 @@
 -- How many devices stand on a spot, with one device more, with one less, and with other marks.
-use Rattle.std.proofs.Common.{◌≡◌, ℕ, zero, suc, ◌+◌, ◌-◌, ◌<◌, ◌≤◌, ◌∙◌, Bool, true, false, ◌||◌, ◌==◌, cond, List, [], ◌∷◌, ◌++◌, Some, length, map, get_or, refl, ap, sym, arith}
-use Rattle.std.specs.Prelude.{if◌then◌else◌, nat_lt, remove}
-use Rattle.std.proofs.lemmas.Bool.Decides.{nat_tests}
+use Rattle.std.proofs.Common.{◌≡◌, ℕ, zero, suc, ◌+◌, ◌-◌, ◌<◌, ◌≤◌, Bool, true, false, ◌==◌, cond, List, [], ◌∷◌, ◌++◌, Some, length, map, get_or, refl, ap, sym, arith}
+use Rattle.std.specs.Prelude.{if◌then◌else◌, remove}
 use Rattle.std.proofs.lemmas.List.Sums.{sum_by-append}
 use Rattle.run_rules.specs.declared.world.Dev.{Dev}
 use Rattle.run_rules.specs.After.{with_condemner, with_sleep}
-use Rattle.run_rules.specs.Search.{is_occupied}
 use Rattle.run_rules.specs.World.{is_under}
 use Rattle.plain_world.specs.Standing.{standing_on}
 
@@ -39,14 +37,6 @@ counted_as f same [] x = refl
 counted_as f same (d ∷ ds) x =
     let here : one_if (d.spot == x) ≡ one_if ((f d).spot == x) = ap (λ (n : ℕ). one_if (n == x)) (sym (same d)) in
     let e : standing_on (d ∷ ds) x ≡ standing_on (f d ∷ map f ds) x = omega (arith, counted_first d ds x, counted_first (f d) (map f ds) x, here, counted_as f same ds x) in e
-
-pub occupied_is : (ds : List Dev) (x : ℕ) → nat_lt 0 (standing_on ds x) ≡ is_occupied ds x
-occupied_is [] x = refl
-occupied_is (d ∷ ds) x = ap (nat_lt 0) (counted_first d ds x) ∙ cases (d.spot == x) (standing_on ds x) (is_occupied ds x) (occupied_is ds x)
-  where
-    cases : (b : Bool) (n : ℕ) (c : Bool) → nat_lt 0 n ≡ c → nat_lt 0 (one_if b + n) ≡ (b || c)
-    cases true n c more = grind (arith, nat_tests)
-    cases false n c more = let z : 0 + n ≡ n = omega arith in ap (nat_lt 0) z ∙ more
 
 pub rested_spot : (s : ℕ) (asleep : Bool) (d : Dev) → (with_sleep s asleep d).spot ≡ d.spot
 rested_spot s asleep d = cases (d.serial == s)

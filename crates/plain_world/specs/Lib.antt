@@ -4,3 +4,5 @@ pub mod Standing
 pub mod Noted
 pub mod Wanted
 pub mod Stretches
+pub mod Marks
+pub mod Tallies

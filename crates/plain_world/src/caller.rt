@@ -1,10 +1,12 @@
 //! The callers, and what each goes on with.
-ghost use Rattle.std.specs.Prelude.{◌≡◌, ◌<◌, ◌+◌, ◌-◌, ◌^◌, ◌++◌, ◌∷◌, [], IfOk, OnOk};
+ghost use Rattle.std.specs.Prelude.{◌≡◌, ◌==◌, ◌<◌, ◌+◌, ◌-◌, ◌^◌, ◌++◌, ◌∷◌, [], IfOk, OnOk};
+ghost use Rattle.std.specs.List.{list_any};
 ghost use Rattle.run_rules.specs.After.{settled, moved_top, same_key, under_top};
 ghost use Rattle.run_rules.specs.World as world;
 ghost use Rattle.run_rules.specs.declared.world.Activity.TheVariants.{Idle, Scans};
 ghost use Rattle.plain_world.specs.Plain.{moved, released_frames, restacked};
 
+use crate::tally::Tally;
 use cf_types::{List, Memory};
 use run_rules::{Activity, Deferred, Frame, Key, Position};
 use std::alloc::Global;
@@ -16,14 +18,19 @@ pub struct Caller {
     over: u32,
     doing: Activity,
     stack: Vec<Frame>,
+    /// How many frames are for each device.
+    framed: Tally,
 }
 
 impl Model for Caller {
     ghost use Rattle.run_rules.specs.World.{Caller as Told};
+    ghost use Rattle.plain_world.specs.Tallies.{AreFramed};
 
     ghost Value = { Told };
 
     ghost view = { λ c. record { over = c.over; doing = c.doing; stack = c.stack.items } };
+
+    ghost invariant = { λ c. AreFramed c.stack.items c.framed };
 }
 
 /// The scan of a device from its start.
@@ -39,6 +46,21 @@ pub fn new_scan(alloc: Global, serial: u64) -> Frame
             row: 0,
             spot: 0,
         },
+    }
+}
+
+/// The device that a frame is for.
+fn frame_serial(frame: &Frame) -> u64
+    ensures { result ≡ world.frame_serial frame.now }
+{
+    match frame {
+        Frame::Scan {
+            serial,
+            only: _,
+            filter: _,
+            position: _,
+        } => *serial,
+        Frame::Finaliser { serial } => *serial,
     }
 }
 
@@ -121,6 +143,7 @@ impl Caller {
             over: 0,
             doing: Activity::Idle,
             stack: Vec::new(alloc),
+            framed: Tally::make(alloc),
         }
     }
 
@@ -128,13 +151,9 @@ impl Caller {
     pub fn booting(alloc: Global) -> Result<Caller, Memory>
         ensures { IfOk result (λ c. c ≡ world.beginning (world.scan_of 0 ∷ [])) }
     {
-        let mut stack = Vec::new(alloc);
-        stack.push(new_scan(alloc, 0))?;
-        Ok(Caller {
-            over: 0,
-            doing: Activity::Idle,
-            stack,
-        })
+        let mut caller = Caller::beginning(alloc);
+        caller.put_on_top(new_scan(alloc, 0))?;
+        Ok(caller)
     }
 
     /// A copy.
@@ -145,6 +164,7 @@ impl Caller {
             over: self.over,
             doing: self.doing,
             stack: copied_frames(alloc, &self.stack)?,
+            framed: self.framed.copied(alloc)?,
         })
     }
 
@@ -167,6 +187,14 @@ impl Caller {
         ensures { result.now ≡ self.now.stack }
     {
         &self.stack
+    }
+
+    /// Whether it has a frame for a device.
+    #[inline(always)]
+    pub fn has_frame(&self, serial: u64) -> bool
+        ensures { result ≡ list_any (λ f. world.frame_serial f == serial) self.now.stack }
+    {
+        self.framed.has(serial)
     }
 
     /// Whether it has ended.
@@ -203,12 +231,33 @@ impl Caller {
         }
     }
 
+    /// Puts a frame on top, and nothing else changes.
+    fn put_on_top(&mut self, frame: Frame) -> Result<(), Memory>
+        ensures { OnOk result (self.new ≡ record { over = self.old.over; doing = self.old.doing; stack = frame ∷ self.old.stack }) }
+    {
+        let serial = frame_serial(&frame);
+        self.framed.reach(serial)?;
+        self.stack.insert(0, frame)?;
+        self.framed.enter(serial);
+        Ok(())
+    }
+
+    /// Puts these frames on top, the first of them first, and nothing else changes.
+    fn put_all_on_top(&mut self, mut frames: Vec<Frame>) -> Result<(), Memory>
+        ensures { OnOk result (self.new ≡ record { over = self.old.over; doing = self.old.doing; stack = frames.items ++ self.old.stack }) }
+    {
+        while let Some(frame) = frames.pop() {
+            self.put_on_top(frame)?;
+        }
+        Ok(())
+    }
+
     /// Puts a frame on top.
     pub fn push(&mut self, frame: Frame) -> Result<(), Memory>
         requires low { self.old.over < 2 ^ 32 - 1 }
         ensures { OnOk result (self.new ≡ restacked self.old (frame ∷ self.old.stack)) }
     {
-        self.stack.insert(0, frame)?;
+        self.put_on_top(frame)?;
         self.settle();
         Ok(())
     }
@@ -218,9 +267,7 @@ impl Caller {
         requires low { self.old.over < 2 ^ 32 - 1 }
         ensures { self.new ≡ restacked self.old (under_top self.old.stack) }
     {
-        if !self.stack.is_empty() {
-            self.stack.remove(0);
-        }
+        self.drop_top();
         self.settle();
     }
 
@@ -240,7 +287,8 @@ impl Caller {
         ensures { self.new ≡ record { over = self.old.over; doing = self.old.doing; stack = under_top self.old.stack } }
     {
         if !self.stack.is_empty() {
-            self.stack.remove(0);
+            let frame = self.stack.remove(0);
+            self.framed.leave(frame_serial(&frame));
         }
     }
 
@@ -254,9 +302,8 @@ impl Caller {
         requires low { self.old.over < 2 ^ 32 - 1 }
         ensures { OnOk result (self.new ≡ restacked self.old (released_frames deferred.now which ++ self.old.stack)) }
     {
-        let mut frames = released(alloc, deferred, which)?;
-        frames.append(&mut self.stack)?;
-        self.stack = frames;
+        let frames = released(alloc, deferred, which)?;
+        self.put_all_on_top(frames)?;
         self.settle();
         Ok(())
     }

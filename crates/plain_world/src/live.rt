@@ -9,7 +9,7 @@ ghost use Rattle.run_rules.specs.declared.world.Dev.{Dev};
 ghost use Rattle.plain_world.specs.Standing.{AreInOrder, IsLeft, with_device};
 
 use crate::look::is_under;
-use crate::spots::{enter, is_on, leave, reach};
+use crate::tally::Tally;
 use cf_types::Memory;
 use run_rules::{Arrival, Dev};
 use std::alloc::Global;
@@ -22,7 +22,7 @@ pub struct Live {
     devices: Vec<Dev>,
     next: u64,
     /// How many devices are on each spot.
-    on_spots: Vec<usize>,
+    on_spots: Tally,
 }
 
 impl Model for Live {
@@ -32,7 +32,7 @@ impl Model for Live {
 
     ghost view = { λ live. record { devices = live.devices.items; next = live.next } };
 
-    ghost invariant = { λ live. AreInOrder live.devices.items live.next × AreCounted live.devices.items live.on_spots.items };
+    ghost invariant = { λ live. AreInOrder live.devices.items live.next × AreCounted live.devices.items live.on_spots };
 }
 
 /// The place of the device of a serial, found by binary search.
@@ -146,7 +146,7 @@ impl Live {
         Live {
             devices: Vec::new(alloc),
             next: 1,
-            on_spots: Vec::new(alloc),
+            on_spots: Tally::make(alloc),
         }
     }
 
@@ -155,7 +155,7 @@ impl Live {
         ensures { IfOk result (λ copy. copy ≡ self.now) }
     {
         let devices = Vec::from_slice(alloc, &self.devices)?;
-        let on_spots = Vec::from_slice(alloc, &self.on_spots)?;
+        let on_spots = self.on_spots.copied(alloc)?;
         Ok(Live {
             devices,
             next: self.next,
@@ -210,7 +210,7 @@ impl Live {
     pub fn is_on(&self, spot: u16) -> bool
         ensures { result ≡ is_occupied self.now.devices spot }
     {
-        is_on(&self.on_spots, spot)
+        self.on_spots.has(spot as u64)
     }
 
     /// A device is attached, with the next serial.
@@ -218,7 +218,7 @@ impl Live {
         requires { self.old.next < 2 ^ 64 - 1 }
         ensures { OnOk result (self.new ≡ with_device self.old arrival) }
     {
-        reach(&mut self.on_spots, arrival.spot)?;
+        self.on_spots.reach(arrival.spot as u64)?;
         self.devices.push(Dev {
             serial: self.next,
             row: arrival.row,
@@ -228,7 +228,7 @@ impl Live {
             asleep: false,
             condemned: None,
         })?;
-        enter(&mut self.on_spots, arrival.spot);
+        self.on_spots.enter(arrival.spot as u64);
         self.next += 1;
         Ok(())
     }
@@ -238,7 +238,7 @@ impl Live {
         ensures { self.new ≡ record self.old { devices = filter (λ d. not (d.serial == serial)) self.old.devices } }
     {
         match remove_at(&mut self.devices, serial) {
-            Some(spot) => leave(&mut self.on_spots, spot),
+            Some(spot) => self.on_spots.leave(spot as u64),
             None => {}
         }
     }

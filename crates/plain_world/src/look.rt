@@ -1,8 +1,7 @@
-//! Look-ups among live devices, references and frames.
-ghost use Rattle.std.specs.Prelude.{◌≡◌, ◌==◌, ◌&&◌, ◌||◌};
+//! Look-ups among live devices and frames.
+ghost use Rattle.std.specs.Prelude.{◌≡◌, ◌==◌, ◌||◌};
 ghost use Rattle.std.specs.List.{list_any};
 ghost use Rattle.run_rules.specs.declared.world.Setup.{Setup};
-ghost use Rattle.run_rules.specs.References as refs;
 ghost use Rattle.run_rules.specs.Search as rule;
 ghost use Rattle.run_rules.specs.World as world;
 ghost use Rattle.plain_world.specs.Plain.{world_of};
@@ -12,7 +11,7 @@ use crate::caller::Caller;
 use crate::live::Live;
 use crate::rules::{Rules, attach_of, driver_of};
 use crate::world::Plain;
-use run_rules::{Deferred, Dev, Frame, Ref};
+use run_rules::Dev;
 
 /// The live device of a serial.
 #[inline(always)]
@@ -56,32 +55,6 @@ pub fn parent_of(live: &Live, serial: u64) -> u64
     }
 }
 
-/// Whether a caller holds a device.
-pub fn holds(references: &[Ref], caller: u8, serial: u64) -> bool
-    ensures { result ≡ world.holds_in references.now caller serial }
-{
-    references
-        .iter()
-        .any(|held| held.serial == serial && held.caller == caller)
-}
-
-/// Whether anybody holds a device.
-pub fn refers(references: &[Ref], serial: u64) -> bool
-    ensures { result ≡ world.refers_to references.now serial }
-{
-    references.iter().any(|held| held.serial == serial)
-}
-
-/// How often a caller holds a device.
-pub fn count(references: &[Ref], caller: u8, serial: u64) -> usize
-    ensures { result ≡ refs.count_in references.now caller serial }
-{
-    references
-        .iter()
-        .filter(|held| held.serial == serial && held.caller == caller)
-        .count()
-}
-
 /// Whether a device is held solely.
 pub fn is_sole(sole: &[u64], serial: u64) -> bool
     ensures { result ≡ world.has sole.now serial }
@@ -89,43 +62,11 @@ pub fn is_sole(sole: &[u64], serial: u64) -> bool
     sole.iter().any(|held| *held == serial)
 }
 
-/// The device that a frame is for.
-fn frame_serial(frame: &Frame) -> u64
-    ensures { result ≡ world.frame_serial frame.now }
-{
-    match frame {
-        Frame::Scan {
-            serial,
-            only: _,
-            filter: _,
-            position: _,
-        } => *serial,
-        Frame::Finaliser { serial } => *serial,
-    }
-}
-
-/// Whether a caller has a frame for a device.
-fn has_frame(caller: &Caller, serial: u64) -> bool
-    ensures { result ≡ list_any (λ f. world.frame_serial f == serial) caller.now.stack }
-{
-    caller
-        .stack()
-        .iter()
-        .any(|frame| frame_serial(frame) == serial)
-}
-
-/// Whether a scan of a device was put off.
-fn is_put_off(deferred: &[Deferred], serial: u64) -> bool
-    ensures { result ≡ list_any (λ e. e.child == serial) deferred.now }
-{
-    deferred.iter().any(|put_off| put_off.child == serial)
-}
-
 /// Whether a frame of one of these callers is for a device.
 fn has_frames(callers: &[Caller], serial: u64) -> bool
     ensures { result ≡ list_any (λ c. list_any (λ f. world.frame_serial f == serial) c.stack) callers.now }
 {
-    callers.iter().any(|caller| has_frame(caller, serial))
+    callers.iter().any(|caller| caller.has_frame(serial))
 }
 
 /// Whether a frame of any caller, or a deferred scan, is for a device.
@@ -133,7 +74,7 @@ fn has_frames(callers: &[Caller], serial: u64) -> bool
 pub fn is_pinned(plain: &Plain, serial: u64) -> bool
     ensures { (s : Setup) → result ≡ world.is_pinned (world_of s plain.now) serial }
 {
-    has_frames(&plain.callers, serial) || is_put_off(&plain.deferred, serial)
+    has_frames(&plain.callers, serial) || plain.deferred.has(serial)
 }
 
 /// The driver of the live device of a serial; none for the root.

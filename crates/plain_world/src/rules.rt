@@ -142,13 +142,6 @@ pub fn is_nothing(offers: &[u32]) -> bool
     }
 }
 
-/// Whether a list has a spot.
-pub fn has_spot(list: &[u16], spot: u16) -> bool
-    ensures { result ≡ world.has list.now spot }
-{
-    list.iter().any(|other| *other == spot)
-}
-
 /// The number of the spot of a name.
 pub fn spot_named(rules: &Rules, name: &[u8]) -> Option<u16>
     requires { length rules.now.machine.now.spots ≤ 1024 }

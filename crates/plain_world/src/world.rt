@@ -8,9 +8,11 @@ ghost use Rattle.plain_world.specs.Rules.{setup_by, AreFit};
 
 use crate::caller::Caller;
 use crate::live::Live;
+use crate::put_off::PutOff;
+use crate::refs::Refs;
 use crate::rules::Rules;
+use crate::spot_list::SpotList;
 use cf_types::Memory;
-use run_rules::{Deferred, Ref};
 use std::alloc::Global;
 
 /// What a run has come to.
@@ -19,17 +21,17 @@ pub struct Plain {
     /// The live devices in the order in which they were attached, and the serial of the next one.
     pub live: Live,
     /// The references, and the devices that are held solely.
-    pub refs: Vec<Ref>,
+    pub refs: Refs,
     pub sole: Vec<u64>,
     /// The spots without hardware, and the late spots that no finalizer has shown yet.
-    pub absent: Vec<u16>,
-    pub hidden: Vec<u16>,
+    pub absent: SpotList,
+    pub hidden: SpotList,
     /// Whether interrupts work.
     pub interrupts_on: bool,
     /// The caller that has the power turn.
     pub power_owner: Option<u8>,
     /// The deferred scans.
-    pub deferred: Vec<Deferred>,
+    pub deferred: PutOff,
     /// The devices with a finalizer, the position in this list, and whether one of this pass answered 1.
     pub finalisers: Vec<u64>,
     pub next_finaliser: u64,
@@ -59,11 +61,11 @@ fn is_absent(rules: &Rules, spot: u16) -> bool
 }
 
 /// The late spots.
-fn late_spots(alloc: Global, rules: &Rules) -> Result<Vec<u16>, Memory>
+fn late_spots(alloc: Global, rules: &Rules) -> Result<SpotList, Memory>
     requires { AreFit rules.now }
-    ensures { IfOk result (λ spots. spots.items ≡ world.late_spots (setup_by rules.now)) }
+    ensures { IfOk result (λ spots. spots ≡ world.late_spots (setup_by rules.now)) }
 {
-    let mut spots = Vec::new(alloc);
+    let mut spots = SpotList::make(alloc);
     for spot in 0..rules.machine.spots.len() as u16 {
         if is_late(rules, spot) {
             spots.push(spot)?;
@@ -73,11 +75,11 @@ fn late_spots(alloc: Global, rules: &Rules) -> Result<Vec<u16>, Memory>
 }
 
 /// The spots without hardware.
-fn absent_spots(alloc: Global, rules: &Rules) -> Result<Vec<u16>, Memory>
+fn absent_spots(alloc: Global, rules: &Rules) -> Result<SpotList, Memory>
     requires { AreFit rules.now }
-    ensures { IfOk result (λ spots. spots.items ≡ world.absent_spots (setup_by rules.now)) }
+    ensures { IfOk result (λ spots. spots ≡ world.absent_spots (setup_by rules.now)) }
 {
-    let mut spots = Vec::new(alloc);
+    let mut spots = SpotList::make(alloc);
     for spot in 0..rules.machine.spots.len() as u16 {
         if is_absent(rules, spot) {
             spots.push(spot)?;
@@ -110,13 +112,13 @@ pub fn opening(alloc: Global, rules: &Rules) -> Result<Plain, Memory>
     let callers = beginning(alloc, rules)?;
     Ok(Plain {
         live: Live::make(alloc),
-        refs: Vec::new(alloc),
+        refs: Refs::make(alloc),
         sole: Vec::new(alloc),
         absent,
         hidden,
         interrupts_on: false,
         power_owner: None,
-        deferred: Vec::new(alloc),
+        deferred: PutOff::make(alloc),
         finalisers: Vec::new(alloc),
         next_finaliser: 0,
         pass_repeats: false,
@@ -140,11 +142,11 @@ pub fn copied(alloc: Global, plain: &Plain) -> Result<Plain, Memory>
     ensures { IfOk result (λ copy. (s : Setup) → world_of s copy ≡ world_of s plain.now) }
 {
     let live = plain.live.copied(alloc)?;
-    let refs = Vec::from_slice(alloc, &plain.refs)?;
+    let refs = plain.refs.copied(alloc)?;
     let sole = Vec::from_slice(alloc, &plain.sole)?;
-    let absent = Vec::from_slice(alloc, &plain.absent)?;
-    let hidden = Vec::from_slice(alloc, &plain.hidden)?;
-    let deferred = Vec::from_slice(alloc, &plain.deferred)?;
+    let absent = plain.absent.copied(alloc)?;
+    let hidden = plain.hidden.copied(alloc)?;
+    let deferred = plain.deferred.copied(alloc)?;
     let finalisers = Vec::from_slice(alloc, &plain.finalisers)?;
     let callers = copied_callers(alloc, &plain.callers)?;
     Ok(Plain {

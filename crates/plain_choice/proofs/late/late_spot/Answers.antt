@@ -1,7 +1,19 @@
-use Rattle.std.proofs.Common.{length, ◌∙◌, arith, sym}
+use Rattle.std.proofs.Common.{◌≡◌, length, ◌∙◌, ap, arith, inl, inr, Some, sym}
+use Rattle.std.proofs.lemmas.Bool.{cases_lt}
 use Rattle.run_rules.specs.Next.{late_spot}
 use Rattle.run_rules.proofs.Below.{find-is, find-none}
+use Rattle.plain_world.specs.declared.stretch.Stretch.{Stretch}
+use Rattle.plain_world.specs.Plain.{world_of}
+use Rattle.plain_world.specs.Rules.{setup_by}
+use Rattle.plain_world.specs.Stretches.{stretch_at}
+use Rattle.plain_choice.proofs.LateLaws.{not_late}
 use Rattle.plain_choice.proofs.late.late_spot.Goals as goal
+
+pub loop-spot-init : goal.loop-spot-init
+loop-spot-init c =
+    let stretches = c.args.rules.now.stretches.now in
+    let first : c.stretch_at-below.result.first ≡ (stretch_at stretches (Some c.args.device.spot)).first = ap (λ (s : Stretch). s.first) c.stretch_at-below.ensures in
+    λ q lt. not_late (world_of (setup_by c.args.rules.now) c.args.plain.now) c.args.device stretches q c.requires.stretches (λ inside. omega (arith, inside.0, lt, first))
 
 pub returns-then-is_late_below : goal.returns-then-is_late_below
 unfolding late_spot
@@ -10,4 +22,10 @@ returns-then-is_late_below c =
 
 pub returns : goal.returns
 unfolding late_spot
-returns c = find-none _ (length c.args.rules.now.machine.now.spots) (λ q lt. c.loop-spot.invariant q (omega arith))
+returns c =
+    let stretches = c.args.rules.now.stretches.now in
+    let end : c.stretch_at-below.result.end ≡ (stretch_at stretches (Some c.args.device.spot)).end = ap (λ (s : Stretch). s.end) c.stretch_at-below.ensures in
+    find-none _ (length c.args.rules.now.machine.now.spots) (λ q lt. elim (cases_lt q c.loop-spot.spot) [
+      | inl less ↦ c.loop-spot.invariant q less
+      | inr le ↦ not_late (world_of (setup_by c.args.rules.now) c.args.plain.now) c.args.device stretches q c.requires.stretches (λ inside. omega (arith, inside.1, lt, le, end))
+    ])

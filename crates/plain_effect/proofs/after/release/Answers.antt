@@ -11,8 +11,8 @@ unfolding released
 returns c = λ s.
     let p = c.args.plain.now in
     let k = c.args.caller in
-    let frames = rw c.deref.ensures.value at c.in_ok-release.ensures in
+    let frames = rw c.list.ensures at c.in_ok-release.ensures in
     ap (λ (ds : List Deferred). record (world_of s p) { callers = slice_set p.callers.items k c.release.new.self; deferred = ds }) c.forget.ensures
-    ∙ ap (with_callers (record (world_of s p) { deferred = filter (λ e. not (same_key e.key c.args.which)) p.deferred.items }))
-    (set_is (λ (x : Caller). restacked x (released_frames p.deferred.items c.args.which ++ x.stack)) p.callers.items k c.index_mut.result.now c.release.new.self
+    ∙ ap (with_callers (record (world_of s p) { deferred = filter (λ e. not (same_key e.key c.args.which)) p.deferred }))
+    (set_is (λ (x : Caller). restacked x (released_frames p.deferred c.args.which ++ x.stack)) p.callers.items k c.index_mut.result.now c.release.new.self
     c.requires.there c.index_mut.ensures.value frames)

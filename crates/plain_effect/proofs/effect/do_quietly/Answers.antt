@@ -37,7 +37,7 @@ returns-in-EndPower c = λ s. c.finish.ensures s ∙ ap (after (world_of s c.arg
 
 pub returns-in-Plug : goal.returns-in-Plug
 unfolding after
-returns-in-Plug c = λ s. c.finish-in-Plug.ensures s ∙ ap (λ (xs : List ℕ). over (record (world_of s c.args.plain.now) { absent = xs }) c.args.caller) c.remove_spot.ensures ∙ ap (after (world_of s c.args.plain.now) c.args.caller) (sym c.in-Plug.is)
+returns-in-Plug c = λ s. c.finish-in-Plug.ensures s ∙ ap (λ (xs : List ℕ). over (record (world_of s c.args.plain.now) { absent = xs }) c.args.caller) c.remove.ensures ∙ ap (after (world_of s c.args.plain.now) c.args.caller) (sym c.in-Plug.is)
 
 pub returns-in-Refuse : goal.returns-in-Refuse
 unfolding after

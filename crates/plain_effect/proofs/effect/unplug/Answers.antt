@@ -12,10 +12,10 @@ returns-in-Some c = λ s.
     let t = c.in-Some.serial in
     rw c.in-Some.is
     (ok_more c.detach.result (c.detach.ensures s) (λ e.
-    e ∙ ap (λ (xs : List ℕ). doing (condemned (record (world_of s c.args.plain.now) { absent = xs }) k t) k (activity.Frees t)) c.in_ok-pull.ensures))
+    e ∙ ap (λ (xs : List ℕ). doing (condemned (record (world_of s c.args.plain.now) { absent = xs }) k t) k (activity.Frees t)) c.in_ok-put_first.ensures))
 
 pub returns-in-None : goal.returns-in-None
 unfolding after
 returns-in-None c = λ s.
     rw c.in-None.is
-    (c.finish.ensures s ∙ ap (λ (xs : List ℕ). over (record (world_of s c.args.plain.now) { absent = xs }) c.args.caller) c.in_ok-pull.ensures)
+    (c.finish.ensures s ∙ ap (λ (xs : List ℕ). over (record (world_of s c.args.plain.now) { absent = xs }) c.args.caller) c.in_ok-put_first.ensures)

@@ -9,9 +9,9 @@ after_turn-requires c =
     omega (
       arith,
       c.requires.fit.may.machine.few_spots,
-      due_inside (setup_by c.args.seeker.now.rules.now) c.args.plain.now.live.devices c.args.plain.now.absent.items c.args.plain.now.hidden.items c.args.serial c.args.only c.args.filter.now c.args.from c.in-Some.turn c.in-Some.ensures,
+      due_inside (setup_by c.args.seeker.now.rules.now) c.args.plain.now.live.devices c.args.plain.now.absent c.args.plain.now.hidden c.args.serial c.args.only c.args.filter.now c.args.from c.in-Some.turn c.in-Some.ensures,
     )
 
 pub arrival-requires-clause-at : goal.arrival-requires-clause-at
 arrival-requires-clause-at c =
-    due_hangs (setup_by c.args.seeker.now.rules.now) c.args.plain.now.live.devices c.args.plain.now.absent.items c.args.plain.now.hidden.items c.args.serial c.args.only c.args.filter.now c.args.from c.in-Some.turn c.in-Some.ensures
+    due_hangs (setup_by c.args.seeker.now.rules.now) c.args.plain.now.live.devices c.args.plain.now.absent c.args.plain.now.hidden c.args.serial c.args.only c.args.filter.now c.args.from c.in-Some.turn c.in-Some.ensures

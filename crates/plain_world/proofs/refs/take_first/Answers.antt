@@ -2,7 +2,7 @@ use Rattle.std.proofs.Common.{◌∙◌, ap, sym}
 use Rattle.std.specs.Prelude.{position}
 use Rattle.run_rules.specs.References.{is_of}
 use Rattle.run_rules.proofs.Removals.{none_taken, taken_at}
-use Rattle.plain_effect.proofs.effect.take_out.Goals as goal
+use Rattle.plain_world.proofs.refs.take_first.Goals as goal
 
 pub returns-in-Some : goal.returns-in-Some
 returns-in-Some c =
