@@ -1,5 +1,5 @@
 -- Whether lines can be cut, whatever their tokens are.
-use Rattle.std.specs.Prelude.{◌≡◌, ℕ, ◌+◌, ◌≤◌, ◌==◌, List, length, take, drop, count_by, Option, Some, None, Result, Ok, Err}
+use Rattle.std.specs.Prelude.{◌≡◌, ℕ, ◌≤◌, ◌==◌, true, false, List, ◌∷◌, length, drop, Option, Some, None, Result, Ok, Err}
 use Rattle.cf_types.specs.Lines.{lines_of}
 use Rattle.config_rules.specs.Cut.{all_parts, parts_of}
 use Rattle.cf_lexer.specs.Lines.{first_of}
@@ -19,7 +19,12 @@ code_of line = error_of (parts_of line)
 abbrev pub fault_from : List ℕ → ℕ → ℕ → Option (ℕ × ℕ)
 fault_from text number place = error_of (all_parts number (lines_of (drop place text)))
 
--- a call tells the line and code of what is wrong, if anything is
+-- a call answers what is wrong, if anything is
+abbrev pub Tells : {A : Type 0} → Option ℕ → Result A ℕ → Type 0
+Tells whole (Ok done) = whole ≡ None
+Tells whole (Err code) = whole ≡ Some code
+
+-- the same with the line
 abbrev pub TellsFault : {A : Type 0} → Option (ℕ × ℕ) → Result A LexStop → Type 0
 TellsFault whole (Ok done) = whole ≡ None
 TellsFault whole (Err (Fault line code)) = whole ≡ Some (line, code)
@@ -30,12 +35,8 @@ abbrev pub GoesBy : List ℕ → Result ℕ ℕ → Type 0
 GoesBy rest (Ok len) = (1 ≤ len) × (len ≤ length rest) × (code_of (drop len rest) ≡ code_of rest)
 GoesBy rest (Err code) = code_of rest ≡ Some code
 
--- how many newlines there are
-abbrev pub newlines : List ℕ → ℕ
-newlines bytes = count_by (λ c. c == 10) bytes
-
--- the first fault from a place on is that behind so many bytes, whatever the number of the line; or it is there
-abbrev pub Checks : List ℕ → ℕ → Result ℕ ℕ → Type 0
-Checks text place (Ok len) =
-    (1 ≤ len) × (place + len ≤ length text) × ((n : ℕ) → fault_from text (n + newlines (take len (drop place text))) (place + len) ≡ fault_from text n place)
-Checks text place (Err code) = (n : ℕ) → fault_from text n place ≡ Some (n, code)
+-- the same by the first byte and the bytes of the text behind it; a newline is no part of a line
+abbrev pub ByteGoes : ℕ → List ℕ → Result (Option ℕ) ℕ → Type 0
+ByteGoes first more (Ok None) = (first == 10) ≡ true
+ByteGoes first more (Ok (Some len)) = GoesBy (first ∷ first_of more) (Ok len) × ((first == 10) ≡ false)
+ByteGoes first more (Err code) = GoesBy (first ∷ first_of more) (Err code) × ((first == 10) ≡ false)

@@ -1,5 +1,5 @@
 -- The part at the front of a line, as the code sees it.
-use Rattle.std.specs.Prelude.{ℕ, ◌+◌, ◌≤◌, Bool, ◌||◌, ◌==◌, IfSome, List, length, Option, Some, None, Result, Ok, Err}
+use Rattle.std.specs.Prelude.{ℕ, ◌+◌, ◌≤◌, Bool, ◌||◌, IfSome, List, length, Option, Some, None, Result, Ok, Err}
 use Rattle.cf_types.specs.declared.stmt.TokenKind.{TokenKind}
 use Rattle.cf_types.specs.declared.stmt.TokenKind.TheVariants as kind
 use Rattle.config_rules.specs.Cut.{Part, Space, Comment, Quoted, Chunk, Mark, first_part, is_chunk_byte, is_mark_byte, is_space}
@@ -40,7 +40,3 @@ pub record IsWithin (f : Front) (most : ℕ) : Type 0 where
 -- a byte that is a blank, a mark or a part of a chunk
 abbrev pub is_plain_byte : ℕ → Bool
 is_plain_byte c = is_space c || is_chunk_byte c || is_mark_byte c
-
--- the same or a newline
-abbrev pub is_allowed_byte : ℕ → Bool
-is_allowed_byte c = is_plain_byte c || c == 10

@@ -1,7 +1,7 @@
 ghost use Rattle.std.specs.Prelude.{◌≡◌, ◌+◌, ◌==◌, ◌&&◌, slice_index, ◌≤◌, length, drop, take_while, Some, IfOk};
 ghost use Rattle.std.specs.List.{prefix_len};
 ghost use Rattle.config_rules.specs.Cut.{is_chunk_byte, is_space, is_text_byte, is_mark_byte, quoted_part};
-ghost use Rattle.cf_lexer.specs.Front.{IsWithin, front, front_at, front_result, is_allowed_byte, span};
+ghost use Rattle.cf_lexer.specs.Front.{IsWithin, front, front_at, front_result, is_plain_byte, span};
 ghost use Rattle.cf_lexer.specs.Lines.{first_of};
 
 use cf_types::TokenKind;
@@ -23,9 +23,9 @@ pub struct Front {
     pub token: Option<Span>,
 }
 
-/// What a byte may begin or be a part of: `c` a chunk, `M` a mark, `_` a blank; `n` for a newline, `~` for every other byte.
+/// What a byte may begin or be a part of: `c` a chunk, `M` a mark, `_` a blank; `~` for every other byte.
 static CLASSES: [u8; 256] = *b"\
-    ~~~~~~~~~_n~~~~~~~~~~~~~~~~~~~~~\
+    ~~~~~~~~~_~~~~~~~~~~~~~~~~~~~~~~\
     _M~~c~M~MMc~McccccccccccccM~~M~c\
     ~ccccccccccccccccccccccccccM~M~c\
     ~ccccccccccccccccccccccccccMMM~~\
@@ -58,11 +58,10 @@ pub fn is_mark_byte(byte: u8) -> bool
     CLASSES[byte as usize] == b'M'
 }
 
-/// Whether a byte outside strings and comments is allowed, whatever is next to it: a blank, a mark, a byte of a chunk or a
-/// newline.
+/// Whether a byte outside strings and comments is allowed, whatever is next to it: a blank, a mark or a byte of a chunk.
 #[inline(always)]
-pub fn is_allowed_byte(byte: u8) -> bool
-    ensures { result ≡ is_allowed_byte byte }
+pub fn is_plain_byte(byte: u8) -> bool
+    ensures { result ≡ is_plain_byte byte }
 {
     CLASSES[byte as usize] != b'~'
 }

@@ -1,34 +1,27 @@
-use Rattle.std.proofs.Common.{◌≡◌, ◌+◌, ◌≤◌, ◌∙◌, ap, arith, drop, false, sym}
+use Rattle.std.proofs.Common.{◌≡◌, false, refl, sym}
 use Rattle.std.specs.Prelude.{◌==◌, slice_index}
-use Rattle.std.specs.List.{prefix_len}
-use Rattle.std.proofs.lemmas.List.{take_rest}
-use Rattle.cf_lexer.specs.Front.{is_allowed_byte}
+use Rattle.std.proofs.lemmas.Bool.{eqb-true, false_from_ne_true}
+use Rattle.cf_lexer.specs.Front.{is_plain_byte}
 use Rattle.cf_lexer.specs.Lines.{bytes_behind, first_of}
-use Rattle.cf_lexer.proofs.CheckLemmas.{byte_refused, bytes_passed, front_goes, front_stops, no_newline_there, part_passed}
-use Rattle.cf_lexer.proofs.PlaceLemmas.{at_here}
+use Rattle.cf_lexer.proofs.CheckLemmas.{front_goes, front_stops, run_goes}
+use Rattle.cf_lexer.proofs.PlaceLemmas.{no_newline}
 use Rattle.cf_lexer.proofs.check.part_len.Goals as goal
 
-pub returns-then-len-gt0 : goal.returns-then-len-gt0
-returns-then-len-gt0 c =
-    let some : 1 ≤ c.allowed_len-len.result = omega (arith, c.if-len-gt0.true) in
-    bytes_passed c.args.place c.allowed_len-len.result c.args.text.now c.requires some (c.allowed_len-len.ensures.len ∙ ap (prefix_len is_allowed_byte) (take_rest c.args.text.now c.args.place))
+pub returns-then-is_plain_byte : goal.returns-then-is_plain_byte
+returns-then-is_plain_byte c =
+    let first = slice_index c.args.text.now c.args.place in (
+      run_goes first c.plain_len.result (bytes_behind c.args.text.now c.args.place) (sym c.if-is_plain_byte.ensures) c.plain_len.ensures.len,
+      no_newline is_plain_byte first refl (sym c.if-is_plain_byte.ensures),
+    )
 
 pub returns-in-Ok : goal.returns-in-Ok
 returns-in-Ok c =
-    let text = c.args.text.now in
-    let place = c.args.place in
-    let first = slice_index text place in
-    let here = at_here text place 0 c.requires in
-    let none : prefix_len is_allowed_byte (drop place text) ≡ 0 = sym (c.allowed_len-len.ensures.len ∙ ap (prefix_len is_allowed_byte) (take_rest text place)) ∙ omega (arith, c.if-len-gt0.false) in
-    let differs : (first == 10) ≡ false = no_newline_there place first text (bytes_behind text place) here none in
-    part_passed place c.in-Ok.front.len first text (bytes_behind text place) c.requires here differs (front_goes first (first_of (bytes_behind text place)) c.in-Ok.front c.in-Ok.ensures.front c.in-Ok.ensures.within)
+    let first = slice_index c.args.text.now c.args.place in
+    let differs : (first == 10) ≡ false = false_from_ne_true (first == 10) (λ e. c.if-first-eq10.false (eqb-true first 10 e)) in
+    (front_goes first (first_of (bytes_behind c.args.text.now c.args.place)) c.in-Ok.front c.in-Ok.ensures.front c.in-Ok.ensures.within, differs)
 
 pub returns-in-Err : goal.returns-in-Err
 returns-in-Err c =
-    let text = c.args.text.now in
-    let place = c.args.place in
-    let first = slice_index text place in
-    let here = at_here text place 0 c.requires in
-    let none : prefix_len is_allowed_byte (drop place text) ≡ 0 = sym (c.allowed_len-len.ensures.len ∙ ap (prefix_len is_allowed_byte) (take_rest text place)) ∙ omega (arith, c.if-len-gt0.false) in
-    let differs : (first == 10) ≡ false = no_newline_there place first text (bytes_behind text place) here none in
-    byte_refused place first c.in-Err.code text (bytes_behind text place) here differs (front_stops first c.in-Err.code (first_of (bytes_behind text place)) c.in-Err.ensures.front)
+    let first = slice_index c.args.text.now c.args.place in
+    let differs : (first == 10) ≡ false = false_from_ne_true (first == 10) (λ e. c.if-first-eq10.false (eqb-true first 10 e)) in
+    (front_stops first c.in-Err.code (first_of (bytes_behind c.args.text.now c.args.place)) c.in-Err.ensures.front, differs)
