@@ -291,7 +291,7 @@ tell_warnings_on_terminal() {
 tell_standstill() {
     echo tree >"$work/played"
     make_program drvrun "$work/played" 2
-    on_terminal STILL_AFTER=1 'conf conf s1' 'drvrun: no end after 1 seconds: scripts may be waiting for each other, and ^C ends them.' 0 1
+    on_terminal STILL_AFTER=1 'conf conf s1' 'drvrun: no end after 1 seconds: the scripts still run, and ^C ends them; then nothing is written.' 0 1
     on_terminal STILL_AFTER=9 'conf conf s1' tree 0 1
     said=$(cd "$work" && STILL_AFTER=1 $shell ./launcher conf conf s1 2>&1)
     [ "$said" = tree ] || differ 'drvrun in a pipe' "$said" ''

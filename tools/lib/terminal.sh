@@ -1,7 +1,7 @@
 # How the launchers run a program for a person: `run_program PROGRAM WORD..` does not come back, and its status is the
 # program's. Where standard error is a terminal, a fault line is told in words below it by tools/explain, which stands at
-# $explain; so are warnings and callers that have not ended, by tools/summary, what tools/lint finds, and that `drvrun` may stand
-# still. In a pipe, with CI or with NO_EXPLAIN in the environment, the program simply takes the place of the launcher.
+# $explain; so are warnings and callers that have not ended, by tools/summary, what tools/lint finds, and how to end `drvrun` while its
+# scripts run. In a pipe, with CI or with NO_EXPLAIN in the environment, the program simply takes the place of the launcher.
 
 wants_words() {
     [ -t 2 ] && [ -z "${CI+set}${NO_EXPLAIN+set}" ] && [ -x "$explain" ]
@@ -34,7 +34,7 @@ run_program() {
     tell_in_words "$status" "$said" "$@"
 }
 
-# Says once that scripts may be waiting for each other, where the program has not ended after some seconds.
+# Says once how to end the program, if it has not ended after some seconds.
 begin_watch() {
     (
         trap 'kill "$sleeper" 2>/dev/null; exit 0' TERM
@@ -42,9 +42,7 @@ begin_watch() {
         sleeper=$!
         wait "$sleeper"
         cat >&2 <<END
-drvrun: no end after ${STILL_AFTER:-5} seconds: scripts may be waiting for each other, and ^C ends them.
-    $(beside summary) -t SCRIPT..  says beforehand whether that can happen
-    devconf play FILE MACHINE ORDER SCRIPT..  takes turns in the order of a file, and shows who waits for whom
+drvrun: no end after ${STILL_AFTER:-5} seconds: the scripts still run, and ^C ends them; then nothing is written.
 END
     ) &
     watch=$!

@@ -24,7 +24,7 @@ use Rattle.app_words.specs.Words.{Form}
 use Rattle.app_input.specs.declared.inputs.Inputs.{Inputs}
 use Rattle.app_input.specs.declared.inputs.Inputs.TheVariants as input
 use Rattle.app_words.specs.declared.status.Status.{Status}
-use Rattle.app_words.specs.declared.status.Status.TheVariants.{Ok, ConfigRefused, Usage, MachineRefused, ScriptRefused, HistoryRefused, Absent, TooLong, ReadFault, WriteFault, Memory}
+use Rattle.app_words.specs.declared.status.Status.TheVariants.{Ok, ConfigRefused, Usage, MachineRefused, ScriptRefused, HistoryRefused, Absent, TooLong, ReadFault, WriteFault, Memory, Stuck}
 use Rattle.app_output.proofs.RunLaws.{tree_is}
 use Rattle.app_output.specs.NoteText.{watch_text}
 use Rattle.app_output.specs.RunText.{run_text, tree_of}
@@ -185,6 +185,7 @@ not_retold told asked given setup history status (std.Err s) is untaken came why
 
 untaken_counted : (setup : Setup) (history : List ℕ) (n : ℕ) (status : Status) → Untaken setup history status → Counts {A = Found} n n (std.Err status)
 untaken_counted setup history n (HistoryRefused line) why = refl
+untaken_counted setup history n (Stuck waits) why = absurd why
 untaken_counted setup history n Ok why = absurd why
 untaken_counted setup history n (ConfigRefused file line code) why = absurd why
 untaken_counted setup history n Usage why = absurd why

@@ -29,7 +29,7 @@ use Rattle.app_input.specs.Stop.{status_of_stop}
 use Rattle.app_words.specs.Status.{status_of}
 use Rattle.app_words.specs.Words.{Form, boot, config_of, following, ioconf, is_from_outside, scripted, side_by_side}
 use Rattle.app_words.specs.declared.status.Status.{Status}
-use Rattle.app_words.specs.declared.status.Status.TheVariants.{Ok, ConfigRefused, Usage, MachineRefused, ScriptRefused, HistoryRefused, Absent, TooLong, ReadFault, WriteFault, Memory}
+use Rattle.app_words.specs.declared.status.Status.TheVariants.{Ok, ConfigRefused, Usage, MachineRefused, ScriptRefused, HistoryRefused, Absent, TooLong, ReadFault, WriteFault, Memory, Stuck}
 use Rattle.app_input.proofs.DueLaws.{long_file, short_file}
 use Rattle.app_input.proofs.ScriptedLaws.{called_at, names_left}
 
@@ -79,6 +79,7 @@ all_asked due Usage old new asked = asked
 all_asked due (MachineRefused line code) old new asked = asked
 all_asked due (ScriptRefused which line code) old new asked = asked
 all_asked due (HistoryRefused line) old new asked = asked
+all_asked due (Stuck waits) old new asked = asked
 all_asked due (Absent name) old new asked = asked
 all_asked due (TooLong name) old new asked = asked
 all_asked due WriteFault old new asked = asked
@@ -97,6 +98,7 @@ memory_asked due Usage old new asked = front_all due old new asked
 memory_asked due (MachineRefused line code) old new asked = front_all due old new asked
 memory_asked due (ScriptRefused which line code) old new asked = front_all due old new asked
 memory_asked due (HistoryRefused line) old new asked = front_all due old new asked
+memory_asked due (Stuck waits) old new asked = front_all due old new asked
 memory_asked due (Absent name) old new asked = front_all due old new asked
 memory_asked due (TooLong name) old new asked = front_all due old new asked
 memory_asked due WriteFault old new asked = front_all due old new asked
@@ -128,6 +130,7 @@ none_left Usage rest none = none
 none_left (MachineRefused line code) rest none = none
 none_left (ScriptRefused which line code) rest none = none
 none_left (HistoryRefused line) rest none = none
+none_left (Stuck waits) rest none = none
 none_left (Absent name) rest none = none
 none_left (TooLong name) rest none = none
 none_left WriteFault rest none = none
@@ -149,6 +152,7 @@ last_asked due part rest status old mid new so_far asked left = by_status status
     by_status (MachineRefused line code) asked left = whole asked left
     by_status (ScriptRefused which line code) asked left = whole asked left
     by_status (HistoryRefused line) asked left = whole asked left
+    by_status (Stuck waits) asked left = whole asked left
     by_status (Absent name) asked left = whole asked left
     by_status (TooLong name) asked left = whole asked left
     by_status WriteFault asked left = whole asked left
@@ -363,6 +367,7 @@ machine_refused files name tables (ConfigRefused file line code) reads = elim re
 machine_refused files name tables Usage reads = elim reads [ ]
 machine_refused files name tables (ScriptRefused which line code) reads = elim reads [ ]
 machine_refused files name tables (HistoryRefused line) reads = elim reads [ ]
+machine_refused files name tables (Stuck waits) reads = elim reads [ ]
 machine_refused files name tables WriteFault reads = elim reads [ ]
 
 -- ---- the forms
@@ -376,6 +381,7 @@ stops_first told file Usage reads = elim reads [ ]
 stops_first told file (MachineRefused line code) reads = elim reads [ ]
 stops_first told file (ScriptRefused which line code) reads = elim reads [ ]
 stops_first told file (HistoryRefused line) reads = elim reads [ ]
+stops_first told file (Stuck waits) reads = elim reads [ ]
 stops_first told file (Absent name) reads = elim reads [ ]
 stops_first told file (TooLong name) reads = elim reads [ ]
 stops_first told file WriteFault reads = elim reads [ ]

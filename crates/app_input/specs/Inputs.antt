@@ -23,7 +23,7 @@ use Rattle.app_input.specs.declared.inputs.Inputs.TheVariants as inputs
 use Rattle.app_words.specs.declared.program.Program.{Program}
 use Rattle.app_words.specs.declared.program.Program.TheVariants.{Devconf, Drvrun}
 use Rattle.app_words.specs.declared.status.Status.{Status}
-use Rattle.app_words.specs.declared.status.Status.TheVariants.{Ok, ConfigRefused, Usage, MachineRefused, ScriptRefused, HistoryRefused, Absent, TooLong, ReadFault, WriteFault, Memory}
+use Rattle.app_words.specs.declared.status.Status.TheVariants.{Ok, ConfigRefused, Usage, MachineRefused, ScriptRefused, HistoryRefused, Absent, TooLong, ReadFault, WriteFault, Memory, Stuck}
 use Rattle.app_input.specs.declared.scripts.Course.{Course}
 use Rattle.app_input.specs.declared.scripts.Course.TheVariants as courses
 use Rattle.app_input.specs.declared.scripts.Scripted.{Scripted}
@@ -215,6 +215,7 @@ Reads form told (std.Err Memory) = ⊤
 Reads form told (std.Err Ok) = ⊥
 Reads form told (std.Err WriteFault) = ⊥
 Reads form told (std.Err (HistoryRefused line)) = ⊥
+Reads form told (std.Err (Stuck waits)) = ⊥
 
 -- the tables are formed, the machine fits them, and the scripts and their course are formed
 abbrev pub AreFormed : Tables → Machine → List (List Command) → Course → Type 0

@@ -3,7 +3,7 @@ use Rattle.std.specs.Prelude.{ℕ, ◌+◌, List, [], ◌∷◌, ◌++◌, codes
 use Rattle.app_words.specs.declared.program.Program.{Program}
 use Rattle.app_words.specs.declared.program.Program.TheVariants.{Devconf, Drvrun}
 use Rattle.app_words.specs.declared.status.Status.{Status}
-use Rattle.app_words.specs.declared.status.Status.TheVariants.{Ok, ConfigRefused, Usage, MachineRefused, ScriptRefused, HistoryRefused, Absent, TooLong, ReadFault, WriteFault, Memory}
+use Rattle.app_words.specs.declared.status.Status.TheVariants.{Ok, ConfigRefused, Usage, MachineRefused, ScriptRefused, HistoryRefused, Absent, TooLong, ReadFault, WriteFault, Memory, Stuck}
 
 -- the forms that the words of a program may have
 abbrev pub usage_text : Program → List ℕ
@@ -37,6 +37,7 @@ err_text program words Usage = usage_text program ++ 10 ∷ []
 err_text program words (MachineRefused line code) = refused_text (codes "machine") (machine_word program words) line code ++ 10 ∷ []
 err_text program words (ScriptRefused which line code) = refused_text (codes "script") (script_word program words which) line code ++ 10 ∷ []
 err_text program words (HistoryRefused line) = (place_text (codes "history") (script_word program words 0) line ++ codes ": refused") ++ 10 ∷ []
+err_text program words (Stuck waits) = waits
 err_text program words (Absent name) = (name ++ codes ": absent") ++ 10 ∷ []
 err_text program words (TooLong name) = (name ++ codes ": too long") ++ 10 ∷ []
 err_text program words ReadFault = codes "read fault" ++ 10 ∷ []

@@ -132,6 +132,7 @@ fn err_line(
         Status::ReadFault => line.extend_from_slice(b"read fault\n")?,
         Status::WriteFault => line.extend_from_slice(b"write fault\n")?,
         Status::Memory => line.extend_from_slice(b"out of memory\n")?,
+        Status::Stuck { waits } => line.extend_from_slice(waits.items())?,
     }
     Ok(line)
 }

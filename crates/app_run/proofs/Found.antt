@@ -17,7 +17,9 @@ use Rattle.app_input.specs.declared.inputs.Inputs.TheVariants as input
 use Rattle.app_words.specs.declared.status.Status.{Status}
 use Rattle.app_words.specs.declared.status.Status.TheVariants.{Memory}
 use Rattle.app_output.specs.RunText.{run_text}
-use Rattle.app_run.specs.Asked.{Asks, FindsRun, HasRun, IsDueOr, RanFor, left_text}
+use Rattle.run_rules.specs.World.{setup_of}
+use Rattle.app_run.specs.Asked.{FindsRun, HasRun, IsDueOr, RanFor, left_text}
+use Rattle.app_run.specs.Ran.{RanTogether}
 
 -- the answer that these inputs are, and the one that a refusal is
 abbrev pub answer : Inputs → Result Inputs Status
@@ -27,16 +29,35 @@ abbrev pub refusal : Status → Result Inputs Status
 refusal status = std.Err status
 
 -- what is left of a run of the scripts of these inputs has the text that is asked for
+left_is : (P : Ticket → Type 0) (s : Setup) (left : FinishedShown) → RanTogether P s left.board.events left.board.world → left_text left ≡ run_text s.tables left.board.events left.board.world
+left_is P s left ran = ap (λ (x : Setup). run_text x.tables left.board.events left.board.world) ran.made
+
 asked_by : (P : Ticket → Type 0) (form : Option Form) (told : Option Files) (inputs : Inputs) (left : FinishedShown) → Reads form told (std.Ok inputs) → FormedInputs inputs → HasRun P inputs left
-    → Asks P form told (left_text left)
-asked_by P form told (Run tables machine scripts) left read formed ran = record {
-  tables = tables;
-  machine = machine;
-  scripts = scripts;
-  read = read;
-  formed = formed;
-  ran = (left.board.events, left.board.world, ran, ap (λ (s : Setup). run_text s.tables left.board.events left.board.world) ran.made);
-}
+    → FindsRun P form told (std.Ok left)
+asked_by P form told (Run tables machine scripts) left read formed (inl (all, ran)) =
+    inl (
+      all,
+      record {
+        tables = tables;
+        machine = machine;
+        scripts = scripts;
+        read = read;
+        formed = formed;
+        ran = (left.board.events, left.board.world, ran, left_is P (setup_of tables machine scripts) left ran.together);
+      },
+    )
+asked_by P form told (Run tables machine scripts) left read formed (inr (some, ran)) =
+    inr (
+      some,
+      record {
+        tables = tables;
+        machine = machine;
+        scripts = scripts;
+        read = read;
+        formed = formed;
+        ran = (left.board.events, left.board.world, ran, left_is P (setup_of tables machine scripts) left ran.together, refl);
+      },
+    )
 asked_by P form told (input.Ioconf tables) left read formed ran = absurd ran
 asked_by P form told (input.Files name) left read formed ran = absurd ran
 asked_by P form told (input.Boot tables machine) left read formed ran = absurd ran
@@ -49,7 +70,8 @@ asked_by P form told (input.Follow tables machine plan) left read formed ran = a
 
 -- its tables have a graph
 ran_graph : (P : Ticket → Type 0) (inputs : Inputs) (left : FinishedShown) → FormedInputs inputs → HasRun P inputs left → FitGraph left.board.world.setup.tables
-ran_graph P (Run tables machine scripts) left formed ran = subst (λ (s : Setup). FitGraph s.tables) (sym ran.made) formed.0.graph
+ran_graph P (Run tables machine scripts) left formed (inl (all, ran)) = subst (λ (s : Setup). FitGraph s.tables) (sym ran.together.made) formed.0.graph
+ran_graph P (Run tables machine scripts) left formed (inr (some, ran)) = subst (λ (s : Setup). FitGraph s.tables) (sym ran.together.made) formed.0.graph
 ran_graph P (input.Ioconf tables) left formed ran = absurd ran
 ran_graph P (input.Files name) left formed ran = absurd ran
 ran_graph P (input.Boot tables machine) left formed ran = absurd ran
@@ -81,7 +103,7 @@ counted_by P before after inputs (std.Err status) counts want = subst (λ (s : S
 due_found : (P : Ticket → Type 0) (form : Option Form) (files : Files) (inputs : Inputs) (result : Result FinishedShown Status) → RanFor P inputs result
     → (answer inputs ≡ std.Err Memory) ⊎ IsDue form files (answer inputs) → IsDueOr form files (status_of result)
 due_found P form files inputs (std.Ok left) ran (inl e) = absurd (cc)
-due_found P form files inputs (std.Ok left) ran (inr due) = inr (answer inputs, due, refl)
+due_found P form files inputs (std.Ok left) ran (inr due) = inr (inl (answer inputs, due, refl))
 due_found P form files inputs (std.Err status) want due = inl want
 
 pub due_by : (P : Ticket → Type 0) (told : Option Files) (form : Option Form) (before after : ℕ) (inputs : Inputs) (result : Result FinishedShown Status) → RanFor P inputs result
@@ -99,4 +121,4 @@ due_refused (Some files) form before after status due = λ quiet. by_answer (due
   where
     by_answer : (refusal status ≡ refusal Memory) ⊎ IsDue form files (refusal status) → IsDueOr form files status
     by_answer (inl e) = inl (cc)
-    by_answer (inr due) = inr (refusal status, due, refl)
+    by_answer (inr due) = inr (inl (refusal status, due, refl))

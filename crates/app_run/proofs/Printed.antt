@@ -1,5 +1,5 @@
 -- What is printed of a run is taken as its history.
-use Rattle.std.proofs.Common.{◌≡◌, ◌∙◌, ◌++◌, ℕ, List, refl, sym, subst}
+use Rattle.std.proofs.Common.{◌≡◌, ◌++◌, ℕ, List, refl, sym, subst}
 use Rattle.cf_types.specs.declared.machine.Command.{Command}
 use Rattle.cf_types.specs.declared.machine.Machine.{Machine}
 use Rattle.cf_types.specs.declared.machine.Ticket.{Ticket}
@@ -25,11 +25,6 @@ may_play : (tables : Tables) (machine : Machine) (scripts : List (List Command))
 may_play tables machine scripts (formed, fits, all) = record { may = may_replay tables machine scripts formed fits all.few all.each; scripts = all.each }
 
 pub printed_taken : (P : Ticket → Type 0) → TakesPrinted P
-printed_taken P files name tables machine scripts text meant one formed (h, w, ran, is) =
-    let s = setup_of tables machine scripts in (
-      h,
-      w,
-      is,
-      subst (λ (t : List ℕ). Takes s t h w) (sym (is ∙ text_parts tables h w))
-          (meant_taken files name s format.Second h w meant one (may_play tables machine scripts formed) ran.run),
-    )
+printed_taken P files name tables machine scripts h w meant one formed ran =
+    let s = setup_of tables machine scripts in
+    subst (λ (t : List ℕ). Takes s t h w) (sym (text_parts tables h w)) (meant_taken files name s format.Second h w meant one (may_play tables machine scripts formed) ran.run)

@@ -1,3 +1,4 @@
 pub mod Asked
 pub mod Laws
 pub mod Ran
+pub mod StuckText

@@ -3,6 +3,7 @@
 
 mod laws;
 mod scripts;
+mod stuck;
 mod top;
 
 pub use app_words::Status;

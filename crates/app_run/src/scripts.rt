@@ -3,7 +3,7 @@ ghost use Rattle.std.specs.Prelude.{◌<◌, ◌≤◌, All, IfOk, length};
 ghost use Rattle.config_rules.specs.Formed.{FittingMachine, FormedTables};
 ghost use Rattle.config_rules.specs.ScriptText.{FormedScript};
 ghost use Rattle.run_rules.specs.World.{setup_of};
-ghost use Rattle.app_run.specs.Ran.{RanSideBySide};
+ghost use Rattle.app_run.specs.Ran.{HasRunOut};
 
 use board_lock::Finished;
 use cf_types::{List, Machine, Memory, Script, Tables};
@@ -14,7 +14,7 @@ use std::sync::Wait;
 use std::thread::Threads;
 
 /// Boots a machine, runs each script in a thread of its own, with transfers through the medium, and gives what is left once all of
-/// them have ended: the board that was behind the lock. Where scripts wait for one another for good, so does the call. See drvctl(8).
+/// them have ended, or once nobody goes on: the board that was behind the lock. See drvctl(8).
 pub fn side_by_side<M: Medium + Sync, R: Threads + Wait + Sync>(
     rt: &R,
     alloc: Global,
@@ -28,7 +28,7 @@ pub fn side_by_side<M: Medium + Sync, R: Threads + Wait + Sync>(
     requires some { 0 < length scripts }
     requires few { length scripts ≤ 16 }
     requires scripts { All FormedScript scripts }
-    ensures { IfOk result (λ left. RanSideBySide M.carried (setup_of tables machine scripts) left.board.events left.board.world) }
+    ensures { IfOk result (λ left. HasRunOut M.carried (setup_of tables machine scripts) left) }
 {
     let (board, slots) = booted_board(alloc, tables, machine, scripts)?;
     drop(slots);

@@ -10,9 +10,10 @@ ghost use Rattle.app_words.specs.Words.{drvrun_form};
 ghost use Rattle.app_output.specs.Ended.{Faults};
 ghost use Rattle.app_output.specs.Output.{Writes};
 ghost use Rattle.app_output.specs.Status.{err_text};
-ghost use Rattle.app_run.specs.Asked.{Explains, FindsRun, IsDueOr, RanFor, left_text};
+ghost use Rattle.app_run.specs.Asked.{EndsWith, Explains, FindsRun, IsDueOr, RanFor, left_text};
 
 use crate::scripts::side_by_side;
+use crate::stuck::stuck_text;
 use app_input::{Inputs, read_inputs};
 use app_output::{OutputStop, flush, put_run, report, status_after};
 use app_words::{Program, Status};
@@ -24,7 +25,7 @@ use std::mem::forget;
 use std::sync::Wait;
 use std::thread::Threads;
 
-/// What is left of a run of the scripts of these inputs, once all of them have ended.
+/// What is left of a run of the scripts of these inputs, once all of them have ended or nobody goes on.
 fn left_of<R: Threads + Wait + Sync, M: Medium + Sync>(
     rt: &R,
     alloc: Global,
@@ -79,7 +80,23 @@ fn write_run<S: Sink>(alloc: Global, left: &Finished, out: &mut S) -> Result<(),
     flush(out)
 }
 
-/// Runs the scripts that the words name, and writes what they did once all of them have ended.
+/// The status of a run that is over, by how writing it ended.
+fn left_status(alloc: Global, left: &Finished, written: Result<(), OutputStop>) -> Status
+    ensures { EndsWith left.now written result }
+{
+    if let Err(stop) = written {
+        return status_after(Err(stop));
+    }
+    if left.have_all_ended() {
+        return Status::Ok;
+    }
+    match stuck_text(alloc, left.board()) {
+        Ok(waits) => Status::Stuck { waits },
+        Err(_) => Status::Memory,
+    }
+}
+
+/// Runs the scripts that the words name, and writes what they did once all of them have ended or nobody goes on.
 fn run<R: Threads + Wait + Sync, F: Files, S: Sink, M: Medium + Sync>(
     rt: &R,
     alloc: Global,
@@ -98,17 +115,18 @@ fn run<R: Threads + Wait + Sync, F: Files, S: Sink, M: Medium + Sync>(
     match find(rt, alloc, words, files, medium) {
         Ok(left) => {
             let written = write_run(alloc, &left, out);
+            let status = left_status(alloc, &left, written);
             forget(left);
-            status_after(written)
+            status
         }
         Err(status) => status,
     }
 }
 
 /// Runs the program on the words after its name: reads the files that they name from `files`, boots the machine, runs
-/// each script in a thread of its own, with transfers through `medium`, and once all have ended writes the listing, the
-/// history and the device tree to `out`; the line of a refusal or a fault goes to `err`. It leaves nothing held back.
-/// If scripts wait for each other for good, so does the call. See config(1), autoconf(9) and drvctl(8).
+/// each script in a thread of its own, with transfers through `medium`, and once all have ended or nobody goes on writes the
+/// listing, the history and the device tree to `out`; the line of a refusal or a fault goes to `err`, and so does a line for each
+/// caller that waits, if nobody goes on. It leaves nothing held back. See config(1), autoconf(9) and drvctl(8).
 pub fn drvrun_top<R: Threads + Wait + Sync, F: Files, S: Sink, E: Sink, M: Medium + Sync>(
     rt: &R,
     alloc: Global,

@@ -32,10 +32,13 @@ pub enum Status {
     WriteFault,
     /// Memory ran out.
     Memory,
+    /// Scripts that run side by side stand still: nobody goes on, and not all have ended. Who waits for which device, and who
+    /// holds it, a line each with its newline. Only `drvrun` returns this.
+    Stuck { waits: Text },
 }
 
 impl Status {
-    /// The exit status of the program, 0 to 10.
+    /// The exit status of the program, 0 to 11.
     pub fn number(&self) -> u8
         ensures { result ≡ status_number self.now }
     {
@@ -51,6 +54,7 @@ impl Status {
             Status::ReadFault => 8,
             Status::WriteFault => 9,
             Status::Memory => 10,
+            Status::Stuck { .. } => 11,
         }
     }
 }

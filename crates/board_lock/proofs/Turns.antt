@@ -6,7 +6,7 @@ use Rattle.run_sound.proofs.Callers.{all_append}
 use Rattle.board_lock.specs.declared.turn.Turn.{Turn}
 use Rattle.board_lock.specs.declared.turn.Turn.TheVariants as turn
 use Rattle.board_lock.specs.Seats.{SeatShown}
-use Rattle.board_lock.specs.Turning.{EventsAre, IsEvent, LastIs, StepsAre, TriesAre, TryIs, TurnIs, TurnsAre}
+use Rattle.board_lock.specs.Turning.{EventsAre, IsEvent, LastIs, RestIs, StepsAre, TriesAre, TryIs, TurnIs, TurnsAre}
 
 event_keeps : (w : World) (s : SeatShown) (x : Turn) (t : SeatShown) → IsEvent x → TurnIs w s x t → (t.caller ≡ s.caller) × (t.stops ≡ s.stops)
 event_keeps w s (turn.Did p told) t is done = (ap (λ (x : SeatShown). x.caller) done.2, ap (λ (x : SeatShown). x.stops) done.2)
@@ -14,7 +14,18 @@ event_keeps w s (turn.Transfer ticket told) t is done = absurd is
 event_keeps w s turn.Closed t is done = absurd is
 event_keeps w s (turn.Stale kept told) t is done = absurd is
 event_keeps w s (turn.Stopped j told) t is done = absurd is
+event_keeps w s turn.Stuck t is done = absurd is
 event_keeps w s turn.Memory t is done = absurd is
+
+-- what a caller that has to wait is answered is a turn
+pub rest_turn : (w : World) (s : SeatShown) (x : Turn) (t : SeatShown) → RestIs w (Some x) → t ≡ s → TurnIs w s x t
+rest_turn w s turn.Stuck t stuck same = (same, stuck)
+rest_turn w s turn.Memory t rest same = same
+rest_turn w s (turn.Did p told) t rest same = absurd rest
+rest_turn w s (turn.Transfer ticket told) t rest same = absurd rest
+rest_turn w s turn.Closed t rest same = absurd rest
+rest_turn w s (turn.Stale kept told) t rest same = absurd rest
+rest_turn w s (turn.Stopped j told) t rest same = absurd rest
 
 -- events leave the caller and its stops
 events_keep : (w : World) (s : SeatShown) (xs : List Turn) (t : SeatShown) → AllByRecursion IsEvent xs → TurnsAre w s xs t → (t.caller ≡ s.caller) × (t.stops ≡ s.stops)

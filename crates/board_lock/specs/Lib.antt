@@ -2,6 +2,7 @@ pub mod Boards
 pub mod Names
 pub mod Tallies
 pub mod Holding
+pub mod Stuck
 pub mod Seats
 pub mod Kept
 pub mod Turning

@@ -12,6 +12,7 @@ use Rattle.dev_board.specs.Shown.{Shown}
 use Rattle.dev_board.specs.Witness.{Witness}
 use Rattle.dev_board.specs.declared.answer.Answer.TheVariants as answer
 use Rattle.board_lock.specs.Boards.{spots_of, scripts_of}
+use Rattle.board_lock.specs.Stuck.{GetsStuck}
 use Rattle.board_lock.specs.declared.seat.DoneEnd.{DoneEnd}
 use Rattle.board_lock.specs.declared.seat.DoneEnd.TheVariants as end
 
@@ -37,10 +38,11 @@ pub record Shows (w : World) (k : ℕ) (told : Witness) : Type 0 where
   pub began : told.began ≡ w
   pub caller : told.caller ≡ k
 
--- the caller has ended once, or has stopped the board for want of memory, or a witness shows that the board was stopped
+-- the caller has ended once, or has stopped the board as memory ran out or as nobody went on, or a witness shows that the board was stopped
 abbrev pub EndFits : World → ℕ → ℕ → ℕ → DoneEnd → Type 0
 EndFits w k closings stops end.Closed = closings ≡ 1
 EndFits w k closings stops end.Memory = stops ≡ 1
+EndFits w k closings stops end.Stuck = (stops ≡ 1) × GetsStuck w
 EndFits w k closings stops (end.Stopped j told) = Shows w k told × (told.answer ≡ answer.Stopped j)
 
 -- what a caller leaves at this end

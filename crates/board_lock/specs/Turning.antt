@@ -19,6 +19,7 @@ use Rattle.board_lock.specs.declared.turn.Turn.TheVariants as turn
 use Rattle.board_lock.specs.Boards.{one_end}
 use Rattle.board_lock.specs.Holding.{Settles}
 use Rattle.board_lock.specs.Seats.{SeatShown, Shows}
+use Rattle.board_lock.specs.Stuck.{GetsStuck}
 use Rattle.quiet_events.specs.Quiet.{EndsNoWait}
 
 -- the seat after an event of its caller, after the end of its transfer, after its stop, after a look at a slot, and with other leases
@@ -45,7 +46,8 @@ pub record Counts (w : World) (k p : ℕ) (told : Witness) (e : Event) : Type 0 
   pub by : e.caller ≡ k
 
 -- a step: at an event the seat counts it, and takes or gives back the lease that the witness names; `Closed` comes only where the
--- caller ended once; at every other answer the seat is as before
+-- caller ended once, and `Stuck` only where a run comes to a world in which nobody goes on; at every other answer than an event the seat
+-- is as before
 abbrev pub TurnIs : World → SeatShown → Turn → SeatShown → Type 0
 TurnIs w s (turn.Did p told) t =
     (e : Event) × Counts w s.caller p told e × (t ≡ settled (counted s e) t.leases) × Settles s.leases told.lease t.leases
@@ -53,6 +55,7 @@ TurnIs w s (turn.Transfer ticket told) t = Shows w s.caller told × (told.answer
 TurnIs w s turn.Closed t = (s.closings ≡ 1) × (t ≡ s)
 TurnIs w s (turn.Stale kept told) t = ⊥
 TurnIs w s (turn.Stopped j told) t = Shows w s.caller told × (told.answer ≡ answer.Stopped j) × (t ≡ s)
+TurnIs w s turn.Stuck t = (t ≡ s) × GetsStuck w
 TurnIs w s turn.Memory t = t ≡ s
 
 -- the event is that with which this transfer of the caller ends, in a world where its end is what the caller does next
@@ -69,6 +72,7 @@ PostIs w ticket s (turn.Transfer other told) t = ⊥
 PostIs w ticket s turn.Closed t = ⊥
 PostIs w ticket s (turn.Stale kept told) t = Shows w s.caller told × (told.answer ≡ answer.Stale kept) × (kept ≢ Some ticket) × (t ≡ s)
 PostIs w ticket s (turn.Stopped j told) t = Shows w s.caller told × (told.answer ≡ answer.Stopped j) × (t ≡ s)
+PostIs w ticket s turn.Stuck t = ⊥
 PostIs w ticket s turn.Memory t = t ≡ s
 
 -- one taking of the lock: a turn, or none where the board waits, and then nothing changed
@@ -112,6 +116,13 @@ pub record LastIs (w : World) (s : SeatShown) (answer : Turn) (t : SeatShown) : 
   pub last : TurnIs w middle answer t
 
 -- ---- who waits
+
+-- what a caller that has to wait is answered: that nobody goes on, or that memory ran out; or it is to wait for a notice
+abbrev pub RestIs : World → Option Turn → Type 0
+RestIs w None = ⊤
+RestIs w (Some turn.Stuck) = GetsStuck w
+RestIs w (Some turn.Memory) = ⊤
+RestIs w (Some _) = ⊥
 
 -- the event of a turn, which the history has at its place, ends no wait; other turns have none
 abbrev pub EndsNone : Shown → Turn → Type 0

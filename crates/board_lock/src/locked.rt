@@ -7,7 +7,7 @@ ghost use Rattle.board_lock.specs.Carried.{CarriedRun};
 ghost use Rattle.board_lock.specs.Holding.{Settles};
 ghost use Rattle.board_lock.specs.Kept.{LockedKept};
 ghost use Rattle.board_lock.specs.Tallies.{more_in_all};
-ghost use Rattle.board_lock.specs.Turning.{EndsNone, IsEvent, PostIs, TriesAre, TryIs, counted, halted, settled};
+ghost use Rattle.board_lock.specs.Turning.{EndsNone, IsEvent, PostIs, RestIs, TriesAre, TryIs, counted, halted, settled};
 
 #[cfg(test)]
 mod tests;
@@ -17,7 +17,7 @@ use crate::names::Naming;
 use crate::seat::Seat;
 use crate::tally::{Books, ends_caller};
 use crate::turn::Turn;
-use dev_board::{Board, IoResult, LeaseStep, Posted, Stepped};
+use dev_board::{Board, IoResult, LeaseStep, Posted, Standing, Stepped};
 use lease_table::LeaseTable;
 use quiet_events::may_end_wait;
 use run_rules::Event;
@@ -32,6 +32,8 @@ pub struct Locked<N: Naming> {
     board: Board,
     slots: LeaseSlots<N>,
     books: Books<N>,
+    /// How many callers neither wait for a notice nor have ended.
+    at_work: u8,
 }
 
 impl<N: Naming> Model for Locked<N> {
@@ -72,6 +74,14 @@ fn settle<N: Naming>(table: &LeaseTable, seat: &mut Seat<N>, step: LeaseStep)
     }
 }
 
+// One caller fewer is at work if it has ended.
+#[inline(always)]
+fn leave(at_work: &mut u8, ended: bool) {
+    if ended {
+        *at_work = at_work.saturating_sub(1);
+    }
+}
+
 impl<N: Naming> Locked<N> {
     /// The board of a run, with its slots and its books.
     pub fn make(board: Board, slots: LeaseSlots<N>, books: Books<N>) -> Locked<N>
@@ -79,10 +89,12 @@ impl<N: Naming> Locked<N> {
         requires carried { CarriedRun N.carried N.opening board.events board.world }
         ensures { result ≡ board }
     {
+        let at_work = board.callers();
         Locked {
             board,
             slots,
             books,
+            at_work,
         }
     }
 
@@ -97,6 +109,7 @@ impl<N: Naming> Locked<N> {
             board,
             slots,
             books,
+            at_work,
         } = self;
         board.stands();
         let (place, told) = match board.step(seat.caller(), slots) {
@@ -113,6 +126,7 @@ impl<N: Naming> Locked<N> {
             Stepped::Memory => return Some(Turn::Memory),
         };
         count_event(books, seat, board.event(place));
+        leave(at_work, seat.has_ended());
         settle(table, seat, told.lease());
         Some(Turn::Did(place, told))
     }
@@ -151,6 +165,7 @@ impl<N: Naming> Locked<N> {
             board,
             slots: _,
             books,
+            at_work: _,
         } = self;
         let _ = seat.caller();
         let (place, told) = match board.post(done) {
@@ -173,11 +188,38 @@ impl<N: Naming> Locked<N> {
             board,
             slots: _,
             books,
+            at_work: _,
         } = self;
         board.stands();
         books.halt(&mut seat.shares);
         seat.halted = true;
         board.stop(seat.caller);
+    }
+
+    /// What a caller that has to wait is answered: that nobody goes on, or that memory ran out as that was looked at; none if it
+    /// is to wait for a notice. While another caller is at work, nothing is looked at.
+    #[cold]
+    pub fn rest(&mut self) -> Option<Turn>
+        ensures rest { RestIs N.opening result }
+        ensures same { self.new ≡ self.old }
+    {
+        if self.at_work <= 1 {
+            self.board.stands();
+            match self.board.standing() {
+                Ok(Standing::Stuck) => return Some(Turn::Stuck),
+                Ok(_) => {}
+                Err(_) => return Some(Turn::Memory),
+            }
+        }
+        self.at_work = self.at_work.saturating_sub(1);
+        None
+    }
+
+    /// A caller that waited goes on.
+    pub fn wake(&mut self)
+        ensures { self.new ≡ self.old }
+    {
+        self.at_work = self.at_work.saturating_add(1);
     }
 
     /// Whether an answer may end the wait of another caller. If not, no other caller's wait ends with it.
@@ -205,6 +247,7 @@ impl<N: Naming> Locked<N> {
             board,
             slots,
             books,
+            at_work: _,
         } = self;
         (board, slots, books)
     }

@@ -40,6 +40,8 @@ pub enum DoneEnd {
     Closed,
     /// Memory ran out, and the caller stopped the board.
     Memory,
+    /// Nobody went on, and the caller stopped the board.
+    Stuck,
     /// The board was stopped, first by this caller.
     Stopped(u8, Told),
 }
@@ -88,8 +90,8 @@ impl<N: Naming> Seat<N> {
         self.halted
     }
 
-    /// The caller is done, and leaves what it has. `Closed` is for a caller that ended, `Memory` for one that stopped
-    /// the board, `Stopped` for one with a witness that another one did.
+    /// The caller is done, and leaves what it has. `Closed` is for a caller that ended, `Memory` and `Stuck` for
+    /// one that stopped the board, `Stopped` for one with a witness that another one did.
     pub fn into_done(self, end: DoneEnd) -> Done<N>
         requires { EndFits N.opening self.caller self.closings self.stops end }
         ensures { result ≡ left_by self end }

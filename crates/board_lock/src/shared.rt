@@ -1,5 +1,5 @@
 //! The board behind its lock.
-ghost use Rattle.std.specs.Prelude.{◌≡◌, ◌<◌, ◌+◌, IfOk, Some, length, sum_by};
+ghost use Rattle.std.specs.Prelude.{◌≡◌, ◌<◌, ◌+◌, ◌==◌, IfOk, Some, length, sum_by};
 ghost use Rattle.std.specs.Arc.{arc_value};
 ghost use Rattle.atomic_table.specs.Seated.{TableId};
 ghost use Rattle.lease_table.specs.Holding.{LookIs};
@@ -71,6 +71,13 @@ impl Finished {
         &self.board
     }
 
+    /// Whether all scripts have ended.
+    pub fn have_all_ended(&self) -> bool
+        ensures { result ≡ (self.now.ended == scripts_of self.now.board.world) }
+    {
+        self.ended == u64::from(self.board.callers())
+    }
+
     /// How many scripts have ended.
     pub fn ended(&self) -> u64
         ensures { result ≡ self.now.ended }
@@ -135,8 +142,9 @@ impl<N: Naming> SharedBoard<N> {
         }
     }
 
-    /// One step of the seat's caller. If the caller has to wait, the call waits for a notice and steps again. At an
-    /// event, the lease that it names is taken or given back before the lock is released.
+    /// One step of the seat's caller. If the caller has to wait, the call waits for a notice and steps again; if no other caller is
+    /// at work then and nobody goes on, it returns `Stuck`. At an event, the lease that it names is taken or given back
+    /// before the lock is released.
     #[inline(always)]
     pub fn step<R: Wait>(&self, rt: &R, seat: &mut Seat<N>) -> Turn
         ensures { TurnIs N.opening seat.old result seat.new }
@@ -151,7 +159,11 @@ impl<N: Naming> SharedBoard<N> {
                 }
                 return turn;
             }
+            if let Some(turn) = guard.rest() {
+                return turn;
+            }
             guard = self.moved.wait(rt, guard);
+            guard.wake();
         }
         unreachable!()
     }

@@ -14,6 +14,8 @@ pub enum Turn {
     Stale(Option<Ticket>, Told),
     /// The board was stopped, first by this caller.
     Stopped(u8, Told),
+    /// Nobody goes on: each caller has ended or waits, and some wait. Nothing changed.
+    Stuck,
     /// Memory ran out, and nothing changed.
     Memory,
 }

@@ -9,3 +9,4 @@ pub mod Kept
 pub mod ScriptedLaws
 pub mod NextLaws
 pub mod TurnLaws
+pub mod WhoGoes

@@ -8,6 +8,7 @@ pub mod Playing
 pub mod KeptCore
 pub mod Steps
 pub mod BoardView
+pub mod Waiting
 pub use Rattle.config_rules.specs.Formed
 pub use Rattle.config_rules.specs.ScriptText
 pub use Rattle.run_rules.specs.World
@@ -21,3 +22,5 @@ pub use Rattle.run_rules.specs.Counts
 pub use Rattle.run_rules.specs.Sound
 pub use Rattle.run_sound.specs.Kept
 pub use Rattle.run_sound.specs.Left
+pub use Rattle.progress_laws.specs.Still
+pub use Rattle.wait_lines.specs.Waits

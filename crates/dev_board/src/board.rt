@@ -22,6 +22,8 @@ ghost use Rattle.run_world.specs.Scripted.{FormedScripts};
 ghost use Rattle.dev_board.specs.Posting.{PostIs};
 ghost use Rattle.dev_board.specs.Shown.{began};
 ghost use Rattle.dev_board.specs.Stepping.{StepIs, IsDid, IsOfBoot, DenialsAre};
+ghost use Rattle.dev_board.specs.Waiting.{StandsSo};
+ghost use Rattle.wait_lines.specs.Waits.{wait_lines};
 
 use crate::closed::closed_in;
 use crate::io_result::IoResult;
@@ -29,7 +31,8 @@ use crate::post::post_core;
 use crate::posted::Posted;
 use crate::step::step_core;
 use crate::stepped::Stepped;
-use cf_types::{DevLine, List, Machine, Memory, Script, Tables};
+use crate::waiting::{Standing, how_it_stands, lines_of};
+use cf_types::{DevLine, List, Machine, Memory, Script, Tables, Text};
 use ref_ledger::Slots;
 use run_rules::{Event, Setup};
 use run_world::{Core, Site, is_occupied, opening_core};
@@ -212,6 +215,20 @@ impl Board {
         ensures told { IfOk result (λ lines. TellsTree self.now.events lines) }
     {
         tree_of(self.alloc, &self.site.setup, &self.core)
+    }
+
+    /// Whether any caller goes on, or some wait for good, or all have ended.
+    pub fn standing(&self) -> Result<Standing, Memory>
+        ensures { IfOk result (λ how. StandsSo how self.now.world) }
+    {
+        how_it_stands(self.alloc, &self.site, &self.core)
+    }
+
+    /// Who waits until nobody holds a device, and who holds it: a line for each such caller, in their order.
+    pub fn wait_lines(&self) -> Result<List<Text>, Memory>
+        ensures { IfOk result (λ lines. lines ≡ wait_lines self.now.world) }
+    {
+        lines_of(self.alloc, &self.site, &self.core)
     }
 
     /// The tables of the run.

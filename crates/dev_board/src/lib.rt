@@ -17,6 +17,7 @@ mod step;
 mod stepped;
 mod told;
 mod turns;
+mod waiting;
 
 pub use answer::{Answer, LeaseStep};
 pub use board::Board;
@@ -28,3 +29,4 @@ pub use run_rules::Wait;
 pub use stepped::Stepped;
 pub use told::Told;
 pub use turns::run_turns;
+pub use waiting::Standing;

@@ -9,13 +9,13 @@ ghost use Rattle.board_lock.specs.Boards.{scripts_of};
 ghost use Rattle.board_lock.specs.Carried.{CarriedRun, CarriesFor};
 ghost use Rattle.board_lock.specs.Names.{AreNames};
 ghost use Rattle.board_lock.specs.Seats.{PartsFit};
-ghost use Rattle.drv_workers.specs.Whole.{IsWhole};
+ghost use Rattle.drv_workers.specs.Whole.{IsOver};
 
 use crate::medium::Medium;
 use crate::worker::work;
 use board_lock::{Done, Finished, Naming, RunParts, Seat, SharedBoard};
 use cf_types::{List, Memory};
-use dev_board::Board;
+use dev_board::{Board, Standing};
 use std::alloc::Global;
 use std::marker::Brand;
 use std::sync::Wait;
@@ -123,20 +123,23 @@ fn run_all<N: Naming + Send + Sync, M: Medium + Sync, R: Threads + Wait + Sync>(
     Ok(list_of(done))
 }
 
-// What is left, if every script has ended; else memory ran out.
-fn whole_only(left: Finished, scripts: u64) -> Result<Finished, Memory>
+// What is left, if every script has ended, or if nobody goes on; else memory ran out.
+fn over_only(left: Finished, scripts: u64) -> Result<Finished, Memory>
     requires scripts { (scripts ≡ scripts_of left.board.world) × (0 < scripts) }
     requires may { MayRun left.board.world.setup }
     requires run { Run (began left.board) left.board.events left.board.world }
     requires ends { left.ended ≡ ends_of left.board.events }
     ensures same { IfOk result (λ r. r ≡ left) }
-    ensures whole { IfOk result (λ r. IsWhole r.ended r.board) }
+    ensures over { IfOk result (λ r. IsOver r.ended r.board) }
 {
     let ended = left.ended();
-    if ended != scripts {
-        return Err(Memory);
+    if ended == scripts {
+        return Ok(left);
     }
-    Ok(left)
+    match left.board().standing() {
+        Ok(Standing::Stuck) => Ok(left),
+        _ => Err(Memory),
+    }
 }
 
 // A run whose names were chosen.
@@ -156,18 +159,19 @@ fn run_named<N: Naming + Send + Sync, M: Medium + Sync, R: Threads + Wait + Sync
     ensures run { IfOk result (λ r. Run (began board) r.board.events r.board.world) }
     ensures carried { IfOk result (λ r. CarriedRun N.carried (began board) r.board.events r.board.world) }
     ensures ended { IfOk result (λ r. r.ended ≡ ends_of r.board.events) }
-    ensures whole { IfOk result (λ r. IsWhole r.ended r.board) }
+    ensures over { IfOk result (λ r. IsOver r.ended r.board) }
 {
     let (shared, seats) = SharedBoard::<N>::make(alloc, board, parts)?;
     let scripts = seats.len() as u64;
     let done = run_all(rt, alloc, &shared, medium, seats)?;
-    whole_only(shared.finish(done), scripts)
+    over_only(shared.finish(done), scripts)
 }
 
-/// Runs the scripts of a board that has done its boot, each in a thread of its own, until every one has ended: then all have.
-/// A script whose thread can't be started is run by the caller's thread. A worker ends before its script does only where
-/// memory ran out, for it or for the one that stopped the board; then the answer is want of memory. The history that is left
-/// is one run from where the board began, and each transfer that ended in it was carried out by the medium.
+/// Runs the scripts of a board that has done its boot, each in a thread of its own, until every one has ended, or until nobody
+/// goes on. A script whose thread can't be started is run by the caller's thread. A worker ends before its script does only if
+/// memory ran out or nobody went on, for it or for the one that stopped the board; if the board does not stand still then, the
+/// answer is `Memory`. The history that is left is one run from where the board began, and each transfer that ended in it was
+/// carried out by the medium.
 pub fn run_scripts<M: Medium + Sync, R: Threads + Wait + Sync>(
     rt: &R,
     alloc: Global,
@@ -180,7 +184,7 @@ pub fn run_scripts<M: Medium + Sync, R: Threads + Wait + Sync>(
     ensures run { IfOk result (λ r. Run (began board) r.board.events r.board.world) }
     ensures carried { IfOk result (λ r. CarriedRun M.carried (began board) r.board.events r.board.world) }
     ensures ended { IfOk result (λ r. r.ended ≡ ends_of r.board.events) }
-    ensures whole { IfOk result (λ r. IsWhole r.ended r.board) }
+    ensures over { IfOk result (λ r. IsOver r.ended r.board) }
 {
     match RunParts::make(alloc, &board) {
         Ok(parts) => run_named::<Brand, M, R>(rt, alloc, board, parts, medium),

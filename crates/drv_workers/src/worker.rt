@@ -6,8 +6,8 @@ use crate::medium::Medium;
 use board_lock::{Done, DoneEnd, Naming, Seat, SharedBoard, Turn};
 use std::sync::Wait;
 
-/// Steps a seat until its caller has ended, the board was stopped, or memory ran out, at which it stops the board once. A
-/// transfer is carried out outside the lock, after a look that showed the slot of its device live and leased to the caller. Without
+/// Steps a seat until its caller has ended, the board was stopped, or memory ran out or nobody goes on, at which it stops the board
+/// once. A transfer is carried out outside the lock, after a look that showed the slot of its device live and leased to the caller. Without
 /// a lease there it steps again.
 pub fn work<M: Medium, N: Naming, R: Wait>(
     rt: &R,
@@ -33,6 +33,10 @@ pub fn work<M: Medium, N: Naming, R: Wait>(
             Turn::Memory => {
                 shared.stop(rt, &mut seat);
                 return seat.into_done(DoneEnd::Memory);
+            }
+            Turn::Stuck => {
+                shared.stop(rt, &mut seat);
+                return seat.into_done(DoneEnd::Stuck);
             }
             _ => {}
         }

@@ -1,44 +1,30 @@
-use Rattle.std.proofs.Common.{map, string_bytes, subst, sym}
+use Rattle.std.proofs.Common.{map, string_bytes, subst}
 use Rattle.app_words.specs.Words.{drvrun_form}
 use Rattle.app_input.proofs.AskedLaws.{inputs_all}
-use Rattle.app_output.specs.Ended.{Faults}
-use Rattle.app_output.specs.RunText.{run_text}
-use Rattle.app_output.proofs.Ended.{due_put, due_unfound, explains_refused, explains_written, faults_refused, faults_written}
+use Rattle.app_output.proofs.Ended.{due_unfound, faults_refused}
 use Rattle.board_lock.specs.Boards.{FinishedShown}
-use Rattle.app_run.specs.Asked.{Asks, Explains, IsDueStatus, IsRefused}
+use Rattle.app_run.specs.Asked.{IsDueStatus, IsRefused}
+use Rattle.app_run.proofs.Left.{due_left, faults_left, left_so, refused_so}
 use Rattle.app_run.proofs.top.run.Goals as goal
 
 pub returns-in-Ok-clause-explained : goal.returns-in-Ok-clause-explained
 returns-in-Ok-clause-explained g c =
-    let form = drvrun_form (map string_bytes c.args.words.now) in
-    let told = g.F.Files.told c.args.files.now in
-    let old = g.S.Sink.told c.args.out.now in
-    let new = g.S.Sink.told c.write_run-written.new.out in
-    let b = c.in-Ok.left.board in
-    subst (Explains g.M.Medium.carried form told old new) (sym c.status_after.ensures)
-    (explains_written (Asks g.M.Medium.carried form told) (IsRefused form told) (run_text b.world.setup.tables b.events b.world) old new c.write_run-written.result c.in-Ok.ensures.found c.write_run-written.ensures)
+    left_so g.M.Medium.carried (drvrun_form (map string_bytes c.args.words.now)) (g.F.Files.told c.args.files.now) c.in-Ok.left (g.S.Sink.told c.args.out.now) (g.S.Sink.told c.write_run-written.new.out)
+    c.write_run-written.result c.left_status-status.result c.in-Ok.ensures.found c.write_run-written.ensures c.left_status-status.ensures
 
 pub returns-in-Ok-clause-faults : goal.returns-in-Ok-clause-faults
 returns-in-Ok-clause-faults g c =
-    let reads = g.F.Files.faults c.args.files.now in
-    let reads' = g.F.Files.faults c.find.new.files in
-    let old = g.S.Sink.told c.args.out.now in
-    let new = g.S.Sink.told c.write_run-written.new.out in
-    let b = c.in-Ok.left.board in
-    subst (Faults reads reads' old.faults new.faults) (sym c.status_after.ensures)
-    (faults_written (run_text b.world.setup.tables b.events b.world) reads reads' old new c.write_run-written.result c.in-Ok.ensures.counted c.write_run-written.ensures)
+    faults_left c.in-Ok.left _ _ (g.S.Sink.told c.args.out.now) (g.S.Sink.told c.write_run-written.new.out) c.write_run-written.result c.left_status-status.result
+    c.in-Ok.ensures.counted c.write_run-written.ensures c.left_status-status.ensures
 
 pub returns-in-Ok-clause-due : goal.returns-in-Ok-clause-due
 returns-in-Ok-clause-due g c =
-    let b = c.in-Ok.left.board in
-    rw c.status_after.ensures (due_put _ (IsDueStatus (drvrun_form (map string_bytes c.args.words.now))) (run_text b.world.setup.tables b.events b.world) _ _ _ _ c.write_run-written.result
-    c.in-Ok.ensures.due c.write_run-written.ensures)
+    due_left (g.F.Files.told c.args.files.now) (drvrun_form (map string_bytes c.args.words.now)) _ _ c.in-Ok.left (g.S.Sink.told c.args.out.now) (g.S.Sink.told c.write_run-written.new.out)
+    c.write_run-written.result c.left_status-status.result c.in-Ok.ensures.due c.write_run-written.ensures c.left_status-status.ensures
 
 pub returns-in-Err-clause-explained : goal.returns-in-Err-clause-explained
 returns-in-Err-clause-explained g c =
-    let form = drvrun_form (map string_bytes c.args.words.now) in
-    let told = g.F.Files.told c.args.files.now in
-    explains_refused (Asks g.M.Medium.carried form told) (IsRefused form told) _ c.in-Err.status (λ never. never) (λ never. never) c.in-Err.ensures.found
+    refused_so g.M.Medium.carried (drvrun_form (map string_bytes c.args.words.now)) (g.F.Files.told c.args.files.now) (g.S.Sink.told c.args.out.now) c.in-Err.status c.in-Err.ensures.found
 
 pub returns-in-Err-clause-faults : goal.returns-in-Err-clause-faults
 returns-in-Err-clause-faults g c =
