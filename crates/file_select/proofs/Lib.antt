@@ -7,3 +7,4 @@ pub mod StatementLemmas
 pub mod SourceLemmas
 pub mod RowLemmas
 pub mod SelectLemmas
+pub mod SeenLemmas

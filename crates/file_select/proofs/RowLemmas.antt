@@ -77,6 +77,23 @@ wanted_within t f =
     (flat_all (λ a. a < length t.attrs) (row_attrs t) t.rows (row_within t f))
     (All-filter (λ a. has_name (map (λ p. p.name) t.pseudos) (attr_name t.attrs a)) (λ a. a < length t.attrs) (below (length t.attrs)) (below_all (length t.attrs)))
 
+-- its attachment is there
+pub attach_in_range : (xs : List Attach) (i d : ℕ) → option_map_or (λ x. x.device == d) (slice_get xs i) false ≡ true → i < length xs
+attach_in_range [] i d h = absurd (cc)
+attach_in_range (x ∷ xs) zero d h = omega arith
+attach_in_range (x ∷ xs) (suc i) d h = let rest = attach_in_range xs i d h in omega arith
+
+-- those of its device, and of its attachment
+pub row_device_within : (t : Tables) → FormedTables t → (r : Row) (ds : List Device) (n : ℕ) → n ≡ length t.attrs → ds ≡ t.devices → All (λ a. a < n) (flat_map named_by (device_in ds r))
+row_device_within t f r ds n size e =
+    subst (λ (xs : List Device). All (λ a. a < n) (flat_map named_by (device_in xs r))) (sym e)
+    (subst (λ (m : ℕ). All (λ a. a < m) (flat_map named_by (device_in t.devices r))) (sym size) (devices_within t f r.device (slice_get t.devices r.device) refl))
+
+pub row_attach_within : (t : Tables) → FormedTables t → (r : Row) (xs : List Attach) (n : ℕ) → n ≡ length t.attrs → xs ≡ t.attaches → All (λ a. a < n) (flat_map (λ x. x.needs) (attach_in xs r))
+row_attach_within t f r xs n size e =
+    subst (λ (ys : List Attach). All (λ a. a < n) (flat_map (λ x. x.needs) (attach_in ys r))) (sym e)
+    (subst (λ (m : ℕ). All (λ a. a < m) (flat_map (λ x. x.needs) (attach_in t.attaches r))) (sym size) (attaches_within t f r.attach (slice_get t.attaches r.attach) refl))
+
 -- the device of a row
 pub device_there : (t : Tables) → FormedTables t → (r : Row) (d : Device) (n : ℕ) → n ≡ length t.attrs → device_in t.devices r ≡ d ∷ [] → All (λ a. a < n) (named_by d)
 device_there t f r d n size e =

@@ -1,5 +1,5 @@
 //! Which attributes the rows and the pseudo-devices of tables need.
-ghost use Rattle.std.specs.Prelude.{◌≡◌, ℕ, List as Items, ◌<◌, ◌≤◌, [], ◌∷◌, ◌++◌, length, map, flat_map, false, if◌then◌else◌, All, IfOk, OnOk};
+ghost use Rattle.std.specs.Prelude.{◌≡◌, ℕ, Bool, List as Items, ◌<◌, ◌≤◌, [], ◌∷◌, ◌++◌, length, map, flat_map, false, if◌then◌else◌, All, IfOk, OnOk};
 ghost use Rattle.std.specs.List.{slice_index_or};
 ghost use Rattle.std.specs.Option.{option_map_or};
 ghost use Rattle.cf_types.specs.Gather.{is_in};
@@ -7,7 +7,7 @@ ghost use Rattle.cf_types.specs.Offers.{named_by, needs_at, nodes_of, walks, Are
 ghost use Rattle.config_rules.specs.Formed.{FormedTables};
 ghost use Rattle.config_rules.specs.Select.{has_name};
 ghost use Rattle.file_rules.specs.Chosen.{attach_in, attr_name, device_in, named_attrs, reached_attrs, row_attrs, wanted_attrs};
-ghost use Rattle.file_select.specs.Marks.{AddsMarks};
+ghost use Rattle.file_select.specs.Marks.{AddsMarks, AreSeen, HasSeen};
 
 use crate::texts::TextSet;
 use cf_types::{Attach, Attr, Device, Memory, Pseudo, Row, Tables};
@@ -58,27 +58,87 @@ fn mark_device(marks: &mut [bool], device: &Device)
     mark_all(marks, device.needs.items());
 }
 
+/// For each device and each attachment whether its attributes are marked already.
+#[derive(Drop)]
+struct Seen {
+    devices: Vec<bool>,
+    attaches: Vec<bool>,
+}
+
+/// So many marks, none of which is set.
+fn no_marks(alloc: Global, count: usize) -> Result<Vec<bool>, Memory>
+    ensures size { IfOk result (λ marks. length marks.items ≡ count) }
+    ensures none { (i : ℕ) → IfOk result (λ marks. slice_index_or marks.items i false ≡ false) }
+{
+    Ok(vec![in alloc; false; count]?)
+}
+
+/// None of the devices and attachments was seen.
+fn none_seen(alloc: Global, tables: &Tables) -> Result<Seen, Memory>
+    ensures { (marks : Items Bool) → IfOk result (HasSeen tables.now marks) }
+{
+    let devices = no_marks(alloc, tables.devices.len())?;
+    let attaches = no_marks(alloc, tables.attaches.len())?;
+    Ok(Seen { devices, attaches })
+}
+
+/// Marks the attributes of the device of a row, unless it was seen before.
+fn mark_new_device(marks: &mut [bool], seen: &mut Vec<bool>, devices: &[Device], row: &Row)
+    requires device { row.now.device < length devices.now }
+    requires within { All (λ a. a < length marks.old) (flat_map named_by (device_in devices.now row.now)) }
+    requires seen { AreSeen named_by devices.now seen.old.items marks.old }
+    ensures marks { AddsMarks marks.old marks.new (flat_map named_by (device_in devices.now row.now)) }
+    ensures seen { AreSeen named_by devices.now seen.new.items marks.new }
+{
+    let place = row.device as usize;
+    if seen[place] {
+        return;
+    }
+    seen[place] = true;
+    mark_device(marks, device_of(devices, row));
+}
+
+/// Marks the attributes of the attachment of a row, unless it was seen before.
+fn mark_new_attach(marks: &mut [bool], seen: &mut Vec<bool>, attaches: &[Attach], row: &Row)
+    requires attach { row.now.attach < length attaches.now }
+    requires within { All (λ a. a < length marks.old) (flat_map (λ x. x.needs) (attach_in attaches.now row.now)) }
+    requires seen { AreSeen (λ x. x.needs) attaches.now seen.old.items marks.old }
+    ensures marks { AddsMarks marks.old marks.new (flat_map (λ x. x.needs) (attach_in attaches.now row.now)) }
+    ensures seen { AreSeen (λ x. x.needs) attaches.now seen.new.items marks.new }
+{
+    let place = row.attach as usize;
+    if seen[place] {
+        return;
+    }
+    seen[place] = true;
+    mark_all(marks, attach_of(attaches, row).needs.items());
+}
+
 /// Marks the attributes of a row.
-fn mark_row(marks: &mut [bool], tables: &Tables, row: &Row)
+fn mark_row(marks: &mut [bool], seen: &mut Seen, tables: &Tables, row: &Row)
     requires formed { FormedTables tables.now }
     requires device { row.now.device < length tables.now.devices }
     requires attach { row.now.attach < length tables.now.attaches }
     requires room { length marks.old ≡ length tables.now.attrs }
-    ensures { AddsMarks marks.old marks.new (row_attrs tables.now row.now) }
+    requires seen { HasSeen tables.now marks.old seen.old }
+    ensures marks { AddsMarks marks.old marks.new (row_attrs tables.now row.now) }
+    ensures seen { HasSeen tables.now marks.new seen.new }
 {
-    mark_device(marks, device_of(tables.devices.items(), row));
-    mark_all(marks, attach_of(tables.attaches.items(), row).needs.items());
+    mark_new_device(marks, &mut seen.devices, tables.devices.items(), row);
+    mark_new_attach(marks, &mut seen.attaches, tables.attaches.items(), row);
 }
 
-/// Marks the attributes of the rows.
-fn mark_rows(marks: &mut [bool], tables: &Tables)
+/// Marks the attributes of the rows: those of a device or an attachment once, however many rows it has.
+fn mark_rows(alloc: Global, marks: &mut [bool], tables: &Tables) -> Result<(), Memory>
     requires formed { FormedTables tables.now }
     requires room { length marks.old ≡ length tables.now.attrs }
-    ensures { AddsMarks marks.old marks.new (flat_map (row_attrs tables.now) tables.now.rows) }
+    ensures { OnOk result (AddsMarks marks.old marks.new (flat_map (row_attrs tables.now) tables.now.rows)) }
 {
+    let mut seen = none_seen(alloc, tables)?;
     for row in tables.rows.items() {
-        mark_row(marks, tables, row);
+        mark_row(marks, &mut seen, tables, row);
     }
+    Ok(())
 }
 
 /// The names of pseudo-devices.
@@ -140,7 +200,7 @@ fn mark_reached(alloc: Global, tables: &Tables, marks: &mut [bool]) -> Result<()
     ensures marked { OnOk result ((a : ℕ) → slice_index_or marks.new a false ≡ is_in a (reached_attrs tables.now)) }
 {
     let names = pseudo_names(alloc, tables.pseudos.items())?;
-    mark_rows(marks, tables);
+    mark_rows(alloc, marks, tables)?;
     mark_named(marks, tables.attrs.items(), &names);
     mark_needs(marks, tables.attrs.items());
     Ok(())

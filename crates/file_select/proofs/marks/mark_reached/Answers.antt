@@ -15,7 +15,7 @@ returns-clause-marked c = λ a.
     c.mark_needs.ensures.marked (wanted_attrs c.args.tables.now)
     (subst (λ (xs : List Attr). All (λ b. b < length xs) (wanted_attrs c.args.tables.now)) (sym c.items-3.ensures) (wanted_within c.args.tables.now c.requires.formed))
     (only_added c.args.marks.now c.mark_named.new.marks (wanted_attrs c.args.tables.now) c.requires.none
-    (adds_both c.args.marks.now c.mark_rows.new.marks c.mark_named.new.marks _ _ c.mark_rows.ensures
+    (adds_both c.args.marks.now c.mark_rows.new.marks c.mark_named.new.marks _ _ c.in_ok-mark_rows.ensures
     (adds_to c.mark_rows.new.marks c.mark_named.new.marks (named_attrs c.items-2.result.now c.in_ok-names.names) (named_attrs c.args.tables.now.attrs (map (λ p. p.name) c.args.tables.now.pseudos))
     (ap (λ xs. named_attrs xs c.in_ok-names.names) c.items-2.ensures
     ∙ named_attrs_same c.args.tables.now.attrs c.in_ok-names.names (map (λ p. p.name) c.args.tables.now.pseudos)
