@@ -59,10 +59,11 @@ names_ring() {
     END { exit !rings || wrong }' "$2" "$1"
 }
 
-# Whether tools/summary says the same of the run $1 as these lines.
+# Whether tools/summary says the same of the run $1 as these lines. It names the callers in the order in which they came.
 says_the_same() {
     "$here/../tools/summary" -a "$1" >"$work/told"
-    who_waits "$work/told" | cmp -s - "$2" && names_ring "$work/told" "$2"
+    who_waits "$work/told" | sort >"$work/named"
+    sort "$2" | cmp -s - "$work/named" && names_ring "$work/told" "$2"
 }
 
 # Runs these scripts, which may stand still, with that configuration and machine.
@@ -93,8 +94,17 @@ set --
 while [ $# -lt 16 ]; do set -- "$@" greedy.script; done
 contend 'sixteen scripts' small "$@"
 
-printf 'open com0\nio com0 1\ndetach com1\n' >"$work/first"
-printf 'open com1\nio com1 1\ndetach com0\n' >"$work/second"
+# A script that opens a device, uses it for a while, and then takes another one away.
+taker() {
+    awk -v own="$1" -v other="$2" 'BEGIN {
+        print "open " own
+        for (n = 0; n < 20; n++) print "io " own " 1"
+        print "detach " other
+    }'
+}
+
+taker com0 com1 >"$work/first"
+taker com1 com0 >"$work/second"
 stand 'a pair' small "$work/first" "$work/second"
 cat >"$work/three.conf" <<'END'
 device bus {[at = -1]}
@@ -105,7 +115,7 @@ bus0 at root
 port* at bus?
 END
 printf 'spot b root root\nspot p0 b bus at=0\nspot p1 b bus at=1\nspot p2 b bus at=2\nmatch bus b 1\nmatch port * 1\n' >"$work/three.machine"
-for n in 0 1 2; do printf 'open port%s\nio port%s 1\ndetach port%s\n' "$n" "$n" $(((n + 1) % 3)) >"$work/third$n"; done
+for n in 0 1 2; do taker port$n port$(((n + 1) % 3)) >"$work/third$n"; done
 stand 'a triple' "$work/three" "$work/third0" "$work/third1" "$work/third2"
 set --
 while [ $# -lt 16 ]; do set -- "$@" "$work/first" "$work/second"; done
