@@ -1,0 +1,13 @@
+pub mod Reaching
+pub mod Places
+pub mod Indexing
+pub mod Going
+pub mod Searching
+pub mod Ordering
+pub mod Whole
+pub mod Counting
+pub mod Texts
+pub mod Noting
+pub mod Booting
+pub mod Waiting
+pub mod May

@@ -1,0 +1,9 @@
+pub mod Reach
+pub mod Kinds
+pub mod Ways
+pub mod Search
+pub mod Meeting
+pub mod Noted
+pub mod Every
+pub use Rattle.wait_lines.specs.Waits
+pub use Rattle.progress_laws.specs.Still
