@@ -15,8 +15,8 @@ use crate::matches::{arrival, parent_offers, parent_ref, winner};
 use crate::seeker::Seeker;
 use cf_types::Place;
 use plain_world::{
-    Plain, Rules, attach_of, device_at, driver_of, found_at, is_occupied, offered,
-    same_place, stretch_at,
+    Plain, Rules, attach_of, device_at, driver_of, found_at, is_occupied, offered, same_place,
+    stretch_at,
 };
 use run_rules::{Deed, Dev, ParentRef, Position, Turn, Wanted};
 
