@@ -23,4 +23,6 @@ hindrance live refs marks target k forced = find (stands_in_way live refs marks 
 -- of the devices in the target's subtree exactly the pinned ones are marked so, and, unless it is forced, exactly the undetachable ones
 pub record AreMarksOf (w : World) (target : ℕ) (forced : Bool) (marks : Marked) : Type 0 where
   pub pinned : AllByRecursion (λ d. IsTrue (is_under w.live target d.serial) → has marks.pinned d.serial ≡ is_pinned w d.serial) w.live
-  pub undetachable : IsTrue (not forced) → AllByRecursion (λ d. IsTrue (is_under w.live target d.serial) → has marks.undetachable d.serial ≡ (policy_of w.setup d.row).nodetach) w.live
+  pub undetachable : IsTrue (not forced)
+      → AllByRecursion (λ d. IsTrue (is_under w.live target d.serial)
+      → has marks.undetachable d.serial ≡ (policy_of w.setup d.row).nodetach) w.live

@@ -8,9 +8,18 @@ use dev_tree::DevTree;
 use ref_ledger::Refs;
 use run_rules::Dev;
 
+/// A device that a caller wants to go, with all that is below it; its driver is not asked if that is forced.
+#[derive(Clone, Copy)]
+pub struct Detachment {
+    pub target: u64,
+    pub caller: u8,
+    pub forced: bool,
+}
+
 /// Whether a device may not go now: its driver, a scan, another freeing or a reference of the caller keeps it.
 fn is_kept(refs: &Refs, marks: &Marks, caller: u8, forced: bool, device: &Dev) -> bool
-    ensures { result ≡ ((not forced && has marks.now.undetachable device.now.serial) || has marks.now.pinned device.now.serial || is_condemned device.now || holds_in refs.now.refs caller device.now.serial) }
+    ensures { result ≡ ((not forced && has marks.now.undetachable device.now.serial) || has marks.now.pinned device.now.serial
+        || is_condemned device.now || holds_in refs.now.refs caller device.now.serial) }
 {
     (!forced && marks.is_undetachable(device.serial))
         || marks.is_pinned(device.serial)
@@ -23,14 +32,13 @@ fn stands_in_way(
     tree: &DevTree,
     refs: &Refs,
     marks: &Marks,
-    target: u64,
-    caller: u8,
-    forced: bool,
+    going: Detachment,
     device: &Dev,
 ) -> bool
-    ensures { result ≡ stands_in_way tree.now.live refs.now.refs marks.now target caller forced device.now }
+    ensures { result ≡ stands_in_way tree.now.live refs.now.refs marks.now going.target going.caller going.forced device.now }
 {
-    is_kept(refs, marks, caller, forced, device) && tree.is_under(device.serial, target)
+    is_kept(refs, marks, going.caller, going.forced, device)
+        && tree.is_under(device.serial, going.target)
 }
 
 /// The device of least serial that keeps the target's subtree from being freed: its driver does not support detaching,
@@ -48,9 +56,15 @@ pub fn hindered(
     requires { IsTrue (is_live tree.now.live target) }
     ensures { result ≡ serial_of (hindrance tree.now.live refs.now.refs marks.now target caller forced) }
 {
-    let device = tree.devices().iter().find(|device| stands_in_way(
-        tree, refs, marks, target, caller, forced, device,
-    ))?;
+    let going = Detachment {
+        target,
+        caller,
+        forced,
+    };
+    let device = tree
+        .devices()
+        .iter()
+        .find(|device| stands_in_way(tree, refs, marks, going, device))?;
     Some(device.serial)
 }
 

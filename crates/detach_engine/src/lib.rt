@@ -4,5 +4,5 @@
 mod engine;
 mod marks;
 
-pub use engine::{hindered, next_free};
+pub use engine::{Detachment, hindered, next_free};
 pub use marks::Marks;

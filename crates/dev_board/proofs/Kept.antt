@@ -1,7 +1,6 @@
 -- A step of a caller keeps what a board keeps.
 use Rattle.std.proofs.Common.{◌≡◌, ◌≤◌, ◌+◌, ◌&&◌, ℕ, Bool, true, false, not, find, None, List, [], ◌∷◌, ◌++◌, length, refl, sym, ap, subst, inl, inr, arith, length-append}
 use Rattle.std.specs.List.{AllByRecursion}
-use Rattle.std.specs.Prelude.{OnOk, Result, Ok, Err}
 use Rattle.run_rules.specs.declared.event.Event.{Event}
 use Rattle.run_rules.specs.declared.world.Activity.{Activity}
 use Rattle.run_rules.specs.declared.world.Activity.TheVariants as activity
@@ -30,7 +29,8 @@ use Rattle.dev_board.specs.Performing.{Performed}
 use Rattle.dev_board.specs.Shown.{Shown}
 use Rattle.dev_board.specs.Stepping.{DoesNext}
 use Rattle.run_world.specs.View.{Books, world_of}
-use Rattle.dev_board.specs.KeptCore.{CoreKept, shown_of}
+use Rattle.dev_board.specs.StateKept.{StateKept, shown_of}
+use Rattle.dev_board.specs.declared.board_state.BoardState.{BoardState}
 use Rattle.dev_board.specs.Witness.{Witness, lease_step, told_did}
 
 -- ---- the caller that boots
@@ -48,12 +48,12 @@ boot_idle w kept goes = elim kept.ranges.callers.booting [ inl idle ↦ idle | i
 
 -- ---- what is kept
 
-pub kept_step : (s : Setup) (old new : Core) (k : ℕ) (d : Deed) → CoreKept s old → next (world_of s old) k ≡ Does d → Performed s old new k d → Books s new → CoreKept s new
+pub kept_step : (s : Setup) (old new : BoardState) (k : ℕ) (d : Deed) → StateKept s old → next (world_of s old.core) k ≡ Does d → Performed s old new k d → Books s new.core → StateKept s new
 kept_step s old new k d kept chosen did books =
-    let w : World = world_of s old in
+    let w : World = world_of s old.core in
     let long : Run (opening s) (old.events.items ++ event_of w k d ∷ []) (after w k d) = run_on (opening s) old.events.items w k d kept.run chosen in
     let moved : Run (opening s) new.events.items (after w k d) = subst (λ (h : List Event). Run (opening s) h (after w k d)) (sym did.events) long in
-    let grown : new.tree.next ≡ (after w k d).next = ap (λ (v : World). v.next) did.world in
+    let grown : new.core.tree.next ≡ (after w k d).next = ap (λ (v : World). v.next) did.world in
     record {
       run = subst (λ (v : World). Run (opening s) new.events.items v) (sym did.world) moved;
       kept = subst Kept (sym did.world) (kept_after w k d kept.may kept.kept chosen);
@@ -66,7 +66,7 @@ kept_step s old new k d kept chosen did books =
     }
 
 -- so does a change of the parts that the board does not show
-pub kept_shown : (s : Setup) (old new : Core) → shown_of s new ≡ shown_of s old → Books s new → CoreKept s old → CoreKept s new
+pub kept_shown : (s : Setup) (old new : BoardState) → shown_of s new ≡ shown_of s old → Books s new.core → StateKept s old → StateKept s new
 kept_shown s old new same books kept = record {
   run = subst (λ (b : Shown). Run (opening s) b.events b.world) (sym same) kept.run;
   kept = subst (λ (b : Shown). Kept b.world) (sym same) kept.kept;
@@ -84,21 +84,8 @@ pub books_told : (s : Setup) (old new : Core) → TellsAside s old new → Books
 books_told s old new aside b =
     subst (Books s) (sym aside.same) (record { marks = b.marks; units = b.units; drivers = b.drivers; recent = aside.recent })
 
-pub kept_told : (s : Setup) (old new : Core) → TellsAside s old new → CoreKept s old → CoreKept s new
-kept_told s old new aside kept = kept_shown s old new (ap (shown_of s) aside.same) (books_told s old new aside kept.books) kept
-
 pub room_told : (s : Setup) (old new : Core) (k : ℕ) (d : Deed) → TellsAside s old new → HasRoom old k d → HasRoom new k d
-room_told s old new k d aside room =
-    subst (λ (c : Core). HasRoom c k d) (sym aside.same) (record { frames = room.frames; calls = room.calls; events = room.events })
-
-pub performed_told : (s : Setup) (old told new : Core) (k : ℕ) (d : Deed) → TellsAside s old told → Performed s told new k d → Performed s old new k d
-performed_told s old told new k d aside did =
-    let so : Performed s (record old { recent = told.recent }) new k d = subst (λ (c : Core). Performed s c new k d) aside.same did in
-    record { world = so.world; events = so.events; formed = so.formed; stops = so.stops; stopped = so.stopped }
-
-pub on_ok : {T E : Type 0} {A B : Type 0} (r : Result T E) → (A → B) → OnOk r A → OnOk r B
-on_ok (Ok t) f a = f a
-on_ok (Err e) f a = tt
+room_told s old new k d aside room = subst (λ (c : Core). HasRoom c k d) (sym aside.same) (record { frames = room.frames; calls = room.calls })
 
 -- ---- the witness
 
@@ -116,8 +103,8 @@ unfolding lease_step
 no_lease w v k same =
     rw (same, never_found (λ (d : Dev). is_held w k d.serial && not (is_held w k d.serial)) w.live (λ d. and_not (is_held w k d.serial))) refl
 
-pub does_next : (s : Setup) (old new : Core) (k : ℕ) (d : Deed) (place : ℕ) (lease : LeaseStep) (told : Witness) → next (world_of s old) k ≡ Does d → Performed s old new k d
-    → place ≡ length old.events.items → lease_step (world_of s old) (world_of s new) k ≡ lease → told ≡ told_did (opening s) k (length old.events.items) (event_of (world_of s old) k d) lease
+pub does_next : (s : Setup) (old new : BoardState) (k : ℕ) (d : Deed) (place : ℕ) (lease : LeaseStep) (told : Witness) → next (world_of s old.core) k ≡ Does d → Performed s old new k d
+    → place ≡ length old.events.items → lease_step (world_of s old.core) (world_of s new.core) k ≡ lease → told ≡ told_did (opening s) k (length old.events.items) (event_of (world_of s old.core) k d) lease
     → DoesNext (shown_of s old) k place told (shown_of s new)
 does_next s old new k d place lease told chosen did at steps is = record {
   deed = d;

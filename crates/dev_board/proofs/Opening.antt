@@ -6,10 +6,10 @@ use Rattle.run_sound.specs.Calls.{CallsDevices}
 use Rattle.run_sound.specs.Kept.{MayRun, Kept}
 use Rattle.run_sound.proofs.Calls.{calls_first}
 use Rattle.run_sound.proofs.Opening.{opening_kept}
-use Rattle.run_world.specs.declared.parts.Core.{Core}
 use Rattle.run_world.specs.Scripted.{FormedScripts}
 use Rattle.run_world.specs.View.{IsFirst}
-use Rattle.dev_board.specs.KeptCore.{CoreKept}
+use Rattle.dev_board.specs.StateKept.{StateKept}
+use Rattle.dev_board.specs.declared.board_state.BoardState.{BoardState}
 use Rattle.deed_effect.proofs.MarkLaws.{first_marks}
 use Rattle.run_world.proofs.UnitLaws.{first_units}
 
@@ -21,17 +21,17 @@ from_one : (s : Setup) → (opening s).next ≡ 1
 unfolding opening
 from_one s = refl
 
-pub begins : (s : Setup) (c : Core) → MayRun s → FormedScripts s → IsFirst s c → CoreKept s c
-begins s c may scripts f =
-    let live : c.tree.live ≡ [] = ap (λ (w : World). w.live) f.world ∙ no_devices s in
-    let next : c.tree.next ≡ 1 = ap (λ (w : World). w.next) f.world ∙ from_one s in
+pub begins : (s : Setup) (r : BoardState) → MayRun s → FormedScripts s → IsFirst s r.core → r.events.items ≡ [] → StateKept s r
+begins s r may scripts f none =
+    let live : r.core.tree.live ≡ [] = ap (λ (w : World). w.live) f.world ∙ no_devices s in
+    let next : r.core.tree.next ≡ 1 = ap (λ (w : World). w.next) f.world ∙ from_one s in
     record {
-      run = rw f.events (sym f.world);
+      run = rw none (sym f.world);
       kept = subst Kept (sym f.world) (opening_kept s may);
       calls = subst CallsDevices (sym f.world) (calls_first s);
       may = may;
       scripts = scripts;
-      books = record { marks = rw (f.rows, live) (first_marks s); units = rw live (first_units s c.units f.units); drivers = rw (f.drivers, live) refl; recent = f.recent };
-      formed = rw f.events tt;
+      books = record { marks = rw (f.rows, live) (first_marks s); units = rw live (first_units s r.core.units f.units); drivers = rw (f.drivers, live) refl; recent = f.recent };
+      formed = rw none tt;
       next_high = omega (arith, next);
     }

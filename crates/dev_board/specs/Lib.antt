@@ -5,7 +5,7 @@ pub mod Stepping
 pub mod Booting
 pub mod Posting
 pub mod Playing
-pub mod KeptCore
+pub mod StateKept
 pub mod Steps
 pub mod BoardView
 pub mod Waiting

@@ -41,7 +41,8 @@ ticket_in _ = None
 abbrev pub kept_ticket : World → ℕ → Option Ticket
 kept_ticket w k = ticket_in (caller_at w k).doing
 
--- a stop stands before every other answer, `Closed` comes where the caller has ended, `Transfer` where it is in a transfer, which `step` never ends, and at every answer but `Did` nothing changes
+-- a stop stands before every other answer, `Closed` comes where the caller has ended, `Transfer` where it is in a transfer, which
+-- `step` never ends, and at every answer but `Did` nothing changes
 abbrev pub StepIs : Shown → ℕ → Stepped → Shown → Type 0
 StepIs old k (stepped.Did place told) new = (old.stopped ≡ None) × (kept_ticket old.world k ≡ None) × DoesNext old k place told new
 StepIs old k (stepped.Waits why) new = (old.stopped ≡ None) × WaitIs old.world k why × (new ≡ old)

@@ -2,6 +2,7 @@
 ghost use Rattle.std.specs.Prelude.{◌≡◌, ◌<◌, ◌≤◌, ◌+◌, ◌^◌, ◌-◌, [], All, IfOk, Some, None, length, min, slice_get};
 ghost use Rattle.std.specs.List.{AllByRecursion};
 ghost use Rattle.std.specs.Option.{option_or};
+ghost use Rattle.attr_graph.specs.Graphs.{IsGraphOf, declared_by};
 ghost use Rattle.config_rules.specs.Formed.{FormedTables, FittingMachine};
 ghost use Rattle.config_rules.specs.ScriptText.{FormedScript};
 ghost use Rattle.boot_laws.specs.Thorough.{IsThorough};
@@ -25,17 +26,20 @@ ghost use Rattle.dev_board.specs.Stepping.{StepIs, IsDid, IsOfBoot, DenialsAre};
 ghost use Rattle.dev_board.specs.Waiting.{StandsSo};
 ghost use Rattle.wait_lines.specs.Waits.{wait_lines};
 
+use crate::board_state::BoardState;
 use crate::closed::closed_in;
 use crate::io_result::IoResult;
-use crate::post::post_core;
+use crate::post::post_state;
 use crate::posted::Posted;
-use crate::step::step_core;
+use crate::step::step_state;
 use crate::stepped::Stepped;
 use crate::waiting::{Standing, how_it_stands, lines_of};
+use attr_graph::Graph;
+use cf_tables::Compiled;
 use cf_types::{DevLine, List, Machine, Memory, Script, Tables, Text};
 use ref_ledger::Slots;
-use run_rules::{Event, Setup};
-use run_world::{Core, Site, is_occupied, opening_core};
+use run_rules::Event;
+use run_world::{Site, is_occupied, opening_core};
 use std::alloc::Global;
 use std::marker::Model;
 use std::mem::drop;
@@ -45,9 +49,8 @@ use told_names::tree_of;
 /// history is a run from the opening world to the world, and that this world is sound.
 #[derive(Drop)]
 pub struct Board {
-    alloc: Global,
     site: Site,
-    core: Core,
+    state: BoardState,
 }
 
 impl Model for Board {
@@ -78,27 +81,55 @@ impl Board {
         ensures events { IfOk result (λ b. b.events ≡ []) }
         ensures stops { IfOk result (λ b. (b.stops ≡ 0) × (b.stopped ≡ None)) }
     {
-        let setup = Setup {
-            tables,
-            machine,
-            scripts,
-        };
-        match Site::make(alloc, setup) {
-            Ok(site) => Board::on_site(alloc, site),
+        match Compiled::of(alloc, tables) {
+            Ok(tables) => Board::start_with(alloc, tables, machine, scripts),
+            Err(stop) => {
+                drop(machine);
+                drop(scripts);
+                Err(stop)
+            }
+        }
+    }
+
+    /// The same, by tables that have their graph.
+    pub fn start_with(
+        alloc: Global,
+        tables: Compiled,
+        machine: Machine,
+        scripts: List<Script>,
+    ) -> Result<Board, Memory>
+        requires tables { FormedTables tables }
+        requires machine { FittingMachine tables machine }
+        requires few_scripts { length scripts ≤ 16 }
+        requires scripts { All FormedScript scripts }
+        ensures world { IfOk result (λ b. b.world ≡ opening (setup_of tables machine scripts)) }
+        ensures events { IfOk result (λ b. b.events ≡ []) }
+        ensures stops { IfOk result (λ b. (b.stops ≡ 0) × (b.stopped ≡ None)) }
+    {
+        match Site::make(alloc, tables, machine, scripts) {
+            Ok(site) => Board::on_site(site),
             Err(_) => Err(Memory),
         }
     }
 
     /// The board of this site before any event.
-    fn on_site(alloc: Global, site: Site) -> Result<Board, Memory>
+    fn on_site(site: Site) -> Result<Board, Memory>
         requires may { MayRun site.setup }
         requires scripts { FormedScripts site.setup }
         ensures world { IfOk result (λ b. b.world ≡ opening site.setup) }
         ensures events { IfOk result (λ b. b.events ≡ []) }
         ensures stops { IfOk result (λ b. (b.stops ≡ 0) × (b.stopped ≡ None)) }
     {
-        match opening_core(alloc, &site.setup) {
-            Ok(core) => Ok(Board { alloc, site, core }),
+        match opening_core(site.alloc, &site.setup) {
+            Ok(core) => {
+                let state = BoardState {
+                    core,
+                    events: Vec::new(site.alloc),
+                    stops: 0,
+                    stopped: None,
+                };
+                Ok(Board { site, state })
+            }
             Err(_) => {
                 drop(site);
                 Err(Memory)
@@ -114,12 +145,13 @@ impl Board {
         ensures step { StepIs self.old caller result self.new }
         ensures agree { S.states slots.new ≡ slots_of self.new.world }
         ensures boot { caller ≡ 0 → IsOfBoot result }
-        ensures denials { DenialsAre self.old.world.live (S.denials slots.old) (S.last_denial slots.old) result (S.denials slots.new) (S.last_denial slots.new) }
+        ensures denials { DenialsAre self.old.world.live
+            (S.denials slots.old) (S.last_denial slots.old) result (S.denials slots.new) (S.last_denial slots.new) }
         ensures began { began self.new ≡ began self.old }
         ensures lawful { Lawful self.new.events }
         ensures falls { IsDid result → caller ≡ 0 → boot_left self.new.world < boot_left self.old.world }
     {
-        let stepped = step_core(self.alloc, &self.site, &mut self.core, caller, slots);
+        let stepped = step_state(&self.site, &mut self.state, caller, slots);
         self.stands();
         stepped
     }
@@ -133,7 +165,7 @@ impl Board {
         ensures lawful { Lawful self.new.events }
     {
         let site = &self.site;
-        let posted = post_core(self.alloc, &site.setup, &mut self.core, done.spend());
+        let posted = post_state(site.alloc, &site.setup, &mut self.state, done.spend());
         self.stands();
         posted
     }
@@ -147,9 +179,9 @@ impl Board {
         ensures stops { self.new.stops ≡ min (self.old.stops + 1) (2 ^ 64 - 1) }
         ensures stopped { self.new.stopped ≡ option_or self.old.stopped (Some caller) }
     {
-        self.core.stops = self.core.stops.saturating_add(1);
-        if self.core.stopped.is_none() {
-            self.core.stopped = Some(caller);
+        self.state.stops = self.state.stops.saturating_add(1);
+        if self.state.stopped.is_none() {
+            self.state.stopped = Some(caller);
         }
     }
 
@@ -166,7 +198,7 @@ impl Board {
         ensures scripts { length self.now.world.setup.scripts ≤ 16 }
         ensures may { MayRun self.now.world.setup }
     {
-        let _ = &self.core;
+        let _ = &self.state;
     }
 
     /// Makes room for this many more events, if there is memory for them all, so that none of them asks for memory.
@@ -174,7 +206,7 @@ impl Board {
     pub(crate) fn make_room(&mut self, more: usize)
         ensures { self.new ≡ self.old }
     {
-        let _ = self.core.events.reserve(more);
+        let _ = self.state.events.reserve(more);
     }
 
     /// How many events there were.
@@ -182,7 +214,7 @@ impl Board {
     pub fn events(&self) -> u64
         ensures { result ≡ length self.now.events }
     {
-        self.core.events.len() as u64
+        self.state.events.len() as u64
     }
 
     /// The event at a place, counted from 0.
@@ -191,14 +223,14 @@ impl Board {
         requires { place < length self.now.events }
         ensures { slice_get self.now.events place ≡ Some result.now }
     {
-        &self.core.events[place as usize]
+        &self.state.events[place as usize]
     }
 
     /// How many scripts have ended.
     pub fn closed_scripts(&self) -> u64
         ensures { result ≡ ends_of self.now.events }
     {
-        closed_in(&self.core.events)
+        closed_in(&self.state.events)
     }
 
     /// Whether a live device is on a spot.
@@ -206,7 +238,7 @@ impl Board {
         requires { slot < length self.now.world.setup.machine.spots }
         ensures { result ≡ search.is_occupied self.now.world.live slot }
     {
-        is_occupied(&self.core.tree, slot)
+        is_occupied(&self.state.core.tree, slot)
     }
 
     /// The lines of the device tree, depth first, children by serial. See drvctl(8).
@@ -214,21 +246,21 @@ impl Board {
         ensures lines { IfOk result (λ lines. lines ≡ tree.tree_lines self.now.world) }
         ensures told { IfOk result (λ lines. TellsTree self.now.events lines) }
     {
-        tree_of(self.alloc, &self.site.setup, &self.core)
+        tree_of(self.site.alloc, &self.site.setup, &self.state.core)
     }
 
     /// Whether any caller goes on, or some wait for good, or all have ended.
     pub fn standing(&self) -> Result<Standing, Memory>
         ensures { IfOk result (λ how. StandsSo how self.now.world) }
     {
-        how_it_stands(self.alloc, &self.site, &self.core)
+        how_it_stands(&self.site, &self.state)
     }
 
     /// Who waits until nobody holds a device, and who holds it: a line for each such caller, in their order.
     pub fn wait_lines(&self) -> Result<List<Text>, Memory>
         ensures { IfOk result (λ lines. lines ≡ wait_lines self.now.world) }
     {
-        lines_of(self.alloc, &self.site, &self.core)
+        lines_of(&self.site, &self.state)
     }
 
     /// The tables of the run.
@@ -236,6 +268,13 @@ impl Board {
         ensures { result.now ≡ self.now.world.setup.tables }
     {
         &self.site.setup.tables
+    }
+
+    /// The graph of the tables of the run.
+    pub fn graph(&self) -> &Graph
+        ensures { IsGraphOf (declared_by self.now.world.setup.tables) result.now }
+    {
+        &self.site.graph
     }
 
     /// How many spots the machine has.

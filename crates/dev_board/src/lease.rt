@@ -46,7 +46,8 @@ fn opening_step(core: &Core, caller: u8, of: u64) -> LeaseStep
 
 /// The return of the last one gives it back.
 fn return_step(core: &Core, caller: u8, of: u64) -> LeaseStep
-    ensures { (if nat_lt 1 (count_in core.now.refs.refs caller of) then Keep else option_map_or (λ d. Give d.spot) (device_at core.now.tree.live of) Keep) ≡ result }
+    ensures { (if nat_lt 1 (count_in core.now.refs.refs caller of) then Keep
+        else option_map_or (λ d. Give d.spot) (device_at core.now.tree.live of) Keep) ≡ result }
 {
     if core.refs.count(of, caller) > 1 {
         LeaseStep::Keep
@@ -59,7 +60,8 @@ fn return_step(core: &Core, caller: u8, of: u64) -> LeaseStep
 /// or closes one.
 #[inline(always)]
 pub fn lease_of(core: &Core, caller: u8, deed: &Deed) -> LeaseStep
-    ensures { (w : World) → w.live ≡ core.now.tree.live → w.refs ≡ core.now.refs.refs → next w caller ≡ Does deed.now → lease_step w (after w caller deed.now) caller ≡ result }
+    ensures { (w : World) → w.live ≡ core.now.tree.live → w.refs ≡ core.now.refs.refs
+        → next w caller ≡ Does deed.now → lease_step w (after w caller deed.now) caller ≡ result }
 {
     match *deed {
         Deed::Open { of, .. } => opening_step(core, caller, of),

@@ -4,6 +4,7 @@
 
 mod answer;
 mod board;
+mod board_state;
 mod boot;
 mod booted;
 mod closed;
@@ -22,7 +23,7 @@ mod waiting;
 pub use answer::{Answer, LeaseStep};
 pub use board::Board;
 pub use boot::run_boot;
-pub use booted::booted_board;
+pub use booted::{booted_board, booted_with};
 pub use io_result::IoResult;
 pub use posted::Posted;
 pub use run_rules::Wait;

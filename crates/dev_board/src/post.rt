@@ -11,11 +11,12 @@ ghost use Rattle.dev_board.specs.Performing.{Performed};
 ghost use Rattle.dev_board.specs.Stepping as stepping;
 ghost use Rattle.dev_board.specs.Posting.{PostIs};
 ghost use Rattle.run_world.specs.View.{world_of, Books};
-ghost use Rattle.dev_board.specs.KeptCore.{shown_of, CoreKept};
+ghost use Rattle.dev_board.specs.StateKept.{shown_of, StateKept};
 ghost use Rattle.dev_board.specs.Witness.{told_did};
 ghost use Rattle.dev_board.specs.declared.answer.LeaseStep.TheVariants.{Keep};
 
 use crate::answer::LeaseStep;
+use crate::board_state::BoardState;
 use crate::history::append_event;
 use crate::posted::Posted;
 use crate::told::Told;
@@ -50,23 +51,30 @@ fn kept_ticket(core: &Core, caller: u8) -> Option<Ticket>
 fn end_transfer(
     alloc: Global,
     setup: &Setup,
-    core: &mut Core,
+    state: &mut BoardState,
     ticket: Ticket,
 ) -> Result<Told, Memory>
-    requires kept { CoreKept setup.now core.old }
-    requires chosen { next (world_of setup.now core.old) ticket.caller ≡ Does (Done ticket) }
-    ensures ok { OnOk result (Performed setup.now core.old core.new ticket.caller (Done ticket)) }
-    ensures told { IfOk result (λ told. told ≡ told_did (opening setup.now) ticket.caller (length core.old.events.items) (event_of (world_of setup.now core.old) ticket.caller (Done ticket)) Keep) }
-    ensures err { OnErr result (shown_of setup.now core.new ≡ shown_of setup.now core.old) }
-    ensures books { Books setup.now core.new }
+    requires kept { StateKept setup.now state.old }
+    requires chosen { next (world_of setup.now state.old.core) ticket.caller ≡ Does (Done ticket) }
+    ensures ok { OnOk result (Performed setup.now state.old state.new ticket.caller (Done ticket)) }
+    ensures told { IfOk result (λ told. told ≡ told_did (opening setup.now) ticket.caller (length state.old.events.items)
+        (event_of (world_of setup.now state.old.core) ticket.caller (Done ticket)) Keep) }
+    ensures err { OnErr result (shown_of setup.now state.new ≡ shown_of setup.now state.old) }
+    ensures books { Books setup.now state.new.core }
 {
-    core.events.reserve(1)?;
-    match deed_event(alloc, setup, core, ticket.caller, &Deed::Done(ticket)) {
+    state.events.reserve(1)?;
+    match deed_event(
+        alloc,
+        setup,
+        &mut state.core,
+        ticket.caller,
+        &Deed::Done(ticket),
+    ) {
         Ok(event) => {
-            finish_transfer(core, ticket.caller);
+            finish_transfer(&mut state.core, ticket.caller);
             Ok(append_event(
                 setup,
-                &mut core.events,
+                &mut state.events,
                 ticket.caller,
                 event,
                 LeaseStep::Keep,
@@ -77,46 +85,46 @@ fn end_transfer(
 }
 
 /// Posts the result of the transfer that the board keeps.
-fn post_kept(alloc: Global, setup: &Setup, core: &mut Core, ticket: Ticket) -> Posted
-    requires kept { CoreKept setup.now core.old }
-    requires goes_on { core.old.stopped ≡ None }
-    requires held { stepping.kept_ticket (world_of setup.now core.old) ticket.caller ≡ Some ticket }
-    ensures post { PostIs (shown_of setup.now core.old) ticket result (shown_of setup.now core.new) }
-    ensures kept { CoreKept setup.now core.new }
-    ensures slots { slots_of (world_of setup.now core.new) ≡ slots_of (world_of setup.now core.old) }
+fn post_kept(alloc: Global, setup: &Setup, state: &mut BoardState, ticket: Ticket) -> Posted
+    requires kept { StateKept setup.now state.old }
+    requires goes_on { state.old.stopped ≡ None }
+    requires held { stepping.kept_ticket (world_of setup.now state.old.core) ticket.caller ≡ Some ticket }
+    ensures post { PostIs (shown_of setup.now state.old) ticket result (shown_of setup.now state.new) }
+    ensures kept { StateKept setup.now state.new }
+    ensures slots { slots_of (world_of setup.now state.new.core) ≡ slots_of (world_of setup.now state.old.core) }
 {
-    let place = core.events.len() as u64;
-    match end_transfer(alloc, setup, core, ticket) {
+    let place = state.events.len() as u64;
+    match end_transfer(alloc, setup, state, ticket) {
         Ok(told) => Posted::Did(place, told),
         Err(_) => Posted::Memory,
     }
 }
 
 /// Posts the result of a transfer, on a board that was not stopped.
-fn post_result(alloc: Global, setup: &Setup, core: &mut Core, ticket: Ticket) -> Posted
-    requires kept { CoreKept setup.now core.old }
-    requires goes_on { core.old.stopped ≡ None }
-    ensures post { PostIs (shown_of setup.now core.old) ticket result (shown_of setup.now core.new) }
-    ensures kept { CoreKept setup.now core.new }
-    ensures slots { slots_of (world_of setup.now core.new) ≡ slots_of (world_of setup.now core.old) }
+fn post_result(alloc: Global, setup: &Setup, state: &mut BoardState, ticket: Ticket) -> Posted
+    requires kept { StateKept setup.now state.old }
+    requires goes_on { state.old.stopped ≡ None }
+    ensures post { PostIs (shown_of setup.now state.old) ticket result (shown_of setup.now state.new) }
+    ensures kept { StateKept setup.now state.new }
+    ensures slots { slots_of (world_of setup.now state.new.core) ≡ slots_of (world_of setup.now state.old.core) }
 {
-    let held = kept_ticket(core, ticket.caller);
+    let held = kept_ticket(&state.core, ticket.caller);
     if held == Some(ticket) {
-        post_kept(alloc, setup, core, ticket)
+        post_kept(alloc, setup, state, ticket)
     } else {
         Posted::Stale(held, Told::of_stale(setup, ticket.caller, held))
     }
 }
 
 /// Posts the result of a transfer: the transfer ends by it, or nothing changes.
-pub fn post_core(alloc: Global, setup: &Setup, core: &mut Core, ticket: Ticket) -> Posted
-    requires kept { CoreKept setup.now core.old }
-    ensures post { PostIs (shown_of setup.now core.old) ticket result (shown_of setup.now core.new) }
-    ensures kept { CoreKept setup.now core.new }
-    ensures slots { slots_of (world_of setup.now core.new) ≡ slots_of (world_of setup.now core.old) }
+pub fn post_state(alloc: Global, setup: &Setup, state: &mut BoardState, ticket: Ticket) -> Posted
+    requires kept { StateKept setup.now state.old }
+    ensures post { PostIs (shown_of setup.now state.old) ticket result (shown_of setup.now state.new) }
+    ensures kept { StateKept setup.now state.new }
+    ensures slots { slots_of (world_of setup.now state.new.core) ≡ slots_of (world_of setup.now state.old.core) }
 {
-    match core.stopped {
+    match state.stopped {
         Some(first) => Posted::Stopped(first, Told::of_stop(setup, ticket.caller, first)),
-        None => post_result(alloc, setup, core, ticket),
+        None => post_result(alloc, setup, state, ticket),
     }
 }

@@ -14,4 +14,5 @@ pub record AreBare (live : List Dev) (bare : List Bool) : Type 0 where
 
 -- the mark of the device of this serial is gone, and no mark is new
 abbrev pub AreUnmarked : List Dev → ℕ → List Bool → List Bool → Type 0
-AreUnmarked live s old new = (i : ℕ) (d : Dev) → i < length live → slice_index_or new i false ≡ true → (slice_index_or old i false ≡ true) × ((slice_index_or live i d).serial ≢ s)
+AreUnmarked live s old new = (i : ℕ) (d : Dev) → i < length live → slice_index_or new i false ≡ true
+    → (slice_index_or old i false ≡ true) × ((slice_index_or live i d).serial ≢ s)

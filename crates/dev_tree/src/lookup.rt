@@ -13,7 +13,8 @@ use std::alloc::Global;
 #[inline(always)]
 pub fn place_of(live: &[Dev], serial: u64) -> Option<usize>
     requires { AreInOrder live.now }
-    ensures { MatchOption result (world.is_live live.now serial ≡ false) (λ i. (i < length live.now) × ((d : Dev) → (slice_index_or live.now i d).serial ≡ serial)) }
+    ensures { MatchOption result (world.is_live live.now serial ≡ false)
+        (λ i. (i < length live.now) × ((d : Dev) → (slice_index_or live.now i d).serial ≡ serial)) }
 {
     // If no earlier device was freed, the place is one below the serial.
     let place = (serial as usize).saturating_sub(1);

@@ -40,7 +40,8 @@ impl Model for DevTree {
 
     ghost view = { λ tree. record { live = tree.live.items; drivers = tree.drivers.items; next = tree.next } };
 
-    ghost invariant = { λ tree. Keeps (record { live = tree.live.items; drivers = tree.drivers.items; next = tree.next }) tree.spots.items tree.rest tree.bare.items };
+    ghost invariant = { λ tree. Keeps (record { live = tree.live.items; drivers = tree.drivers.items; next = tree.next })
+        tree.spots.items tree.rest tree.bare.items };
 }
 
 /// Appends a device to a list that has room.

@@ -8,6 +8,7 @@ ghost use Rattle.live_tables.specs.Answers.{Answers};
 ghost use Rattle.live_run.specs.Told.{Tells, commands_texts, site_of};
 
 use crate::told::{push_answer, push_tree, push_word};
+use cf_tables::Compiled;
 use cf_types::{List, Machine, Memory, Tables, Text};
 use live_tables::{LiveLine, LiveReply, LiveTables, Plan, PlanCommand};
 use std::alloc::Global;
@@ -16,7 +17,7 @@ use std::mem::drop;
 /// What is left of a plan: its tables, and the lines that it prints behind their listing.
 #[derive(Drop)]
 pub struct LiveRun {
-    pub tables: Tables,
+    pub tables: Compiled,
     pub lines: List<Text>,
 }
 
@@ -114,6 +115,7 @@ pub fn live_run(
     ensures lines { IfOk result (λ run. run.lines ≡ live_texts (site_of tables machine plan) plan.commands) }
 {
     let Plan { groups, commands } = plan;
+    let tables = Compiled::of(alloc, tables)?;
     let mut live = LiveTables::start(alloc, tables, machine, groups)?;
     match lines_by(alloc, &mut live, commands.items()) {
         Ok(lines) => Ok(LiveRun {

@@ -8,9 +8,9 @@ ghost use Rattle.live_tables.specs.Coming.{MayCome, with_device};
 
 use crate::live_tables::LiveTables;
 use crate::names::unit_name;
-use crate::rows::set_rows;
 use cf_types::Memory;
 use live_rules::LiveLine;
+use match_search::DriverUnit;
 use run_world::driver_of;
 
 impl LiveTables {
@@ -38,7 +38,12 @@ impl LiveTables {
             return Err(Memory);
         }
         let site = &self.site;
-        set_rows(&site.setup.tables, &mut self.rows, driver, unit, false);
+        let named = DriverUnit {
+            device: driver,
+            unit,
+        };
+        site.fixed
+            .set(&site.setup.tables, &mut self.rows, named, false);
         Ok(())
     }
 

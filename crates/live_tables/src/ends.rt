@@ -2,7 +2,7 @@
 ghost use Rattle.std.specs.Prelude.{◌≡◌};
 
 use crate::live_tables::LiveTables;
-use cf_types::Tables;
+use cf_tables::Compiled;
 use live_rules::Group;
 use run_rules::Setup;
 use run_world::Site;
@@ -16,13 +16,13 @@ impl LiveTables {
         self.groups.items()
     }
 
-    /// The tables alone.
-    pub fn into_tables(self) -> Tables
+    /// The tables with their graph.
+    pub fn into_tables(self) -> Compiled
         ensures { result ≡ self.site.setup.tables }
     {
-        let LiveTables { site, .. } = self;
-        let Site { setup, .. } = site;
+        let LiveTables { alloc, site, .. } = self;
+        let Site { setup, graph, .. } = site;
         let Setup { tables, .. } = setup;
-        tables
+        Compiled::make(alloc, tables, graph)
     }
 }

@@ -14,7 +14,6 @@ mod names;
 mod on_groups;
 mod read;
 mod remove;
-mod rows;
 mod search;
 mod tree;
 mod verb;

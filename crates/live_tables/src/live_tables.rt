@@ -9,7 +9,8 @@ ghost use Rattle.live_tables.specs.Running.{AreFirst};
 
 use crate::driver_groups::driver_groups;
 use crate::on_groups::OnGroups;
-use cf_types::{List, Machine, Memory, Tables};
+use cf_tables::Compiled;
+use cf_types::{List, Machine, Memory};
 use dev_tree::DevTree;
 use live_rules::Group;
 use match_search::LiveRows;
@@ -70,7 +71,7 @@ impl LiveTables {
     /// No devices on a machine that fits formed tables, and every group off.
     pub fn start(
         alloc: Global,
-        tables: Tables,
+        tables: Compiled,
         machine: Machine,
         groups: List<Group>,
     ) -> Result<LiveTables, Memory>
@@ -81,12 +82,7 @@ impl LiveTables {
         ensures world { IfOk result (λ it. it.world ≡ rule.opening) }
     {
         let scripts = List::make(alloc);
-        let setup = Setup {
-            tables,
-            machine,
-            scripts,
-        };
-        match Site::make(alloc, setup) {
+        match Site::make(alloc, tables, machine, scripts) {
             Ok(site) => LiveTables::on_site(alloc, site, groups),
             Err(_) => {
                 drop(groups);

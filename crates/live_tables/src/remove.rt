@@ -10,9 +10,9 @@ ghost use Rattle.live_tables.specs.Answers.{Answers, Stays};
 ghost use Rattle.live_tables.specs.Going.{dooms, with_groups, with_live, without_device};
 
 use crate::live_tables::LiveTables;
-use crate::rows::set_rows;
 use cf_types::{List, Memory};
 use live_rules::{LiveLine, LiveReply};
+use match_search::DriverUnit;
 use run_rules::Dev;
 use run_world::driver_of;
 
@@ -27,13 +27,12 @@ impl LiveTables {
         self.units.give(driver, device.unit);
         self.tree.free(device.serial);
         let site = &self.site;
-        set_rows(
-            &site.setup.tables,
-            &mut self.rows,
-            driver,
-            device.unit,
-            true,
-        );
+        let named = DriverUnit {
+            device: driver,
+            unit: device.unit,
+        };
+        site.fixed
+            .set(&site.setup.tables, &mut self.rows, named, true);
     }
 
     /// The device at a place in their order.

@@ -1,4 +1,5 @@
 pub mod NumberLemmas
+pub mod NameLemmas
 pub mod WordLemmas
 pub mod SpotLemmas
 pub mod DriverLemmas

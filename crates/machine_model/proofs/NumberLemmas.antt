@@ -19,7 +19,7 @@ use Rattle.cf_types.proofs.PlaceLemmas.{position_cons, position_found, position_
 use Rattle.config_rules.specs.MachineText.{differ, is_one}
 use Rattle.config_rules.proofs.MachineLaws.{differ_push}
 use Rattle.machine_model.specs.declared.numbers.Numbered.{Numbered}
-use Rattle.machine_model.specs.Numbers.{AreInOrder, AreNumbers, HaveNumbers, IsPlaceOf, comes_before, number_in}
+use Rattle.machine_model.specs.Numbers.{AreInOrder, HaveNumbers, IsPlaceOf, IsWith, comes_before, number_in}
 
 -- ---- the place of a name
 
@@ -108,7 +108,7 @@ one_on false None n true = let e : n + 1 ≡ suc n = omega arith in ap Some e
 one_on false None n false = refl
 
 -- the place with one more element
-position_push : {X : Type 0} (p : X → Bool) (xs : List X) (y : X) → position p (xs ++ y ∷ []) ≡ option_or (position p xs) (cond (p y) (Some (length xs)) None)
+pub position_push : {X : Type 0} (p : X → Bool) (xs : List X) (y : X) → position p (xs ++ y ∷ []) ≡ option_or (position p xs) (cond (p y) (Some (length xs)) None)
 position_push p [] y = position_cons p y []
 position_push p (x ∷ xs) y =
     position_cons p x (xs ++ y ∷ [])
@@ -124,15 +124,20 @@ mapped_or None true x = refl
 mapped_or None false x = refl
 mapped_or (Some y) b x = refl
 
--- the next name at the end
-pub pushed : (numbers new : List Numbered) (x : Numbered) (name : List ℕ) (names : List (List ℕ)) → new ≡ numbers ++ x ∷ [] → x.name.now ≡ name → HaveNumbers numbers names → length names ≡ x.number
-    → HaveNumbers new (names ++ name ∷ [])
-pushed numbers new x name names more is have size q =
+-- one more entry at the end
+pub pushed : (numbers new : List Numbered) (x : Numbered) (name : List ℕ) → new ≡ numbers ++ x ∷ [] → x.name.now ≡ name → IsWith name x.number numbers new
+pushed numbers new x name more is q =
     ap (λ xs. number_in xs q) more
     ∙ ap (λ o. option_map (λ y. y.number) o) (find-append (λ y. bytes_eq y.name.now q) numbers (x ∷ []))
     ∙ mapped_or (find (λ y. bytes_eq y.name.now q) numbers) (bytes_eq x.name.now q) x
-    ∙ ap (λ o. option_or o (cond (bytes_eq x.name.now q) (Some x.number) None)) (have q)
-    ∙ ap (λ n. option_or (position (λ m. bytes_eq m q) names) (cond (bytes_eq n q) (Some x.number) None)) is
+    ∙ ap (λ n. option_or (number_in numbers q) (cond (bytes_eq n q) (Some x.number) None)) is
+
+-- the next name has one more entry
+pub have_with : (numbers new : List Numbered) (name : List ℕ) (number : ℕ) (names : List (List ℕ)) → IsWith name number numbers new → HaveNumbers numbers names → length names ≡ number
+    → HaveNumbers new (names ++ name ∷ [])
+have_with numbers new name number names also have size q =
+    also q
+    ∙ ap (λ o. option_or o (cond (bytes_eq name q) (Some number) None)) (have q)
     ∙ ap (λ k. option_or (position (λ m. bytes_eq m q) names) (cond (bytes_eq name q) (Some k) None)) (sym size)
     ∙ sym (position_push (λ m. bytes_eq m q) names name)
 
@@ -160,15 +165,11 @@ number_between numbers place x q new =
     ∙ front_or (find p (take place numbers)) (find p (drop place numbers)) (bytes_eq x.name.now q) x (λ h. ap (λ o. option_map (λ y. y.number) o) (sym whole) ∙ new h)
     ∙ ap (λ o. option_or (option_map (λ y. y.number) o) (cond (bytes_eq x.name.now q) (Some x.number) None)) (sym whole)
 
-have_between : (numbers new : List Numbered) (place : ℕ) (x : Numbered) (name : List ℕ) (names : List (List ℕ)) → new ≡ insert numbers place x → x.name.now ≡ name → number_in numbers name ≡ None
-    → HaveNumbers numbers names → length names ≡ x.number → HaveNumbers new (names ++ name ∷ [])
-have_between numbers new place x name names more is fresh have size q =
+pub added : (numbers new : List Numbered) (place : ℕ) (x : Numbered) (name : List ℕ) → new ≡ insert numbers place x → x.name.now ≡ name → number_in numbers name ≡ None → IsWith name x.number numbers new
+added numbers new place x name more is fresh q =
     ap (λ xs. number_in xs q) more
     ∙ number_between numbers place x q (λ h. ap (number_in numbers) (sym ((bytes_eq-Decides x.name.now q).0 h) ∙ is) ∙ fresh)
-    ∙ ap (λ o. option_or o (cond (bytes_eq x.name.now q) (Some x.number) None)) (have q)
-    ∙ ap (λ n. option_or (position (λ m. bytes_eq m q) names) (cond (bytes_eq n q) (Some x.number) None)) is
-    ∙ ap (λ k. option_or (position (λ m. bytes_eq m q) names) (cond (bytes_eq name q) (Some k) None)) (sym size)
-    ∙ sym (position_push (λ m. bytes_eq m q) names name)
+    ∙ ap (λ n. option_or (number_in numbers q) (cond (bytes_eq n q) (Some x.number) None)) is
 
 -- what comes before another doesn't come behind it
 one_way : (a b : List ℕ) → comes_before a b ≡ true → comes_before b a ≡ false
@@ -204,12 +205,8 @@ order_between numbers place x order at k d low high =
         ∙ ap (λ i. comes_before (name_of (get_or numbers i d)) (name_of (get_or numbers (k - 1) d))) (sym e)
         ∙ order (k - 1) d (omega arith) (omega arith)
 
-pub inserted : (numbers new : List Numbered) (place : ℕ) (x : Numbered) (name : List ℕ) (names : List (List ℕ)) → new ≡ insert numbers place x → x.name.now ≡ name → number_in numbers name ≡ None
-    → IsPlaceOf name numbers place → AreNumbers numbers names → length names ≡ x.number → AreNumbers new (names ++ name ∷ [])
-inserted numbers new place x name names more is fresh at are size = record {
-  order = subst AreInOrder (sym more) (order_between numbers place x are.order (subst (λ n. IsPlaceOf n numbers place) (sym is) at));
-  each = have_between numbers new place x name names more is fresh are.each size;
-}
+pub added_in_order : (numbers new : List Numbered) (place : ℕ) (x : Numbered) (name : List ℕ) → new ≡ insert numbers place x → x.name.now ≡ name → AreInOrder numbers → IsPlaceOf name numbers place → AreInOrder new
+added_in_order numbers new place x name more is order at = subst AreInOrder (sym more) (order_between numbers place x order (subst (λ n. IsPlaceOf n numbers place) (sym is) at))
 
 -- ---- names put in order
 
@@ -231,26 +228,18 @@ tied Equal = refl
 tied Greater = refl
 
 -- a stable sort keeps the first of each name
-pub kept_first : (numbers sorted : List Numbered) (names : List (List ℕ)) → AreInOrder sorted → ((x : Numbered) → filter (ties (λ a b. comes_before a.name.now b.name.now) x) sorted ≡ filter (ties (λ a b. comes_before a.name.now b.name.now) x) numbers)
-    → HaveNumbers numbers names → AreNumbers sorted names
-kept_first numbers sorted names order stable have = record { order = order; each = λ q. ap (λ o. option_map (λ y. y.number) o) (same q) ∙ have q }
+pub kept_first : (numbers sorted : List Numbered) → ((x : Numbered) → filter (ties (λ a b. comes_before a.name.now b.name.now) x) sorted ≡ filter (ties (λ a b. comes_before a.name.now b.name.now) x) numbers)
+    → (q : List ℕ) → number_in sorted q ≡ number_in numbers q
+kept_first numbers sorted stable q = ap (λ o. option_map (λ y. y.number) o) same
   where
-    same : (q : List ℕ) → find (λ y. bytes_eq y.name.now q) sorted ≡ find (λ y. bytes_eq y.name.now q) numbers
-    same q =
+    same : find (λ y. bytes_eq y.name.now q) sorted ≡ find (λ y. bytes_eq y.name.now q) numbers
+    same =
         let x : Numbered = record { name = record { ref_ptr = (0, 0); now = q }; number = 0 } in
         let p : Numbered → Bool = λ y. bytes_eq y.name.now q in
         let test : Numbered → Bool = ties (λ a b. comes_before a.name.now b.name.now) x in
         let alike : (y : Numbered) → test y ≡ p y = λ y.
         ap (λ o. not (is_lt o) && not (comes_before y.name.now q)) (nat_list_cmp_total.antisymm q y.name.now) ∙ tied (slice_cmp nat_cmp y.name.now q) ∙ is_eq-slice_cmp y.name.now q in
         find_filter p sorted ∙ ap (λ xs. slice_get xs 0) (sym (filter_same test p sorted alike) ∙ stable x ∙ filter_same test p numbers alike) ∙ sym (find_filter p numbers)
-
--- ---- the number in a list of what has names
-
-pub number_is : {X : Type 0} (name_of : X → List ℕ) (xs : List X) (numbers : List Numbered) (q : List ℕ) → AreNumbers numbers (map name_of xs) → number_in numbers q ≡ position (λ x. bytes_eq (name_of x) q) xs
-number_is name_of xs numbers q are = are.each q ∙ position-map (λ n. bytes_eq n q) name_of xs
-
-pub known_as : {X : Type 0} (name_of : X → List ℕ) (xs : List X) (numbers : List Numbered) (q : List ℕ) (o : Option ℕ) → AreNumbers numbers (map name_of xs) → number_in numbers q ≡ o → is_some (position (λ x. bytes_eq (name_of x) q) xs) ≡ is_some o
-known_as name_of xs numbers q o are e = ap is_some (sym (number_is name_of xs numbers q are) ∙ e)
 
 pub have_more : {X : Type 0} (f : X → List ℕ) (xs : List X) (i : ℕ) (x : X) (old new : List Numbered) → i < length xs → x ≡ get_or xs i x → HaveNumbers old (map f (take i xs))
     → ((names : List (List ℕ)) → HaveNumbers old names → length names ≡ i → HaveNumbers new (names ++ f x ∷ [])) → HaveNumbers new (map f (take (i + 1) xs))

@@ -1,6 +1,7 @@
 -- The numbers of words, and words that differ.
-use Rattle.std.proofs.Common.{◌≡◌, ℕ, ◌<◌, ◌≤◌, length, map, Bool, true, false, not, cond, ◌&&◌, Option, Some, None, List, [], ◌∷◌, refl, ap, sym, ◌∙◌, arith, ℤ, pos, negsuc}
+use Rattle.std.proofs.Common.{◌≡◌, ℕ, ◌<◌, ◌≤◌, length, map, Bool, true, false, not, cond, ◌&&◌, ◌||◌, Option, Some, None, List, [], ◌∷◌, refl, ap, sym, ◌∙◌, arith, ℤ, pos, negsuc}
 use Rattle.std.specs.Prelude.{nat_abs, nat_le, option_and_then, option_map}
+use Rattle.std.specs.List.{list_any}
 use Rattle.std.proofs.lemmas.Bool.Decides.{nat_tests}
 use Rattle.cf_text.specs.declared.number.NumberRead.{NumberRead}
 use Rattle.cf_text.specs.declared.number.NumberRead.TheVariants.{Not, OutOfRange, Value}
@@ -67,10 +68,9 @@ pub names_given : (found : List FoundValue) → map (λ g. g.name) (map given_of
 names_given [] = refl
 names_given (v ∷ vs) = ap (λ names. v.name.now ∷ names) (names_given vs)
 
-pub few_differ : (found : List FoundValue) → length found < 2 → differ (map (λ g. g.name) (map given_of found)) ≡ true
-few_differ [] h = refl
-few_differ (v ∷ []) h = refl
-few_differ (v ∷ w ∷ vs) h = absurd (omega arith)
+pub any_named : (p : List ℕ → Bool) (found : List FoundValue) → list_any p (names_of found) ≡ list_any (λ v. p v.name.now) found
+any_named p [] = refl
+any_named p (v ∷ vs) = ap (λ b. p v.name.now || b) (any_named p vs)
 
 -- what stands for a value where there is none
 abbrev pub no_value : FoundValue

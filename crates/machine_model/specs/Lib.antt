@@ -1,6 +1,7 @@
 pub mod Found
 pub mod Indexed
 pub mod Left
+pub mod Names
 pub mod Numbers
 pub mod Sites
 pub use Rattle.config_rules.specs.Formed

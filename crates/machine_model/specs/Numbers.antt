@@ -1,5 +1,6 @@
 -- Names in order, each with its number.
-use Rattle.std.specs.Prelude.{◌≡◌, ◌≤◌, ℕ, Bool, true, false, List, length, Option, option_map, find, bytes_eq, position}
+use Rattle.std.specs.Prelude.{◌≡◌, ◌≤◌, ℕ, Bool, true, false, if◌then◌else◌, List, length, None, Option, Some, option_map, find, bytes_eq, position}
+use Rattle.std.specs.Option.{option_or}
 use Rattle.std.specs.Cmp.Lexicographic.{slice_cmp}
 use Rattle.std.specs.Ordering.{is_lt, nat_cmp}
 use Rattle.std.specs.List.Sorted.{IsSortedBy, IsPartitionPoint}
@@ -29,3 +30,7 @@ HaveNumbers numbers names = (q : List ℕ) → number_in numbers q ≡ position 
 pub record AreNumbers (numbers : List Numbered) (names : List (List ℕ)) : Type 0 where
   pub order : AreInOrder numbers
   pub each : HaveNumbers numbers names
+
+-- one more entry: it answers for its name where no other one does
+abbrev pub IsWith : List ℕ → ℕ → List Numbered → List Numbered → Type 0
+IsWith name number old new = (q : List ℕ) → number_in new q ≡ option_or (number_in old q) (if bytes_eq name q then Some number else None)

@@ -9,7 +9,7 @@ use Rattle.config_rules.specs.Form.{given, ◌or◌}
 use Rattle.config_rules.specs.MachineText.{GivenValue, depth_of, found_fault, found_value, is_one, spot_above, spot_locators, spot_place}
 use Rattle.machine_model.specs.declared.draft.Draft.{Draft}
 use Rattle.machine_model.specs.declared.spot.Site.{Site}
-use Rattle.machine_model.specs.Numbers.{IsPlaceOf, number_in}
+use Rattle.machine_model.specs.Names.{number_of, slot_of}
 
 -- the first code of a name, a parent and an attribute
 abbrev pub site_fault : Tables → List Spot → List ℕ → List ℕ → List ℕ → Option ℕ
@@ -25,13 +25,13 @@ found_fault_at spots above locs found =
     or (given (nat_le 1024 (length spots)) TOO_MANY_SPOTS
     or given (nat_lt 64 (depth_of (length spots) spots above)) TOO_DEEP)
 
--- where a spot of these words hangs, and the place of its name, which is new
+-- where a spot of these words hangs, and the slot of its name, which is new
 pub record IsSite (t : Tables) (draft : Draft) (name parent attr : List ℕ) (site : Site) : Type 0 where
   pub above : site.above ≡ spot_above draft.machine.spots parent
   pub place : spot_place t parent attr ≡ Some site.place
   pub locators : site.locators.now ≡ spot_locators t parent attr
-  pub new : number_in draft.numbers.items name ≡ None
-  pub at : IsPlaceOf name draft.numbers.items site.at
+  pub new : number_of draft.names name ≡ None
+  pub slot : site.slot ≡ slot_of (length draft.names.slots.items) name
 
 -- the spot at a site
 abbrev pub spot_at : Site → List ℕ → List GivenValue → List (List ℕ) → Spot

@@ -1,9 +1,9 @@
-use crate::numbers::Numbers;
+use crate::names::Names;
 use cf_types::Machine;
 
-/// A machine that is read, with the numbers of its spots' names.
+/// A machine that is read, with the names of its spots.
 #[derive(Drop)]
 pub struct Draft<'t> {
     pub machine: Machine,
-    pub numbers: Numbers<'t>,
+    pub names: Names<'t>,
 }

@@ -1,43 +1,45 @@
-ghost use Rattle.std.specs.Prelude.{◌≡◌, IfOk, map};
+ghost use Rattle.std.specs.Prelude.{◌≡◌, ◌≤◌, IfOk, length, map};
 ghost use Rattle.config_rules.specs.Formed.{CountedTables};
 ghost use Rattle.machine_model.specs.Indexed.{IsIndex};
-ghost use Rattle.machine_model.specs.Numbers.{AreNumbers};
+ghost use Rattle.machine_model.specs.Names.{AreNames};
 
-use crate::numbers::{Numbers, push, put_in_order};
+use crate::names::{Names, no_names, push, settle};
 use cf_types::{Attach, Attr, Memory, Tables};
 use std::alloc::Global;
 
-/// Tables, with the numbers of their attributes' and attachments' names.
+/// Tables, with the names of their attributes and attachments.
 #[derive(Drop)]
 pub struct Index<'t> {
     pub tables: &'t Tables,
-    pub attrs: Numbers<'t>,
-    pub attaches: Numbers<'t>,
+    pub attrs: Names<'t>,
+    pub attaches: Names<'t>,
 }
 
-fn attr_numbers<'t>(alloc: Global, attrs: &'t [Attr]) -> Result<Numbers<'t>, Memory>
-    ensures { IfOk result (λ numbers. AreNumbers numbers.items (map (λ a. a.name) attrs.now)) }
+fn attr_names<'t>(alloc: Global, attrs: &'t [Attr]) -> Result<Names<'t>, Memory>
+    requires { length attrs.now ≤ 65536 }
+    ensures { IfOk result (λ names. AreNames names (map (λ a. a.name) attrs.now)) }
 {
-    let mut numbers = Vec::with_capacity(alloc, attrs.len())?;
-    for (i, attr) in attrs.iter().enumerate() {
-        push(&mut numbers, attr.name.bytes(), i)?;
+    let mut names = no_names(alloc, attrs.len())?;
+    for attr in attrs {
+        push(&mut names, attr.name.bytes())?;
     }
-    put_in_order(&mut numbers)?;
-    Ok(numbers)
+    settle(&mut names)?;
+    Ok(names)
 }
 
-fn attach_numbers<'t>(alloc: Global, attaches: &'t [Attach]) -> Result<Numbers<'t>, Memory>
-    ensures { IfOk result (λ numbers. AreNumbers numbers.items (map (λ a. a.name) attaches.now)) }
+fn attach_names<'t>(alloc: Global, attaches: &'t [Attach]) -> Result<Names<'t>, Memory>
+    requires { length attaches.now ≤ 65536 }
+    ensures { IfOk result (λ names. AreNames names (map (λ a. a.name) attaches.now)) }
 {
-    let mut numbers = Vec::with_capacity(alloc, attaches.len())?;
-    for (i, attach) in attaches.iter().enumerate() {
-        push(&mut numbers, attach.name.bytes(), i)?;
+    let mut names = no_names(alloc, attaches.len())?;
+    for attach in attaches {
+        push(&mut names, attach.name.bytes())?;
     }
-    put_in_order(&mut numbers)?;
-    Ok(numbers)
+    settle(&mut names)?;
+    Ok(names)
 }
 
-/// The tables with the numbers of their names.
+/// The tables with their names.
 pub fn index_of<'t>(alloc: Global, tables: &'t Tables) -> Result<Index<'t>, Memory>
     requires { CountedTables tables.now }
     ensures index { IfOk result (λ index. IsIndex index) }
@@ -45,7 +47,7 @@ pub fn index_of<'t>(alloc: Global, tables: &'t Tables) -> Result<Index<'t>, Memo
 {
     Ok(Index {
         tables,
-        attrs: attr_numbers(alloc, tables.attrs.items())?,
-        attaches: attach_numbers(alloc, tables.attaches.items())?,
+        attrs: attr_names(alloc, tables.attrs.items())?,
+        attaches: attach_names(alloc, tables.attaches.items())?,
     })
 }

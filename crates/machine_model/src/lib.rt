@@ -8,6 +8,7 @@ mod line;
 mod locator;
 mod lookup;
 mod machine;
+mod names;
 mod numbers;
 mod spot;
 mod word;

@@ -5,7 +5,7 @@ ghost use Rattle.config_rules.specs.MachineText.{after_line, driver_form, driver
 ghost use Rattle.machine_model.specs.Found.{given_of};
 ghost use Rattle.machine_model.specs.Indexed.{IsDraft, IsIndex, with_spot};
 ghost use Rattle.machine_model.specs.Left.{Leaves, after_words};
-ghost use Rattle.machine_model.specs.Numbers.{IsPlaceOf, number_in};
+ghost use Rattle.machine_model.specs.Names.{number_of, slot_of};
 ghost use Rattle.machine_text.specs.Words.{seen};
 
 use crate::draft::Draft;
@@ -13,7 +13,7 @@ use crate::driver::add_policies;
 use crate::index::Index;
 use crate::locator::{FoundValue, count_located, given_values, names_differ};
 use crate::lookup::{attach_number, interface_number, spot_number};
-use crate::numbers::insert;
+use crate::names::insert;
 use crate::spot::{fitting_site, make_spot};
 use crate::word::{are_marks, are_policies, differ, is_free_name, ranged_match, spells};
 use cf_types::code::machine as code;
@@ -37,21 +37,22 @@ fn is_spot(
     Ok(is_free_name(name) && apart && are_marks(marks) && differ(marks))
 }
 
-/// Adds a spot with this name, which is new, at its place among the names.
+/// Adds a spot with this name, which is new and has this slot.
 fn add_spot_named<'t>(
     draft: &mut Draft<'t>,
-    place: usize,
+    slot: usize,
     name: &'t [u8],
     spot: Spot,
 ) -> Result<(), Memory>
     requires name { spot.name ≡ name.now }
     requires room { length draft.old.machine.spots < 1024 }
-    requires new { number_in draft.old.numbers.items name.now ≡ None }
-    requires place { IsPlaceOf name.now draft.old.numbers.items place }
+    requires draft { IsDraft draft.old }
+    requires new { number_of draft.old.names name.now ≡ None }
+    requires slot { slot ≡ slot_of (length draft.old.names.slots.items) name.now }
     ensures machine { OnOk result (draft.new.machine ≡ with_spot draft.old.machine spot) }
-    ensures draft { OnOk result (IsDraft draft.old → IsDraft draft.new) }
+    ensures draft { OnOk result (IsDraft draft.new) }
 {
-    insert(&mut draft.numbers, place, name, draft.machine.spots.len())?;
+    insert(&mut draft.names, slot, name)?;
     draft.machine.spots.push(spot)?;
     Ok(())
 }
@@ -76,15 +77,15 @@ fn add_spot<'t>(
         Some(found) => found,
         None => return Err(LineStop::Code(code::BAD_LINE)),
     };
-    if !is_spot(alloc, name, found.items(), marks)? {
+    if !is_spot(alloc, name, found.as_slice(), marks)? {
         return Err(LineStop::Code(code::BAD_LINE));
     }
-    let site = match fitting_site(index, draft, name, parent, attr, found.items()) {
+    let site = match fitting_site(index, draft, name, parent, attr, found.as_slice()) {
         Ok(site) => site,
         Err(code) => return Err(LineStop::Code(code)),
     };
-    let spot = make_spot(alloc, &site, name, found.items(), marks)?;
-    add_spot_named(draft, site.at, name, spot)?;
+    let spot = make_spot(alloc, &site, name, found.as_slice(), marks)?;
+    add_spot_named(draft, site.slot, name, spot)?;
     Ok(())
 }
 

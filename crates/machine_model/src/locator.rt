@@ -2,7 +2,7 @@ ghost use Rattle.std.specs.Prelude.{◌≡◌, ◌==◌, IfOk, false, length, ma
 ghost use Rattle.std.specs.List.{after_first, before_first, list_any};
 ghost use Rattle.std.specs.Option.{option_map_or};
 ghost use Rattle.config_rules.specs.Form.{each};
-ghost use Rattle.config_rules.specs.MachineText.{differ, located_value, is_located, located};
+ghost use Rattle.config_rules.specs.MachineText.{differ, located_value, is_located, is_one, located};
 ghost use Rattle.machine_model.specs.Found.{given_of, names_of};
 ghost use Rattle.machine_model.specs.Numbers.{AreNumbers};
 ghost use Rattle.machine_model.specs.Numbers as numbered;
@@ -10,15 +10,19 @@ ghost use Rattle.machine_text.specs.Words.{seen};
 
 use crate::numbers::{Numbers, number_in, push, put_in_order};
 use crate::word::ranged;
-use cf_types::{List, Memory};
+use cf_types::Memory;
+use smallvec::SmallVec;
 use std::alloc::Global;
 
 /// A value that a spot gives for a locator, `None` if the number is out of its range.
-#[derive(Drop)]
+#[derive(Default, Drop)]
 pub struct FoundValue<'t> {
     pub name: &'t [u8],
     pub value: Option<i64>,
 }
+
+/// The values that a spot gives; those of most spots need no memory.
+pub type FoundValues<'t> = SmallVec<FoundValue<'t>, 2>;
 
 fn has_equals(word: &[u8]) -> bool
     ensures { result ≡ list_any (λ c. c == 61) word.now }
@@ -75,10 +79,10 @@ fn located_value(word: &[u8]) -> Option<FoundValue>
 pub fn given_values<'t>(
     alloc: Global,
     words: &[&'t [u8]],
-) -> Result<Option<List<FoundValue<'t>>>, Memory>
-    ensures { IfOk result (λ found. option_map (map given_of) found ≡ each located_value (seen words.now)) }
+) -> Result<Option<FoundValues<'t>>, Memory>
+    ensures { IfOk result (λ found. option_map (λ f. map given_of f.items) found ≡ each located_value (seen words.now)) }
 {
-    let mut found = List::make(alloc);
+    let mut found = SmallVec::new(alloc);
     for word in words {
         match located_value(*word) {
             Some(value) => found.push(value)?,
@@ -137,12 +141,34 @@ fn differ_by_number(numbers: &Numbers, found: &[FoundValue]) -> bool
     true
 }
 
+/// Whether one of these values has this name.
+fn has_name(found: &[FoundValue], name: &[u8]) -> bool
+    ensures { result ≡ is_one (names_of found.now) name.now }
+{
+    found.iter().any(|value| name == value.name)
+}
+
+/// Whether no name is there twice, by comparing each with those after it.
+fn differ_in_turn(found: &[FoundValue]) -> bool
+    ensures { result ≡ differ (names_of found.now) }
+{
+    for (i, value) in found.iter().enumerate() {
+        if has_name(&found[i + 1..], value.name) {
+            return false;
+        }
+    }
+    true
+}
+
+/// Up to how many names are compared with each other.
+const FEW: usize = 8;
+
 /// Whether no locator is given twice.
 pub fn names_differ(alloc: Global, found: &[FoundValue]) -> Result<bool, Memory>
     ensures { IfOk result (λ apart. apart ≡ differ (map (λ g. g.name) (map given_of found.now))) }
 {
-    if found.len() < 2 {
-        return Ok(true);
+    if found.len() <= FEW {
+        return Ok(differ_in_turn(found));
     }
     let numbers = name_numbers(alloc, found)?;
     Ok(differ_by_number(&numbers, found))

@@ -5,7 +5,7 @@ ghost use Rattle.machine_model.specs.Indexed.{IsDraft, IsIndex};
 
 use crate::draft::Draft;
 use crate::index::Index;
-use crate::numbers::number_in;
+use crate::names::number_of;
 use crate::word::spells;
 use cf_types::Place;
 
@@ -13,7 +13,7 @@ fn attr_number(index: &Index, name: &[u8]) -> Option<u32>
     requires { IsIndex index.now }
     ensures { result ≡ attr_number index.now.tables.now.attrs name.now }
 {
-    match number_in(&index.attrs, name) {
+    match number_of(&index.attrs, name) {
         Some(at) => Some(at as u32),
         None => None,
     }
@@ -24,7 +24,7 @@ pub fn attach_number(index: &Index, name: &[u8]) -> Option<u32>
     requires { IsIndex index.now }
     ensures { result ≡ attach_number index.now.tables.now.attaches name.now }
 {
-    match number_in(&index.attaches, name) {
+    match number_of(&index.attaches, name) {
         Some(at) => Some(at as u32),
         None => None,
     }
@@ -47,7 +47,7 @@ pub fn spot_number(draft: &Draft, name: &[u8]) -> Option<u16>
     requires { IsDraft draft.now }
     ensures { result ≡ spot_number draft.now.machine.spots name.now }
 {
-    match number_in(&draft.numbers, name) {
+    match number_of(&draft.names, name) {
         Some(at) => Some(at as u16),
         None => None,
     }

@@ -8,10 +8,14 @@ ghost use Rattle.machine_model.specs.Left.{Gives};
 use crate::draft::Draft;
 use crate::index::{Index, index_of};
 use crate::line::add_words;
+use crate::names::no_names;
 use cf_types::code::machine as code;
 use cf_types::{Attach, List, Machine, Memory, Policy, Tables};
 use machine_text::{LineStop, MachineStop, bad_line, cut_words};
 use std::alloc::Global;
+
+/// About how many bytes a machine file has for each spot.
+const BYTES_OF_SPOT: usize = 64;
 
 /// One policy for each attachment.
 fn no_policies(alloc: Global, attaches: &[Attach]) -> Result<List<Policy>, Memory>
@@ -44,7 +48,7 @@ fn read_with(alloc: Global, index: &Index, text: &[u8]) -> Result<Machine, Machi
 {
     let mut draft = Draft {
         machine: no_machine(alloc, index.tables)?,
-        numbers: Vec::new(alloc),
+        names: no_names(alloc, text.len() / BYTES_OF_SPOT)?,
     };
     let mut words = Vec::new(alloc);
     let mut number = 1;

@@ -1,6 +1,6 @@
 //! Names with their numbers, found by binary search.
-ghost use Rattle.std.specs.Prelude.{◌≡◌, ℕ, List, ◌∷◌, ◌++◌, [], IfErr, IfOk, None, OnOk, Some, length};
-ghost use Rattle.machine_model.specs.Numbers.{AreInOrder, AreNumbers, HaveNumbers, IsPlaceOf, number_in};
+ghost use Rattle.std.specs.Prelude.{◌≡◌, ℕ, List, None, OnOk};
+ghost use Rattle.machine_model.specs.Numbers.{AreInOrder, IsPlaceOf, IsWith, number_in};
 
 use cf_types::Memory;
 
@@ -38,20 +38,6 @@ fn number_at(numbers: &Numbers, place: usize, name: &[u8]) -> Option<usize>
     }
 }
 
-/// The number of a name, or its place if it is not there.
-pub fn find(numbers: &Numbers, name: &[u8]) -> Result<usize, usize>
-    requires { AreInOrder numbers.now.items }
-    ensures found { IfOk result (λ number. number_in numbers.now.items name.now ≡ Some number) }
-    ensures missed { IfErr result (λ place. number_in numbers.now.items name.now ≡ None) }
-    ensures place { IfErr result (λ place. IsPlaceOf name.now numbers.now.items place) }
-{
-    let place = place_of(numbers, name);
-    match number_at(numbers, place, name) {
-        Some(number) => Ok(number),
-        None => Err(place),
-    }
-}
-
 /// The number of a name.
 pub fn number_in(numbers: &Numbers, name: &[u8]) -> Option<usize>
     requires { AreInOrder numbers.now.items }
@@ -60,32 +46,30 @@ pub fn number_in(numbers: &Numbers, name: &[u8]) -> Option<usize>
     number_at(numbers, place_of(numbers, name), name)
 }
 
-/// Adds the next name at its place. It is not there yet.
-pub fn insert<'t>(
-    numbers: &mut Numbers<'t>,
-    place: usize,
-    name: &'t [u8],
-    number: usize,
-) -> Result<(), Memory>
+/// Adds a name, which is not there yet, at its place.
+pub fn add<'t>(numbers: &mut Numbers<'t>, name: &'t [u8], number: usize) -> Result<(), Memory>
+    requires order { AreInOrder numbers.old.items }
     requires new { number_in numbers.old.items name.now ≡ None }
-    requires place { IsPlaceOf name.now numbers.old.items place }
-    ensures { OnOk result ((names : List (List ℕ)) → AreNumbers numbers.old.items names → length names ≡ number → AreNumbers numbers.new.items (names ++ name.now ∷ [])) }
+    ensures order { OnOk result (AreInOrder numbers.new.items) }
+    ensures also { OnOk result (IsWith name.now number numbers.old.items numbers.new.items) }
 {
+    let place = place_of(numbers, name);
     numbers.insert(place, Numbered { name, number })?;
     Ok(())
 }
 
-/// Adds the next name at the end, as it comes.
+/// Adds a name at the end.
 pub fn push<'t>(numbers: &mut Numbers<'t>, name: &'t [u8], number: usize) -> Result<(), Memory>
-    ensures { OnOk result ((names : List (List ℕ)) → HaveNumbers numbers.old.items names → length names ≡ number → HaveNumbers numbers.new.items (names ++ name.now ∷ [])) }
+    ensures { OnOk result (IsWith name.now number numbers.old.items numbers.new.items) }
 {
     numbers.push(Numbered { name, number })?;
     Ok(())
 }
 
-/// Sorts names that are in the order in which they came.
+/// Puts names in order; of equal names the first stays the first.
 pub fn put_in_order(numbers: &mut Numbers) -> Result<(), Memory>
-    ensures { OnOk result ((names : List (List ℕ)) → HaveNumbers numbers.old.items names → AreNumbers numbers.new.items names) }
+    ensures order { OnOk result (AreInOrder numbers.new.items) }
+    ensures same { OnOk result ((q : List ℕ) → number_in numbers.new.items q ≡ number_in numbers.old.items q) }
 {
     numbers.sort_by_key(|numbered| numbered.name)?;
     Ok(())

@@ -10,7 +10,7 @@ use crate::draft::Draft;
 use crate::index::Index;
 use crate::locator::FoundValue;
 use crate::lookup::{spot_above, spot_place};
-use crate::numbers::find;
+use crate::names::find;
 use crate::word::{is_one, spells};
 use cf_types::code::machine as code;
 use cf_types::{Locator, Locs, Memory, Name, Place, Spot};
@@ -121,10 +121,10 @@ fn depth_below(spots: &[Spot], above: Option<u16>) -> usize
     depth
 }
 
-/// What a spot is below, and the place of its name among those of the spots.
+/// What a spot is below, and the slot of its name among those of the spots.
 #[derive(Drop)]
 pub struct Site<'t> {
-    pub at: usize,
+    pub slot: usize,
     above: Option<u16>,
     place: Place,
     locators: &'t [Locator],
@@ -151,9 +151,9 @@ fn site_of<'t>(
     ensures none { IfOk result (λ site. site_fault index.now.tables.now draft.now.machine.spots name.now parent.now attr.now ≡ None) }
     ensures site { IfOk result (IsSite index.now.tables.now draft.now name.now parent.now attr.now) }
 {
-    let at = match find(&draft.numbers, name) {
+    let slot = match find(&draft.names, name) {
         Ok(_) => return Err(code::SPOT_TWICE),
-        Err(at) => at,
+        Err(slot) => slot,
     };
     let above = spot_above(draft, parent);
     if is_orphan(parent, above) {
@@ -161,7 +161,7 @@ fn site_of<'t>(
     }
     match spot_place(index, parent, attr) {
         Some(place) => Ok(Site {
-            at,
+            slot,
             above,
             place,
             locators: locators_at(index.tables, place),

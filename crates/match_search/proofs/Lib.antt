@@ -5,3 +5,4 @@ pub mod IndexLaws
 pub mod ListedLaws
 pub mod OwnLaws
 pub mod LeaderLaws
+pub mod FixedLaws

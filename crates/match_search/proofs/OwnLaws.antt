@@ -1,11 +1,13 @@
 -- The match lines of each spot: one line more, and the values that they give.
-use Rattle.std.proofs.Common.{◌≡◌, ℕ, zero, suc, ◌+◌, ◌<◌, Bool, true, false, cond, ◌&&◌, ◌==◌, List, [], ◌∷◌, ◌++◌, length, filter, find, reverse, slice_index_or, slice_set, refl, sym, ◌∙◌, ap, subst, inl, inr, arith, append-nil, eq-eqb, Option, Some}
+use Rattle.std.proofs.Common.{◌≡◌, ℕ, zero, suc, ◌+◌, ◌<◌, Bool, true, false, cond, ◌&&◌, ◌||◌, ◌==◌, List, [], ◌∷◌, ◌++◌, length, filter, find, reverse, slice_index_or, slice_set, refl, sym, ◌∙◌, ap, subst, inl, inr, arith, append-nil, eq-eqb, Option, None, Some}
 use Rattle.std.specs.Global.{Global}
 use Rattle.std.specs.Prelude.{Vec}
-use Rattle.std.specs.Option.{option_map_or}
+use Rattle.std.specs.List.{list_any}
+use Rattle.std.specs.Option.{option_map_or, option_or}
 use Rattle.std.proofs.lemmas.Bool.{cases_lt, eqb-true, false≢true}
 use Rattle.std.proofs.lemmas.List.{get_or-set_other, get_or-set_same, length-append, length-map, length-set, map-append, reverse-append}
 use Rattle.std.proofs.lemmas.List.Elements.{filter-append}
+use Rattle.std.proofs.lemmas.List.Folds.{find-append}
 use Rattle.cf_types.specs.declared.machine.MatchLine.{MatchLine}
 use Rattle.run_rules.specs.World.{is_number}
 use Rattle.match_search.specs.Index.{is_for, last_value}
@@ -103,3 +105,28 @@ own_value x lines own a given e =
     ap (λ ls. last_value (Some x) ls a given) e
     ∙ ap (λ ls. option_map_or (λ line. line.value) (find (λ line. line.attach == a && is_for (Some x) line) ls) given) (reversed (is_for (Some x)) lines)
     ∙ ap (λ o. option_map_or (λ line. line.value) o given) (kept_find (λ line. line.attach == a) (is_for (Some x)) (reverse lines))
+
+-- ---- the values of attachments that no own line names
+
+unfound : (p q : MatchLine → Bool) (lines : List MatchLine) → list_any p lines ≡ false → find (λ line. p line && q line) (reverse lines) ≡ None
+unfound p q [] h = refl
+unfound p q (x ∷ lines) h =
+    ap (find (λ line. p line && q line)) (reverse-append (x ∷ []) lines)
+    ∙ find-append (λ line. p line && q line) (reverse lines) (x ∷ [])
+    ∙ ap (λ o. option_or o (cond (p x && q x) (Some x) None)) (unfound p q lines (no_right (p x) (list_any p lines) h))
+    ∙ ap (λ b. cond (b && q x) (Some x) None) (no_left (p x) (list_any p lines) h)
+  where
+    no_left : (a b : Bool) → (a || b) ≡ false → a ≡ false
+    no_left true b e = absurd (cc)
+    no_left false b e = refl
+
+    no_right : (a b : Bool) → (a || b) ≡ false → b ≡ false
+    no_right true b e = absurd (cc)
+    no_right false b e = e
+
+pub none_named : (x : ℕ) (own : List MatchLine) (a given : ℕ) → list_any (λ line. line.attach == a) own ≡ false → last_value (Some x) own a given ≡ given
+none_named x own a given h = ap (λ o. option_map_or (λ line. line.value) o given) (unfound (λ line. line.attach == a) (is_for (Some x)) own h)
+
+pub either : (b : Bool) (everywhere kept value : ℕ) → everywhere ≡ value → (b ≡ false → kept ≡ value) → cond b everywhere kept ≡ value
+either true everywhere kept value e k = e
+either false everywhere kept value e k = k refl

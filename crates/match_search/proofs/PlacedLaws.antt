@@ -124,10 +124,10 @@ fits_first (l ∷ locs) (v ∷ values) (f ∷ at) first e h =
 abbrev pub under : Sought → Option ℤ → List ℕ
 under s first = rows_under s.tables.now.rows (record { place = s.place; first = first }) (length s.tables.now.rows)
 
-in_left : (r : ℕ) (xs ys : List ℕ) → is_in r xs ≡ true → is_in r (xs ++ ys) ≡ true
+pub in_left : (r : ℕ) (xs ys : List ℕ) → is_in r xs ≡ true → is_in r (xs ++ ys) ≡ true
 in_left r xs ys h = is_in-append r xs ys ∙ or_left (is_in r xs) (is_in r ys) h
 
-in_right : (r : ℕ) (xs ys : List ℕ) → is_in r ys ≡ true → is_in r (xs ++ ys) ≡ true
+pub in_right : (r : ℕ) (xs ys : List ℕ) → is_in r ys ≡ true → is_in r (xs ++ ys) ≡ true
 in_right r xs ys h = is_in-append r xs ys ∙ or_right (is_in r xs) (is_in r ys) h
 
 with_value : (s : Sought) (r : ℕ) (h : Suits s r) (v w : ℤ) (rest : List ℤ) → h.row.locs ≡ v ∷ rest → int_eq v w ≡ true → is_in r (under s (Some w)) ≡ true
@@ -171,3 +171,17 @@ have_both s first d e at = λ r h.
       | inl wild ↦ in_right r (under s (Some first.found)) (under s (Some d)) (with_value s r it has.v d has.rest has.is wild)
       | inr there ↦ in_left r (under s (Some first.found)) (under s (Some d)) (with_value s r it has.v first.found has.rest has.is there)
     ]
+
+-- among all rows are all that suit
+pub have_each : (s : Sought) (all : List ℕ) → ((r : ℕ) → r < length s.tables.now.rows → is_in r all ≡ true) → HaveAll s (all ++ [])
+have_each s all each = λ r h.
+    let it = suits_row s r h in
+    in_left r all [] (each r (within s.tables.now.rows r it.row it.at))
+
+-- ---- a list of all numbers
+
+-- what is at a place of a list is in it
+pub in_at : (xs : List ℕ) (i r : ℕ) → i < length xs → get_or xs i 0 ≡ r → is_in r xs ≡ true
+in_at [] i r lt e = absurd (omega arith)
+in_at (x ∷ xs) zero r lt e = or_left (x == r) (is_in r xs) (eq-eqb x r e)
+in_at (x ∷ xs) (suc i) r lt e = or_right (x == r) (is_in r xs) (in_at xs i r (omega arith) e)

@@ -28,6 +28,10 @@ last_value spot lines attach given = option_map_or (λ line. line.value) (find (
 abbrev pub AreValuesAt : Machine → ℕ → List ℕ → Type 0
 AreValuesAt m x values = (a : ℕ) → slice_index_or values a 0 ≡ match_value m a x
 
+-- these are the match values of attachments by the lines for all spots
+abbrev pub AreEverywhere : Machine → List ℕ → Type 0
+AreEverywhere m values = (a : ℕ) → slice_index_or values a 0 ≡ last_value None m.matches a 0
+
 -- the row hangs at the place, passes submatch at the spot and has a match value above 0 there
 abbrev pub suits : Tables → Machine → Place → ℕ → ℕ → Bool
 suits t m place x r =

@@ -35,7 +35,8 @@ AreLeaders rows all list = (p : ℕ → Bool) → IsEven rows p → find p list 
 
 -- a kind is noted where it was before, or where it is the row's
 abbrev pub NotesToo : List ℕ → List Bool → List Bool → ℕ → Type 0
-NotesToo kinds old new row = (k : ℕ) → slice_index_or new k false ≡ true → (slice_index_or old k false ≡ true) ⊎ ((row < length kinds) × (slice_index_or kinds row 0 ≡ k))
+NotesToo kinds old new row = (k : ℕ) → slice_index_or new k false ≡ true → (slice_index_or old k false ≡ true)
+    ⊎ ((row < length kinds) × (slice_index_or kinds row 0 ≡ k))
 
 -- the list that is kept, or all where none is
 abbrev pub chosen : List ℕ → Option (Option (Vec ℕ Global)) → List ℕ

@@ -6,3 +6,4 @@ pub mod Found
 pub mod Placed
 pub mod Sought
 pub mod Leaders
+pub mod Fixed

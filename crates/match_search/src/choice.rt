@@ -19,30 +19,38 @@ use attr_graph::Graph;
 use cf_types::{Locs, Machine, Place, Tables};
 use run_rules::ParentRef;
 
+/// The rows of tables with their graph, on a machine, each marked as live or not.
+#[derive(Clone, Copy)]
+pub struct Rows<'a> {
+    pub tables: &'a Tables,
+    pub graph: &'a Graph,
+    pub machine: &'a Machine,
+    pub live: &'a LiveRows,
+}
+
+/// A spot for which a row is sought, below a parent at a place.
+#[derive(Clone, Copy)]
+pub struct Sought {
+    pub parent: ParentRef,
+    pub place: Place,
+    pub spot: u16,
+}
+
 /// Whether a row is marked live, fits, passes submatch and has a match value above 0.
-fn takes(
-    tables: &Tables,
-    graph: &Graph,
-    machine: &Machine,
-    live: &LiveRows,
-    parent: ParentRef,
-    place: Place,
-    spot: u16,
-    row: u32,
-) -> bool
-    requires graph { IsGraphOf (declared_by tables.now) graph.now }
-    ensures { result ≡ may_take tables.now machine.now live.now parent place spot row }
+fn takes(among: &Rows<'_>, at: Sought, row: u32) -> bool
+    requires graph { IsGraphOf (declared_by among.now.tables.now) among.now.graph.now }
+    ensures { result ≡ may_take among.now.tables.now among.now.machine.now among.now.live.now at.parent at.place at.spot row }
 {
-    match tables.rows.items().get(row as usize) {
+    match among.tables.rows.items().get(row as usize) {
         Some(r) => {
-            live.is_live(row)
-                && fits(graph, tables, parent, place, r)
+            among.live.is_live(row)
+                && fits(among.graph, among.tables, at.parent, at.place, r)
                 && passes(
-                    attr_at(tables, place),
+                    attr_at(among.tables, at.place),
                     r,
-                    found_or(machine, spot, &Locs::make()),
+                    found_or(among.machine, at.spot, &Locs::make()),
                 )
-                && match_value(machine, r.attach, spot) > 0
+                && match_value(among.machine, r.attach, at.spot) > 0
         }
         None => false,
     }
@@ -69,26 +77,16 @@ fn is_above(tables: &Tables, machine: &Machine, row: u32, best: Option<u32>, spo
     }
 }
 
-/// The same, found by a look at each row of the tables.
+/// The best row for a spot, found by a look at each row of the tables.
 #[inline(never)]
-fn best_of_all(
-    tables: &Tables,
-    graph: &Graph,
-    machine: &Machine,
-    live: &LiveRows,
-    parent: ParentRef,
-    place: Place,
-    spot: u16,
-) -> Option<u32>
-    requires graph { IsGraphOf (declared_by tables.now) graph.now }
-    requires few { length tables.now.rows ≤ 8192 }
-    ensures { result ≡ best_row tables.now machine.now live.now parent place spot }
+fn best_of_all(among: &Rows<'_>, at: Sought) -> Option<u32>
+    requires graph { IsGraphOf (declared_by among.now.tables.now) among.now.graph.now }
+    requires few { length among.now.tables.now.rows ≤ 8192 }
+    ensures { result ≡ best_row among.now.tables.now among.now.machine.now among.now.live.now at.parent at.place at.spot }
 {
     let mut best = None;
-    for row in 0..tables.rows.len() as u32 {
-        if takes(tables, graph, machine, live, parent, place, spot, row)
-            && is_above(tables, machine, row, best, spot)
-        {
+    for row in 0..among.tables.rows.len() as u32 {
+        if takes(among, at, row) && is_above(among.tables, among.machine, row, best, at.spot) {
             best = Some(row);
         }
     }
@@ -129,27 +127,22 @@ fn first_open(tables: &Tables, live: &LiveRows, parent: ParentRef, rows: &[u16])
 /// The best row for a spot, where some rows have the same first open one as those of the index. If the spot is at the
 /// place, only they are looked at.
 #[inline(always)]
-fn best_among(
-    tables: &Tables,
-    graph: &Graph,
-    machine: &Machine,
-    live: &LiveRows,
-    parent: ParentRef,
-    place: Place,
-    spot: u16,
-    rows: &[u16],
-) -> Option<u32>
-    requires graph { IsGraphOf (declared_by tables.now) graph.now }
-    requires few { length tables.now.rows ≤ 8192 }
-    ensures { (index : List (List ℕ)) → IsIndexOf tables.now machine.now index → find (listed.is_open_to tables.now live.now parent) rows.now ≡ find (listed.is_open_to tables.now live.now parent) (slice_index_or index spot [])
-        → result ≡ best_row tables.now machine.now live.now parent place spot }
+fn best_among(among: &Rows<'_>, at: Sought, rows: &[u16]) -> Option<u32>
+    requires graph { IsGraphOf (declared_by among.now.tables.now) among.now.graph.now }
+    requires few { length among.now.tables.now.rows ≤ 8192 }
+    ensures { (index : List (List ℕ)) → IsIndexOf among.now.tables.now among.now.machine.now index
+        → find (listed.is_open_to among.now.tables.now among.now.live.now at.parent) rows.now
+        ≡ find (listed.is_open_to among.now.tables.now among.now.live.now at.parent) (slice_index_or index at.spot [])
+        → result ≡ best_row among.now.tables.now among.now.machine.now among.now.live.now at.parent at.place at.spot }
 {
-    if !hangs_at(machine, spot, place) {
-        return best_of_all(tables, graph, machine, live, parent, place, spot);
+    if !hangs_at(among.machine, at.spot, at.place) {
+        // (a copy, so that the fields of the other one can stay in registers)
+        let rows = *among;
+        return best_of_all(&rows, at);
     }
-    match first_open(tables, live, parent, rows) {
+    match first_open(among.tables, among.live, at.parent, rows) {
         Some(row) => {
-            if parent_offers(graph, tables, parent, place) {
+            if parent_offers(among.graph, among.tables, at.parent, at.place) {
                 Some(u32::from(row))
             } else {
                 None
@@ -179,48 +172,33 @@ pub fn best(
     ensures row { result ≡ best_row tables.now machine.now live.now parent place spot }
 
     // So it is the winner in each world whose rows are live as the truth values say.
-    ensures winner { (s : Setup) (devices : List Dev) → s.tables ≡ tables.now → s.machine ≡ machine.now → live.now ≡ live_rows s devices → rule.winner s devices parent place spot ≡ result }
+    ensures winner { (s : Setup) (devices : List Dev) → s.tables ≡ tables.now → s.machine ≡ machine.now
+        → live.now ≡ live_rows s devices → rule.winner s devices parent place spot ≡ result }
 {
-    best_among(
+    let rows = Rows {
         tables,
         graph,
         machine,
         live,
+    };
+    let at = Sought {
         parent,
         place,
         spot,
-        index.rows(spot),
-    )
+    };
+    best_among(&rows, at, index.rows(spot))
 }
 
 /// The same in a world, whose rows are live as its devices say: rows that differ in nothing that liveness and parents go by
 /// are passed at one look.
 #[inline(always)]
-pub fn winner(
-    tables: &Tables,
-    graph: &Graph,
-    index: &RowIndex,
-    leaders: &Leaders,
-    machine: &Machine,
-    live: &LiveRows,
-    parent: ParentRef,
-    place: Place,
-    spot: u16,
-) -> Option<u32>
-    requires graph { IsGraphOf (declared_by tables.now) graph.now }
-    requires index { IsIndexOf tables.now machine.now index.now }
-    requires leaders { AreLeadersOf tables.now index.now leaders.now }
-    requires few { length tables.now.rows ≤ 8192 }
-    ensures { (s : Setup) (devices : List Dev) → s.tables ≡ tables.now → s.machine ≡ machine.now → live.now ≡ live_rows s devices → rule.winner s devices parent place spot ≡ result }
+pub fn winner(among: &Rows<'_>, index: &RowIndex, leaders: &Leaders, at: Sought) -> Option<u32>
+    requires graph { IsGraphOf (declared_by among.now.tables.now) among.now.graph.now }
+    requires index { IsIndexOf among.now.tables.now among.now.machine.now index.now }
+    requires leaders { AreLeadersOf among.now.tables.now index.now leaders.now }
+    requires few { length among.now.tables.now.rows ≤ 8192 }
+    ensures { (s : Setup) (devices : List Dev) → s.tables ≡ among.now.tables.now → s.machine ≡ among.now.machine.now
+        → among.now.live.now ≡ live_rows s devices → rule.winner s devices at.parent at.place at.spot ≡ result }
 {
-    best_among(
-        tables,
-        graph,
-        machine,
-        live,
-        parent,
-        place,
-        spot,
-        leaders.rows(index, spot),
-    )
+    best_among(among, at, leaders.rows(index, at.spot))
 }

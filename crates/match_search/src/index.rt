@@ -4,14 +4,14 @@ ghost use Rattle.std.specs.List.{slice_index_or};
 ghost use Rattle.match_search.specs.Index.{AreBestFirst, AreValuesAt, IsIndexOf};
 ghost use Rattle.cf_types.specs.Locators.{locators_at};
 ghost use Rattle.match_search.specs.Found.{locators_in};
-ghost use Rattle.match_search.specs.Placed.{ArePlaced};
+ghost use Rattle.match_search.specs.Placed.{AreLooked, ArePlaced};
 ghost use Rattle.match_search.specs.Sought.{AreCandidates, HaveAll, candidate_at, candidates_in, first_locator};
 ghost use Rattle.run_rules.specs.Search.{found_at};
 
 use crate::fits::{attr_at, found_at, found_or, passes, same_place};
 use crate::own::own_lines;
-use crate::placed::{PlaceKey, PlacedRows};
-use crate::values::{set_values, value_of, values_at};
+use crate::placed::{Looked, PlaceKey, PlacedRows, look_among};
+use crate::values::{set_own, set_values, unset_own, value_of};
 use cf_types::{Attr, Locs, Machine, Memory, Place, Tables};
 use std::alloc::Global;
 use std::cmp::Reverse;
@@ -111,7 +111,7 @@ fn first_locator(sought: &Sought) -> Option<FirstLocator>
 
 /// Two lists of rows, among which are all that suit the spot: of those at its place the ones with the first value that
 /// is found there, and the ones with the default of the first locator.
-fn rows_for<'a>(sought: &Sought, placed: &'a PlacedRows) -> (&'a [u16], &'a [u16])
+fn placed_for<'a>(sought: &Sought, placed: &'a PlacedRows) -> (&'a [u16], &'a [u16])
     requires placed { ArePlaced sought.now.tables.now.rows placed.now }
     ensures { HaveAll sought.now (result.0.now ++ result.1.now) }
 {
@@ -135,13 +135,25 @@ fn rows_for<'a>(sought: &Sought, placed: &'a PlacedRows) -> (&'a [u16], &'a [u16
     }
 }
 
+/// Two lists of rows, among which are all that suit the spot.
+#[inline(always)]
+fn rows_for<'a>(sought: &Sought, looked: &'a Looked) -> (&'a [u16], &'a [u16])
+    requires looked { AreLooked sought.now.tables.now.rows looked.now }
+    ensures { HaveAll sought.now (result.0.now ++ result.1.now) }
+{
+    match looked {
+        Looked::All(all) => (all, &[]),
+        Looked::Placed(placed) => placed_for(sought, placed),
+    }
+}
+
 /// The rows that suit the spot.
-fn suiting_rows(sought: &Sought, placed: &PlacedRows) -> Result<Vec<Candidate>, Memory>
-    requires placed { ArePlaced sought.now.tables.now.rows placed.now }
+fn suiting_rows(sought: &Sought, looked: &Looked) -> Result<Vec<Candidate>, Memory>
+    requires looked { AreLooked sought.now.tables.now.rows looked.now }
     requires values { AreValuesAt sought.now.machine.now sought.now.spot sought.now.values.now.items }
     ensures { IfOk result (λ list. AreCandidates sought.now list.items) }
 {
-    let (some, others) = rows_for(sought, placed);
+    let (some, others) = rows_for(sought, looked);
     let mut list = Vec::new(*sought.values.allocator());
     add_candidates(sought, some, &mut list)?;
     add_candidates(sought, others, &mut list)?;
@@ -160,14 +172,47 @@ fn rows_of(list: &Vec<Candidate>) -> Result<Vec<u16>, Memory>
 }
 
 /// The rows that suit the spot, the best first.
-fn best_first(sought: &Sought, placed: &PlacedRows) -> Result<Vec<u16>, Memory>
-    requires placed { ArePlaced sought.now.tables.now.rows placed.now }
+fn best_first(sought: &Sought, looked: &Looked) -> Result<Vec<u16>, Memory>
+    requires looked { AreLooked sought.now.tables.now.rows looked.now }
     requires values { AreValuesAt sought.now.machine.now sought.now.spot sought.now.values.now.items }
     ensures { IfOk result (λ rows. AreBestFirst sought.now.tables.now sought.now.machine.now sought.now.place sought.now.spot rows.items) }
 {
-    let mut list = suiting_rows(sought, placed)?;
+    let mut list = suiting_rows(sought, looked)?;
     list.sort()?;
     rows_of(&list)
+}
+
+/// For each spot the rows that suit it, looked for among these, the best first.
+fn lists_by(
+    alloc: Global,
+    tables: &Tables,
+    machine: &Machine,
+    looked: &Looked,
+) -> Result<Vec<Vec<u16>>, Memory>
+    requires looked { AreLooked tables.now.rows looked.now }
+    requires few_spots { length machine.now.spots ≤ 65536 }
+    ensures { IfOk result (λ lists. IsIndexOf tables.now machine.now (map (λ list. list.items) lists.items)) }
+{
+    let mut everywhere = Vec::new(alloc);
+    set_values(&mut everywhere, machine.matches.items(), None)?;
+    let own = own_lines(alloc, machine.spots.items(), machine.matches.items())?;
+    let mut values = Vec::from_slice(alloc, &everywhere)?;
+    let mut lists = Vec::with_capacity(alloc, machine.spots.len())?;
+    for (number, spot) in machine.spots.items().iter().enumerate() {
+        let own_here = own[number].as_slice();
+        set_own(&mut values, machine, own_here, number as u16)?;
+        let sought = Sought {
+            tables,
+            machine,
+            values: &values,
+            place: spot.place,
+            spot: number as u16,
+        };
+        let rows = best_first(&sought, looked)?;
+        unset_own(&mut values, &everywhere, own_here)?;
+        lists.push(rows)?;
+    }
+    Ok(lists)
 }
 
 impl RowIndex {
@@ -177,23 +222,8 @@ impl RowIndex {
         requires few_spots { length machine.now.spots ≤ 65536 }
         ensures { IfOk result (IsIndexOf tables.now machine.now) }
     {
-        let placed = PlacedRows::make(alloc, tables.rows.items())?;
-        let mut everywhere = Vec::new(alloc);
-        set_values(&mut everywhere, machine.matches.items(), None)?;
-        let own = own_lines(alloc, machine.spots.items(), machine.matches.items())?;
-        let mut lists = Vec::with_capacity(alloc, machine.spots.len())?;
-        for (number, spot) in machine.spots.items().iter().enumerate() {
-            let values = values_at(&everywhere, machine, &own[number], number as u16)?;
-            let sought = Sought {
-                tables,
-                machine,
-                values: &values,
-                place: spot.place,
-                spot: number as u16,
-            };
-            let rows = best_first(&sought, &placed)?;
-            lists.push(rows)?;
-        }
+        let looked = look_among(alloc, tables.rows.items())?;
+        let lists = lists_by(alloc, tables, machine, &looked)?;
         Ok(RowIndex { lists })
     }
 

@@ -3,6 +3,7 @@
 
 mod choice;
 mod fits;
+mod fixed;
 mod index;
 mod kinds;
 mod leaders;
@@ -12,8 +13,9 @@ mod placed;
 mod value;
 mod values;
 
-pub use choice::{best, winner};
+pub use choice::{Rows, Sought, best, winner};
 pub use fits::found_at;
+pub use fixed::{DriverUnit, FixedRows};
 pub use index::RowIndex;
 pub use leaders::Leaders;
 pub use live::LiveRows;

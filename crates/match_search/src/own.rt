@@ -19,7 +19,8 @@ fn no_lines(alloc: Global, spots: &[Spot]) -> Result<Vec<Vec<MatchLine>>, Memory
 
 /// Adds a line to those of its spot, if it names a spot that exists.
 fn add_line(lists: &mut Vec<Vec<MatchLine>>, line: &MatchLine) -> Result<(), Memory>
-    ensures { OnOk result ((n : ℕ) (lines : List Line) → AreOwnLines n lines (lines_in lists.old.items) → AreOwnLines n (lines ++ line.now ∷ []) (lines_in lists.new.items)) }
+    ensures { OnOk result ((n : ℕ) (lines : List Line) → AreOwnLines n lines (lines_in lists.old.items)
+        → AreOwnLines n (lines ++ line.now ∷ []) (lines_in lists.new.items)) }
 {
     if let Some(spot) = line.spot {
         let place = spot as usize;

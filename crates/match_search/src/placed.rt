@@ -2,8 +2,9 @@
 ghost use Rattle.std.specs.Prelude.{◌≡◌, ◌≤◌, [], ◌∷◌, ◌++◌, List, if◌then◌else◌, length, IfOk, OnOk};
 ghost use Rattle.cf_types.specs.Numbers.{below};
 ghost use Rattle.cf_types.specs.declared.tables.Row.{Row as Line};
-ghost use Rattle.match_search.specs.Placed.{ArePlaced, is_under, rows_at, rows_of, rows_under};
+ghost use Rattle.match_search.specs.Placed.{AreLooked, ArePlaced, is_under, rows_at, rows_of, rows_under};
 
+use crate::kinds::numbers;
 use cf_types::{Memory, Place, Row};
 use std::alloc::Global;
 use std::collections::HashMap;
@@ -66,7 +67,7 @@ impl PlacedRows {
         requires { length rows.now ≤ 65536 }
         ensures { IfOk result (ArePlaced rows.now) }
     {
-        let mut lists = HashMap::new(alloc);
+        let mut lists = HashMap::with_capacity(alloc, rows.len())?;
         for (number, row) in rows.iter().enumerate() {
             add_row(&mut lists, number as u16, row, alloc)?;
         }
@@ -82,4 +83,25 @@ impl PlacedRows {
             None => &[],
         }
     }
+}
+
+/// The rows among which those that suit a spot are looked for: all of them where they are few, else by their places.
+#[derive(Drop)]
+pub enum Looked {
+    All(Vec<u16>),
+    Placed(PlacedRows),
+}
+
+/// From how many rows on they are looked for by their places.
+const MANY: usize = 16;
+
+/// These rows, to look among them.
+pub fn look_among(alloc: Global, rows: &[Row]) -> Result<Looked, Memory>
+    requires { length rows.now ≤ 65536 }
+    ensures { IfOk result (AreLooked rows.now) }
+{
+    if rows.len() < MANY {
+        return Ok(Looked::All(numbers(alloc, rows.len())?));
+    }
+    Ok(Looked::Placed(PlacedRows::make(alloc, rows)?))
 }

@@ -3,6 +3,7 @@ pub mod Turns
 pub mod Buses
 pub mod Spans
 pub mod Styled
+pub mod Grounds
 pub use Rattle.run_rules.specs.World
 pub use Rattle.run_rules.specs.Search
 pub use Rattle.run_rules.specs.After

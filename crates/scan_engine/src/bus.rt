@@ -6,7 +6,7 @@ ghost use Rattle.scan_engine.specs.Buses.{begin_in, turn_on};
 ghost use Rattle.scan_engine.specs.Spans.{HoldsChildren};
 ghost use Rattle.scan_engine.specs.Turns.{first_from};
 
-use crate::spans::Span;
+use crate::spans::Children;
 use crate::spots::next_child;
 use cf_types::{Machine, Place};
 use run_rules::{Position, Turn};
@@ -39,19 +39,12 @@ impl Bus {
 
 /// The first turn of a row from a spot on.
 #[inline(always)]
-fn row_turn(
-    machine: &Machine,
-    parent: Option<u16>,
-    span: Span,
-    bus: Bus,
-    row: u32,
-    spot: u16,
-) -> Option<Turn>
+fn row_turn(machine: &Machine, children: Children, bus: Bus, row: u32, spot: u16) -> Option<Turn>
     requires few { length machine.now.spots ≤ 1024 }
-    requires span { HoldsChildren machine.now parent span }
-    ensures { first_from (map (turn_on bus row) (child_spots machine.now parent bus.place)) (record { attr = bus.attr; row = row; spot = spot }) ≡ result }
+    requires span { HoldsChildren machine.now children.spot children.span }
+    ensures { first_from (map (turn_on bus row) (child_spots machine.now children.spot bus.place)) (record { attr = bus.attr; row = row; spot = spot }) ≡ result }
 {
-    let spot = next_child(machine, parent, span, bus.place, spot)?;
+    let spot = next_child(machine, children.spot, children.span, bus.place, spot)?;
     Some(Turn {
         at: Position {
             attr: bus.attr,
@@ -65,22 +58,16 @@ fn row_turn(
 
 /// The first turn of a direct bus that is not before a position on it: spot by spot.
 #[inline(always)]
-fn direct_turn(
-    machine: &Machine,
-    parent: Option<u16>,
-    span: Span,
-    bus: Bus,
-    from: Position,
-) -> Option<Turn>
+fn direct_turn(machine: &Machine, children: Children, bus: Bus, from: Position) -> Option<Turn>
     requires few { length machine.now.spots ≤ 1024 }
-    requires span { HoldsChildren machine.now parent span }
+    requires span { HoldsChildren machine.now children.spot children.span }
     requires here { from.attr ≡ bus.attr }
-    ensures { first_from (map (turn_on bus 0) (child_spots machine.now parent bus.place)) from ≡ result }
+    ensures { first_from (map (turn_on bus 0) (child_spots machine.now children.spot bus.place)) from ≡ result }
 {
     if from.row > 0 {
         return None;
     }
-    row_turn(machine, parent, span, bus, 0, from.spot)
+    row_turn(machine, children, bus, 0, from.spot)
 }
 
 /// The first turn of an indirect bus that is not before a position on it: row by row, and in each row spot by spot.
@@ -88,26 +75,25 @@ fn direct_turn(
 fn indirect_turn(
     machine: &Machine,
     rows: u32,
-    parent: Option<u16>,
-    span: Span,
+    children: Children,
     bus: Bus,
     from: Position,
 ) -> Option<Turn>
     requires few { length machine.now.spots ≤ 1024 }
-    requires span { HoldsChildren machine.now parent span }
+    requires span { HoldsChildren machine.now children.spot children.span }
     requires few_rows { rows ≤ 8192 }
     requires here { from.attr ≡ bus.attr }
-    ensures { first_from (flat_map (λ r. map (turn_on bus r) (child_spots machine.now parent bus.place)) (below rows)) from ≡ result }
+    ensures { first_from (flat_map (λ r. map (turn_on bus r) (child_spots machine.now children.spot bus.place)) (below rows)) from ≡ result }
 {
     if from.row >= rows {
         return None;
     }
     let next = from.row + 1;
-    match row_turn(machine, parent, span, bus, from.row, from.spot) {
+    match row_turn(machine, children, bus, from.row, from.spot) {
         Some(turn) => Some(turn),
         None => {
             if next < rows {
-                row_turn(machine, parent, span, bus, next, 0)
+                row_turn(machine, children, bus, next, 0)
             } else {
                 None
             }
@@ -120,20 +106,19 @@ fn indirect_turn(
 pub fn bus_turn(
     machine: &Machine,
     rows: u32,
-    parent: Option<u16>,
-    span: Span,
+    children: Children,
     bus: Bus,
     from: Position,
 ) -> Option<Turn>
     requires few { length machine.now.spots ≤ 1024 }
-    requires span { HoldsChildren machine.now parent span }
+    requires span { HoldsChildren machine.now children.spot children.span }
     requires few_rows { rows ≤ 8192 }
     requires here { from.attr ≡ bus.attr }
-    ensures { first_from (bus_turns machine.now rows bus.indirect parent (bus.attr, bus.place)) from ≡ result }
+    ensures { first_from (bus_turns machine.now rows bus.indirect children.spot (bus.attr, bus.place)) from ≡ result }
 {
     if bus.indirect {
-        indirect_turn(machine, rows, parent, span, bus, from)
+        indirect_turn(machine, rows, children, bus, from)
     } else {
-        direct_turn(machine, parent, span, bus, from)
+        direct_turn(machine, children, bus, from)
     }
 }

@@ -9,8 +9,8 @@ mod stack;
 mod styles;
 
 pub use run_rules::{Frame, Position, Turn, Wanted};
-pub use scan::{next_turn, offered};
-pub use spans::{ChildSpans, Span};
+pub use scan::{Ground, Searched, next_turn, offered};
+pub use spans::{ChildSpans, Children, Span};
 pub use spots::is_child;
 pub use stack::Stack;
 pub use styles::Styles;

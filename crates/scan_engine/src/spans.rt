@@ -13,6 +13,13 @@ pub struct Span {
     pub end: u16,
 }
 
+/// The spots below a spot, or below the root: that spot, and the numbers between which they are.
+#[derive(Clone, Copy)]
+pub struct Children {
+    pub spot: Option<u16>,
+    pub span: Span,
+}
+
 impl Span {
     /// No numbers.
     fn none() -> Span

@@ -133,7 +133,8 @@ impl Stack {
 
     /// Appends the serials of the devices that the frames are for, and so pin.
     pub fn add_serials(&self, serials: &mut Vec<u64>) -> Result<(), Memory>
-        ensures { (serial : ℕ) → OnOk result (has serials.new.items serial ≡ (has serials.old.items serial || list_any (λ f. frame_serial f == serial) self.now.frames)) }
+        ensures { (serial : ℕ) → OnOk result (has serials.new.items serial
+            ≡ (has serials.old.items serial || list_any (λ f. frame_serial f == serial) self.now.frames)) }
     {
         add_serials(&self.frames, serials)?;
         Ok(())

@@ -130,7 +130,8 @@ fn names_from(
     requires names { HaveNames setup.now core.now }
     requires row { top.row < length setup.now.tables.rows }
     requires few { length core.now.tree.live + 1 < 2 ^ 32 }
-    ensures { IfOk result (λ names. names ≡ map (run.depth_name setup.now) ((0, top) ∷ tree_below (length core.now.tree.live) core.now.tree.live 1 top.serial)) }
+    ensures { IfOk result (λ names. names
+        ≡ map (run.depth_name setup.now) ((0, top) ∷ tree_below (length core.now.tree.live) core.now.tree.live 1 top.serial)) }
 {
     let branches = Branches::of(alloc, &core.tree)?;
     let mut names = List::make(alloc);

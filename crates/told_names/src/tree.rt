@@ -53,7 +53,8 @@ fn push_below(
     requires names { HaveNames setup.now core.now }
     requires branches { AreBranches core.now.tree.live branches.now }
     requires shallow { depth + levels < 2 ^ 32 }
-    ensures { OnOk result (lines.new ≡ lines.old ++ map (rule.dev_line (world_of setup.now core.now)) (rule.tree_below levels core.now.tree.live depth parent)) }
+    ensures { OnOk result (lines.new
+        ≡ lines.old ++ map (rule.dev_line (world_of setup.now core.now)) (rule.tree_below levels core.now.tree.live depth parent)) }
 {
     if levels == 0 {
         return Ok(());

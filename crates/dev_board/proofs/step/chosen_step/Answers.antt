@@ -31,7 +31,7 @@ returns-in-Err-clause-denials g c = (refl, refl)
 
 pub returns-in-Ok-Ended-clause-stepped : goal.returns-in-Ok-Ended-clause-stepped
 returns-in-Ok-Ended-clause-stepped g c =
-    let w : World = world_of c.args.site.now.setup c.args.core.now in
+    let w : World = world_of c.args.site.now.setup c.args.state.now.core in
     record {
       step = (c.requires.may.goes_on, ended_so w c.args.caller c.requires.may.kept.kept (rw c.in-Ok-Ended.field-0-is at c.in-Ok-Ended.ensures), refl);
       kept = c.requires.may.kept;
@@ -44,7 +44,7 @@ returns-in-Ok-Ended-clause-denials g c = (refl, refl)
 
 pub returns-in-Ok-Waits-clause-stepped : goal.returns-in-Ok-Waits-clause-stepped
 returns-in-Ok-Waits-clause-stepped g c =
-    let w : World = world_of c.args.site.now.setup c.args.core.now in
+    let w : World = world_of c.args.site.now.setup c.args.state.now.core in
     record {
       step = (c.requires.may.goes_on, wait_is w c.args.caller c.in-Ok-Waits.why c.requires.may.kept.kept (rw c.in-Ok-Waits.field-0-is at c.in-Ok-Waits.ensures), refl);
       kept = c.requires.may.kept;
@@ -54,8 +54,8 @@ returns-in-Ok-Waits-clause-stepped g c =
 
 pub returns-in-Ok-Waits-clause-denials : goal.returns-in-Ok-Waits-clause-denials
 returns-in-Ok-Waits-clause-denials g c =
-    let w : World = world_of c.args.site.now.setup c.args.core.now in
-    quiet_wait w c.args.caller c.in-Ok-Waits.why c.args.core.now.tree.live (g.S.Slots.denials c.args.slots.now) (g.S.Slots.last_denial c.args.slots.now) c.requires.may.kept.kept
+    let w : World = world_of c.args.site.now.setup c.args.state.now.core in
+    quiet_wait w c.args.caller c.in-Ok-Waits.why c.args.state.now.core.tree.live (g.S.Slots.denials c.args.slots.now) (g.S.Slots.last_denial c.args.slots.now) c.requires.may.kept.kept
     (rw c.in-Ok-Waits.field-0-is at c.in-Ok-Waits.ensures)
 
 pub returns-in-Ok-Does-clause-stepped : goal.returns-in-Ok-Does-clause-stepped

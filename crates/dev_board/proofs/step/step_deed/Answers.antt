@@ -7,7 +7,7 @@ use Rattle.dev_board.proofs.step.step_deed.Goals as goal
 
 pub returns-in-Done-clause-stepped : goal.returns-in-Done-clause-stepped
 returns-in-Done-clause-stepped g c =
-    let w : World = world_of c.args.site.now.setup c.args.core.now in
+    let w : World = world_of c.args.site.now.setup c.args.state.now.core in
     let t = c.in-Done.ticket in
     let chosen = rw c.in-Done.is at c.requires.chosen in
     record {

@@ -6,7 +6,7 @@ use Rattle.run_sound.specs.Left.{boot_left}
 use Rattle.run_world.proofs.TellLaws.{doer_there}
 use Rattle.run_world.specs.View.{world_of}
 use Rattle.deed_effect.specs.Agreement.{slots_of}
-use Rattle.dev_board.specs.KeptCore.{shown_of}
+use Rattle.dev_board.specs.StateKept.{shown_of}
 use Rattle.dev_board.specs.Shown.{Shown}
 use Rattle.dev_board.specs.Stepping.{StepIs, DenialsAre}
 use Rattle.dev_board.proofs.Kept.{kept_shown}
@@ -22,8 +22,8 @@ pub step_in_room-requires : goal.step_in_room-requires
 step_in_room-requires g c =
     let chosen = subst (λ (b : Shown). next b.world c.args.caller ≡ Does c.args.deed.now) (sym c.reserve.ensures.shown) c.requires.chosen in
     record {
-      kept = kept_shown c.args.site.now.setup c.args.core.now c.reserve.new.core c.reserve.ensures.shown c.reserve.ensures.books c.requires.may.kept;
-      caller = doer_there c.args.site.now.setup c.reserve.new.core c.args.caller c.args.deed.now chosen;
+      kept = kept_shown c.args.site.now.setup c.args.state.now c.reserve.new.state c.reserve.ensures.shown c.reserve.ensures.books c.requires.may.kept;
+      caller = doer_there c.args.site.now.setup c.reserve.new.state.core c.args.caller c.args.deed.now chosen;
       agree = subst (λ (b : Shown). g.S.Slots.states c.args.slots.now ≡ slots_of b.world) (sym c.reserve.ensures.shown) c.requires.may.agree;
       goes_on = ap (λ (b : Shown). b.stopped) c.reserve.ensures.shown ∙ c.requires.may.goes_on;
       chosen = chosen;
@@ -33,11 +33,11 @@ step_in_room-requires g c =
 
 pub returns-in-Ok-clause-stepped : goal.returns-in-Ok-clause-stepped
 returns-in-Ok-clause-stepped g c = record {
-  step = subst (λ (b : Shown). StepIs b c.args.caller c.step_in_room.result (shown_of c.args.site.now.setup c.step_in_room.new.core)) c.reserve.ensures.shown c.step_in_room.ensures.step;
+  step = subst (λ (b : Shown). StepIs b c.args.caller c.step_in_room.result (shown_of c.args.site.now.setup c.step_in_room.new.state)) c.reserve.ensures.shown c.step_in_room.ensures.step;
   kept = c.step_in_room.ensures.kept;
   agree = c.step_in_room.ensures.agree;
   falls = λ did boots.
-      subst (λ (b : Shown). boot_left (world_of c.args.site.now.setup c.step_in_room.new.core) < boot_left b.world) c.reserve.ensures.shown (c.step_in_room.ensures.falls did boots);
+      subst (λ (b : Shown). boot_left (world_of c.args.site.now.setup c.step_in_room.new.state.core) < boot_left b.world) c.reserve.ensures.shown (c.step_in_room.ensures.falls did boots);
 }
 
 pub returns-in-Ok-clause-denials : goal.returns-in-Ok-clause-denials
@@ -48,8 +48,8 @@ returns-in-Ok-clause-denials g c =
 
 pub returns-in-Err-clause-stepped : goal.returns-in-Err-clause-stepped
 returns-in-Err-clause-stepped g c = record {
-  step = (c.requires.may.goes_on, (doing_so (world_of c.args.site.now.setup c.args.core.now) c.args.caller c.args.deed.now c.requires.chosen).unended, c.reserve.ensures.shown);
-  kept = kept_shown c.args.site.now.setup c.args.core.now c.reserve.new.core c.reserve.ensures.shown c.reserve.ensures.books c.requires.may.kept;
+  step = (c.requires.may.goes_on, (doing_so (world_of c.args.site.now.setup c.args.state.now.core) c.args.caller c.args.deed.now c.requires.chosen).unended, c.reserve.ensures.shown);
+  kept = kept_shown c.args.site.now.setup c.args.state.now c.reserve.new.state c.reserve.ensures.shown c.reserve.ensures.books c.requires.may.kept;
   agree = subst (λ (b : Shown). g.S.Slots.states c.args.slots.now ≡ slots_of b.world) (sym c.reserve.ensures.shown) c.requires.may.agree;
   falls = λ did. absurd did;
 }

@@ -8,5 +8,5 @@ choose-requires c = record {
   may = c.requires.kept.may;
   kept = c.requires.kept.kept;
   books = c.requires.kept.books;
-  caller = omega (arith, c.requires.caller, c.requires.kept.kept.ranges.callers.as_many, length-map c.args.core.now.callers.items caller_of);
+  caller = omega (arith, c.requires.caller, c.requires.kept.kept.ranges.callers.as_many, length-map c.args.state.now.core.callers.items caller_of);
 }

@@ -6,11 +6,11 @@ use Rattle.dev_board.proofs.waiting.how_it_stands.Goals.{in-Ended, in-Waits}
 use Rattle.dev_board.proofs.waiting.how_it_stands.Goals as goal
 
 pub loop-caller-init : goal.loop-caller-init
-loop-caller-init c = seen_none (world_at c.args.site.now c.args.core.now)
+loop-caller-init c = seen_none (world_at c.args.site.now c.args.state.now.core)
 
 pub loop-caller-preserved : goal.loop-caller-preserved
 loop-caller-preserved c =
-    let w : World = world_at c.args.site.now c.args.core.now in
+    let w : World = world_at c.args.site.now c.args.state.now.core in
     let n : ℕ = c.loop-caller.caller in
     elim c.match-branch-2.branch [
       | in-Waits h ↦ subst (λ (b : Bool). Seen w (n + 1) b) (sym h.waits-is) (seen_wait w n c.loop-caller.waits _ c.loop-caller.invariant (c.in_ok-choice_of.ensures ∙ h.in-Waits.is))
@@ -19,7 +19,7 @@ loop-caller-preserved c =
 
 pub returns-then-waits : goal.returns-then-waits
 returns-then-waits c =
-    let w : World = world_at c.args.site.now c.args.core.now in
+    let w : World = world_at c.args.site.now c.args.state.now.core in
     let all = c.loop-caller-test.false in
     let few = c.loop-caller.auto.caller-end in
     let many = c.len-scripts.ensures in
@@ -27,7 +27,7 @@ returns-then-waits c =
 
 pub returns-else-waits : goal.returns-else-waits
 returns-else-waits c =
-    let w : World = world_at c.args.site.now c.args.core.now in
+    let w : World = world_at c.args.site.now c.args.state.now.core in
     let all = c.loop-caller-test.false in
     let few = c.loop-caller.auto.caller-end in
     let many = c.len-scripts.ensures in

@@ -8,4 +8,4 @@ returns c =
     let all = c.loop-i-test.false in
     let few = c.loop-i.auto.i-end in
     let many = c.len-scripts.ensures in
-    all_lines (world_at c.args.site.now c.args.core.now) c.loop-i.i c.loop-i.lines (omega arith) c.loop-i.invariant
+    all_lines (world_at c.args.site.now c.args.state.now.core) c.loop-i.i c.loop-i.lines (omega arith) c.loop-i.invariant

@@ -15,12 +15,12 @@ loop-word-preserved c =
     let words = c.args.words.now in
     let i = c.loop-word.word-index in
     ap (λ (found : List FoundValue). with_front (map given_of found) (each located_value (seen (drop (i + 1) words)))) c.in_ok-push-in-Some.ensures.ok
-    ∙ ap (λ (found : List GivenValue). with_front found (each located_value (seen (drop (i + 1) words)))) (map-append given_of c.loop-word.found (c.in-Some.value ∷ []))
-    ∙ value_more words i _ (map given_of c.loop-word.found) (given_of c.in-Some.value) c.loop-word-test.true
+    ∙ ap (λ (found : List GivenValue). with_front found (each located_value (seen (drop (i + 1) words)))) (map-append given_of c.loop-word.found.items (c.in-Some.value ∷ []))
+    ∙ value_more words i _ (map given_of c.loop-word.found.items) (given_of c.in-Some.value) c.loop-word-test.true
     (ap (option_map given_of) (sym c.in-Some.is) ∙ c.located_value.ensures)
     ∙ c.loop-word.invariant
 
 pub returns-in-None : goal.returns-in-None
 returns-in-None c =
-    sym (value_none c.args.words.now c.loop-word.word-index _ (map given_of c.loop-word.found) c.loop-word-test.true (ap (option_map given_of) (sym c.in-None.is) ∙ c.located_value.ensures))
+    sym (value_none c.args.words.now c.loop-word.word-index _ (map given_of c.loop-word.found.items) c.loop-word-test.true (ap (option_map given_of) (sym c.in-None.is) ∙ c.located_value.ensures))
     ∙ c.loop-word.invariant

@@ -7,4 +7,4 @@ use Rattle.machine_model.specs.Found.{given_of}
 use Rattle.machine_model.proofs.locator.given_values.Given as goal
 
 abbrev pub invariant-loop-word : goal.invariant-loop-word
-invariant-loop-word l = with_front (map given_of l.found) (each located_value (seen (drop l.word-index l.words))) ≡ each located_value (seen l.words)
+invariant-loop-word l = with_front (map given_of l.found.items) (each located_value (seen (drop l.word-index l.words))) ≡ each located_value (seen l.words)

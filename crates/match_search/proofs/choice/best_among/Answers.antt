@@ -5,14 +5,14 @@ use Rattle.match_search.proofs.choice.best_among.Goals as goal
 pub returns-then-parent_offers : goal.returns-then-parent_offers
 returns-then-parent_offers c = λ index is same.
     ap Some c.from.ensures ∙ sym c.in-Some.is ∙ c.first_open.ensures ∙ same
-    ∙ listed_is c.args.tables.now c.args.machine.now c.args.live.now c.args.parent c.args.place c.args.spot index is
+    ∙ listed_is c.args.among.now.tables.now c.args.among.now.machine.now c.args.among.now.live.now c.args.at.parent c.args.at.place c.args.at.spot index is
     (sym c.hangs_at.ensures ∙ c.if-not-hangs_at.false) (sym c.parent_offers.ensures ∙ c.if-parent_offers.true)
 
 pub returns-else-parent_offers : goal.returns-else-parent_offers
 returns-else-parent_offers c = λ index is same.
-    none_offered c.args.tables.now c.args.machine.now c.args.live.now c.args.parent c.args.place c.args.spot (sym c.parent_offers.ensures ∙ c.if-parent_offers.false)
+    none_offered c.args.among.now.tables.now c.args.among.now.machine.now c.args.among.now.live.now c.args.at.parent c.args.at.place c.args.at.spot (sym c.parent_offers.ensures ∙ c.if-parent_offers.false)
 
 pub returns-in-None : goal.returns-in-None
 returns-in-None c = λ index is same.
-    none_open c.args.tables.now c.args.machine.now c.args.live.now c.args.parent c.args.place c.args.spot index is
+    none_open c.args.among.now.tables.now c.args.among.now.machine.now c.args.among.now.live.now c.args.at.parent c.args.at.place c.args.at.spot index is
     (sym c.hangs_at.ensures ∙ c.if-not-hangs_at.false) (sym same ∙ sym c.first_open.ensures ∙ c.in-None.is)

@@ -3,4 +3,4 @@ use Rattle.match_search.specs.Best.{may_take, worth}
 use Rattle.match_search.proofs.choice.best_of_all.Given as goal
 
 abbrev pub invariant-loop-row : goal.invariant-loop-row
-invariant-loop-row l = IsBest (may_take l.tables l.machine l.live l.parent l.place l.spot) (λ q. worth l.tables l.machine q l.spot) l.row l.best
+invariant-loop-row l = IsBest (may_take l.among.tables.now l.among.machine.now l.among.live.now l.at.parent l.at.place l.at.spot) (λ q. worth l.among.tables.now l.among.machine.now q l.at.spot) l.row l.best

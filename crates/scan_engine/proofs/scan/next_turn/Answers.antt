@@ -4,8 +4,8 @@ use Rattle.scan_engine.proofs.scan.next_turn.Goals as goal
 
 pub returns-clause-turn : goal.returns-clause-turn
 returns-clause-turn c =
-    found_is c.args.tables.now c.args.machine.now c.args.device c.args.attach c.args.spot c.args.only c.args.from c.scan_turn.result c.requires.few_offered c.scan_turn.ensures
+    found_is c.args.on.now.tables.now c.args.on.now.machine.now c.args.by.device c.args.by.attach c.args.by.children.spot c.args.only c.args.from c.scan_turn.result c.requires.fit.few_offered c.scan_turn.ensures
 
 pub returns-clause-forward : goal.returns-clause-forward
 returns-clause-forward c =
-    found_forward (turns_of c.args.tables.now c.args.machine.now c.args.device c.args.attach c.args.spot c.args.only) c.args.from c.scan_turn.result c.scan_turn.ensures
+    found_forward (turns_of c.args.on.now.tables.now c.args.on.now.machine.now c.args.by.device c.args.by.attach c.args.by.children.spot c.args.only) c.args.from c.scan_turn.result c.scan_turn.ensures

@@ -5,5 +5,5 @@ use Rattle.scan_engine.proofs.scan.place_turn.Goals as goal
 
 pub returns : goal.returns
 returns c =
-    bus_from c.args.machine.now (length c.args.tables.now.rows) (is_bus_indirect c.args.machine.now c.args.attach c.args.place) c.args.spot (c.args.attr, c.args.place) c.args.from c.requires.late
-    ∙ (rw (c.begin.ensures, c.is_indirect.ensures c.args.machine.now c.requires.styles, c.len.ensures) at c.bus_turn.ensures)
+    bus_from c.args.on.now.machine.now (length c.args.on.now.tables.now.rows) (is_bus_indirect c.args.on.now.machine.now c.args.by.attach c.args.place) c.args.by.children.spot (c.args.attr, c.args.place) c.args.from c.requires.late
+    ∙ (rw (c.begin.ensures, c.is_indirect.ensures c.args.on.now.machine.now c.requires.fit.styles, c.len.ensures) at c.bus_turn.ensures)

@@ -6,4 +6,4 @@ use Rattle.scan_engine.proofs.scan.root_turn.Goals as goal
 
 pub returns-then-from-gt0 : goal.returns-then-from-gt0
 returns-then-from-gt0 c =
-    bus_before c.args.machine.now (length c.args.tables.now.rows) (is_bus_indirect c.args.machine.now c.args.attach Root) c.args.spot (0, Root) c.args.from (omega arith)
+    bus_before c.args.on.now.machine.now (length c.args.on.now.tables.now.rows) (is_bus_indirect c.args.on.now.machine.now c.args.by.attach Root) c.args.by.children.spot (0, Root) c.args.from (omega arith)

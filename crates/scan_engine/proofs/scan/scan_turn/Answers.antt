@@ -18,4 +18,4 @@ pub returns-in-None-device : goal.returns-in-None-device
 unfolding turns_of places_of
 returns-in-None-device c =
     rw (c.in-None.is, c.in-None-device.is)
-    (ap (λ ts. first_from ts c.args.from) (append-nil (place_turns c.args.tables.now c.args.machine.now c.args.attach c.args.spot (0, Root))) ∙ c.root_turn.ensures)
+    (ap (λ ts. first_from ts c.args.from) (append-nil (place_turns c.args.on.now.tables.now c.args.on.now.machine.now c.args.by.attach c.args.by.children.spot (0, Root))) ∙ c.root_turn.ensures)

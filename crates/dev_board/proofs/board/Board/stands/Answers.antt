@@ -9,19 +9,19 @@ pub returns-clause-names : goal.returns-clause-names
 returns-clause-names c =
     let b = c.self.inside in
     let kept = c.self.invariant in
-    rw (← c.self.view_is) (names_own b.site.setup b.core.tree.live (formed_devices b.site.setup.tables kept.may.tables) kept.kept.ranges.devices.rows kept.kept.ranges.devices.units kept.kept.sound.devices.apart)
+    rw (← c.self.view_is) (names_own b.site.setup b.state.core.tree.live (formed_devices b.site.setup.tables kept.may.tables) kept.kept.ranges.devices.rows kept.kept.ranges.devices.units kept.kept.sound.devices.apart)
 
 pub returns-clause-reliable : goal.returns-clause-reliable
 returns-clause-reliable c =
     let b = c.self.inside in
     let kept = c.self.invariant in
-    rw (← c.self.view_is) (always_reliable b.site.setup b.core.events.items (world_of b.site.setup b.core) kept.may kept.run)
+    rw (← c.self.view_is) (always_reliable b.site.setup b.state.events.items (world_of b.site.setup b.state.core) kept.may kept.run)
 
 pub returns-clause-thorough : goal.returns-clause-thorough
 returns-clause-thorough c =
     let b = c.self.inside in
     let kept = c.self.invariant in
-    rw (← c.self.view_is) (thorough b.site.setup b.core.events.items (world_of b.site.setup b.core) kept.may kept.run)
+    rw (← c.self.view_is) (thorough b.site.setup b.state.events.items (world_of b.site.setup b.state.core) kept.may kept.run)
 
 pub returns-clause-spots : goal.returns-clause-spots
 returns-clause-spots c = rw (← c.self.view_is) c.self.invariant.kept.ranges.devices.spots

@@ -25,5 +25,5 @@ returns-clause-told c =
     let b = c.self.inside in
     let kept = c.self.invariant in
     rw (← c.self.view_is)
-    (told_lines (tree_lines (world_of b.site.setup b.core)) b.core.events.items c.tree_of.result
-    (tree_always b.site.setup b.core.events.items (world_of b.site.setup b.core) kept.may kept.run) c.tree_of.ensures)
+    (told_lines (tree_lines (world_of b.site.setup b.state.core)) b.state.events.items c.tree_of.result
+    (tree_always b.site.setup b.state.events.items (world_of b.site.setup b.state.core) kept.may kept.run) c.tree_of.ensures)

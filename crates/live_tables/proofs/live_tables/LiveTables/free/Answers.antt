@@ -21,7 +21,7 @@ invariant_of-self c =
     rw c.free.ensures (record {
       kept = record {
         sound = sound_without r.site r.world d.serial kept.sound bare;
-        rows = marks_gone s r.world.live d.serial d c.self.inside.rows c.set_rows.new.rows kept.sound.devices.apart at kept.rows (rw c.driver_of-driver.ensures at c.set_rows.ensures);
+        rows = marks_gone s r.world.live d.serial d c.self.inside.rows c.set.new.rows kept.sound.devices.apart at kept.rows (rw c.driver_of-driver.ensures at c.set.ensures);
         units = units_gone s r.world.live d.serial d c.self.inside.units c.give.new.self kept.sound.devices.apart at kept.units (rw c.driver_of-driver.ensures at c.give.ensures);
         drivers = drivers_without s c.self.inside.tree d.serial kept.drivers;
         groups = kept.groups;

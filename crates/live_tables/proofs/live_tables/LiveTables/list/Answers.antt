@@ -49,7 +49,7 @@ invariant_of-self-2 c =
     rw (tree, unit) (record {
       kept = record {
         sound = sound_attached r.site r.world p x c.args.row kept.sound may.known may.free may.on may.unit may.row;
-        rows = more_marks r.site.setup r.world.live d c.self.inside.rows c.set_rows.new.rows kept.rows (rw (c.driver_of-driver.ensures, unit) at c.set_rows.ensures);
+        rows = more_marks r.site.setup r.world.live d c.self.inside.rows c.set.new.rows kept.rows (rw (c.driver_of-driver.ensures, unit) at c.set.ensures);
         units = more_units r.site.setup r.world.live d c.self.inside.units c.take.new.self kept.units (rw (c.driver_of-driver.ensures, unit) at c.in_ok-take.ensures.ok);
         drivers = rw (kept.drivers, c.driver_of-driver.ensures, map-append (λ (e : Dev). driver_of r.site.setup e.row) r.world.live (d ∷ [])) refl;
         groups = kept.groups;

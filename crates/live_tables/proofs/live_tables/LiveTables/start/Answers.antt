@@ -5,11 +5,8 @@ use Rattle.run_rules.specs.World.{setup_of}
 use Rattle.run_world.proofs.InputLaws.{bounded}
 use Rattle.live_tables.proofs.live_tables.LiveTables.start.Goals as goal
 
-pub make-requires-clause-graph : goal.make-requires-clause-graph
-make-requires-clause-graph c = c.requires.tables.graph
-
-pub make-requires-clause-bounded : goal.make-requires-clause-bounded
-make-requires-clause-bounded c =
+pub make-requires : goal.make-requires
+make-requires c =
     rw c.make-scripts.ensures
     (bounded (setup_of c.args.tables c.args.machine []) (record { tables = c.requires.tables; machine = c.requires.machine; few_scripts = omega arith; short_scripts = tt }))
 

@@ -1,0 +1,1 @@
+pub use Rattle.attr_graph.specs.Graphs

@@ -1,5 +1,0 @@
-use Rattle.match_search.proofs.IndexLaws.{IsIndexedTo, items_of}
-use Rattle.match_search.proofs.index.RowIndex.make.Given as goal
-
-abbrev pub invariant-loop-number : goal.invariant-loop-number
-invariant-loop-number l = IsIndexedTo l.tables l.machine l.number (items_of l.lists.items)
