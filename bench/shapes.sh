@@ -242,6 +242,46 @@ deep_power() {
     turns_of_each "$1"
 }
 
+# A bus of 400 disks that is put to sleep and woken, and ten chains of 60 buses that came later and stay awake, n turns.
+awake_chains() {
+    bus 'attach bus at bus with bus_bus' 'bus1 at root' 'bus* at bus? slot 1' 'disk* at bus0 slot 0' >conf
+    awk -v n="$1" 'BEGIN {
+        print "spot a root root\nspot b root root\nmatch bus * 1\nmatch bus_bus * 1\nmatch disk * 1" >"mach"
+        for (i = 0; i < 400; i++) print "spot d" i " a bus slot=0" >"mach"
+        for (c = 0; c < 10; c++) for (i = 1; i <= 60; i++) print "spot s" c "x" i " " (i == 1 ? "b" : "s" c "x" i - 1) " bus slot=1" >"mach"
+        for (i = 0; i < 250; i++) print "suspend bus0\nresumetree bus0" >"script1"
+    }'
+    turns "$1"
+}
+
+# Sixteen scripts attach chains of 60 buses by turns; then one after the other puts a bus of 60 disks to sleep and wakes it, n turns.
+awake_chains_by_turns() {
+    bus 'attach bus at bus with bus_bus' 'bus1 at root' 'bus* at bus? slot 1' 'disk* at bus0 slot 0' >conf
+    awk -v n="$1" 'BEGIN {
+        print "spot a root root\nspot b root root\nmatch bus * 1\nmatch bus_bus * 1\nmatch disk * 1" >"mach"
+        for (i = 0; i < 60; i++) print "spot d" i " a bus slot=0" >"mach"
+        for (c = 1; c <= 16; c++) for (i = 1; i <= 60; i++)
+            print "spot s" c "x" i " " (i == 1 ? "b" : "s" c "x" i - 1) " bus slot=1" (i == 2 ? " absent" : "") >"mach"
+        for (c = 1; c <= 16; c++) print "plug s" c "x2\nrescan bus" c + 1 >("script" c)
+        for (c = 1; c <= 16; c++) for (i = 0; i < 249; i++) print "suspend bus0\nresumetree bus0" >("script" c)
+        for (i = 0; i < 123; i++) print "1 2 3 4 5 6 7 8 9 10 11 12 13 14 15 16" >"order"
+        for (i = 0; i < n; i++) print int(i / 32000) + 1 >"order"
+    }'
+}
+
+# A chain of 60 buses below a bus with 900 disks that stay asleep; one script after the other wakes and suspends its lower half, n turns.
+sleeping_disks() {
+    bus 'attach bus at bus with bus_bus' 'bus* at bus? slot 1' 'disk* at bus0 slot 0' >conf
+    awk -v n="$1" 'BEGIN {
+        print "spot a root root\nmatch bus * 1\nmatch bus_bus * 1\nmatch disk * 1" >"mach"
+        for (i = 0; i < 900; i++) print "spot d" i " a bus slot=0" >"mach"
+        for (i = 1; i <= 60; i++) print "spot s" i " " (i == 1 ? "a" : "s" i - 1) " bus slot=1" >"mach"
+        for (c = 1; c <= 16; c++) print "suspend bus0" >("script" c)
+        for (c = 1; c <= 16; c++) for (i = 0; i < 249; i++) print "resumetree bus31\nsuspend bus31" >("script" c)
+        for (i = 0; i < n; i++) print int(i / 18000) + 1 >"order"
+    }'
+}
+
 # 490 scans that are put off pin their devices, while another bus with 400 disks, of which the last one may not go, is detached
 # again and again, n turns.
 pins() {
@@ -410,12 +450,12 @@ row() {
         mark = ""
         if ($7 > $4) mark = " SLOW"
         if ($9 - $10 > 300) mark = mark " LARGE"
-        printf "%-18s %-7s %7d %6.2f %6.2f %6.2f %6s %5d %5d%s\n", $1, $2, $3, $5, $6, $7, growth, $9, $10, mark
+        printf "%-21s %-7s %7d %6.2f %6.2f %6.2f %6s %5d %5d%s\n", $1, $2, $3, $5, $6, $7, growth, $9, $10, mark
     }'
 }
 
 wanted=$*
-echo "shape              call          n    n/4    n/2      n growth    MB   out"
+echo "shape                 call          n    n/4    n/2      n growth    MB   out"
 row strings ioconf 500000 1
 row values ioconf 200000 1
 row appends ioconf 200000 1
@@ -441,6 +481,9 @@ row bus_styles play 44000 1
 row equal_indirect play 100000 1
 row equal_direct play 400000 1
 row deep_power play 400000 1
+row awake_chains play 200000 1
+row awake_chains_by_turns play 200000 1
+row sleeping_disks play 200000 1
 row pins play 8000 1
 row rescans replay 8000 1
 row matches replay 50000 1
@@ -457,5 +500,8 @@ row hubs_and_late replay 1000 1
 row equal_indirect replay 100000 1
 row equal_direct replay 100000 1
 row deep_power replay 100000 1
+row awake_chains replay 100000 1
+row awake_chains_by_turns replay 100000 1
+row sleeping_disks replay 100000 1
 row pins replay 8000 1
 row side_by_side drvrun 500 2

@@ -17,7 +17,7 @@ use Rattle.unit_alloc.specs.Taken.{GivenBack}
 use Rattle.match_search.specs.Best.{live_rows}
 use Rattle.dev_tree.proofs.Alike.{SamePlain}
 use Rattle.run_sound.proofs.Callers.{clash}
-use Rattle.deed_effect.specs.Marks.{hits, rows_set}
+use Rattle.match_search.specs.Fixed.{hits, rows_set}
 use Rattle.run_world.specs.UnitsOf.{AreUnitsOf}
 use Rattle.deed_effect.proofs.MarkLaws.{marks_by}
 

@@ -22,7 +22,6 @@ frames_for entries _ = 0
 pub record HasRoom (c : Core) (k : ℕ) (d : Deed) : Type 0 where
   pub frames : frames_for c.deferred d ≤ (state_at c.callers.items k).stack.room
   pub calls : vec_len c.finalisers < vec_capacity c.finalisers
-  pub events : vec_len c.events < vec_capacity c.events
 
 -- the hidden spots, where one is seen from now on
 abbrev pub shown_now : List ℕ → Option ℕ → List ℕ

@@ -1,5 +1,4 @@
 pub mod Agreement
-pub mod Marks
 pub mod Effects
 pub mod Commits
 pub mod Publishing

@@ -2,18 +2,17 @@
 //! config_attach(9).
 ghost use Rattle.std.specs.Prelude.{◌≡◌, ◌≤◌, ◌<◌, ◌-◌, ◌^◌, ℕ, List, IfOk, IfSome, OnOk, OnErr, length, vec_len, vec_capacity};
 ghost use Rattle.run_rules.specs.After as after;
-ghost use Rattle.run_world.specs.Arrivals.{IsListed, MayArrive, StaysAsIs, called_too, put_off_too, state_at};
+ghost use Rattle.run_world.specs.Arrivals.{IsListed, MayArrive, called_too, put_off_too, state_at};
 ghost use Rattle.run_rules.specs.declared.world.Deferred as entry;
-ghost use Rattle.run_world.specs.View.{Books, SameAside};
+ghost use Rattle.run_world.specs.View.{Books};
 ghost use Rattle.run_world.specs.Sites.{world_at};
 
-use crate::row_liveness::set_rows;
 use cf_types::{Memory, Policy};
 use defer_queue::Deferred;
+use match_search::DriverUnit;
 use run_rules::{Arrival, Key, Placing};
 use run_world::{Core, Site, append, driver_of, is_ended, policy_of};
 use scan_engine::offered;
-use std::alloc::Global;
 
 /// Where the finalizer of a new device goes.
 #[tactic(auto, unfolding(run_rules::specs::After::finaliser_placing))]
@@ -92,7 +91,7 @@ fn list(site: &Site, core: &mut Core, arrival: Arrival, placing: Placing) -> Res
     requires next { core.old.tree.next < 2 ^ 64 - 1 }
     ensures ok { OnOk result (IsListed site.now.setup core.old core.new arrival placing) }
     ensures serial { IfOk result (λ serial. serial ≡ core.old.tree.next) }
-    ensures err { OnErr result (StaysAsIs site.now.setup core.old core.new) }
+    ensures err { OnErr result (world_at site.now core.new ≡ world_at site.now core.old) }
     ensures books { Books site.now.setup core.new }
 {
     let driver = driver_of(&site.setup, arrival.row);
@@ -116,13 +115,12 @@ fn list(site: &Site, core: &mut Core, arrival: Arrival, placing: Placing) -> Res
         arrival.spot,
     ) {
         Ok(serial) => {
-            set_rows(
-                &site.setup.tables,
-                &mut core.rows,
-                driver,
-                arrival.unit,
-                false,
-            );
+            let named = DriverUnit {
+                device: driver,
+                unit: arrival.unit,
+            };
+            site.fixed
+                .set(&site.setup.tables, &mut core.rows, named, false);
             Ok(serial)
         }
         Err(_) => {
@@ -150,7 +148,6 @@ fn call_later(finalisers: &mut Vec<u64>, placing: Placing, serial: u64)
 #[tactic(auto, unfolding(run_rules::specs::After::attached))]
 #[inline(always)]
 pub fn arrive(
-    alloc: Global,
     site: &Site,
     core: &mut Core,
     caller: u8,
@@ -166,7 +163,6 @@ pub fn arrive(
     ensures ok { OnOk result (world_at site.now core.new ≡ after.arrived (world_at site.now core.old) caller got may_defer) }
     ensures err { OnErr result (world_at site.now core.new ≡ world_at site.now core.old) }
     ensures books { Books site.now.setup core.new }
-    ensures aside { SameAside core.old core.new }
 {
     let arrival = match got {
         Some(arrival) => arrival,
@@ -182,6 +178,6 @@ pub fn arrive(
     let scan = scan_placing(policy, offers, core.interrupts_on, may_defer);
     let serial = list(site, core, arrival, scan)?;
     call_later(&mut core.finalisers, finaliser, serial);
-    core.callers[caller as usize].place(alloc, finaliser, scan, serial);
+    core.callers[caller as usize].place(site.alloc, finaliser, scan, serial);
     Ok(())
 }

@@ -8,7 +8,7 @@ ghost use Rattle.run_sound.specs.Kept.{Kept, MayRun};
 ghost use Rattle.scan_engine.specs.Frames.{is_scanning};
 ghost use Rattle.run_world.specs.Arrivals.{MayArrive, state_at};
 ghost use Rattle.deed_effect.specs.Commits.{HasRoom, shown_now, IsAfter};
-ghost use Rattle.run_world.specs.View.{Books, SameAside};
+ghost use Rattle.run_world.specs.View.{Books};
 ghost use Rattle.run_world.specs.Sites.{world_at};
 
 use crate::attach::arrive;
@@ -16,12 +16,10 @@ use crate::effect::do_command;
 use cf_types::Memory;
 use run_rules::{Arrival, Deed, Key, Position};
 use run_world::{Core, Site, SpotSet};
-use std::alloc::Global;
 
 /// A turn of a scan: the scan moves, and what was found is attached.
 #[inline(always)]
 fn search(
-    alloc: Global,
     site: &Site,
     core: &mut Core,
     caller: u8,
@@ -38,11 +36,10 @@ fn search(
     ensures ok { (parent spot : ℕ) → OnOk result (IsAfter site.now core.old caller (deeds.Search parent spot moved got) core.new) }
     ensures err { OnErr result (world_at site.now core.new ≡ world_at site.now core.old) }
     ensures books { Books site.now.setup core.new }
-    ensures aside { SameAside core.old core.new }
 {
     let was = core.callers[caller as usize].position();
     core.callers[caller as usize].advance(moved);
-    if arrive(alloc, site, core, caller, got, true).is_err() {
+    if arrive(site, core, caller, got, true).is_err() {
         core.callers[caller as usize].advance(was);
         return Err(Memory);
     }
@@ -68,41 +65,41 @@ fn goes_again(shown: Option<u16>, anew: bool, pass_repeats: bool) -> bool
     shown.is_some() || (!anew && pass_repeats)
 }
 
-/// A call of a finalizer: the late spot that it found is shown, what a row takes there is attached, and the boot's list
-/// goes on, or the frame is over.
-fn finalise(
-    alloc: Global,
-    site: &Site,
-    core: &mut Core,
-    caller: u8,
+/// A call of a finalizer: the late spot that it found, what a row takes there, and, for one of the boot's list, its place
+/// there and whether a pass begins with it.
+#[derive(Clone, Copy)]
+struct Call {
     shown: Option<u16>,
     got: Option<Arrival>,
     listed: Option<u64>,
     anew: bool,
-) -> Result<(), Memory>
+}
+
+/// A call of a finalizer: the late spot that it found is shown, what a row takes there is attached, and the boot's list
+/// goes on, or the frame is over.
+fn finalise(site: &Site, core: &mut Core, caller: u8, call: Call) -> Result<(), Memory>
     requires books { Books site.now.setup core.old }
     requires caller { caller < length core.old.callers.items }
-    requires may { IfSome got (MayArrive site.now.setup core.old.tree.live) }
+    requires may { IfSome call.got (MayArrive site.now.setup core.old.tree.live) }
     requires next { core.old.tree.next < 2 ^ 64 - 1 }
     requires frame_room { 2 ≤ (state_at core.old.callers.items caller).stack.room }
     requires call_room { vec_len core.old.finalisers < vec_capacity core.old.finalisers }
     requires low { (state_at core.old.callers.items caller).doing ≡ Scans → (state_at core.old.callers.items caller).over < 2 ^ 32 - 1 }
-    requires place { IfSome listed (λ place. place < 2 ^ 64 - 1) }
-    requires frame { listed ≡ None → shown ≡ None → (0 < length (state_at core.old.callers.items caller).stack.frames) × (got ≡ None) }
-    ensures ok { (of : ℕ) → OnOk result (IsAfter site.now core.old caller (deeds.Finalise of shown got listed anew) core.new) }
+    requires place { IfSome call.listed (λ place. place < 2 ^ 64 - 1) }
+    requires frame { call.listed ≡ None → call.shown ≡ None → (0 < length (state_at core.old.callers.items caller).stack.frames) × (call.got ≡ None) }
+    ensures ok { (of : ℕ) → OnOk result (IsAfter site.now core.old caller (deeds.Finalise of call.shown call.got call.listed call.anew) core.new) }
     ensures err { OnErr result (world_at site.now core.new ≡ world_at site.now core.old) }
     ensures books { Books site.now.setup core.new }
-    ensures aside { SameAside core.old core.new }
 {
-    arrive(alloc, site, core, caller, got, false)?;
-    show(&mut core.hidden, shown);
-    match listed {
+    arrive(site, core, caller, call.got, false)?;
+    show(&mut core.hidden, call.shown);
+    match call.listed {
         Some(place) => {
             core.next_finaliser = place + 1;
-            core.pass_repeats = goes_again(shown, anew, core.pass_repeats);
+            core.pass_repeats = goes_again(call.shown, call.anew, core.pass_repeats);
         }
         None => {
-            if shown.is_none() {
+            if call.shown.is_none() {
                 core.callers[caller as usize].leave();
             }
         }
@@ -112,13 +109,7 @@ fn finalise(
 
 /// Does the deed that the caller chose. At `Memory` all is as before.
 #[inline(always)]
-pub fn commit(
-    alloc: Global,
-    site: &Site,
-    core: &mut Core,
-    caller: u8,
-    deed: &Deed,
-) -> Result<(), Memory>
+pub fn commit(site: &Site, core: &mut Core, caller: u8, deed: &Deed) -> Result<(), Memory>
     requires may { MayRun site.now.setup }
     requires books { Books site.now.setup core.old }
     requires kept { Kept (world_at site.now core.old) }
@@ -129,17 +120,16 @@ pub fn commit(
     ensures ok { OnOk result (IsAfter site.now core.old caller deed.now core.new) }
     ensures err { OnErr result (world_at site.now core.new ≡ world_at site.now core.old) }
     ensures books { Books site.now.setup core.new }
-    ensures aside { SameAside core.old core.new }
 {
     match *deed {
-        Deed::Search { moved, got, .. } => search(alloc, site, core, caller, moved, got),
+        Deed::Search { moved, got, .. } => search(site, core, caller, moved, got),
         Deed::EndScan { of } => {
-            core.callers[caller as usize].end_scan(alloc, &mut core.deferred, Key::Parent(of));
+            core.callers[caller as usize].end_scan(site.alloc, &mut core.deferred, Key::Parent(of));
             Ok(())
         }
         Deed::BeginInterrupts => {
             core.interrupts_on = true;
-            core.callers[caller as usize].release(alloc, &mut core.deferred, Key::Interrupts);
+            core.callers[caller as usize].release(site.alloc, &mut core.deferred, Key::Interrupts);
             Ok(())
         }
         Deed::Finalise {
@@ -148,7 +138,15 @@ pub fn commit(
             listed,
             anew,
             ..
-        } => finalise(alloc, site, core, caller, shown, got, listed, anew),
-        _ => do_command(alloc, site, core, caller, deed),
+        } => {
+            let call = Call {
+                shown,
+                got,
+                listed,
+                anew,
+            };
+            finalise(site, core, caller, call)
+        },
+        _ => do_command(site, core, caller, deed),
     }
 }

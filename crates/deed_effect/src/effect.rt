@@ -17,7 +17,7 @@ ghost use Rattle.run_rules.specs.declared.deed.Choice.TheVariants.{Does};
 ghost use Rattle.run_sound.specs.Kept.{Kept, MayRun};
 ghost use Rattle.run_world.specs.Rescans.{IsKnown};
 ghost use Rattle.deed_effect.specs.Effects.{MayDo, is_of_frame, is_plain};
-ghost use Rattle.run_world.specs.View.{world_of, Books, SameAside};
+ghost use Rattle.run_world.specs.View.{world_of, Books};
 ghost use Rattle.run_world.specs.Sites.{world_at};
 ghost use Rattle.deed_effect.specs.Commits.{IsAfter};
 
@@ -25,7 +25,6 @@ use crate::freed::free;
 use cf_types::Memory;
 use run_rules::{Activity, Deed, Frame, Position, PowerKind, Setup};
 use run_world::{Core, Site, begin, begin_scan, finish, given_by, wanted_by};
-use std::alloc::Global;
 
 /// The caller holds a device once more. At `Memory` all is as before.
 fn open(core: &mut Core, caller: u8, of: u64, sole: bool) -> Result<(), Memory>
@@ -36,7 +35,6 @@ fn open(core: &mut Core, caller: u8, of: u64, sole: bool) -> Result<(), Memory>
     ensures ok { OnOk result ((s : from.Setup) → world_of s core.new ≡ rule.after (world_of s core.old) caller (deeds.Open of sole)) }
     ensures err { OnErr result ((s : from.Setup) → world_of s core.new ≡ world_of s core.old) }
     ensures books { (s : from.Setup) → Books s core.old → Books s core.new }
-    ensures aside { SameAside core.old core.new }
 {
     core.refs.grant(of, caller, sole)?;
     finish(core, caller);
@@ -50,7 +48,6 @@ fn close(core: &mut Core, caller: u8, of: u64)
     requires held { world.holds_in core.old.refs.refs caller of ≡ true }
     ensures world { (s : from.Setup) → world_of s core.new ≡ rule.after (world_of s core.old) caller (deeds.Close of) }
     ensures books { (s : from.Setup) → Books s core.old → Books s core.new }
-    ensures aside { SameAside core.old core.new }
 {
     core.refs.give_back(of, caller);
     finish(core, caller);
@@ -62,7 +59,6 @@ fn give_back(core: &mut Core, caller: u8, of: u64)
     requires held { world.holds_in core.old.refs.refs caller of ≡ true }
     ensures world { (s : from.Setup) → world_of s core.new ≡ rule.after (world_of s core.old) caller (deeds.Drop of) }
     ensures books { (s : from.Setup) → Books s core.old → Books s core.new }
-    ensures aside { SameAside core.old core.new }
 {
     core.refs.give_back(of, caller);
 }
@@ -74,7 +70,6 @@ pub fn finish_transfer(core: &mut Core, caller: u8)
     requires low { (state_at core.old.callers.items caller).over < 2 ^ 32 - 1 }
     ensures world { (s : from.Setup) (ticket : Ticket) → world_of s core.new ≡ rule.after (world_of s core.old) caller (deeds.Done ticket) }
     ensures books { (s : from.Setup) → Books s core.old → Books s core.new }
-    ensures aside { SameAside core.old core.new }
 {
     finish(core, caller);
 }
@@ -84,7 +79,6 @@ fn begin_power(core: &mut Core, caller: u8, kind: PowerKind, of: u64)
     requires caller { caller < length core.old.callers.items }
     ensures world { (s : from.Setup) → world_of s core.new ≡ rule.after (world_of s core.old) caller (deeds.BeginPower kind of) }
     ensures books { (s : from.Setup) → Books s core.old → Books s core.new }
-    ensures aside { SameAside core.old core.new }
 {
     core.power_owner = Some(caller);
     begin(core, caller, Activity::Power(kind, of));
@@ -96,7 +90,6 @@ fn end_power(core: &mut Core, caller: u8)
     requires low { (state_at core.old.callers.items caller).over < 2 ^ 32 - 1 }
     ensures world { (s : from.Setup) (end : PowerEnd) → world_of s core.new ≡ rule.after (world_of s core.old) caller (deeds.EndPower end) }
     ensures books { (s : from.Setup) → Books s core.old → Books s core.new }
-    ensures aside { SameAside core.old core.new }
 {
     core.power_owner = None;
     finish(core, caller);
@@ -108,7 +101,6 @@ fn plug(core: &mut Core, caller: u8, spot: u16)
     requires low { (state_at core.old.callers.items caller).over < 2 ^ 32 - 1 }
     ensures world { (s : from.Setup) → world_of s core.new ≡ rule.after (world_of s core.old) caller (deeds.Plug spot) }
     ensures books { (s : from.Setup) → Books s core.old → Books s core.new }
-    ensures aside { SameAside core.old core.new }
 {
     core.absent.remove(spot);
     finish(core, caller);
@@ -120,7 +112,6 @@ fn detach(core: &mut Core, caller: u8, of: u64)
     requires live { IsTrue (world.is_live core.old.tree.live of) }
     ensures world { (s : from.Setup) → world_of s core.new ≡ rule.after (world_of s core.old) caller (deeds.Detach of) }
     ensures books { (s : from.Setup) → Books s core.old → Books s core.new }
-    ensures aside { SameAside core.old core.new }
 {
     core.tree.condemn(of, caller);
     begin(core, caller, Activity::Frees(of));
@@ -132,7 +123,6 @@ fn rest(core: &mut Core, of: u64, asleep: bool)
     requires live { IsTrue (world.is_live core.old.tree.live of) }
     ensures world { (s : from.Setup) → world_of s core.new ≡ rule.marked (world_of s core.old) of asleep }
     ensures books { (s : from.Setup) → Books s core.old → Books s core.new }
-    ensures aside { SameAside core.old core.new }
 {
     core.tree.set_asleep(of, asleep);
 }
@@ -145,7 +135,6 @@ fn unplug(core: &mut Core, caller: u8, spot: u16, of: Option<u64>) -> Result<(),
     ensures ok { OnOk result ((s : from.Setup) → world_of s core.new ≡ rule.after (world_of s core.old) caller (deeds.Unplug spot of)) }
     ensures err { OnErr result ((s : from.Setup) → world_of s core.new ≡ world_of s core.old) }
     ensures books { (s : from.Setup) → Books s core.old → Books s core.new }
-    ensures aside { SameAside core.old core.new }
 {
     core.absent.put_first(spot)?;
     match of {
@@ -170,7 +159,6 @@ fn do_plain(site: &Site, core: &mut Core, caller: u8, deed: &Deed)
     requires plain { is_plain deed.now ≡ true }
     ensures world { IsAfter site.now core.old caller deed.now core.new }
     ensures books { Books site.now.setup core.new }
-    ensures aside { SameAside core.old core.new }
 {
     match *deed {
         Deed::Refuse(_) => finish(core, caller),
@@ -199,7 +187,6 @@ fn do_plain(site: &Site, core: &mut Core, caller: u8, deed: &Deed)
 
 /// A rescan begins. At `Memory` all is as before.
 fn rescan(
-    alloc: Global,
     site: &Site,
     core: &mut Core,
     caller: u8,
@@ -212,10 +199,9 @@ fn rescan(
     ensures ok { OnOk result (IsAfter site.now core.old caller (deeds.Rescan of only) core.new) }
     ensures err { OnErr result (world_at site.now core.new ≡ world_at site.now core.old) }
     ensures books { (s : from.Setup) → Books s core.old → Books s core.new }
-    ensures aside { SameAside core.old core.new }
 {
     let filter = wanted_by(
-        alloc,
+        site.alloc,
         &site.setup,
         given_by(&site.setup, core, caller),
         only,
@@ -238,13 +224,7 @@ fn rescan(
 
 /// Does a deed of a command that the caller chose. At `Memory` all is as before.
 #[inline(always)]
-pub fn do_command(
-    alloc: Global,
-    site: &Site,
-    core: &mut Core,
-    caller: u8,
-    deed: &Deed,
-) -> Result<(), Memory>
+pub fn do_command(site: &Site, core: &mut Core, caller: u8, deed: &Deed) -> Result<(), Memory>
     requires may { MayRun site.now.setup }
     requires books { Books site.now.setup core.old }
     requires kept { Kept (world_at site.now core.old) }
@@ -254,11 +234,10 @@ pub fn do_command(
     ensures ok { OnOk result (IsAfter site.now core.old caller deed.now core.new) }
     ensures err { OnErr result (world_at site.now core.new ≡ world_at site.now core.old) }
     ensures books { Books site.now.setup core.new }
-    ensures aside { SameAside core.old core.new }
 {
     match *deed {
         Deed::Open { of, sole } => open(core, caller, of, sole),
-        Deed::Rescan { of, only } => rescan(alloc, site, core, caller, of, only),
+        Deed::Rescan { of, only } => rescan(site, core, caller, of, only),
         Deed::Unplug { spot, of } => unplug(core, caller, spot, of),
         _ => {
             do_plain(site, core, caller, deed);

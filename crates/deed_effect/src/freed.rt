@@ -6,11 +6,11 @@ ghost use Rattle.run_rules.specs.World as world;
 ghost use Rattle.run_world.specs.Arrivals.{state_at};
 ghost use Rattle.run_rules.specs.Sound.{HasSoundDevices};
 ghost use Rattle.run_world.specs.Events.{HaveRows};
-ghost use Rattle.run_world.specs.View.{Books, SameAside};
+ghost use Rattle.run_world.specs.View.{Books};
 ghost use Rattle.run_world.specs.Sites.{world_at};
 ghost use Rattle.deed_effect.specs.Commits.{IsAfter};
 
-use crate::row_liveness::set_rows;
+use match_search::DriverUnit;
 use run_rules::Activity;
 use run_world::{Core, Site, driver_of, finish};
 
@@ -24,20 +24,18 @@ fn free_device(site: &Site, core: &mut Core, of: u64)
     ensures world { world_at site.now core.new ≡ rule.freed (world_at site.now core.old) of }
     ensures callers { core.new.callers ≡ core.old.callers }
     ensures books { Books site.now.setup core.new }
-    ensures aside { SameAside core.old core.new }
 {
     match core.tree.get(of) {
         Some(device) => {
             let driver = driver_of(&site.setup, device.row);
             core.units.give(driver, device.unit);
             core.tree.free(of);
-            set_rows(
-                &site.setup.tables,
-                &mut core.rows,
-                driver,
-                device.unit,
-                true,
-            );
+            let named = DriverUnit {
+                device: driver,
+                unit: device.unit,
+            };
+            site.fixed
+                .set(&site.setup.tables, &mut core.rows, named, true);
         }
         None => unreachable!(),
     }
@@ -65,7 +63,6 @@ pub fn free(site: &Site, core: &mut Core, caller: u8, of: u64)
     requires low { (state_at core.old.callers.items caller).over < 2 ^ 32 - 1 }
     ensures world { IsAfter site.now core.old caller (deed.Free of) core.new }
     ensures books { Books site.now.setup core.new }
-    ensures aside { SameAside core.old core.new }
 {
     let is_over = is_target(core.callers[caller as usize].doing, of);
     free_device(site, core, of);

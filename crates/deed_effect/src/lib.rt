@@ -5,7 +5,6 @@ mod attach;
 mod commit;
 mod effect;
 mod freed;
-mod row_liveness;
 mod slots;
 
 pub use effect::finish_transfer;

@@ -13,7 +13,7 @@ ghost use Rattle.run_world.specs.Arrivals as arrivals;
 ghost use Rattle.deed_effect.specs.Publishing.{SlotReady, published};
 ghost use Rattle.run_rules.specs.World as world;
 ghost use Rattle.deed_effect.specs.Agreement.{slots_of};
-ghost use Rattle.run_world.specs.View.{Books, SameAside};
+ghost use Rattle.run_world.specs.View.{Books};
 ghost use Rattle.run_world.specs.Sites.{world_at};
 
 use crate::commit::commit;
@@ -22,7 +22,6 @@ use dev_tree::DevTree;
 use ref_ledger::{Bury, Slots};
 use run_rules::{Arrival, Deed, Wait};
 use run_world::{Core, Site};
-use std::alloc::Global;
 
 /// Why a deed was not done: memory ran out, or its caller waits.
 #[derive(Clone, Copy)]
@@ -106,10 +105,10 @@ pub fn free_with<S: Slots>(
     ensures freed { OnOk result (IsAfter site.now core.old caller (deeds.Free of) core.new) }
     ensures quiet { OnOk result ((S.denials slots.new ≡ S.denials slots.old) × (S.last_denial slots.new ≡ S.last_denial slots.old)) }
     ensures same { OnErr result (world_at site.now core.new ≡ world_at site.now core.old) }
-    ensures halt { IfErr result (λ why. HaltIs core.old.tree.live (deeds.Free of) (S.denials slots.old) (S.last_denial slots.old) why (S.denials slots.new) (S.last_denial slots.new)) }
+    ensures halt { IfErr result (λ why. HaltIs core.old.tree.live (deeds.Free of)
+        (S.denials slots.old) (S.last_denial slots.old) why (S.denials slots.new) (S.last_denial slots.new)) }
     ensures agree { S.states slots.new ≡ slots_of (world_at site.now core.new) }
     ensures books { Books site.now.setup core.new }
-    ensures aside { SameAside core.old core.new }
 {
     match core.tree.get(of) {
         Some(device) => match bury_slot(slots, device.spot) {
@@ -180,7 +179,6 @@ fn publish<S: Slots>(slots: &mut S, got: Option<Arrival>)
 /// `Memory` all is as before.
 #[inline(always)]
 fn do_with<S: Slots>(
-    alloc: Global,
     site: &Site,
     core: &mut Core,
     caller: u8,
@@ -200,11 +198,11 @@ fn do_with<S: Slots>(
     ensures same { OnErr result (world_at site.now core.new ≡ world_at site.now core.old) }
     ensures agree { S.states slots.new ≡ slots_of (world_at site.now core.new) }
     ensures quiet { OnOk result ((S.denials slots.new ≡ S.denials slots.old) × (S.last_denial slots.new ≡ S.last_denial slots.old)) }
-    ensures halt { IfErr result (λ why. HaltIs core.old.tree.live deed.now (S.denials slots.old) (S.last_denial slots.old) why (S.denials slots.new) (S.last_denial slots.new)) }
+    ensures halt { IfErr result (λ why. HaltIs core.old.tree.live deed.now
+        (S.denials slots.old) (S.last_denial slots.old) why (S.denials slots.new) (S.last_denial slots.new)) }
     ensures books { Books site.now.setup core.new }
-    ensures aside { SameAside core.old core.new }
 {
-    match commit(alloc, site, core, caller, deed) {
+    match commit(site, core, caller, deed) {
         Ok(()) => {
             publish(slots, got_of(deed));
             condemn_too(slots, site, core, condemned_by(deed));
@@ -218,7 +216,6 @@ fn do_with<S: Slots>(
 /// is to be freed, and nothing changes except the denials.
 #[inline(always)]
 pub fn run_deed<S: Slots>(
-    alloc: Global,
     site: &Site,
     core: &mut Core,
     caller: u8,
@@ -236,13 +233,13 @@ pub fn run_deed<S: Slots>(
     ensures done { OnOk result (IsAfter site.now core.old caller deed.now core.new) }
     ensures quiet { OnOk result ((S.denials slots.new ≡ S.denials slots.old) × (S.last_denial slots.new ≡ S.last_denial slots.old)) }
     ensures same { OnErr result (world_at site.now core.new ≡ world_at site.now core.old) }
-    ensures halt { IfErr result (λ why. HaltIs core.old.tree.live deed.now (S.denials slots.old) (S.last_denial slots.old) why (S.denials slots.new) (S.last_denial slots.new)) }
+    ensures halt { IfErr result (λ why. HaltIs core.old.tree.live deed.now
+        (S.denials slots.old) (S.last_denial slots.old) why (S.denials slots.new) (S.last_denial slots.new)) }
     ensures agree { S.states slots.new ≡ slots_of (world_at site.now core.new) }
     ensures books { Books site.now.setup core.new }
-    ensures aside { SameAside core.old core.new }
 {
     match *deed {
         Deed::Free { of } => free_with(site, core, caller, of, slots),
-        _ => do_with(alloc, site, core, caller, deed, slots),
+        _ => do_with(site, core, caller, deed, slots),
     }
 }

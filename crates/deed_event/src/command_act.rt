@@ -289,7 +289,8 @@ pub fn power_end_act(
     requires live { EndsLive core.now.tree.live end }
     requires caller { caller < length core.now.callers.items }
     requires power { option_map_or next.is_power (next.command_of (world_of setup.now core.now) caller) false ≡ true }
-    ensures { IfOk result (λ a. a ≡ act.PowerEnd (run.power_name (next.command_of (world_of setup.now core.now) caller)) (run.end_of (world_of setup.now core.now) end)) }
+    ensures { IfOk result (λ a. a
+        ≡ act.PowerEnd (run.power_name (next.command_of (world_of setup.now core.now) caller)) (run.end_of (world_of setup.now core.now) end)) }
 {
     match command_of(setup, core, caller) {
         Some(said) => {

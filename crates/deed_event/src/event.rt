@@ -143,7 +143,8 @@ fn attached(
     requires names { HaveNames setup.now core.old }
     requires spot { spot < length setup.now.machine.spots }
     requires row { arrival.row < length setup.now.tables.rows }
-    ensures act { IfOk result (λ a. a ≡ act.Found (parent_name setup.now core.old.tree.live parent) (run.spot_name setup.now spot) (run.got_of setup.now (Some arrival))) }
+    ensures act { IfOk result (λ a. a
+        ≡ act.Found (parent_name setup.now core.old.tree.live parent) (run.spot_name setup.now spot) (run.got_of setup.now (Some arrival))) }
     ensures aside { TellsAside setup.now core.old core.new }
 {
     let parent = parent_name(alloc, setup, core, parent)?;

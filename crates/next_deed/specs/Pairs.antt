@@ -17,7 +17,8 @@ at_pair t r x = record { at = record { attr = t.at.attr; row = r; spot = x }; pl
 -- between a turn and a later position no turn of its bus is due
 abbrev pub IsIdle : Site → Core → ℕ → List Wanted → Option ℕ → Turn → Position → Type 0
 IsIdle site c p filter parent t next =
-    (r x : ℕ) → x < length site.setup.machine.spots → is_child site.setup.machine parent t.place x ≡ true → is_before t.at (at_pair t r x).at ≡ true → is_before (at_pair t r x).at next ≡ true
+    (r x : ℕ) → x < length site.setup.machine.spots → is_child site.setup.machine parent t.place x ≡ true
+    → is_before t.at (at_pair t r x).at ≡ true → is_before (at_pair t r x).at next ≡ true
     → is_due_at site c p filter (at_pair t r x) ≡ false
 
 -- where a spot is due on the bus of a turn: the row that takes it

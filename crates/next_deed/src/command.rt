@@ -16,9 +16,9 @@ ghost use Rattle.run_world.specs.Sites.{world_at};
 use crate::hindered::in_the_way;
 use crate::rescan::plan_search;
 use cf_types::{Command, Given, Memory, Name, Ticket};
+use detach_engine::Detachment;
 use run_rules::{Deed, Dev, PowerKind, Refusal, Setup};
 use run_world::{Core, Site, device_named, spot_named};
-use std::alloc::Global;
 
 /// The device of a name, unless it is condemned.
 fn device_not_condemned(setup: &Setup, core: &Core, name: &[u8]) -> Result<Dev, Refusal>
@@ -107,25 +107,31 @@ fn is_bad(setup: &Setup, spot: u16) -> bool
     }
 }
 
-/// A transfer is asked for, by the command of this number.
+/// A command of a caller: who gives it, and its number.
+#[derive(Clone, Copy)]
+struct Asker {
+    caller: u8,
+    number: u32,
+}
+
+/// A transfer is asked for.
 #[tactic(auto, unfolding(run_rules::specs::Next::command_deed))]
 fn plan_io(
     setup: &Setup,
     core: &Core,
-    caller: u8,
-    number: u32,
+    asker: Asker,
     name: &[u8],
     value: u32,
 ) -> Result<Deed, Refusal>
-    ensures { command_deed (world_of setup.now core.now) caller number (command.Io name.now value) ≡ or_refused (λ deed. deed) result }
+    ensures { command_deed (world_of setup.now core.now) asker.caller asker.number (command.Io name.now value) ≡ or_refused (λ deed. deed) result }
 {
-    let device = held_device(setup, core, caller, name)?;
+    let device = held_device(setup, core, asker.caller, name)?;
     if device.asleep {
         return Err(Refusal::Asleep);
     }
     Ok(Deed::Start(Ticket {
-        caller,
-        number,
+        caller: asker.caller,
+        number: asker.number,
         serial: device.serial,
         slot: device.spot,
         bad: is_bad(setup, device.spot),
@@ -170,20 +176,12 @@ fn plan_plug(setup: &Setup, name: &[u8]) -> Result<Deed, Refusal>
 }
 
 /// The deed, unless a device keeps the target's subtree from going.
-fn if_free(
-    alloc: Global,
-    setup: &Setup,
-    core: &Core,
-    caller: u8,
-    target: u64,
-    forced: bool,
-    deed: Deed,
-) -> Result<Deed, Memory>
-    requires kept { Kept (world_of setup.now core.now) }
-    requires live { IsTrue (is_live core.now.tree.live target) }
-    ensures { IfOk result (λ does. unless_hindered (world_of setup.now core.now) caller target forced deed ≡ does) }
+fn if_free(site: &Site, core: &Core, going: Detachment, deed: Deed) -> Result<Deed, Memory>
+    requires kept { Kept (world_at site.now core.now) }
+    requires live { IsTrue (is_live core.now.tree.live going.target) }
+    ensures { IfOk result (λ does. unless_hindered (world_at site.now core.now) going.caller going.target going.forced deed ≡ does) }
 {
-    match in_the_way(alloc, setup, core, caller, target, forced)? {
+    match in_the_way(site, core, going)? {
         Some(other) => Ok(Deed::Refuse(Refusal::Busy(other))),
         None => Ok(deed),
     }
@@ -191,35 +189,28 @@ fn if_free(
 
 /// A device is to go with all that is below it.
 #[tactic(auto, unfolding(run_rules::specs::Next::command_deed))]
-fn plan_detach(
-    alloc: Global,
-    setup: &Setup,
-    core: &Core,
-    caller: u8,
-    name: &[u8],
-) -> Result<Deed, Memory>
-    requires kept { Kept (world_of setup.now core.now) }
-    ensures { (number : ℕ) → IfOk result (λ does. command_deed (world_of setup.now core.now) caller number (command.Detach name.now) ≡ does) }
+fn plan_detach(site: &Site, core: &Core, caller: u8, name: &[u8]) -> Result<Deed, Memory>
+    requires kept { Kept (world_at site.now core.now) }
+    ensures { (number : ℕ) → IfOk result (λ does. command_deed (world_at site.now core.now) caller number (command.Detach name.now) ≡ does) }
 {
-    match device_not_condemned(setup, core, name) {
+    match device_not_condemned(&site.setup, core, name) {
         Err(why) => Ok(Deed::Refuse(why)),
         Ok(device) => {
             let deed = Deed::Detach { of: device.serial };
-            if_free(alloc, setup, core, caller, device.serial, false, deed)
+            let going = Detachment {
+                target: device.serial,
+                caller,
+                forced: false,
+            };
+            if_free(site, core, going, deed)
         }
     }
 }
 
 /// Hardware goes from a spot, with the device on it.
-fn plan_unplug(
-    alloc: Global,
-    setup: &Setup,
-    core: &Core,
-    caller: u8,
-    spot: u16,
-) -> Result<Deed, Memory>
-    requires kept { Kept (world_of setup.now core.now) }
-    ensures { IfOk result (λ does. unplugging (world_of setup.now core.now) caller spot ≡ does) }
+fn plan_unplug(site: &Site, core: &Core, caller: u8, spot: u16) -> Result<Deed, Memory>
+    requires kept { Kept (world_at site.now core.now) }
+    ensures { IfOk result (λ does. unplugging (world_at site.now core.now) caller spot ≡ does) }
 {
     match core.tree.on_spot(spot) {
         None => Ok(Deed::Unplug { spot, of: None }),
@@ -228,7 +219,12 @@ fn plan_unplug(
                 spot,
                 of: Some(serial),
             };
-            if_free(alloc, setup, core, caller, serial, true, deed)
+            let going = Detachment {
+                target: serial,
+                caller,
+                forced: true,
+            };
+            if_free(site, core, going, deed)
         }
     }
 }
@@ -242,7 +238,8 @@ fn plan_rescan(
     given: &[Given],
 ) -> Result<Deed, Refusal>
     requires { Kept (world_at site.now core.now) }
-    ensures { on_device (world_at site.now core.now) name.now (λ d. rescanning (world_at site.now core.now) d attr.now given.now) ≡ or_refused (λ deed. deed) result }
+    ensures { on_device (world_at site.now core.now) name.now (λ d. rescanning (world_at site.now core.now) d attr.now given.now)
+        ≡ or_refused (λ deed. deed) result }
 {
     let device = device_not_condemned(&site.setup, core, name)?;
     plan_search(site, core, device, attr, given)
@@ -250,20 +247,14 @@ fn plan_rescan(
 
 /// Hardware goes from the spot of a name.
 #[tactic(auto, unfolding(run_rules::specs::Next::command_deed))]
-fn plan_pull(
-    alloc: Global,
-    setup: &Setup,
-    core: &Core,
-    caller: u8,
-    name: &[u8],
-) -> Result<Deed, Memory>
-    requires few { length setup.now.machine.spots ≤ 1024 }
-    requires kept { Kept (world_of setup.now core.now) }
-    ensures { (number : ℕ) → IfOk result (λ does. command_deed (world_of setup.now core.now) caller number (command.Unplug name.now) ≡ does) }
+fn plan_pull(site: &Site, core: &Core, caller: u8, name: &[u8]) -> Result<Deed, Memory>
+    requires few { length site.now.setup.machine.spots ≤ 1024 }
+    requires kept { Kept (world_at site.now core.now) }
+    ensures { (number : ℕ) → IfOk result (λ does. command_deed (world_at site.now core.now) caller number (command.Unplug name.now) ≡ does) }
 {
-    match spot_named(setup, name) {
+    match spot_named(&site.setup, name) {
         None => Ok(Deed::Refuse(Refusal::NoSpot)),
-        Some(spot) => plan_unplug(alloc, setup, core, caller, spot),
+        Some(spot) => plan_unplug(site, core, caller, spot),
     }
 }
 
@@ -279,10 +270,10 @@ fn answered_deed(answer: Result<Deed, Refusal>) -> Deed
 
 /// A transfer is asked for, or refused.
 #[tactic(auto, unfolding(run_rules::specs::Next::command_deed))]
-fn ask_io(setup: &Setup, core: &Core, caller: u8, number: u32, name: &Name, value: u32) -> Deed
-    ensures { command_deed (world_of setup.now core.now) caller number (command.Io name.now value) ≡ result }
+fn ask_io(setup: &Setup, core: &Core, asker: Asker, name: &Name, value: u32) -> Deed
+    ensures { command_deed (world_of setup.now core.now) asker.caller asker.number (command.Io name.now value) ≡ result }
 {
-    answered_deed(plan_io(setup, core, caller, number, name.bytes(), value))
+    answered_deed(plan_io(setup, core, asker, name.bytes(), value))
 }
 
 /// A power command is asked for, or refused.
@@ -295,7 +286,6 @@ fn ask_power(setup: &Setup, core: &Core, kind: PowerKind, name: &Name) -> Deed
 /// What the command of this number does.
 #[tactic(auto, unfolding(run_rules::specs::Next::command_deed))]
 pub fn plan_command(
-    alloc: Global,
     site: &Site,
     core: &Core,
     caller: u8,
@@ -324,8 +314,11 @@ pub fn plan_command(
             caller,
             name.bytes(),
         ))),
-        Command::Io(name, value) => Ok(ask_io(&site.setup, core, caller, number, name, *value)),
-        Command::Detach(name) => plan_detach(alloc, &site.setup, core, caller, name.bytes()),
+        Command::Io(name, value) => {
+            let asker = Asker { caller, number };
+            Ok(ask_io(&site.setup, core, asker, name, *value))
+        }
+        Command::Detach(name) => plan_detach(site, core, caller, name.bytes()),
         Command::Rescan {
             device,
             attr,
@@ -337,6 +330,6 @@ pub fn plan_command(
         Command::Resume(name) => Ok(ask_power(&site.setup, core, PowerKind::Resume, name)),
         Command::ResumeTree(name) => Ok(ask_power(&site.setup, core, PowerKind::ResumeTree, name)),
         Command::Plug(name) => Ok(answered_deed(plan_plug(&site.setup, name.bytes()))),
-        Command::Unplug(name) => plan_pull(alloc, &site.setup, core, caller, name.bytes()),
+        Command::Unplug(name) => plan_pull(site, core, caller, name.bytes()),
     }
 }

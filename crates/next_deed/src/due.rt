@@ -7,14 +7,14 @@ ghost use Rattle.run_rules.specs.Search as rule;
 ghost use Rattle.run_world.specs.View.{Books};
 ghost use Rattle.next_deed.specs.Turns.{due_at, is_due_at, searcher_of};
 
-use crate::next_due::next_position;
+use crate::next_due::{Scan, next_position};
 use crate::search::winner_at;
 use cf_types::Machine;
 use dev_tree::DevTree;
 use match_search::found_at;
 use run_rules::{ParentRef, Position, Setup, Turn, Wanted};
 use run_world::{Core, Site, attach_of, driver_of, is_occupied};
-use scan_engine::next_turn;
+use scan_engine::{Children, Ground, Searched, next_turn};
 
 /// Who searches: the driver, the attachment and the spot of a device, none of them for the root; and how rows name it.
 #[derive(Clone, Copy)]
@@ -132,24 +132,31 @@ pub fn due_turn(
     ensures due { due_at site.now core.now serial only filter.now from ≡ result }
     ensures spot { IfSome result (λ t. t.at.spot < length site.now.setup.machine.spots) }
 {
-    let span = site.spans.below(by.spot);
+    let ground = Ground {
+        tables: &site.setup.tables,
+        graph: &site.graph,
+        machine: &site.setup.machine,
+        styles: &site.styles,
+    };
+    let searched = Searched {
+        device: by.driver,
+        attach: by.attach,
+        children: Children {
+            spot: by.spot,
+            span: site.spans.below(by.spot),
+        },
+    };
     let mut position = from;
     loop {
-        let turn = next_turn(
-            &site.setup.tables,
-            &site.graph,
-            &site.setup.machine,
-            &site.styles,
-            only,
-            position,
-            by.driver,
-            by.attach,
-            by.spot,
-            span,
-        )?;
+        let turn = next_turn(&ground, searched, only, position)?;
         if is_due(site, core, serial, filter, turn) {
             return Some(turn);
         }
-        position = next_position(site, core, serial, filter, by.spot, turn);
+        let scan = Scan {
+            serial,
+            parent: by.spot,
+            filter,
+        };
+        position = next_position(site, core, &scan, turn);
     }
 }

@@ -9,11 +9,12 @@ ghost use Rattle.detach_engine.specs.Hindrance.{AreMarksOf};
 ghost use Rattle.run_sound.specs.Kept.{Kept};
 ghost use Rattle.next_deed.specs.Choices.{keeps, serials_where};
 ghost use Rattle.run_world.specs.View.{world_of};
+ghost use Rattle.run_world.specs.Sites.{world_at};
 
 use cf_types::Memory;
-use detach_engine::{Marks, hindered};
+use detach_engine::{Detachment, Marks, hindered};
 use run_rules::{Dev, Setup};
-use run_world::{CallerState, Core, policy_of};
+use run_world::{CallerState, Core, Site, policy_of};
 use std::alloc::Global;
 
 /// Whether a frame of a caller is for the device.
@@ -76,22 +77,16 @@ fn is_kept(setup: &Setup, core: &Core, caller: u8, forced: bool, device: &Dev) -
 }
 
 /// Whether a target without children keeps itself from going.
-fn alone_in_the_way(
-    setup: &Setup,
-    core: &Core,
-    caller: u8,
-    target: u64,
-    forced: bool,
-) -> Option<u64>
-    requires live { IsTrue (world.is_live core.now.tree.live target) }
-    requires bare { world.children core.now.tree.live target ≡ [] }
-    ensures { result ≡ world.serial_of (next.hindered (world_of setup.now core.now) target caller forced) }
+fn alone_in_the_way(setup: &Setup, core: &Core, going: Detachment) -> Option<u64>
+    requires live { IsTrue (world.is_live core.now.tree.live going.target) }
+    requires bare { world.children core.now.tree.live going.target ≡ [] }
+    ensures { result ≡ world.serial_of (next.hindered (world_of setup.now core.now) going.target going.caller going.forced) }
 {
     core.tree.stands();
-    match core.tree.get(target) {
+    match core.tree.get(going.target) {
         Some(device) => {
-            if is_kept(setup, core, caller, forced, &device) {
-                Some(target)
+            if is_kept(setup, core, going.caller, going.forced, &device) {
+                Some(going.target)
             } else {
                 None
             }
@@ -101,21 +96,21 @@ fn alone_in_the_way(
 }
 
 /// The device that keeps the target's subtree from being freed. See config_detach(9).
-pub fn in_the_way(
-    alloc: Global,
-    setup: &Setup,
-    core: &Core,
-    caller: u8,
-    target: u64,
-    forced: bool,
-) -> Result<Option<u64>, Memory>
-    requires kept { Kept (world_of setup.now core.now) }
-    requires live { IsTrue (world.is_live core.now.tree.live target) }
-    ensures { IfOk result (λ serial. serial ≡ world.serial_of (next.hindered (world_of setup.now core.now) target caller forced)) }
+pub fn in_the_way(site: &Site, core: &Core, going: Detachment) -> Result<Option<u64>, Memory>
+    requires kept { Kept (world_at site.now core.now) }
+    requires live { IsTrue (world.is_live core.now.tree.live going.target) }
+    ensures { IfOk result (λ serial. serial ≡ world.serial_of (next.hindered (world_at site.now core.now) going.target going.caller going.forced)) }
 {
-    if core.tree.is_bare(target) {
-        return Ok(alone_in_the_way(setup, core, caller, target, forced));
+    if core.tree.is_bare(going.target) {
+        return Ok(alone_in_the_way(&site.setup, core, going));
     }
-    let marks = marks_of(alloc, setup, core)?;
-    Ok(hindered(&core.tree, &core.refs, &marks, target, caller, forced))
+    let marks = marks_of(site.alloc, &site.setup, core)?;
+    Ok(hindered(
+        &core.tree,
+        &core.refs,
+        &marks,
+        going.target,
+        going.caller,
+        going.forced,
+    ))
 }

@@ -8,6 +8,7 @@ ghost use Rattle.run_rules.specs.declared.world.Setup as from;
 ghost use Rattle.run_sound.specs.Kept.{Kept, MayRun};
 ghost use Rattle.run_world.specs.View.{world_of, Books};
 ghost use Rattle.run_world.specs.Sites.{world_at};
+ghost use Rattle.next_deed.specs.Choices.{GoesByFrames};
 
 use crate::command::plan_command;
 use crate::freeing::{plan_closing, plan_free};
@@ -16,7 +17,6 @@ use crate::power::plan_power;
 use cf_types::{Command, Memory};
 use run_rules::{Activity, Choice, Deed, Frame, Setup, Wait};
 use run_world::{Core, Site, command_of, is_ended};
-use std::alloc::Global;
 
 /// Whether a command is one of pmf(9).
 #[inline(always)]
@@ -53,13 +53,7 @@ fn waits_for(core: &Core, caller: u8, said: &Command) -> Option<u8>
 }
 
 /// A command begins, or it waits for the power turn.
-fn plan_start(
-    alloc: Global,
-    site: &Site,
-    core: &Core,
-    caller: u8,
-    said: &Command,
-) -> Result<Choice, Memory>
+fn plan_start(site: &Site, core: &Core, caller: u8, said: &Command) -> Result<Choice, Memory>
     requires may { MayRun site.now.setup }
     requires kept { Kept (world_at site.now core.now) }
     requires caller { caller < length core.now.callers.items }
@@ -70,7 +64,7 @@ fn plan_start(
         Some(other) => Ok(Choice::Waits(Wait::Power(other))),
         None => {
             let number = core.callers[caller as usize].over + 1;
-            let deed = plan_command(alloc, site, core, caller, number, said)?;
+            let deed = plan_command(site, core, caller, number, said)?;
             Ok(Choice::Does(deed))
         }
     }
@@ -78,7 +72,7 @@ fn plan_start(
 
 /// What the caller of a script does without a frame: its next command begins, or it has none left.
 #[tactic(auto, unfolding(run_rules::specs::Next::next_command))]
-fn plan_next(alloc: Global, site: &Site, core: &Core, caller: u8) -> Result<Choice, Memory>
+fn plan_next(site: &Site, core: &Core, caller: u8) -> Result<Choice, Memory>
     requires may { MayRun site.now.setup }
     requires kept { Kept (world_at site.now core.now) }
     requires caller { caller < length core.now.callers.items }
@@ -86,7 +80,7 @@ fn plan_next(alloc: Global, site: &Site, core: &Core, caller: u8) -> Result<Choi
     ensures { IfOk result (λ does. next.next_command (world_at site.now core.now) caller ≡ does) }
 {
     match command_of(&site.setup, core, caller) {
-        Some(said) => plan_start(alloc, site, core, caller, said),
+        Some(said) => plan_start(site, core, caller, said),
         None => Ok(plan_closing(core, caller)),
     }
 }
@@ -111,7 +105,7 @@ fn plan_frame(site: &Site, core: &Core, frame: &Frame) -> Deed
 
 /// What a caller that is in no transfer, detachment or power command does next: its frames go first.
 #[inline(always)]
-fn plan_stack(alloc: Global, site: &Site, core: &Core, caller: u8) -> Result<Choice, Memory>
+fn plan_stack(site: &Site, core: &Core, caller: u8) -> Result<Choice, Memory>
     requires may { MayRun site.now.setup }
     requires kept { Kept (world_at site.now core.now) }
     requires books { Books site.now.setup core.now }
@@ -125,7 +119,7 @@ fn plan_stack(alloc: Global, site: &Site, core: &Core, caller: u8) -> Result<Cho
             if caller == 0 {
                 Ok(Choice::Does(plan_boot(site, core)))
             } else {
-                plan_next(alloc, site, core, caller)
+                plan_next(site, core, caller)
             }
         }
     }
@@ -133,13 +127,7 @@ fn plan_stack(alloc: Global, site: &Site, core: &Core, caller: u8) -> Result<Cho
 
 /// What a caller that is in the middle of this does next.
 #[inline(always)]
-fn plan_activity(
-    alloc: Global,
-    site: &Site,
-    core: &Core,
-    caller: u8,
-    doing: Activity,
-) -> Result<Choice, Memory>
+fn plan_activity(site: &Site, core: &Core, caller: u8, doing: Activity) -> Result<Choice, Memory>
     requires may { MayRun site.now.setup }
     requires kept { Kept (world_at site.now core.now) }
     requires books { Books site.now.setup core.now }
@@ -152,8 +140,8 @@ fn plan_activity(
         Activity::Transfer(ticket) => Ok(Choice::Does(Deed::Done(ticket))),
         Activity::Frees(_) => Ok(plan_free(core, caller)),
         Activity::Power(kind, target) => Ok(plan_power(&site.setup, core, kind, target)),
-        Activity::Scans => plan_stack(alloc, site, core, caller),
-        Activity::Idle => plan_stack(alloc, site, core, caller),
+        Activity::Scans => plan_stack(site, core, caller),
+        Activity::Idle => plan_stack(site, core, caller),
     }
 }
 
@@ -170,7 +158,7 @@ fn waits_for_boot(core: &Core, caller: u8) -> bool
 #[inline(always)]
 pub fn goes_by_frames(core: &Core, caller: u8) -> bool
     requires caller { caller < length core.now.callers.items }
-    ensures { result ≡ true → (s : from.Setup) → next.next (world_of s core.now) caller ≡ next.on_top (world_of s core.now) caller (caller_at (world_of s core.now) caller).stack }
+    ensures { result ≡ true → (s : from.Setup) → GoesByFrames (world_of s core.now) caller }
 {
     if waits_for_boot(core, caller) {
         return false;
@@ -188,7 +176,7 @@ pub fn next_on_scan(site: &Site, core: &Core, caller: u8) -> Option<Deed>
     requires kept { Kept (world_at site.now core.now) }
     requires books { Books site.now.setup core.now }
     requires caller { caller < length core.now.callers.items }
-    requires goes { next.next (world_at site.now core.now) caller ≡ next.on_top (world_at site.now core.now) caller (caller_at (world_at site.now core.now) caller).stack }
+    requires goes { GoesByFrames (world_at site.now core.now) caller }
     ensures { IfSome result (λ deed. next.next (world_at site.now core.now) caller ≡ Does deed) }
 {
     let frame = core.callers[caller as usize].stack.top()?;
@@ -225,7 +213,7 @@ pub fn next_in_power(site: &Site, core: &Core, caller: u8) -> Option<Deed>
 /// What a caller does next.
 #[tactic(auto, unfolding(run_rules::specs::Next::next))]
 #[inline(never)]
-pub fn choose(alloc: Global, site: &Site, core: &Core, caller: u8) -> Result<Choice, Memory>
+pub fn choose(site: &Site, core: &Core, caller: u8) -> Result<Choice, Memory>
     requires may { MayRun site.now.setup }
     requires kept { Kept (world_at site.now core.now) }
     requires books { Books site.now.setup core.now }
@@ -239,5 +227,5 @@ pub fn choose(alloc: Global, site: &Site, core: &Core, caller: u8) -> Result<Cho
         return Ok(Choice::Waits(Wait::Boot));
     }
     let doing = core.callers[caller as usize].doing;
-    plan_activity(alloc, site, core, caller, doing)
+    plan_activity(site, core, caller, doing)
 }

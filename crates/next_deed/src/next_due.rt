@@ -13,6 +13,15 @@ use run_rules::{Position, Setup, Turn, Wanted};
 use run_world::{Core, Site, is_occupied};
 use scan_engine::is_child;
 
+/// What a scan goes by: the device that it searches, the spot of that device, none for the root, and the locator values
+/// that are wanted.
+#[derive(Clone, Copy)]
+pub struct Scan<'a> {
+    pub serial: u64,
+    pub parent: Option<u16>,
+    pub filter: &'a [Wanted],
+}
+
 /// Whether a position is before another: by attribute, then row, then spot.
 #[tactic(auto, unfolding(run_rules::specs::Search::is_before))]
 #[inline(always)]
@@ -47,22 +56,20 @@ fn sooner(behind: Position, next: Position, found: Option<Position>) -> Position
 fn due_position(
     site: &Site,
     core: &Core,
-    serial: u64,
-    filter: &[Wanted],
-    parent: Option<u16>,
+    scan: &Scan<'_>,
     turn: Turn,
     spot: u16,
 ) -> Option<Position>
     requires books { Books site.now.setup core.now }
     ensures place { IfSome result (λ p. (p.attr ≡ turn.at.attr) × (p.spot ≡ spot)) }
-    ensures due { IsWhereDue site.now core.now serial filter.now parent turn spot result }
+    ensures due { IsWhereDue site.now core.now scan.now.serial scan.now.filter.now scan.now.parent turn spot result }
 {
-    if !is_child(&site.setup.machine, parent, turn.place, spot)
-        || !is_open(&site.setup, core, filter, spot)
+    if !is_child(&site.setup.machine, scan.parent, turn.place, spot)
+        || !is_open(&site.setup, core, scan.filter, spot)
     {
         return None;
     }
-    let row = winner_at(site, core, serial, turn.place, spot)?;
+    let row = winner_at(site, core, scan.serial, turn.place, spot)?;
     Some(Position {
         attr: turn.at.attr,
         row,
@@ -73,21 +80,14 @@ fn due_position(
 /// Where a search of an indirect bus goes on: at the first pair of an open spot and the row that takes it, so that rows
 /// that take nothing are skipped.
 #[inline(never)]
-fn next_pair(
-    site: &Site,
-    core: &Core,
-    serial: u64,
-    filter: &[Wanted],
-    parent: Option<u16>,
-    turn: Turn,
-) -> Position
+fn next_pair(site: &Site, core: &Core, scan: &Scan<'_>, turn: Turn) -> Position
     requires books { Books site.now.setup core.now }
     requires few { length site.now.setup.machine.spots ≤ 1024 }
     requires attr { turn.at.attr < 64 }
     requires indirect { turn.indirect ≡ true }
     ensures behind { rule.is_before turn.at result ≡ true }
     ensures bus { (p : places.Position) → rule.is_before p result ≡ true → p.attr ≤ turn.at.attr }
-    ensures idle { IsIdle site.now core.now serial filter.now parent turn result }
+    ensures idle { IsIdle site.now core.now scan.now.serial scan.now.filter.now scan.now.parent turn result }
 {
     let mut next = Position {
         attr: turn.at.attr + 1,
@@ -95,7 +95,7 @@ fn next_pair(
         spot: 0,
     };
     for spot in 0..site.setup.machine.spots.len() as u16 {
-        let found = due_position(site, core, serial, filter, parent, turn, spot);
+        let found = due_position(site, core, scan, turn, spot);
         next = sooner(turn.at, next, found);
     }
     next
@@ -104,37 +104,24 @@ fn next_pair(
 /// Whether a search passes a spot: it is not open, or is not on this bus.
 #[tactic(auto, unfolding(run_rules::specs::Search::is_open))]
 #[inline(always)]
-fn is_passed(
-    setup: &Setup,
-    core: &Core,
-    filter: &[Wanted],
-    parent: Option<u16>,
-    place: Place,
-    spot: u16,
-) -> bool
-    ensures { result ≡ true → rule.is_child setup.now.machine parent place spot ≡ true → is_open_at setup.now core.now filter.now spot ≡ false }
+fn is_passed(setup: &Setup, core: &Core, scan: &Scan<'_>, place: Place, spot: u16) -> bool
+    ensures { result ≡ true → rule.is_child setup.now.machine scan.now.parent place spot ≡ true
+        → is_open_at setup.now core.now scan.now.filter.now spot ≡ false }
 {
     is_occupied(&core.tree, spot)
-        || !is_child(&setup.machine, parent, place, spot)
-        || !is_open(setup, core, filter, spot)
+        || !is_child(&setup.machine, scan.parent, place, spot)
+        || !is_open(setup, core, scan.filter, spot)
 }
 
 /// The first spot from a number on that a search of this bus does not pass; after all spots if there is none.
 #[inline(always)]
-fn next_open(
-    setup: &Setup,
-    core: &Core,
-    filter: &[Wanted],
-    parent: Option<u16>,
-    place: Place,
-    from: u16,
-) -> u16
+fn next_open(setup: &Setup, core: &Core, scan: &Scan<'_>, place: Place, from: u16) -> u16
     requires few { length setup.now.machine.spots ≤ 1024 }
     ensures behind { from ≤ result }
-    ensures passed { (x : ℕ) → from ≤ x → x < result → IsPassed setup.now core.now filter.now parent place x }
+    ensures passed { (x : ℕ) → from ≤ x → x < result → IsPassed setup.now core.now scan.now.filter.now scan.now.parent place x }
 {
     for spot in from..setup.machine.spots.len() as u16 {
-        if !is_passed(setup, core, filter, parent, place, spot) {
+        if !is_passed(setup, core, scan, place, spot) {
             return spot;
         }
     }
@@ -143,48 +130,35 @@ fn next_open(
 
 /// Where a search of a direct bus goes on: at its next open spot.
 #[inline(never)]
-fn next_on_bus(
-    setup: &Setup,
-    core: &Core,
-    filter: &[Wanted],
-    parent: Option<u16>,
-    turn: Turn,
-) -> Position
+fn next_on_bus(setup: &Setup, core: &Core, scan: &Scan<'_>, turn: Turn) -> Position
     requires few { length setup.now.machine.spots ≤ 1024 }
     requires spot { turn.at.spot < 1024 }
     ensures here { (result.attr ≡ turn.at.attr) × (result.row ≡ turn.at.row) }
     ensures behind { turn.at.spot < result.spot }
-    ensures passed { (x : ℕ) → turn.at.spot < x → x < result.spot → IsPassed setup.now core.now filter.now parent turn.place x }
+    ensures passed { (x : ℕ) → turn.at.spot < x → x < result.spot → IsPassed setup.now core.now scan.now.filter.now scan.now.parent turn.place x }
 {
     let from = turn.at.spot + 1;
     Position {
         attr: turn.at.attr,
         row: turn.at.row,
-        spot: next_open(setup, core, filter, parent, turn.place, from),
+        spot: next_open(setup, core, scan, turn.place, from),
     }
 }
 
 /// Where a search goes on after a turn that is not due: no turn that is due is between.
 #[inline(always)]
-pub fn next_position(
-    site: &Site,
-    core: &Core,
-    serial: u64,
-    filter: &[Wanted],
-    parent: Option<u16>,
-    turn: Turn,
-) -> Position
+pub fn next_position(site: &Site, core: &Core, scan: &Scan<'_>, turn: Turn) -> Position
     requires books { Books site.now.setup core.now }
     requires few { length site.now.setup.machine.spots ≤ 1024 }
     requires attr { turn.at.attr < 64 }
     requires spot { turn.at.spot < 1024 }
     ensures behind { rule.is_before turn.at result ≡ true }
     ensures bus { (p : places.Position) → rule.is_before p result ≡ true → p.attr ≤ turn.at.attr }
-    ensures idle { IsIdle site.now core.now serial filter.now parent turn result }
+    ensures idle { IsIdle site.now core.now scan.now.serial scan.now.filter.now scan.now.parent turn result }
 {
     if turn.indirect {
-        next_pair(site, core, serial, filter, parent, turn)
+        next_pair(site, core, scan, turn)
     } else {
-        next_on_bus(&site.setup, core, filter, parent, turn)
+        next_on_bus(&site.setup, core, scan, turn)
     }
 }

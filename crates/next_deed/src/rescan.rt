@@ -74,7 +74,8 @@ fn attr_of(
     given: &[Given],
 ) -> Result<Option<u32>, Refusal>
     requires few { length setup.now.tables.attrs ≤ 65536 }
-    ensures { (w : World) (d : Dev) → w.setup ≡ setup.now → offered_by w.setup d.row ≡ offers.now → rescan_of w d (Some name.now) given.now ≡ or_refused (Rescan d.serial) result }
+    ensures { (w : World) (d : Dev) → w.setup ≡ setup.now → offered_by w.setup d.row ≡ offers.now
+        → rescan_of w d (Some name.now) given.now ≡ or_refused (Rescan d.serial) result }
 {
     match attr_named(setup, name) {
         None => Err(Refusal::BadAttribute),
@@ -98,7 +99,8 @@ fn only_of(
     given: &[Given],
 ) -> Result<Option<u32>, Refusal>
     requires few { length setup.now.tables.attrs ≤ 65536 }
-    ensures { (w : World) (d : Dev) → w.setup ≡ setup.now → offered_by w.setup d.row ≡ offers.now → rescan_of w d attr.now given.now ≡ or_refused (Rescan d.serial) result }
+    ensures { (w : World) (d : Dev) → w.setup ≡ setup.now → offered_by w.setup d.row ≡ offers.now
+        → rescan_of w d attr.now given.now ≡ or_refused (Rescan d.serial) result }
 {
     match attr {
         None => Ok(None),

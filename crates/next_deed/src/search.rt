@@ -7,7 +7,7 @@ ghost use Rattle.run_world.specs.View.{Books};
 use crate::unit::unit_of;
 use cf_types::Place;
 use dev_tree::DevTree;
-use match_search::winner;
+use match_search::{Rows, Sought, winner};
 use run_rules::{Arrival, ParentRef, Setup};
 use run_world::{Core, Site, driver_of};
 
@@ -31,17 +31,18 @@ fn winner_below(site: &Site, core: &Core, named: ParentRef, place: Place, spot: 
     requires { Books site.now.setup core.now }
     ensures { rule.winner site.now.setup core.now.tree.live named place spot ≡ result }
 {
-    winner(
-        &site.setup.tables,
-        &site.graph,
-        &site.index,
-        &site.leaders,
-        &site.setup.machine,
-        &core.rows,
-        named,
+    let rows = Rows {
+        tables: &site.setup.tables,
+        graph: &site.graph,
+        machine: &site.setup.machine,
+        live: &core.rows,
+    };
+    let at = Sought {
+        parent: named,
         place,
         spot,
-    )
+    };
+    winner(&rows, &site.index, &site.leaders, at)
 }
 
 /// The row that takes a spot below a parent.

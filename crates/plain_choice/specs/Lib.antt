@@ -1,3 +1,5 @@
 pub mod Commands
 pub mod Late
 pub mod Power
+pub mod Under
+pub mod Waking

@@ -7,7 +7,7 @@ ghost use Rattle.plain_search.specs.Open.{Follows};
 ghost use Rattle.plain_world.specs.Plain.{world_of, state_at, IsReady};
 ghost use Rattle.plain_world.specs.Rules.{AreFit, setup_by};
 
-use crate::command::command_deed;
+use crate::command::{Asker, command_deed};
 use crate::late::finalise;
 use crate::power::{closing, freeing, powering};
 use cf_types::{Command, Memory};
@@ -98,7 +98,11 @@ fn starting(
     match waits_for(plain, caller, said) {
         Some(other) => Ok(Choice::Waits(Wait::Power(other))),
         None => {
-            let deed = command_deed(alloc, rules, plain, caller, over + 1, said)?;
+            let asker = Asker {
+                caller,
+                number: over + 1,
+            };
+            let deed = command_deed(alloc, rules, plain, asker, said)?;
             Ok(Choice::Does(deed))
         }
     }

@@ -10,14 +10,29 @@ ghost use Rattle.plain_choice.specs.Commands.{begun, closed, detached, granted, 
 ghost use Rattle.plain_world.specs.Plain.{world_of};
 ghost use Rattle.plain_world.specs.Rules.{AreFit, setup_by};
 
-use crate::rescan::rescanning;
-use cf_types::{Command, Given, Memory, Name, Ticket};
+use crate::rescan::{Limits, rescanning};
+use cf_types::{Command, Memory, Name, Ticket};
 use plain_names::device_named;
 use plain_world::{
     Plain, Rules, device_on, is_bad, is_pinned, is_sole, is_under, policy_of, spot_named,
 };
 use run_rules::{Deed, Dev, PowerKind, Refusal};
 use std::alloc::Global;
+
+/// A command of a caller: who gives it, and its number.
+#[derive(Clone, Copy)]
+pub struct Asker {
+    pub caller: u8,
+    pub number: u32,
+}
+
+/// A device that a caller wants to go, with all that is below it; its driver is not asked if that is forced.
+#[derive(Clone, Copy)]
+struct Detachment {
+    target: u64,
+    caller: u8,
+    forced: bool,
+}
 
 /// The live device that a command names.
 fn named(alloc: Global, rules: &Rules, plain: &Plain, name: &Name) -> Result<Option<Dev>, Memory>
@@ -93,19 +108,12 @@ fn close(
 }
 
 /// The transfer of a command of this number.
-fn ticket_of(
-    rules: &Rules,
-    plain: &Plain,
-    caller: u8,
-    number: u32,
-    device: Dev,
-    value: u32,
-) -> Ticket
-    ensures { result ≡ next.ticket_of (world_of (setup_by rules.now) plain.now) caller number device value }
+fn ticket_of(rules: &Rules, plain: &Plain, asker: Asker, device: Dev, value: u32) -> Ticket
+    ensures { result ≡ next.ticket_of (world_of (setup_by rules.now) plain.now) asker.caller asker.number device value }
 {
     Ticket {
-        caller,
-        number,
+        caller: asker.caller,
+        number: asker.number,
         serial: device.serial,
         slot: device.spot,
         bad: is_bad(rules, device.spot),
@@ -114,61 +122,51 @@ fn ticket_of(
 }
 
 /// A transfer is asked for, by the command of this number.
-fn io(rules: &Rules, plain: &Plain, caller: u8, number: u32, found: Option<Dev>, value: u32) -> Deed
-    ensures { let w = world_of (setup_by rules.now) plain.now in if_held w caller found (started w caller number value) ≡ result }
+fn io(rules: &Rules, plain: &Plain, asker: Asker, found: Option<Dev>, value: u32) -> Deed
+    ensures { let w = world_of (setup_by rules.now) plain.now in
+        if_held w asker.caller found (started w asker.caller asker.number value) ≡ result }
 {
     let Some(device) = found else {
         return Deed::Refuse(Refusal::NotHeld);
     };
-    if !plain.refs.holds(caller, device.serial) {
+    if !plain.refs.holds(asker.caller, device.serial) {
         Deed::Refuse(Refusal::NotHeld)
     } else if device.asleep {
         Deed::Refuse(Refusal::Asleep)
     } else {
-        Deed::Start(ticket_of(rules, plain, caller, number, device, value))
+        Deed::Start(ticket_of(rules, plain, asker, device, value))
     }
 }
 
 /// Whether a device keeps the target's subtree from going.
-fn is_hindrance(
-    rules: &Rules,
-    plain: &Plain,
-    target: u64,
-    caller: u8,
-    forced: bool,
-    device: Dev,
-) -> bool
-    ensures { result ≡ next.is_hindrance (world_of (setup_by rules.now) plain.now) target caller forced device }
+fn is_hindrance(rules: &Rules, plain: &Plain, going: Detachment, device: Dev) -> bool
+    ensures { result ≡ next.is_hindrance (world_of (setup_by rules.now) plain.now) going.target going.caller going.forced device }
 {
-    is_under(&plain.live, target, device.serial)
-        && ((!forced && policy_of(rules, device.row).nodetach)
+    is_under(&plain.live, going.target, device.serial)
+        && ((!going.forced && policy_of(rules, device.row).nodetach)
             || is_pinned(plain, device.serial)
             || device.condemned.is_some()
-            || plain.refs.holds(caller, device.serial))
+            || plain.refs.holds(going.caller, device.serial))
 }
 
 /// The first device that keeps the target's subtree from being freed. See config_detach(9).
 #[tactic(auto, unfolding(run_rules::specs::Next::hindered))]
-fn hindered(rules: &Rules, plain: &Plain, target: u64, caller: u8, forced: bool) -> Option<Dev>
-    ensures { result ≡ next.hindered (world_of (setup_by rules.now) plain.now) target caller forced }
+fn hindered(rules: &Rules, plain: &Plain, going: Detachment) -> Option<Dev>
+    ensures { result ≡ next.hindered (world_of (setup_by rules.now) plain.now) going.target going.caller going.forced }
 {
-    plain.live.devices().iter().copied().find(|device| is_hindrance(
-        rules, plain, target, caller, forced, *device,
-    ))
+    plain
+        .live
+        .devices()
+        .iter()
+        .copied()
+        .find(|device| is_hindrance(rules, plain, going, *device))
 }
 
 /// The deed, unless a device keeps the target's subtree from going.
-fn unless_hindered(
-    rules: &Rules,
-    plain: &Plain,
-    caller: u8,
-    target: u64,
-    forced: bool,
-    deed: Deed,
-) -> Deed
-    ensures { next.unless_hindered (world_of (setup_by rules.now) plain.now) caller target forced deed ≡ result }
+fn unless_hindered(rules: &Rules, plain: &Plain, going: Detachment, deed: Deed) -> Deed
+    ensures { next.unless_hindered (world_of (setup_by rules.now) plain.now) going.caller going.target going.forced deed ≡ result }
 {
-    match hindered(rules, plain, target, caller, forced) {
+    match hindered(rules, plain, going) {
         Some(device) => Deed::Refuse(Refusal::Busy(device.serial)),
         None => deed,
     }
@@ -191,7 +189,12 @@ fn detach(
         return Ok(Deed::Refuse(Refusal::Gone));
     }
     let deed = Deed::Detach { of: device.serial };
-    Ok(unless_hindered(rules, plain, caller, device.serial, false, deed))
+    let going = Detachment {
+        target: device.serial,
+        caller,
+        forced: false,
+    };
+    Ok(unless_hindered(rules, plain, going, deed))
 }
 
 /// A command to search a device again.
@@ -200,11 +203,11 @@ fn rescan(
     rules: &Rules,
     plain: &Plain,
     name: &Name,
-    attr: &Option<Name>,
-    given: &[Given],
+    limits: &Limits<'_>,
 ) -> Result<Deed, Memory>
     requires { AreFit rules.now }
-    ensures { let w = world_of (setup_by rules.now) plain.now in IfOk result (λ does. next.on_device w name.now (λ d. next.rescanning w d attr.now given.now) ≡ does) }
+    ensures { let w = world_of (setup_by rules.now) plain.now in
+        IfOk result (λ does. next.on_device w name.now (λ d. next.rescanning w d limits.now.attr.now limits.now.given.now) ≡ does) }
 {
     let Some(device) = named(alloc, rules, plain, name)? else {
         return Ok(Deed::Refuse(Refusal::NoDevice));
@@ -212,7 +215,7 @@ fn rescan(
     if device.condemned.is_some() {
         return Ok(Deed::Refuse(Refusal::Gone));
     }
-    rescanning(alloc, rules, plain, device, attr, given)
+    rescanning(alloc, rules, plain, device, limits)
 }
 
 /// A list or a tree is asked for, of a device or of the root.
@@ -254,7 +257,8 @@ fn begin_power(
 /// Hardware comes to the spot of a name.
 fn plug(rules: &Rules, plain: &Plain, name: &Name) -> Deed
     requires { AreFit rules.now }
-    ensures { option_map_or (λ x. deeds.Plug x) (spot_number (world_of (setup_by rules.now) plain.now).setup.machine.spots name.now) (deeds.Refuse refusal.NoSpot) ≡ result }
+    ensures { option_map_or (λ x. deeds.Plug x) (spot_number (world_of (setup_by rules.now) plain.now).setup.machine.spots name.now)
+        (deeds.Refuse refusal.NoSpot) ≡ result }
 {
     match spot_named(rules, name.bytes()) {
         Some(spot) => Deed::Plug { spot },
@@ -273,13 +277,19 @@ fn unplugging(rules: &Rules, plain: &Plain, caller: u8, spot: u16) -> Deed
         spot,
         of: Some(device.serial),
     };
-    unless_hindered(rules, plain, caller, device.serial, true, deed)
+    let going = Detachment {
+        target: device.serial,
+        caller,
+        forced: true,
+    };
+    unless_hindered(rules, plain, going, deed)
 }
 
 /// Hardware goes from the spot of a name.
 fn unplug(rules: &Rules, plain: &Plain, caller: u8, name: &Name) -> Deed
     requires fit { AreFit rules.now }
-    ensures { let w = world_of (setup_by rules.now) plain.now in option_map_or (next.unplugging w caller) (spot_number w.setup.machine.spots name.now) (deeds.Refuse refusal.NoSpot) ≡ result }
+    ensures { let w = world_of (setup_by rules.now) plain.now in
+        option_map_or (next.unplugging w caller) (spot_number w.setup.machine.spots name.now) (deeds.Refuse refusal.NoSpot) ≡ result }
 {
     match spot_named(rules, name.bytes()) {
         Some(spot) => unplugging(rules, plain, caller, spot),
@@ -293,27 +303,33 @@ pub fn command_deed(
     alloc: Global,
     rules: &Rules,
     plain: &Plain,
-    caller: u8,
-    number: u32,
+    asker: Asker,
     said: &Command,
 ) -> Result<Deed, Memory>
     requires fit { AreFit rules.now }
-    ensures { IfOk result (λ does. next.command_deed (world_of (setup_by rules.now) plain.now) caller number said.now ≡ does) }
+    ensures { IfOk result (λ does. next.command_deed (world_of (setup_by rules.now) plain.now) asker.caller asker.number said.now ≡ does) }
 {
+    let caller = asker.caller;
     match said {
         Command::OpenDev(name) => open(alloc, rules, plain, caller, name),
         Command::OpenSole(name) => open_sole(alloc, rules, plain, name),
         Command::CloseDev(name) => close(alloc, rules, plain, caller, name),
         Command::Io(name, value) => {
             let found = named(alloc, rules, plain, name)?;
-            Ok(io(rules, plain, caller, number, found, *value))
+            Ok(io(rules, plain, asker, found, *value))
         }
         Command::Detach(name) => detach(alloc, rules, plain, caller, name),
         Command::Rescan {
             device,
             attr,
             given,
-        } => rescan(alloc, rules, plain, device, attr, given.items()),
+        } => {
+            let limits = Limits {
+                attr,
+                given: given.items(),
+            };
+            rescan(alloc, rules, plain, device, &limits)
+        }
         Command::ListDev(of) => tell(alloc, rules, plain, of),
         Command::TreeDev(of) => tell(alloc, rules, plain, of),
         Command::Suspend(name) => begin_power(alloc, rules, plain, PowerKind::Suspend, name),

@@ -24,7 +24,7 @@ fn offers_place(offered: &[u32], place: Place) -> bool
 }
 
 /// Whether a spot is below a device, on an attribute that the device offers.
-fn hangs_below(rules: &Rules, device: Dev, spot: u16) -> bool
+pub fn hangs_below(rules: &Rules, device: Dev, spot: u16) -> bool
     requires { AreFit rules.now }
     ensures { result ≡ option_map_or (next.hangs_below (setup_by rules.now) device) (slice_get rules.now.machine.now.spots spot) false }
 {

@@ -6,5 +6,8 @@ mod command;
 mod late;
 mod power;
 mod rescan;
+mod under;
+mod waking;
 
 pub use choose::next;
+pub use late::hangs_below;

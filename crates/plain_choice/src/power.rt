@@ -1,14 +1,18 @@
 //! How a power command and a detachment go on. See pmf(9) and config_detach(9).
-ghost use Rattle.std.specs.Prelude.{◌≡◌, ◌&&◌, ◌||◌, find, not, ℕ};
+ghost use Rattle.std.specs.Prelude.{◌≡◌, find, reverse, ℕ};
 ghost use Rattle.run_rules.specs.Next as next;
 ghost use Rattle.run_rules.specs.World as world;
 ghost use Rattle.run_rules.specs.declared.world.Activity.TheVariants as activity;
 ghost use Rattle.run_rules.specs.declared.world.Setup.{Setup};
 ghost use Rattle.plain_world.specs.Plain.{world_of};
-ghost use Rattle.plain_choice.specs.Power.{sleeping};
+ghost use Rattle.plain_choice.specs.Power.{has_to_sleep, has_to_wake, sleeping};
+ghost use Rattle.plain_choice.specs.Under.{AllMiss};
+ghost use Rattle.plain_choice.specs.Waking.{AreMarked};
 ghost use Rattle.plain_world.specs.Rules.{setup_by};
 
-use plain_world::{Live, Plain, Refs, Rules, is_live, is_pinned, is_under, policy_of};
+use crate::under::{Aside, is_below};
+use crate::waking::{Waking, descends_from, mark_up};
+use plain_world::{Live, Plain, Refs, Rules, is_live, is_pinned, policy_of};
 use run_rules::{Choice, Deed, Dev, PowerEnd, PowerKind, Wait};
 
 /// Whether a caller condemned a device.
@@ -51,10 +55,25 @@ pub fn freeing(plain: &Plain, caller: u8) -> Choice
 }
 
 /// Whether a suspension of the target is still to put a device to sleep.
-fn is_to_sleep(live: &Live, device: Dev, target: u64) -> bool
-    ensures { result ≡ (not device.asleep && world.is_under live.now.devices target device.serial) }
+fn is_to_sleep(live: &Live, device: Dev, target: u64, aside: &mut Aside) -> bool
+    requires { AllMiss live.now.devices target aside.old.kept }
+    ensures is { result ≡ has_to_sleep live.now.devices target device }
+    ensures aside { AllMiss live.now.devices target aside.new.kept }
 {
-    !device.asleep && is_under(live, target, device.serial)
+    !device.asleep && is_below(live, target, device.serial, aside)
+}
+
+/// The last of some devices that a suspension of the target is still to put to sleep.
+fn last_to_sleep(live: &Live, among: &[Dev], target: u64) -> Option<Dev>
+    ensures { result ≡ find (has_to_sleep live.now.devices target) (reverse among.now) }
+{
+    let mut aside = Aside::none();
+    for place in (0..among.len()).rev() {
+        if is_to_sleep(live, among[place], target, &mut aside) {
+            return Some(among[place]);
+        }
+    }
+    None
 }
 
 /// The device that a suspension of the target puts to sleep next: of those awake in its subtree the last one.
@@ -62,20 +81,39 @@ fn is_to_sleep(live: &Live, device: Dev, target: u64) -> bool
 fn next_sleep(live: &Live, target: u64) -> Option<Dev>
     ensures { result ≡ next.next_sleep live.now.devices target }
 {
-    live.devices()
-        .iter()
-        .rev()
-        .copied()
-        .find(|device| is_to_sleep(live, *device, target))
+    last_to_sleep(live, live.devices(), target)
 }
 
-/// Whether a resumption of the target is still to wake a device.
-fn is_to_wake(live: &Live, device: Dev, target: u64, whole: bool) -> bool
-    ensures { result ≡ (device.asleep && (world.is_under live.now.devices device.serial target || (whole && world.is_under live.now.devices target device.serial))) }
+/// Whether a resumption is still to wake a device.
+fn is_to_wake(live: &Live, device: Dev, waking: &Waking, aside: &mut Aside) -> bool
+    requires marks { AreMarked live.now.devices waking.now.target waking.now.marks.now }
+    requires aside { AllMiss live.now.devices waking.now.target aside.old.kept }
+    ensures is { result ≡ has_to_wake live.now.devices waking.now.target waking.now.whole device }
+    ensures aside { AllMiss live.now.devices waking.now.target aside.new.kept }
 {
     device.asleep
-        && (is_under(live, device.serial, target)
-            || (whole && is_under(live, target, device.serial)))
+        && (descends_from(live, device.serial, waking)
+            || (waking.whole && is_below(live, waking.target, device.serial, aside)))
+}
+
+/// The first of some devices that a resumption of the target is still to wake.
+fn first_to_wake(live: &Live, among: &[Dev], target: u64, whole: bool) -> Option<Dev>
+    ensures { result ≡ find (has_to_wake live.now.devices target whole) among.now }
+{
+    let mut marks = [false; 1024];
+    mark_up(live, target, &mut marks);
+    let waking = Waking {
+        target,
+        whole,
+        marks: &marks,
+    };
+    let mut aside = Aside::none();
+    for device in among {
+        if is_to_wake(live, *device, &waking, &mut aside) {
+            return Some(*device);
+        }
+    }
+    None
 }
 
 /// The device that a resumption of the target wakes next: the first of the sleeping ones among it and its ancestors,
@@ -84,10 +122,7 @@ fn is_to_wake(live: &Live, device: Dev, target: u64, whole: bool) -> bool
 fn next_wake(live: &Live, target: u64, whole: bool) -> Option<Dev>
     ensures { result ≡ next.next_wake live.now.devices target whole }
 {
-    live.devices()
-        .iter()
-        .copied()
-        .find(|device| is_to_wake(live, *device, target, whole))
+    first_to_wake(live, live.devices(), target, whole)
 }
 
 /// How a suspension goes on with the device that sleeps next: it is put to sleep, or is waited for, or is in the way.

@@ -12,6 +12,13 @@ use plain_world::{
 use run_rules::{Deed, Dev, Refusal};
 use std::alloc::Global;
 
+/// What a rescan is limited to: an attribute, if one is named, and values of its locators.
+#[derive(Clone, Copy)]
+pub struct Limits<'a> {
+    pub attr: &'a Option<Name>,
+    pub given: &'a [Given],
+}
+
 /// A rescan of a device, of one attribute alone or of all, or why it does not begin.
 #[tactic(auto, unfolding(run_rules::specs::Next::rescan_of))]
 fn rescan_of(
@@ -19,13 +26,12 @@ fn rescan_of(
     rules: &Rules,
     plain: &Plain,
     device: Dev,
-    attr: &Option<Name>,
-    given: &[Given],
+    limits: &Limits<'_>,
 ) -> Result<Deed, Memory>
     requires fit { AreFit rules.now }
-    ensures { IfOk result (λ does. next.rescan_of (world_of (setup_by rules.now) plain.now) device attr.now given.now ≡ does) }
+    ensures { IfOk result (λ does. next.rescan_of (world_of (setup_by rules.now) plain.now) device limits.now.attr.now limits.now.given.now ≡ does) }
 {
-    let Some(name) = attr else {
+    let Some(name) = limits.attr else {
         return Ok(Deed::Rescan {
             of: device.serial,
             only: None,
@@ -37,7 +43,11 @@ fn rescan_of(
     if !has(offered(rules, driver_of(rules, device.row)), attr) {
         return Ok(Deed::Refuse(Refusal::BadAttribute));
     }
-    match wanted_of(alloc, locators_at(rules.tables, Place::At(attr)), given)? {
+    match wanted_of(
+        alloc,
+        locators_at(rules.tables, Place::At(attr)),
+        limits.given,
+    )? {
         Some(_) => Ok(Deed::Rescan {
             of: device.serial,
             only: Some(attr),
@@ -52,11 +62,10 @@ pub fn rescanning(
     rules: &Rules,
     plain: &Plain,
     device: Dev,
-    attr: &Option<Name>,
-    given: &[Given],
+    limits: &Limits<'_>,
 ) -> Result<Deed, Memory>
     requires fit { AreFit rules.now }
-    ensures { IfOk result (λ does. next.rescanning (world_of (setup_by rules.now) plain.now) device attr.now given.now ≡ does) }
+    ensures { IfOk result (λ does. next.rescanning (world_of (setup_by rules.now) plain.now) device limits.now.attr.now limits.now.given.now ≡ does) }
 {
     if is_pinned(plain, device.serial) {
         return Ok(Deed::Refuse(Refusal::Busy(device.serial)));
@@ -68,5 +77,5 @@ pub fn rescanning(
     if policy_of(rules, device.row).norescan || is_nothing(offers) {
         return Ok(Deed::Refuse(Refusal::NoRescan));
     }
-    rescan_of(alloc, rules, plain, device, attr, given)
+    rescan_of(alloc, rules, plain, device, limits)
 }

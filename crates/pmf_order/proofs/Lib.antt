@@ -1,0 +1,3 @@
+pub mod UnderLaws
+pub mod AboveLaws
+pub mod FromEnd

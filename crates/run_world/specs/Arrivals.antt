@@ -18,7 +18,7 @@ use Rattle.run_rules.specs.After.{listed}
 use Rattle.run_world.specs.declared.caller.CallerState.{CallerState}
 use Rattle.run_world.specs.declared.parts.Core.{Core}
 use Rattle.run_world.specs.Callers.{stacked}
-use Rattle.run_world.specs.View.{world_of, SameAside}
+use Rattle.run_world.specs.View.{world_of}
 
 -- the caller at a place
 abbrev pub state_at : List CallerState → ℕ → CallerState
@@ -53,11 +53,6 @@ pub record IsListed (s : Setup) (old new : Core) (a : Arrival) (scan : Placing) 
   pub world : world_of s new ≡ record (listed (world_of s old) a) { deferred = put_off_too scan old.deferred a.parent old.tree.next }
   pub callers : new.callers ≡ old.callers
   pub finalisers : new.finalisers ≡ old.finalisers
-  pub aside : SameAside old new
-
-pub record StaysAsIs (s : Setup) (old new : Core) : Type 0 where
-  pub world : world_of s new ≡ world_of s old
-  pub aside : SameAside old new
 
 -- a device may be listed: its parent is the root or lives, its unit and its spot are free, and its row and its spot are there
 pub record MayArrive (s : Setup) (live : List Dev) (a : Arrival) : Type 0 where

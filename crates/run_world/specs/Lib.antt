@@ -10,3 +10,4 @@ pub mod Late
 pub mod Rescans
 pub mod Scripted
 pub mod Marked
+pub mod Known

@@ -1,5 +1,5 @@
 -- The world of a board, and what every board keeps.
-use Rattle.std.specs.Prelude.{◌≡◌, true, List, [], map, length, None}
+use Rattle.std.specs.Prelude.{◌≡◌, true, List, [], map, length}
 use Rattle.run_rules.specs.declared.world.Setup.{Setup}
 use Rattle.run_rules.specs.World.{World, Caller, driver_of, opening}
 use Rattle.run_world.specs.declared.caller.CallerState.{CallerState}
@@ -42,19 +42,10 @@ pub record Books (s : Setup) (c : Core) : Type 0 where
   pub drivers : c.tree.drivers ≡ map (λ d. driver_of s d.row) c.tree.live
   pub recent : AreRecent s c.recent
 
--- what no event of a caller touches
-pub record SameAside (old new : Core) : Type 0 where
-  pub stops : new.stops ≡ old.stops
-  pub stopped : new.stopped ≡ old.stopped
-  pub events : new.events ≡ old.events
-
 -- the parts before any event
 pub record IsFirst (s : Setup) (c : Core) : Type 0 where
   pub world : world_of s c ≡ opening s
   pub rows : c.rows ≡ map (λ r. true) s.tables.rows
   pub units : NoneTaken (length s.tables.devices) c.units
   pub drivers : c.tree.drivers ≡ []
-  pub stops : c.stops ≡ 0
-  pub stopped : c.stopped ≡ None
-  pub events : c.events.items ≡ []
   pub recent : AreRecent s c.recent

@@ -5,7 +5,7 @@ ghost use Rattle.run_rules.specs.World as world;
 ghost use Rattle.run_rules.specs.declared.world.Activity.TheVariants as activity;
 ghost use Rattle.run_rules.specs.declared.world.Setup as from;
 ghost use Rattle.run_world.specs.Arrivals.{state_at};
-ghost use Rattle.run_world.specs.View.{world_of, Books, SameAside};
+ghost use Rattle.run_world.specs.View.{world_of, Books};
 
 use crate::parts::Core;
 use cf_types::Memory;
@@ -27,7 +27,6 @@ pub fn finish(core: &mut Core, caller: u8)
     requires low { (state_at core.old.callers.items caller).over < 2 ^ 32 - 1 }
     ensures world { (s : from.Setup) → world_of s core.new ≡ rule.over (world_of s core.old) caller }
     ensures books { (s : from.Setup) → Books s core.old → Books s core.new }
-    ensures aside { SameAside core.old core.new }
 {
     let state = &mut core.callers[caller as usize];
     state.over += 1;
@@ -40,7 +39,6 @@ pub fn begin(core: &mut Core, caller: u8, doing: Activity)
     requires caller { caller < length core.old.callers.items }
     ensures world { (s : from.Setup) → world_of s core.new ≡ rule.doing (world_of s core.old) caller doing }
     ensures books { (s : from.Setup) → Books s core.old → Books s core.new }
-    ensures aside { SameAside core.old core.new }
 {
     core.callers[caller as usize].doing = doing;
 }
@@ -51,7 +49,6 @@ pub fn begin_scan(core: &mut Core, caller: u8, frame: Frame) -> Result<(), Memor
     ensures ok { OnOk result ((s : from.Setup) → world_of s core.new ≡ rule.pushed (rule.doing (world_of s core.old) caller activity.Scans) caller frame) }
     ensures err { OnErr result ((s : from.Setup) → world_of s core.new ≡ world_of s core.old) }
     ensures books { (s : from.Setup) → Books s core.old → Books s core.new }
-    ensures aside { SameAside core.old core.new }
 {
     let state = &mut core.callers[caller as usize];
     state.stack.reserve(1)?;

@@ -12,7 +12,7 @@ use defer_queue::Deferred;
 use dev_tree::DevTree;
 use match_search::LiveRows;
 use ref_ledger::Refs;
-use run_rules::{Event, Setup};
+use run_rules::Setup;
 use std::alloc::Global;
 use unit_alloc::Units;
 
@@ -40,9 +40,6 @@ pub struct Core {
     pub pass_repeats: bool,
     /// Caller 0, which boots, and then the caller of each script.
     pub callers: Vec<CallerState>,
-    pub stops: u64,
-    pub stopped: Option<u8>,
-    pub events: Vec<Event>,
     /// What was last printed for each spot, so that it need not be made again. The world does not show it.
     pub recent: Recent,
 }
@@ -116,9 +113,6 @@ pub fn opening_core(alloc: Global, setup: &Setup) -> Result<Core, Memory>
         next_finaliser: 0,
         pass_repeats: false,
         callers,
-        stops: 0,
-        stopped: None,
-        events: Vec::new(alloc),
         recent,
     })
 }

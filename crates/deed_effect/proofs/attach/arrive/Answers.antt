@@ -54,15 +54,5 @@ returns-clause-books c = record {
   recent = c.list.ensures.books.recent;
 }
 
-pub returns-clause-aside : goal.returns-clause-aside
-returns-clause-aside c = record {
-  stops = c.in_ok-serial.ensures.ok.aside.stops;
-  stopped = c.in_ok-serial.ensures.ok.aside.stopped;
-  events = c.in_ok-serial.ensures.ok.aside.events;
-}
-
 pub returns-in_err-serial-clause-books : goal.returns-in_err-serial-clause-books
 returns-in_err-serial-clause-books c = c.list.ensures.books
-
-pub returns-in_err-serial-clause-aside : goal.returns-in_err-serial-clause-aside
-returns-in_err-serial-clause-aside c = c.in_err-serial.ensures.err.aside

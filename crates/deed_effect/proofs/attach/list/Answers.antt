@@ -43,8 +43,8 @@ give-requires-in-Err-clause-device c =
 pub give-requires-in-Err-clause-taken : goal.give-requires-in-Err-clause-taken
 give-requires-in-Err-clause-taken c = own_taken c.args.core.now.units c.take.new.self c.driver_of-driver.result c.args.arrival.unit c.in_ok-take.ensures.ok
 
-pub set_rows-requires-clause-length : goal.set_rows-requires-clause-length
-set_rows-requires-clause-length c = same_length c.args.site.now.setup c.args.core.now.tree.live c.args.core.now.rows c.requires.books.marks
+pub set-requires-clause-length : goal.set-requires-clause-length
+set-requires-clause-length c = same_length c.args.site.now.setup c.args.core.now.tree.live c.args.core.now.rows c.requires.books.marks
 
 pub returns-in-Ok-clause-serial : goal.returns-in-Ok-clause-serial
 returns-in-Ok-clause-serial c = c.in-Ok.ensures.serial
@@ -59,7 +59,6 @@ returns-in-Ok-clause-ok c =
       world = rw (c.in-Ok.ensures.ok, deferred) refl;
       callers = refl;
       finalisers = refl;
-      aside = record { stops = refl; stopped = refl; events = refl };
     }
 
 pub returns-in-Ok-clause-books : goal.returns-in-Ok-clause-books
@@ -68,7 +67,7 @@ returns-in-Ok-clause-books c =
     let core = c.args.core.now in
     let d = new_device (world_of s core) c.args.arrival in
     rw c.in-Ok.ensures.ok (record {
-      marks = more_marks s core.tree.live d core.rows c.set_rows.new.rows c.requires.books.marks (rw c.driver_of-driver.ensures at c.set_rows.ensures);
+      marks = more_marks s core.tree.live d core.rows c.set.new.rows c.requires.books.marks (rw c.driver_of-driver.ensures at c.set.ensures);
       units = more_units s core.tree.live d core.units c.take.new.self c.requires.books.units (rw c.driver_of-driver.ensures at c.in_ok-take.ensures.ok);
       drivers = rw (c.requires.books.drivers, c.driver_of-driver.ensures, map-append (λ d. driver_of s d.row) core.tree.live (d ∷ [])) refl;
       recent = c.requires.books.recent;
@@ -79,7 +78,7 @@ returns-in-Ok-clause-books c =
 pub returns-then-is_err-clause-err : goal.returns-then-is_err-clause-err
 returns-then-is_err-clause-err c =
     let deferred : c.put_off.new.deferred ≡ c.args.core.now.deferred = err_of _ c.put_off.result c.is_err.result c.is_err.ensures.value c.if-is_err.true c.put_off.ensures.err in
-    record { world = rw deferred refl; aside = record { stops = refl; stopped = refl; events = refl } }
+    rw deferred refl
 
 pub returns-then-is_err-clause-books : goal.returns-then-is_err-clause-books
 returns-then-is_err-clause-books c =
@@ -101,7 +100,7 @@ returns-in-Err-clause-err c =
     let was : c.put_off.new.deferred ≡ put_off_too c.args.placing core.deferred c.args.arrival.parent core.tree.next =
     ok_of _ c.put_off.result c.is_err.result c.is_err.ensures.value c.if-is_err.false c.put_off.ensures.ok
     ∙ ap (put_off_too c.args.placing core.deferred c.args.arrival.parent) c.next.ensures in
-    record { world = rw (c.in-Err.ensures.err, c.take_back.ensures core.deferred core.tree.next was) refl; aside = record { stops = refl; stopped = refl; events = refl } }
+    rw (c.in-Err.ensures.err, c.take_back.ensures core.deferred core.tree.next was) refl
 
 pub returns-in-Err-clause-books : goal.returns-in-Err-clause-books
 returns-in-Err-clause-books c =

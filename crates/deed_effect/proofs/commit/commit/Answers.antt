@@ -108,9 +108,6 @@ returns-in-Search-clause-err c = c.search.ensures.err
 pub returns-in-Search-clause-books : goal.returns-in-Search-clause-books
 returns-in-Search-clause-books c = c.search.ensures.books
 
-pub returns-in-Search-clause-aside : goal.returns-in-Search-clause-aside
-returns-in-Search-clause-aside c = c.search.ensures.aside
-
 pub returns-in-Finalise-clause-ok : goal.returns-in-Finalise-clause-ok
 returns-in-Finalise-clause-ok c = rw c.in-Finalise.is (c.finalise.ensures.ok c.in-Finalise.of)
 
@@ -120,9 +117,6 @@ returns-in-Finalise-clause-err c = c.finalise.ensures.err
 pub returns-in-Finalise-clause-books : goal.returns-in-Finalise-clause-books
 returns-in-Finalise-clause-books c = c.finalise.ensures.books
 
-pub returns-in-Finalise-clause-aside : goal.returns-in-Finalise-clause-aside
-returns-in-Finalise-clause-aside c = c.finalise.ensures.aside
-
 pub returns-in_default-clause-ok : goal.returns-in_default-clause-ok
 returns-in_default-clause-ok c = c.do_command.ensures.ok
 
@@ -131,9 +125,6 @@ returns-in_default-clause-err c = c.do_command.ensures.err
 
 pub returns-in_default-clause-books : goal.returns-in_default-clause-books
 returns-in_default-clause-books c = c.do_command.ensures.books
-
-pub returns-in_default-clause-aside : goal.returns-in_default-clause-aside
-returns-in_default-clause-aside c = c.do_command.ensures.aside
 
 pub search-requires-clause-books : goal.search-requires-clause-books
 search-requires-clause-books c = c.requires.books
@@ -182,18 +173,4 @@ returns-in-BeginInterrupts-clause-books c = record {
   units = c.requires.books.units;
   drivers = c.requires.books.drivers;
   recent = c.requires.books.recent;
-}
-
-pub returns-in-EndScan-clause-aside : goal.returns-in-EndScan-clause-aside
-returns-in-EndScan-clause-aside c = record {
-  stops = refl;
-  stopped = refl;
-  events = refl;
-}
-
-pub returns-in-BeginInterrupts-clause-aside : goal.returns-in-BeginInterrupts-clause-aside
-returns-in-BeginInterrupts-clause-aside c = record {
-  stops = refl;
-  stopped = refl;
-  events = refl;
 }

@@ -107,24 +107,10 @@ arrive-requires-clause-books c = record {
 pub returns-clause-books : goal.returns-clause-books
 returns-clause-books c = c.arrive.ensures.books
 
-pub returns-clause-aside : goal.returns-clause-aside
-returns-clause-aside c = record {
-  stops = c.arrive.ensures.aside.stops;
-  stopped = c.arrive.ensures.aside.stopped;
-  events = c.arrive.ensures.aside.events;
-}
-
 pub returns-then-is_err-clause-books : goal.returns-then-is_err-clause-books
 returns-then-is_err-clause-books c = record {
   marks = c.arrive.ensures.books.marks;
   units = c.arrive.ensures.books.units;
   drivers = c.arrive.ensures.books.drivers;
   recent = c.arrive.ensures.books.recent;
-}
-
-pub returns-then-is_err-clause-aside : goal.returns-then-is_err-clause-aside
-returns-then-is_err-clause-aside c = record {
-  stops = c.arrive.ensures.aside.stops;
-  stopped = c.arrive.ensures.aside.stopped;
-  events = c.arrive.ensures.aside.events;
 }

@@ -65,9 +65,6 @@ returns-in_default-clause-ok c = c.do_plain.ensures.world
 pub returns-in_default-clause-books : goal.returns-in_default-clause-books
 returns-in_default-clause-books c = c.do_plain.ensures.books
 
-pub returns-in_default-clause-aside : goal.returns-in_default-clause-aside
-returns-in_default-clause-aside c = c.do_plain.ensures.aside
-
 pub returns-in-Rescan-clause-ok : goal.returns-in-Rescan-clause-ok
 returns-in-Rescan-clause-ok c = rw c.in-Rescan.is c.rescan.ensures.ok
 
@@ -77,17 +74,8 @@ returns-in-Rescan-clause-err c = c.rescan.ensures.err
 pub returns-in-Rescan-clause-books : goal.returns-in-Rescan-clause-books
 returns-in-Rescan-clause-books c = c.rescan.ensures.books c.args.site.now.setup c.requires.books
 
-pub returns-in-Rescan-clause-aside : goal.returns-in-Rescan-clause-aside
-returns-in-Rescan-clause-aside c = c.rescan.ensures.aside
-
 pub returns-in-Open-clause-books : goal.returns-in-Open-clause-books
 returns-in-Open-clause-books c = c.open.ensures.books c.args.site.now.setup c.requires.books
 
-pub returns-in-Open-clause-aside : goal.returns-in-Open-clause-aside
-returns-in-Open-clause-aside c = c.open.ensures.aside
-
 pub returns-in-Unplug-clause-books : goal.returns-in-Unplug-clause-books
 returns-in-Unplug-clause-books c = c.unplug.ensures.books c.args.site.now.setup c.requires.books
-
-pub returns-in-Unplug-clause-aside : goal.returns-in-Unplug-clause-aside
-returns-in-Unplug-clause-aside c = c.unplug.ensures.aside

@@ -103,47 +103,5 @@ rest-requires c = record { live = subst (MayDo (world_of c.args.site.now.setup c
 pub rest-requires-in-Wake : goal.rest-requires-in-Wake
 rest-requires-in-Wake c = record { live = subst (MayDo (world_of c.args.site.now.setup c.args.core.now) c.args.caller) c.in-Wake.is c.requires.may }
 
-pub returns-in-Refuse-clause-aside : goal.returns-in-Refuse-clause-aside
-returns-in-Refuse-clause-aside c = c.finish.ensures.aside
-
-pub returns-in-Tell-clause-aside : goal.returns-in-Tell-clause-aside
-returns-in-Tell-clause-aside c = c.finish-in-Tell.ensures.aside
-
-pub returns-in-Close-clause-aside : goal.returns-in-Close-clause-aside
-returns-in-Close-clause-aside c = c.close.ensures.aside
-
-pub returns-in-Start-clause-aside : goal.returns-in-Start-clause-aside
-returns-in-Start-clause-aside c = c.begin.ensures.aside
-
-pub returns-in-Done-clause-aside : goal.returns-in-Done-clause-aside
-returns-in-Done-clause-aside c = c.finish_transfer.ensures.aside
-
-pub returns-in-Detach-clause-aside : goal.returns-in-Detach-clause-aside
-returns-in-Detach-clause-aside c = c.detach.ensures.aside
-
-pub returns-in-BeginPower-clause-aside : goal.returns-in-BeginPower-clause-aside
-returns-in-BeginPower-clause-aside c = c.begin_power.ensures.aside
-
-pub returns-in-EndPower-clause-aside : goal.returns-in-EndPower-clause-aside
-returns-in-EndPower-clause-aside c = c.end_power.ensures.aside
-
-pub returns-in-Sleep-clause-aside : goal.returns-in-Sleep-clause-aside
-returns-in-Sleep-clause-aside c = c.rest.ensures.aside
-
-pub returns-in-Wake-clause-aside : goal.returns-in-Wake-clause-aside
-returns-in-Wake-clause-aside c = c.rest-in-Wake.ensures.aside
-
-pub returns-in-Plug-clause-aside : goal.returns-in-Plug-clause-aside
-returns-in-Plug-clause-aside c = c.plug.ensures.aside
-
-pub returns-in-Free-clause-aside : goal.returns-in-Free-clause-aside
-returns-in-Free-clause-aside c = c.free.ensures.aside
-
-pub returns-in-Drop-clause-aside : goal.returns-in-Drop-clause-aside
-returns-in-Drop-clause-aside c = c.give_back.ensures.aside
-
-pub returns-in-EndCaller-clause-aside : goal.returns-in-EndCaller-clause-aside
-returns-in-EndCaller-clause-aside c = c.begin-in-EndCaller.ensures.aside
-
 pub returns-in-Free-clause-books : goal.returns-in-Free-clause-books
 returns-in-Free-clause-books c = c.free.ensures.books

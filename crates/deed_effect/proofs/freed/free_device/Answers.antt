@@ -32,7 +32,7 @@ returns-clause-books c =
     let d = c.in-Some.device in
     let at : device_at live c.args.of ≡ Some d = sym c.get.ensures ∙ c.in-Some.is in
     rw c.free.ensures (record {
-      marks = marks_gone s live c.args.of d core.rows c.set_rows.new.rows c.requires.sound.apart at c.requires.books.marks (rw c.driver_of-driver.ensures at c.set_rows.ensures);
+      marks = marks_gone s live c.args.of d core.rows c.set.new.rows c.requires.sound.apart at c.requires.books.marks (rw c.driver_of-driver.ensures at c.set.ensures);
       units = units_gone s live c.args.of d core.units c.give.new.self c.requires.sound.apart at c.requires.books.units (rw c.driver_of-driver.ensures at c.give.ensures);
       drivers = drivers_without s core.tree c.args.of c.requires.books.drivers;
       recent = c.requires.books.recent;

@@ -47,9 +47,6 @@ returns-in-Ok-clause-quiet g c = (c.condemn_too.ensures.denials ∙ c.publish.en
 pub returns-in-Ok-clause-books : goal.returns-in-Ok-clause-books
 returns-in-Ok-clause-books g c = c.commit.ensures.books
 
-pub returns-in-Ok-clause-aside : goal.returns-in-Ok-clause-aside
-returns-in-Ok-clause-aside g c = c.commit.ensures.aside
-
 pub returns-in-Err-clause-same : goal.returns-in-Err-clause-same
 returns-in-Err-clause-same g c = c.in-Err.ensures.err
 
@@ -61,6 +58,3 @@ returns-in-Err-clause-halt g c = (refl, refl)
 
 pub returns-in-Err-clause-books : goal.returns-in-Err-clause-books
 returns-in-Err-clause-books g c = c.commit.ensures.books
-
-pub returns-in-Err-clause-aside : goal.returns-in-Err-clause-aside
-returns-in-Err-clause-aside g c = c.commit.ensures.aside

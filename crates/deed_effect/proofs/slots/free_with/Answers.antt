@@ -81,9 +81,6 @@ returns-in-Ok-clause-quiet g c = c.in-Ok.ensures.quiet
 pub returns-in-Ok-clause-books : goal.returns-in-Ok-clause-books
 returns-in-Ok-clause-books g c = c.free.ensures.books
 
-pub returns-in-Ok-clause-aside : goal.returns-in-Ok-clause-aside
-returns-in-Ok-clause-aside g c = c.free.ensures.aside
-
 pub returns-in-Err-clause-same : goal.returns-in-Err-clause-same
 returns-in-Err-clause-same g c = refl
 
@@ -92,10 +89,3 @@ returns-in-Err-clause-agree g c = c.in-Err.ensures.same ∙ c.requires.agree
 
 pub returns-in-Err-clause-books : goal.returns-in-Err-clause-books
 returns-in-Err-clause-books g c = c.requires.books
-
-pub returns-in-Err-clause-aside : goal.returns-in-Err-clause-aside
-returns-in-Err-clause-aside g c = record {
-  stops = refl;
-  stopped = refl;
-  events = refl;
-}

@@ -18,9 +18,6 @@ returns-in-Free-clause-agree g c = c.free_with.ensures.agree
 pub returns-in-Free-clause-books : goal.returns-in-Free-clause-books
 returns-in-Free-clause-books g c = c.free_with.ensures.books
 
-pub returns-in-Free-clause-aside : goal.returns-in-Free-clause-aside
-returns-in-Free-clause-aside g c = c.free_with.ensures.aside
-
 pub returns-in_default-clause-done : goal.returns-in_default-clause-done
 returns-in_default-clause-done g c = c.do_with.ensures.done
 
@@ -38,9 +35,6 @@ returns-in_default-clause-agree g c = c.do_with.ensures.agree
 
 pub returns-in_default-clause-books : goal.returns-in_default-clause-books
 returns-in_default-clause-books g c = c.do_with.ensures.books
-
-pub returns-in_default-clause-aside : goal.returns-in_default-clause-aside
-returns-in_default-clause-aside g c = c.do_with.ensures.aside
 
 pub free_with-requires : goal.free_with-requires
 free_with-requires g c = record {

@@ -10,5 +10,5 @@ if_free-requires-clause-live c = stands_live c.args.core.now.tree.live c.args.sp
 
 pub returns-in-Some : goal.returns-in-Some
 returns-in-Some c =
-    let w = world_of c.args.setup.now c.args.core.now in
+    let w = world_of c.args.site.now.setup c.args.core.now in
     IfOk-weaker _ _ (λ does. unplugging w c.args.caller c.args.spot ≡ does) (λ does is. unplugs w c.args.caller c.args.spot c.in-Some.serial c.in-Some.ensures ∙ is) c.if_free.ensures

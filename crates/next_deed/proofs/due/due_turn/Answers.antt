@@ -33,4 +33,4 @@ loop-turn-preserved c =
 
 pub next_turn-requires-clause-span : goal.next_turn-requires-clause-span
 next_turn-requires-clause-span c =
-    rw c.below-span.ensures (spans_hold c.args.site.now.setup.machine c.args.site.now.spans c.args.by.now.spot c.args.site.now.spanned)
+    rw c.below.ensures (spans_hold c.args.site.now.setup.machine c.args.site.now.spans c.args.by.now.spot c.args.site.now.spanned)

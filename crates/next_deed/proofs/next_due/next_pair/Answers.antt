@@ -4,11 +4,11 @@ use Rattle.next_deed.proofs.next_due.next_pair.Goals as goal
 
 pub loop-spot-init : goal.loop-spot-init
 loop-spot-init c =
-    none_yet c.args.site.now.setup c.args.core.now.tree.live c.args.core.now.absent c.args.core.now.hidden c.args.serial c.args.filter.now c.args.parent c.args.turn
+    none_yet c.args.site.now.setup c.args.core.now.tree.live c.args.core.now.absent c.args.core.now.hidden c.args.scan.now.serial c.args.scan.now.filter.now c.args.scan.now.parent c.args.turn
 
 pub loop-spot-preserved : goal.loop-spot-preserved
 loop-spot-preserved c =
-    one_spot_more c.args.site.now.setup c.args.core.now.tree.live c.args.core.now.absent c.args.core.now.hidden c.args.serial c.args.filter.now c.args.parent c.args.turn c.loop-spot.spot c.loop-spot.next
+    one_spot_more c.args.site.now.setup c.args.core.now.tree.live c.args.core.now.absent c.args.core.now.hidden c.args.scan.now.serial c.args.scan.now.filter.now c.args.scan.now.parent c.args.turn c.loop-spot.spot c.loop-spot.next
     c.sooner-next.result c.due_position-found.result c.due_position-found.ensures.place c.due_position-found.ensures.due c.sooner-next.ensures.behind c.sooner-next.ensures.sooner c.sooner-next.ensures.found c.loop-spot.invariant
 
 pub returns-clause-behind : goal.returns-clause-behind

@@ -40,12 +40,12 @@ on_attr w d attr given name a o is at on wanted = rw (is, at, on, wanted) refl
 
 pub returns-in_default-attr_named : goal.returns-in_default-attr_named
 returns-in_default-attr_named c =
-    no_attr (world_of (setup_by c.args.rules.now) c.args.plain.now) c.args.device c.args.attr.now c.args.given.now c.in-Some.name c.in-Some.is
+    no_attr (world_of (setup_by c.args.rules.now) c.args.plain.now) c.args.device c.args.limits.now.attr.now c.args.limits.now.given.now c.in-Some.name c.in-Some.is
     (ap (λ (x : List ℕ). position (λ a. bytes_eq a.name x) c.args.rules.now.tables.now.attrs) (sym c.bytes.ensures.bytes) ∙ c.attr_named.ensures ∙ c.in_default-attr_named.is)
 
 pub returns-then-not-has : goal.returns-then-not-has
 returns-then-not-has c =
-    not_offered (world_of (setup_by c.args.rules.now) c.args.plain.now) c.args.device c.args.attr.now c.args.given.now c.in-Some.name c.in-Some-attr_named.attr c.in-Some.is
+    not_offered (world_of (setup_by c.args.rules.now) c.args.plain.now) c.args.device c.args.limits.now.attr.now c.args.limits.now.given.now c.in-Some.name c.in-Some-attr_named.attr c.in-Some.is
     (ap (λ (x : List ℕ). position (λ a. bytes_eq a.name x) c.args.rules.now.tables.now.attrs) (sym c.bytes.ensures.bytes) ∙ c.attr_named.ensures ∙ c.in-Some-attr_named.is)
     (ap (λ (driver : ℕ). has (interfaces c.args.rules.now.tables.now.attrs c.args.rules.now.tables.now.devices driver) c.in-Some-attr_named.attr) (sym c.driver_of.ensures)
     ∙ ap (λ (xs : List ℕ). has xs c.in-Some-attr_named.attr) (sym c.offered.ensures) ∙ sym c.has.ensures ∙ c.if-not-has.true)
@@ -58,14 +58,14 @@ wanted_of-requires c = record {
 pub returns : goal.returns
 returns c =
     let all =
-    λ (o : Option (List Wanted)) (wanted : wanted_of (map (λ l. l.name) (locators_at c.args.rules.now.tables.now.attrs (At c.in-Some-attr_named.attr))) c.args.given.now ≡ o).
-    on_attr (world_of (setup_by c.args.rules.now) c.args.plain.now) c.args.device c.args.attr.now c.args.given.now c.in-Some.name c.in-Some-attr_named.attr o c.in-Some.is
+    λ (o : Option (List Wanted)) (wanted : wanted_of (map (λ l. l.name) (locators_at c.args.rules.now.tables.now.attrs (At c.in-Some-attr_named.attr))) c.args.limits.now.given.now ≡ o).
+    on_attr (world_of (setup_by c.args.rules.now) c.args.plain.now) c.args.device c.args.limits.now.attr.now c.args.limits.now.given.now c.in-Some.name c.in-Some-attr_named.attr o c.in-Some.is
     (ap (λ (x : List ℕ). position (λ a. bytes_eq a.name x) c.args.rules.now.tables.now.attrs) (sym c.bytes.ensures.bytes) ∙ c.attr_named.ensures ∙ c.in-Some-attr_named.is)
     (ap (λ (driver : ℕ). has (interfaces c.args.rules.now.tables.now.attrs c.args.rules.now.tables.now.devices driver) c.in-Some-attr_named.attr) (sym c.driver_of.ensures)
     ∙ ap (λ (xs : List ℕ). has xs c.in-Some-attr_named.attr) (sym c.offered.ensures) ∙ sym c.has.ensures ∙ c.if-not-has.false)
     wanted in
     let named =
-    ap (λ (ls : List Locator). wanted_of (map (λ l. l.name) ls) c.args.given.now) (sym c.locators_at.ensures) ∙ c.in_ok-wanted_of.ensures in
+    ap (λ (ls : List Locator). wanted_of (map (λ l. l.name) ls) c.args.limits.now.given.now) (sym c.locators_at.ensures) ∙ c.in_ok-wanted_of.ensures in
     elim c.match-branch-2.branch [
       | in-Some-2 w ↦ rw w.result-is (all (Some w.in-Some-2.field-0.items) (named ∙ ap items_of w.in-Some-2.is))
       | in-None w ↦ rw w.result-is (all None (named ∙ ap items_of w.in-None.is))

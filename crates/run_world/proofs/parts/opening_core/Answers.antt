@@ -10,8 +10,5 @@ returns c = record {
   rows = c.in_ok-rows.ensures;
   units = rw c.len.ensures at c.in_ok-units.ensures;
   drivers = ap (λ (t : Devices). t.drivers) c.make-4.ensures;
-  stops = refl;
-  stopped = refl;
-  events = c.new-2.ensures.items;
   recent = c.in_ok-recent.ensures c.args.setup.now;
 }

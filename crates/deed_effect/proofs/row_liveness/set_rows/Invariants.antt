@@ -1,6 +1,0 @@
-use Rattle.std.proofs.Common.{◌≡◌}
-use Rattle.deed_effect.proofs.MarkLaws.{set_before}
-use Rattle.deed_effect.proofs.row_liveness.set_rows.Given as goal
-
-abbrev pub invariant-loop-index : goal.invariant-loop-index
-invariant-loop-index l = l.rows ≡ set_before l.tables.rows l.initial.rows l.index l.device l.unit l.live

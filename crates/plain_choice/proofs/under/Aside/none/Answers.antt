@@ -1,0 +1,5 @@
+use Rattle.plain_choice.proofs.UnderLaws.{none_kept}
+use Rattle.plain_choice.proofs.under.Aside.none.Goals as goal
+
+pub returns : goal.returns
+returns c = λ live target. none_kept live target 64
