@@ -28,7 +28,7 @@ same_fault : (r : Reading) → fault_in (reading_of (expanded r)) ≡ fault_in r
 unfolding fault_in
 same_fault r = refl
 
-means_read : (files : Files) (name : List ℕ) (read : Expanded) (tables : Tables) → read ≡ expanded (reading files name) → Finds (reading_of read) (Ok tables) → Means files name tables
+pub means_read : (files : Files) (name : List ℕ) (read : Expanded) (tables : Tables) → read ≡ expanded (reading files name) → Finds (reading_of read) (Ok tables) → Means files name tables
 unfolding first_fault
 means_read files name read tables is found =
     let here = subst (λ (e : Expanded). Finds (reading_of e) (Ok tables)) is found in
@@ -39,12 +39,12 @@ means_read files name read tables is found =
       shown = here.1.shown;
     }
 
-fault_read : (files : Files) (name : List ℕ) (read : Expanded) (refusal : _) → read ≡ expanded (reading files name) → fault_in (reading_of read) ≡ Some refusal → first_fault files name ≡ Some refusal
+pub fault_read : (files : Files) (name : List ℕ) (read : Expanded) (refusal : _) → read ≡ expanded (reading files name) → fault_in (reading_of read) ≡ Some refusal → first_fault files name ≡ Some refusal
 unfolding first_fault
 fault_read files name read refusal is found =
     sym (same_fault (reading files name)) ∙ ap (λ (e : Expanded). fault_in (reading_of e)) (sym is) ∙ found
 
-if_told : (told : Option Files) (P Q : Files → Type 0) → ((files : Files) → P files → Q files) → IfSome told P → IfSome told Q
+pub if_told : (told : Option Files) (P Q : Files → Type 0) → ((files : Files) → P files → Q files) → IfSome told P → IfSome told Q
 if_told None P Q f h = h
 if_told (Some files) P Q f h = f files h
 
@@ -76,7 +76,7 @@ asks_all due (Err ReadFault) old new asked = front_all due old new asked
 asks_all due (Err Memory) old new asked = front_all due old new asked
 
 -- all that reading asks for was asked for, whatever was found in it
-pub asks_read : (told : Option Files) (name : List ℕ) (result : Result Tables CompileStop) (old new : Option (List (List ℕ)))
+pub asks_read : {A : Type 0} (told : Option Files) (name : List ℕ) (result : Result A CompileStop) (old new : Option (List (List ℕ)))
     → IfSome told (λ files. new ≡ asked_behind old (reading files name).asked) → IfSome told (λ files. AsksDue (reading files name).asked result old new)
 asks_read told name result old new = if_told told (λ files. new ≡ asked_behind old (reading files name).asked) (λ files. AsksDue (reading files name).asked result old new)
     (λ files asked. asks_all (reading files name).asked result old new asked)
@@ -88,7 +88,7 @@ asks_front {A = A} due read.ReadFault (Err e) old new is front = subst (λ (e : 
 asks_front {A = A} due read.Memory (Err e) old new is front = subst (λ (e : CompileStop). AsksDue {A = A} due (Err e) old new) (sym is) front
 
 -- the same of a configuration whose files are told
-pub asks_stopped : (told : Option Files) (name : List ℕ) (stop : ExpandStop) (result : Result Tables CompileStop) (old new : Option (List (List ℕ))) → IsErrAnd result (λ e. e ≡ stop_of stop)
+pub asks_stopped : {A : Type 0} (told : Option Files) (name : List ℕ) (stop : ExpandStop) (result : Result A CompileStop) (old new : Option (List (List ℕ))) → IsErrAnd result (λ e. e ≡ stop_of stop)
     → IfSome told (λ files. AsksFront (reading files name).asked old new) → IfSome told (λ files. AsksDue (reading files name).asked result old new)
 asks_stopped told name stop result old new is = if_told told (λ files. AsksFront (reading files name).asked old new) (λ files. AsksDue (reading files name).asked result old new)
     (λ files front. asks_front (reading files name).asked stop result old new is front)

@@ -6,3 +6,4 @@ pub use Rattle.config_rules.specs.Formed
 pub use Rattle.config_rules.specs.Meaning
 pub use Rattle.config_rules.specs.Written
 pub mod Emptied
+pub mod Known

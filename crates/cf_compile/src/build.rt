@@ -58,7 +58,7 @@ fn rooted_marks(alloc: Global, graph: &Graph, instances: &[Instance]) -> Result<
 }
 
 /// The surviving instances that are rooted, and the orphans.
-fn split_by_root<'a>(
+pub fn split_by_root<'a>(
     alloc: Global,
     graph: &Graph,
     instances: &'a [Instance],

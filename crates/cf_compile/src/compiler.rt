@@ -42,7 +42,7 @@ fn tables_of_standing(
 }
 
 /// The tables of placed statements, or their first fault, or else this fault of the reading.
-fn compile_placed(
+pub fn compile_placed(
     alloc: Global,
     files: &[Text],
     placed: &[Placed],
@@ -72,7 +72,7 @@ fn compile_read(alloc: Global, read: Expanded) -> Result<Compiled, CompileStop>
         files,
         fault,
     } = read;
-    let placed = without_tokens(alloc, placed)?;
+    let placed = without_tokens(alloc, placed);
     let found = compile_placed(alloc, files.items(), placed.items(), fault);
     drop(files);
     match found {

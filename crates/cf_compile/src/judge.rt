@@ -46,6 +46,7 @@ pub fn refusal(
 }
 
 /// Appends the instance at a place, if it survives.
+#[inline(always)]
 fn push_kept(
     instances: &mut List<Instance>,
     instance: Instance,

@@ -5,10 +5,12 @@ mod build;
 mod compiled;
 mod compiler;
 mod judge;
+mod known;
 mod stop;
 mod tokens;
 
 pub use compiled::Compiled;
 pub use compiler::compile;
 pub use judge::refusal;
+pub use known::{Known, compile_known};
 pub use stop::CompileStop;

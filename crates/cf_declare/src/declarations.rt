@@ -59,6 +59,7 @@ impl Declarations {
     }
 
     /// What an instance joins, or its first code.
+    #[inline(always)]
     pub fn join(&self, base: &Name, at: &AtSpec, pairs: &[GivenLoc]) -> Result<Joined, u8>
         requires { FitsDeclared self.now }
         ensures { result ≡ join self.now base.now at.now pairs.now }

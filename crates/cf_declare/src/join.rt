@@ -180,6 +180,7 @@ fn fitting_place(
 }
 
 /// The locator values of an instance at a place.
+#[inline(always)]
 fn fill_at(declared: &Catalog, place: Place, pairs: &[GivenLoc]) -> Result<Locs, u8>
     requires { LocatorsFit declared.now }
     ensures { result ≡ fill (locators_at declared.now.attrs place) pairs.now }
@@ -203,7 +204,8 @@ fn fill_nothing(pairs: &[GivenLoc]) -> Result<Locs, u8>
     Err(code::UNKNOWN_LOCATOR)
 }
 
-/// What an instance joins, or its first code.
+/// What an instance joins, or its first code. It is inlined, since each call that it leaves copies the values once more.
+#[inline(always)]
 #[tactic(auto, unfolding(config_rules::specs::Joined::join))]
 pub fn join(
     declared: &Catalog,

@@ -1,7 +1,9 @@
 //! Reads a configuration file with all that it includes, without the parts that its conditions leave out. See config(5).
 #![tactic(auto)]
 
+mod alone;
 mod conditions;
+mod known_text;
 mod lines;
 mod open;
 mod placed;

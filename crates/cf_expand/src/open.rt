@@ -7,6 +7,7 @@ ghost use Rattle.cf_expand.specs.Loaded.{IsLoaded, IsShort};
 ghost use Rattle.cf_expand.specs.Stop.{Counted};
 ghost use Rattle.cf_expand.specs.Steps.{IsBelow, WhereTold, entered, here_of, when_absent};
 
+use crate::alone::read_alone;
 use crate::conditions::Conditions;
 use crate::progress::Progress;
 use crate::source::{Include, Opened, Source};
@@ -70,8 +71,8 @@ fn ask<F: Files>(
     load(alloc, files, name)
 }
 
-/// Opens a file that was loaded. `None` if it cannot be cut into tokens; that is noted as the fault.
-fn open(
+/// Opens a file that was loaded, and cuts it. `None` if it cannot be cut into tokens; that is noted as the fault.
+fn open_cut(
     alloc: Global,
     progress: &mut Progress,
     name: Text,
@@ -104,6 +105,28 @@ fn open(
         }
         Err(LexStop::Memory) => Err(Memory),
     }
+}
+
+/// Opens a file that was loaded. `None` if it cannot be cut into tokens, which is noted as the fault; or if it is one
+/// statement, which is read at once.
+fn open(
+    alloc: Global,
+    progress: &mut Progress,
+    name: Text,
+    text: Vec<u8>,
+    room: usize,
+    levels: u32,
+) -> Result<Option<Opened>, Memory>
+    requires short { length text.items ≤ 1048576 }
+    requires few { length progress.old.files < 4096 }
+    ensures below { IfOk result (λ opened. IsBelow room levels opened) }
+    ensures asked { OnOk result (progress.new.asked ≡ progress.old.asked) }
+    ensures read { IfOk result (λ opened. (files : Told) (around : ℕ) → entered files around opened progress.new ≡ reader (levels + 1) files around name text.items progress.old) }
+{
+    if read_alone(alloc, progress, name.items(), &text)? {
+        return Ok(None);
+    }
+    open_cut(alloc, progress, name, text, room, levels)
 }
 
 /// Opens the named file.

@@ -9,6 +9,9 @@ use std::alloc::Global;
 use std::collections::BTreeSet;
 use std::marker::Model;
 
+/// The most statements that are placed.
+pub const MAX_PLACED: usize = 65_536;
+
 /// The name of the attribute or the device that a statement declares.
 #[inline(always)]
 fn declared_name(stmt: &Stmt) -> Option<&Name>

@@ -1,12 +1,14 @@
-ghost use Rattle.std.specs.Prelude.{◌≡◌, ◌<◌, [], ◌∷◌, ◌++◌, IfErr, IfOk, OnOk, Some, is_some, length};
+ghost use Rattle.std.specs.Prelude.{◌≡◌, ◌<◌, [], ◌∷◌, ◌++◌, IfErr, IfOk, IfSome, OnOk, Some, is_some, length};
 ghost use Rattle.cf_grammar.specs.Statement.{AreWithin, IsFaultOf};
 ghost use Rattle.config_rules.specs.Cut.{pieces};
 ghost use Rattle.config_rules.specs.Form.{Form};
 ghost use Rattle.config_rules.specs.Reading.{asking, is_declared, nothing_read, refused, under_prefix};
 ghost use Rattle.config_rules.specs.Written.{AreWritten, IsWritten};
+ghost use Rattle.cf_expand.specs.Alone.{ReadsAs};
 ghost use Rattle.cf_expand.specs.Prefixes.{Pops};
 ghost use Rattle.cf_expand.specs.Steps.{expanded};
 
+use crate::known_text::{Alone, KnownTexts};
 use crate::placed::PlacedList;
 use crate::prefixes::Prefixes;
 use cf_grammar::{GrammarStop, statement};
@@ -26,6 +28,8 @@ pub struct Progress {
     fault: Option<Refusal>,
     /// Names of statements, which later ones share.
     known: Known,
+    /// Long texts of one statement, which later files share.
+    texts: KnownTexts,
 }
 
 impl Model for Progress {
@@ -48,6 +52,7 @@ impl Progress {
             prefixes: Prefixes::make(alloc),
             fault: None,
             known: Known::make(alloc),
+            texts: KnownTexts::make(alloc),
         }
     }
 
@@ -71,6 +76,31 @@ impl Progress {
         ensures fault { IfErr result (λ stop. IsFaultOf (pieces text.now tokens.now) stop) }
     {
         statement(&mut self.known, words, text, tokens)
+    }
+
+    /// The statement that a text is, if the text was read before and others can share the statement.
+    pub fn known(&self, text: &[u8]) -> Result<Option<Alone>, Memory>
+        ensures reads { IfOk result (λ found. IfSome found (λ one. ReadsAs text.now one.line one.stmt)) }
+        ensures written { IfOk result (λ found. IfSome found (λ one. IsWritten one.stmt)) }
+    {
+        self.texts.find(text)
+    }
+
+    /// Notes how long a long text is, and returns whether one of the last ones was as long.
+    pub fn note_len(&mut self, len: usize) -> Result<bool, Memory>
+        ensures { self.new ≡ self.old }
+    {
+        self.texts.note_len(len)
+    }
+
+    /// Keeps a text with the statement that it is, if others can share that.
+    pub fn keep(&mut self, alloc: Global, text: &[u8], one: &Alone) -> Result<(), Memory>
+        requires reads { ReadsAs text.now one.now.line one.now.stmt }
+        requires written { IsWritten one.now.stmt }
+        ensures { self.new ≡ self.old }
+    {
+        let text = Vec::from_slice(alloc, text)?;
+        self.texts.keep(text, one)
     }
 
     /// How many statements were placed.

@@ -9,6 +9,7 @@ ghost use Rattle.cf_expand.specs.Steps.{AsksTreating, IsCutting, Treats, WhereTo
 
 use crate::conditions::Conditions;
 use crate::open::{open_first, open_include};
+use crate::placed::MAX_PLACED;
 use crate::progress::Progress;
 use crate::source::{Opened, Place, Source};
 use crate::statement::{Head, Statement};
@@ -22,9 +23,6 @@ use cf_types::code::configuration as code;
 use cf_types::{Expanded, Memory, Stmt};
 use cf_words::Word;
 use std::alloc::Global;
-
-/// The most statements that are placed.
-const MAX_PLACED: usize = 65_536;
 
 /// Ends a file: no condition may be open.
 fn read_end(

@@ -3,7 +3,7 @@ ghost use Rattle.config_rules.specs.Form.{alone, are_chunks, are_values, checked
 ghost use Rattle.cf_words.specs.Words.{piece_of};
 
 use crate::keyword::spelling;
-use cf_types::{Keyword, Memory, Pieces, Stmt};
+use cf_types::{Keyword, Memory, PieceList, Stmt};
 use cf_words::{Known, Word, count_of, is_name_word, is_path_word, name_of, value_of};
 use std::alloc::Global;
 
@@ -168,10 +168,10 @@ fn byte_count(words: &[Word]) -> usize {
 }
 
 #[inline(always)]
-fn pieces(alloc: Global, words: &[Word]) -> Result<Pieces, Memory>
+fn pieces(alloc: Global, words: &[Word]) -> Result<PieceList, Memory>
     ensures { IfOk result (λ pieces. pieces ≡ map piece_of words.now) }
 {
-    let mut pieces = Pieces::with_room(alloc, words.len(), byte_count(words))?;
+    let mut pieces = PieceList::with_room(alloc, words.len(), byte_count(words))?;
     for word in words {
         pieces.push(word.kind, word.text)?;
     }
@@ -186,7 +186,8 @@ pub fn free(known: &mut Known, keyword: Keyword, words: &[Word]) -> Result<Optio
     if words.is_empty() {
         return Ok(None);
     }
-    let rest = pieces(known.alloc(), words)?;
+    let list = pieces(known.alloc(), words)?;
+    let rest = known.share(list)?;
     let word = known.name(spelling(keyword))?;
     Ok(Some(Stmt::Free { word, rest }))
 }

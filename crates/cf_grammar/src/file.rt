@@ -7,7 +7,7 @@ ghost use Rattle.cf_grammar.specs.Statement.{AreWithin, IsWithin};
 
 use crate::grammar::{MAX_TOKEN, word_of};
 use crate::keyword::spelling;
-use cf_types::{Keyword, Memory, Pieces, Stmt, Token};
+use cf_types::{Keyword, Memory, Stmt, Token};
 use cf_words::Known;
 
 /// Whether a token is this word.
@@ -45,7 +45,7 @@ pub fn file(known: &mut Known, text: &[u8], tokens: &[Token]) -> Result<Option<S
     if rest.is_empty() || !is_file_word(text, *first) || !are_short(text, rest) {
         return Ok(None);
     }
-    let rest = Pieces::of_tokens(known.alloc(), text, rest)?;
+    let rest = known.share_tokens(text, rest)?;
     let word = known.name(spelling(Keyword::File))?;
     Ok(Some(Stmt::Free { word, rest }))
 }

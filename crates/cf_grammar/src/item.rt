@@ -3,9 +3,10 @@ ghost use Rattle.config_rules.specs.Form.{bytes_of, each, is_mark, item, make_it
 ghost use Rattle.cf_words.specs.Words.{piece_of};
 ghost use Rattle.cf_grammar.specs.Items.{item_form};
 
-use cf_types::{Item, List, Memory, Stmt};
+use cf_types::{Item, Items, List, Memory, Stmt};
 use cf_words::{Word, bytes_of, count_parts, first_part, name_of};
 use std::alloc::Global;
+use std::sync::Arc;
 
 /// An item with a value.
 fn valued(alloc: Global, name: Word, plus: bool, value: Word) -> Result<Option<Item>, Memory>
@@ -102,13 +103,29 @@ fn items_of(alloc: Global, form: ItemForm, words: &[Word]) -> Result<Option<List
     Ok(Some(List::from_vec(items)))
 }
 
+/// How many items a statement has at least whose items may be shared.
+const MANY: usize = 64;
+
+/// The items of a statement. If they are many, statements that are made from this one can share them.
+#[inline(always)]
+fn held(alloc: Global, items: List<Item>) -> Result<Items, Memory>
+    ensures { IfOk result (λ held. held ≡ items) }
+{
+    if items.len() < MANY {
+        return Ok(Items::own(items));
+    }
+    Ok(Items::shared(Arc::new(alloc, items)?))
+}
+
 /// `options`: options, separated by commas.
 #[inline(always)]
 pub fn options(alloc: Global, words: &[Word]) -> Result<Option<Stmt>, Memory>
     ensures { IfOk result (λ s. s ≡ option_map Stmt.Options (each option_item (parted (map piece_of words.now)))) }
 {
     match items_of(alloc, ItemForm::Options, words)? {
-        Some(items) => Ok(Some(Stmt::Options { items })),
+        Some(items) => Ok(Some(Stmt::Options {
+            items: held(alloc, items)?,
+        })),
         None => Ok(None),
     }
 }
@@ -119,7 +136,9 @@ pub fn make_options(alloc: Global, words: &[Word]) -> Result<Option<Stmt>, Memor
     ensures { IfOk result (λ s. s ≡ option_map Stmt.MakeOptions (each make_item (parted (map piece_of words.now)))) }
 {
     match items_of(alloc, ItemForm::MakeOptions, words)? {
-        Some(items) => Ok(Some(Stmt::MakeOptions { items })),
+        Some(items) => Ok(Some(Stmt::MakeOptions {
+            items: held(alloc, items)?,
+        })),
         None => Ok(None),
     }
 }

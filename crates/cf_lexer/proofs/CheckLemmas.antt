@@ -81,6 +81,33 @@ plain_run (suc n) (c ∷ cs) h = by_test (is_plain_byte c) refl (plain_run n cs)
     by_test true e so = so (omega (arith, h, ap (λ b. cond b (1 + prefix_len is_plain_byte cs) 0) e)) ∙ plain_goes c cs e
     by_test false e so = absurd (omega (arith, h, ap (λ b. cond b (1 + prefix_len is_plain_byte cs) 0) e))
 
+-- so many of them, and those behind them
+pub plain_behind : (n : ℕ) (bytes : List ℕ) → n ≤ prefix_len is_plain_byte bytes → n + prefix_len is_plain_byte (drop n bytes) ≡ prefix_len is_plain_byte bytes
+plain_behind zero bytes h = omega arith
+plain_behind (suc n) [] h = absurd (omega arith)
+plain_behind (suc n) (c ∷ cs) h = by_test (is_plain_byte c) refl (plain_behind n cs)
+  where
+    by_test : (b : Bool) → is_plain_byte c ≡ b → (n ≤ prefix_len is_plain_byte cs → n + prefix_len is_plain_byte (drop n cs) ≡ prefix_len is_plain_byte cs)
+        → suc n + prefix_len is_plain_byte (drop n cs) ≡ prefix_len is_plain_byte (c ∷ cs)
+    by_test true e so =
+        let more : prefix_len is_plain_byte (c ∷ cs) ≡ 1 + prefix_len is_plain_byte cs = ap (λ b. cond b (1 + prefix_len is_plain_byte cs) 0) e in
+        let rest : n + prefix_len is_plain_byte (drop n cs) ≡ prefix_len is_plain_byte cs = so (omega (arith, h, more)) in
+        omega (arith, more, rest)
+    by_test false e so = absurd (omega (arith, h, ap (λ b. cond b (1 + prefix_len is_plain_byte cs) 0) e))
+
+-- four more of them
+pub four_behind : (len : ℕ) (bytes front : List ℕ) → front ≡ drop len bytes → 4 ≤ prefix_len is_plain_byte front → len ≤ length bytes
+    → len + prefix_len is_plain_byte (drop len bytes) ≡ prefix_len is_plain_byte bytes
+    → (len + 4 ≤ length bytes) × (len + 4 + prefix_len is_plain_byte (drop (len + 4) bytes) ≡ prefix_len is_plain_byte bytes)
+four_behind len bytes front is four within so_far =
+    let many : 4 ≤ prefix_len is_plain_byte (drop len bytes) = subst (λ (xs : List ℕ). 4 ≤ prefix_len is_plain_byte xs) is four in
+    let there : prefix_len is_plain_byte (drop len bytes) ≤ length (drop len bytes) = prefix_len-le-length is_plain_byte (drop len bytes) in
+    let behind : 4 + prefix_len is_plain_byte (drop (len + 4) bytes) ≡ prefix_len is_plain_byte (drop len bytes) =
+    ap (λ (xs : List ℕ). 4 + prefix_len is_plain_byte xs) (sym (drop-drop 4 len bytes)) ∙ plain_behind 4 (drop len bytes) many in (
+      omega (arith, many, there, length-drop len bytes, within),
+      omega (arith, so_far, behind),
+    )
+
 -- a run of them at the front of a line, by the text
 pub run_goes : (first n : ℕ) (more : List ℕ) → is_plain_byte first ≡ true → n ≡ prefix_len is_plain_byte more → GoesBy (first ∷ first_of more) (Ok (n + 1))
 run_goes first n more h is =

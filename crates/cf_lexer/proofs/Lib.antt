@@ -6,3 +6,4 @@ pub mod LineLemmas
 pub mod PlaceLemmas
 pub mod TextLemmas
 mod TextWords
+mod WordLemmas

@@ -1,4 +1,5 @@
 pub mod Check
+pub mod Fourth
 pub mod Front
 pub mod Line
 pub mod Lines

@@ -2,6 +2,7 @@
 ghost use Rattle.std.specs.Prelude.{◌≡◌, ◌<◌, ◌≤◌, ◌++◌, IfOk, IfSome, OnOk, Ok, None, Some, drop, length, true};
 ghost use Rattle.config_rules.specs.Cut.{parts_of, stop_behind};
 ghost use Rattle.cf_lexer.specs.Check.{code_of};
+ghost use Rattle.cf_lexer.specs.Fourth.{is_fourth};
 ghost use Rattle.cf_lexer.specs.Line.{with_line};
 ghost use Rattle.cf_lexer.specs.Lines.{begins, first_of, lines_from, rest_of};
 ghost use Rattle.cf_lexer.specs.Rest.{IsNext, IsRest, MayRest, Passes, is_closed, is_condition_word, names_condition, rest_tokens};
@@ -37,13 +38,25 @@ fn is_condition_word(chunk: &[u8]) -> bool
         || chunk == b"endif".as_slice()
 }
 
-/// Whether a text begins with a chunk that is a condition word. Few chunks begin as those words do.
+/// Whether a condition word has this byte at its fourth place.
+#[inline(always)]
+fn is_fourth(byte: u8) -> bool
+    ensures { result ≡ is_fourth byte }
+{
+    byte == b'd' || byte == b'e' || byte == b'f' || byte == b'i'
+}
+
+/// Whether a text begins with a chunk that is a condition word. Few chunks have the first and the fourth byte of such a
+/// word.
+#[tactic(auto, using(crate::proofs::WordLemmas::other_fourth))]
 #[inline(always)]
 fn names_condition(text: &[u8]) -> bool
     ensures { result ≡ names_condition text.now }
 {
     match text {
-        [b'e' | b'i', ..] => is_condition_word(&text[..chunk_len(text)]),
+        [b'e' | b'i', _, _, fourth, ..] => {
+            is_fourth(*fourth) && is_condition_word(&text[..chunk_len(text)])
+        }
         _ => false,
     }
 }

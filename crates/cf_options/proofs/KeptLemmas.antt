@@ -1,8 +1,8 @@
 -- The items of one more statement.
-use Rattle.std.proofs.Common.{◌≡◌, ℕ, ◌+◌, ◌<◌, ◌≤◌, not, Bool, cond, suc, List, [], ◌∷◌, ◌++◌, length, get_or, take, drop, drop-cons, add-one, refl, ap, sym, ◌∙◌, append_assoc}
+use Rattle.std.proofs.Common.{◌≡◌, ℕ, ◌+◌, ◌<◌, ◌≤◌, not, Bool, true, cond, suc, List, [], ◌∷◌, ◌++◌, length, get_or, take, drop, drop-cons, add-one, refl, ap, sym, ◌∙◌, append_assoc}
 use Rattle.std.specs.Prelude.{filter}
 use Rattle.std.specs.List.{list_any}
-use Rattle.std.proofs.lemmas.List.{drop_all, append-nil, take_more}
+use Rattle.std.proofs.lemmas.List.{drop_all, append-nil, take_all, take_more}
 use Rattle.std.proofs.lemmas.List.Elements.{filter-append}
 use Rattle.cf_types.specs.declared.stmt.ItemKind.{ItemKind}
 use Rattle.cf_types.specs.declared.stmt.Placed.{Placed}
@@ -57,3 +57,13 @@ pub filter_step : {X : Type 0} (test : X → Bool) (xs : List X) (i : ℕ) (x : 
 filter_step test xs i x first now next h is so_far new =
     new ∙ ap (λ ys. ys ++ filter test (x ∷ [])) so_far ∙ append_assoc first (filter test (take i xs)) (filter test (x ∷ [])) ∙ ap (λ y. first ++ (filter test (take i xs) ++ filter test (y ∷ []))) is
     ∙ ap (λ ys. first ++ ys) (sym (ap (filter test) (take_more xs i x h) ∙ filter-append test (take i xs) (get_or xs i x ∷ [])))
+
+-- one more element that passes, where all before it do
+pub kept_step : {X : Type 0} (test : X → Bool) (xs : List X) (i : ℕ) (x : X) → i < length xs → x ≡ get_or xs i x → take i xs ≡ filter test (take i xs) → test x ≡ true → take (i + 1) xs ≡ filter test (take (i + 1) xs)
+kept_step test xs i x h is so_far passes =
+    take_more xs i x h ∙ ap (λ y. take i xs ++ y ∷ []) (sym is)
+    ∙ filter_step test xs i x [] (take i xs) (take i xs ++ x ∷ []) h is so_far (ap (λ b. take i xs ++ cond b (x ∷ []) []) (sym passes))
+
+-- all pass
+pub kept_all : {X : Type 0} (test : X → Bool) (xs : List X) (i : ℕ) → length xs ≤ i → take i xs ≡ filter test (take i xs) → filter test xs ≡ xs
+kept_all test xs i h same = let all : take i xs ≡ xs = take_all i xs h in ap (filter test) (sym all) ∙ sym same ∙ all

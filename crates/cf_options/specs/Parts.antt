@@ -1,5 +1,5 @@
 -- The options or makeoptions of a statement by their kind, and which statements take items back.
-use Rattle.std.specs.Prelude.{Bool, true, false, List, []}
+use Rattle.std.specs.Prelude.{Bool, true, false, List, [], Option, Some, None}
 use Rattle.cf_types.specs.declared.stmt.Item.{Item}
 use Rattle.cf_types.specs.declared.stmt.ItemKind.{ItemKind}
 use Rattle.cf_types.specs.declared.stmt.ItemKind.TheVariants as of_kind
@@ -17,3 +17,8 @@ items_in _ s = []
 abbrev pub negates_items : Stmt → Bool
 negates_items (stmt.NoItems kind names) = true
 negates_items _ = false
+
+-- those of a list, if there is one
+abbrev pub all_of : {A : Type 0} → Option (List A) → List A
+all_of None = []
+all_of (Some xs) = xs

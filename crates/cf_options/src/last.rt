@@ -82,6 +82,7 @@ pub fn last_negations(alloc: Global, placed: &[Placed]) -> Result<Negations<'_>,
 }
 
 /// Whether the last negation of a name is after this place.
+#[inline(always)]
 pub fn is_dropped(last: &LastPlaces, name: &Name, place: usize) -> bool
     ensures { result ≡ is_dropped last.now place name.now }
 {

@@ -7,7 +7,7 @@ ghost use Rattle.config_rules.specs.Select.{kept_items};
 use crate::idle::idle_items;
 use crate::kept::{kept_file_systems, kept_items, kept_pseudos};
 use crate::last::last_negations;
-use cf_types::{Item, ItemKind, List, Memory, Name, Placed, Pseudo};
+use cf_types::{ItemKind, ItemList, List, Memory, Name, Placed, Pseudo};
 use std::alloc::Global;
 
 /// The items of a configuration that no later negation takes back, each list in the order of the statements, and the
@@ -15,8 +15,8 @@ use std::alloc::Global;
 #[derive(Drop)]
 pub struct ItemLists {
     pub pseudos: List<Pseudo>,
-    pub options: List<Item>,
-    pub makeoptions: List<Item>,
+    pub options: ItemList,
+    pub makeoptions: ItemList,
     pub file_systems: List<Name>,
     /// The place of a negation, once for each of its names that takes nothing back.
     pub idle: List<u32>,

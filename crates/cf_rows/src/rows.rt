@@ -8,31 +8,26 @@ use crate::units::{first_unit, in_order, own_unit};
 use cf_types::{Instance, List, Locs, Memory, Row};
 use std::alloc::Global;
 
-fn copied(locs: &Locs) -> Locs
-    ensures { result ≡ locs.now }
-{
-    let mut copy = Locs::make();
-    for value in locs.items() {
-        copy.push(*value);
-    }
-    copy
-}
-
-/// The row of an instance; `first` is the unit of a starred one.
+/// The row of an instance; `first` is the unit of a starred one. The values are put where the row has them, since a list of
+/// them that is made first is copied once more.
 fn row(first: u32, instance: &Instance) -> Row
     ensures { result ≡ row first instance.now }
 {
     let unit = own_unit(instance);
-    Row {
+    let mut made = Row {
         device: instance.joined.device,
         unit: unit.unwrap_or(first),
         star: unit.is_none(),
         attach: instance.joined.attach,
         place: instance.joined.place,
         parent: instance.joined.parent,
-        locs: copied(&instance.joined.locs),
+        locs: Locs::make(),
         flags: instance.flags,
+    };
+    for value in instance.joined.locs.items() {
+        made.locs.push(*value);
     }
+    made
 }
 
 /// Appends the rows of a device, from its own instances.

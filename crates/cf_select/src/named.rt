@@ -37,6 +37,7 @@ impl<'a> Hash for Attachment<'a> {
 
     ghost respects_eq = { attachments_alike };
 
+    #[inline(always)]
     fn hash<H: Hasher>(&self, state: &mut H) {
         match self {
             Attachment::Root => state.write_u8(0),
@@ -54,6 +55,7 @@ impl<'a> Hash for Named<'a> {
 
     ghost respects_eq = { keys_alike };
 
+    #[inline(always)]
     fn hash<H: Hasher>(&self, state: &mut H) {
         match self {
             Named::Unit(base, unit) => {

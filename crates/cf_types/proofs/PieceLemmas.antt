@@ -1,9 +1,9 @@
 -- Tokens in one text, with one more; and those of a part of a text.
-use Rattle.std.proofs.Common.{◌≡◌, ℕ, ◌+◌, ◌-◌, ◌≤◌, List, [], ◌∷◌, ◌++◌, length, get_or, map, take, drop, refl, ap, ◌∙◌, arith}
+use Rattle.std.proofs.Common.{◌≡◌, ℕ, ◌+◌, ◌-◌, ◌≤◌, ◌<◌, List, [], ◌∷◌, ◌++◌, length, get_or, map, take, drop, refl, ap, subst, sym, ◌∙◌, arith}
 use Rattle.std.specs.Prelude.{All, slice_range}
-use Rattle.std.proofs.lemmas.List.{drop_at, drop-drop, drop-take, map-append, take-append-le, take-take, take_all}
-use Rattle.std.proofs.lemmas.List.Elements.{All-head, All-map, All-tail}
-use Rattle.cf_types.specs.Pieces.{AreBetween, IsBetween, IsWithin, piece_at, span_from, token_in}
+use Rattle.std.proofs.lemmas.List.{drop_at, drop-drop, drop-take, map-append, take-append-le, take-take, take_all, take_more}
+use Rattle.std.proofs.lemmas.List.Elements.{All-append, All-cons, All-head, All-map, All-nil, All-tail}
+use Rattle.cf_types.specs.Pieces.{AreBetween, IsBetween, IsFrom, IsWithin, piece_at, span_from, token_in}
 use Rattle.cf_types.specs.declared.pieces.PieceSpan.{PieceSpan}
 use Rattle.cf_types.specs.declared.stmt.Piece.{Piece}
 use Rattle.cf_types.specs.declared.stmt.Token.{Token}
@@ -80,3 +80,39 @@ spans_in_part n b tokens between = All-map (IsWithin n) (span_from b) tokens (λ
   where
     within : (t : Token) → IsBetween b (b + n) t → IsWithin n (span_from b t)
     within t h = let (from, (ordered, end)) = h in (omega arith, omega arith)
+
+-- ---- the tokens of a text at known places
+
+-- they stand between the ends of the part
+between_there : (n b : ℕ) (tokens : List Token) → All (IsWithin n) (map (span_from b) tokens) → All (IsFrom b) tokens → AreBetween b (b + n) tokens
+between_there n b [] within from = All-nil (IsBetween b (b + n))
+between_there n b (t ∷ tokens) within from =
+    let here = All-head (IsWithin n) (span_from b t) (map (span_from b) tokens) within in
+    let begun = All-head (IsFrom b) t tokens from in
+    All-cons (IsBetween b (b + n)) t tokens (between t here begun)
+    (between_there n b tokens (All-tail (IsWithin n) (span_from b t) (map (span_from b) tokens) within) (All-tail (IsFrom b) t tokens from))
+  where
+    between : (t : Token) → IsWithin n (span_from b t) → IsFrom b t → IsBetween b (b + n) t
+    between t (ordered, end) (start, stop) = (start, (omega arith, omega arith))
+
+-- where a text has the same part, the spans are those of its tokens
+pub tokens_there : (text own : List ℕ) (b : ℕ) (spans : List PieceSpan) (tokens : List Token) → All (IsWithin (length own)) spans
+    → own ≡ slice_range text b (b + length own) → All (IsFrom b) tokens → spans ≡ map (span_from b) tokens → map (piece_at own) spans ≡ map (token_in text) tokens
+tokens_there text own b spans tokens within part from is =
+    ap (map (piece_at own)) is
+    ∙ tokens_in_part text own b tokens (between_there (length own) b tokens (subst (All (IsWithin (length own))) is within) from) part
+
+-- one more token that stands there
+pub from_more : (b i : ℕ) (tokens : List Token) (t : Token) → i < length tokens → All (IsFrom b) (take i tokens) → IsFrom b (get_or tokens i t) → All (IsFrom b) (take (i + 1) tokens)
+from_more b i tokens t within so_far here =
+    subst (All (IsFrom b)) (sym (take_more tokens i t within))
+    (All-append (IsFrom b) (take i tokens) (get_or tokens i t ∷ []) so_far (All-cons (IsFrom b) (get_or tokens i t) [] here (All-nil (IsFrom b))))
+
+pub spans_more : (b i : ℕ) (spans : List PieceSpan) (tokens : List Token) (s : PieceSpan) (t : Token) → i < length spans → i < length tokens
+    → take i spans ≡ map (span_from b) (take i tokens) → get_or spans i s ≡ span_from b (get_or tokens i t) → take (i + 1) spans ≡ map (span_from b) (take (i + 1) tokens)
+spans_more b i spans tokens s t within inside so_far here =
+    take_more spans i s within
+    ∙ ap (λ (xs : List PieceSpan). xs ++ get_or spans i s ∷ []) so_far
+    ∙ ap (λ (x : PieceSpan). map (span_from b) (take i tokens) ++ x ∷ []) here
+    ∙ sym (map-append (span_from b) (take i tokens) (get_or tokens i t ∷ []))
+    ∙ ap (map (span_from b)) (sym (take_more tokens i t inside))

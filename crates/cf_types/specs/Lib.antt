@@ -1,4 +1,6 @@
 pub mod Gather
+pub mod Held
+pub mod ItemParts
 pub mod Lines
 pub mod Locators
 pub mod Lookups

@@ -4,7 +4,9 @@
 
 pub mod code;
 mod declared;
+mod held;
 mod instance;
+mod item_list;
 mod keyword;
 mod list;
 mod locs;
@@ -19,14 +21,16 @@ mod tables;
 mod tree;
 
 pub use declared::Declared;
+pub use held::{Held, Items, Pieces};
 pub use instance::{AttachPlace, Instance, Joined, Target};
+pub use item_list::ItemList;
 pub use keyword::{CONDITION_WORDS, KEYWORDS, Keyword};
 pub use list::{List, Text};
 pub use locs::Locs;
 pub use machine::{Command, Given, Machine, MatchLine, Policy, Script, Spot, StyleLine, Ticket};
 pub use memory::Memory;
 pub use name::Name;
-pub use pieces::{PieceSpan, Pieces};
+pub use pieces::{PieceList, PieceSpan, PieceView};
 pub use put::{put_bytes, put_decimal};
 pub use shared::SharedText;
 pub use stmt::{

@@ -1,4 +1,4 @@
-use crate::{List, Locator, Name, Pieces, Refusal, Text};
+use crate::{Items, List, Locator, Name, Pieces, Refusal, Text};
 
 /// What a token of a configuration file is.
 #[derive(Clone, Copy, Debug, PartialEq, Eq)]
@@ -149,11 +149,11 @@ pub enum Stmt {
     },
     /// `options`.
     Options {
-        items: List<Item>,
+        items: Items,
     },
     /// `makeoptions`.
     MakeOptions {
-        items: List<Item>,
+        items: Items,
     },
     /// `file-system`.
     FileSystems {

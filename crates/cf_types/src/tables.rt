@@ -1,4 +1,4 @@
-use crate::{Item, List, Locs, Name, SharedText, Text};
+use crate::{ItemList, List, Locs, Name, SharedText, Text};
 
 /// A locator of an attribute, with its default; an instance may leave it out if it is optional.
 #[derive(Drop)]
@@ -106,8 +106,8 @@ pub struct Tables {
     pub attaches: List<Attach>,
     pub rows: List<Row>,
     pub pseudos: List<Pseudo>,
-    pub options: List<Item>,
-    pub makeoptions: List<Item>,
+    pub options: ItemList,
+    pub makeoptions: ItemList,
     pub file_systems: List<Name>,
     pub warnings: List<Warning>,
 }

@@ -1,8 +1,10 @@
 //! Names that have been read, so that one that is read again shares their memory.
-ghost use Rattle.std.specs.Prelude.{◌≡◌, ◌≤◌, IfOk, IfSome, length};
+ghost use Rattle.std.specs.Prelude.{◌≡◌, ◌≤◌, IfOk, IfSome, length, map};
+ghost use Rattle.cf_types.specs.Pieces.{AreIn, token_in};
 
+use crate::lists::KnownLists;
 use crate::word::is_same;
-use cf_types::{Memory, Name};
+use cf_types::{Memory, Name, PieceList, Pieces, Token};
 use std::alloc::Global;
 use std::mem::replace;
 
@@ -21,6 +23,7 @@ const WAYS: usize = 4;
 pub struct Known {
     names: Vec<Option<Name>>,
     made: usize,
+    lists: KnownLists,
 }
 
 /// The factor by which a number is multiplied for each part of a name: it spreads names that differ in a digit or two.
@@ -74,6 +77,7 @@ impl Known {
         Known {
             names: Vec::new(alloc),
             made: 0,
+            lists: KnownLists::make(alloc),
         }
     }
 
@@ -212,5 +216,22 @@ impl Known {
             return Ok(name.clone()?);
         }
         self.other_name(number, bytes)
+    }
+
+    /// The tokens of this list, which share the memory of the same tokens that were read before, if they are many.
+    #[inline(always)]
+    pub fn share(&mut self, list: PieceList) -> Result<Pieces, Memory>
+        ensures { IfOk result (λ pieces. pieces ≡ list) }
+    {
+        self.lists.share(list)
+    }
+
+    /// These tokens of a text, which share the memory of the same tokens that were read before, if they are many.
+    #[inline(always)]
+    pub fn share_tokens(&mut self, text: &[u8], tokens: &[Token]) -> Result<Pieces, Memory>
+        requires { AreIn (length text.now) tokens.now }
+        ensures { IfOk result (λ pieces. pieces ≡ map (token_in text.now) tokens.now) }
+    {
+        self.lists.share_tokens(text, tokens)
     }
 }

@@ -22,6 +22,7 @@ fn locator_name(known: &mut Known, word: Word) -> Result<Option<Name>, Memory>
 }
 
 /// A locator with a default: a name, `=` and a number.
+#[inline(always)]
 fn with_default(
     known: &mut Known,
     sized: bool,

@@ -89,6 +89,7 @@ fn marked_of(known: &mut Known, mark: u8, word: Word) -> Result<Option<Name>, Me
 }
 
 /// Reads the first word of an instance: a name and a number up to 65,535 or `*`.
+#[inline(always)]
 pub fn unit_chunk(known: &mut Known, sized: bool, word: Word) -> Result<Option<MarkedUnit>, Memory>
     ensures { IfOk result (λ unit. option_map unit_parts unit ≡ unit_chunk sized (piece_of word.entry)) }
 {
@@ -108,6 +109,7 @@ pub fn unit_chunk(known: &mut Known, sized: bool, word: Word) -> Result<Option<M
 }
 
 /// Reads what an instance attaches to: `root`, or a name and a number up to 65,535 or `?`.
+#[inline(always)]
 pub fn place_of(known: &mut Known, sized: bool, word: Word) -> Result<Option<AtSpec>, Memory>
     ensures { IfOk result (λ place. place ≡ place_of sized (piece_of word.entry)) }
 {

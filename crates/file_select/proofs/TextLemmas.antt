@@ -1,5 +1,5 @@
 -- Texts in order: what is among them, and that they stay short.
-use Rattle.std.proofs.Common.{◌≡◌, ℕ, ◌+◌, ◌<◌, length, get_or, take, subst, append_assoc, ◌||◌, Bool, true, false, List, [], ◌∷◌, ◌++◌, map, refl, ap, sym, ◌∙◌}
+use Rattle.std.proofs.Common.{◌≡◌, ℕ, ◌+◌, ◌<◌, ◌≤◌, arith, drop, length, get_or, take, subst, append_assoc, ◌||◌, Bool, true, false, List, [], ◌∷◌, ◌++◌, map, refl, ap, sym, ◌∙◌}
 use Rattle.std.specs.Prelude.{flat_map}
 use Rattle.std.specs.List.{All, AllByRecursion, list_any}
 use Rattle.std.specs.List.Sorted.{IsStrictlySortedBy}
@@ -10,7 +10,8 @@ use Rattle.std.specs.Ordering.{is_eq, match_ordering, nat_cmp}
 use Rattle.std.specs.declared.cmp.Ordering.{Ordering}
 use Rattle.std.specs.declared.cmp.Ordering.TheVariants.{Less, Equal, Greater}
 use Rattle.std.proofs.Math.Bool.{or-false}
-use Rattle.std.proofs.lemmas.List.{flat_map_more, map-append, map_more, take_more}
+use Rattle.std.proofs.Math.Seq.{take-add}
+use Rattle.std.proofs.lemmas.List.{flat_map_more, length-drop, length-take, map-append, map_more, take_more}
 use Rattle.std.proofs.lemmas.List.Elements.{All-tail}
 use Rattle.std.proofs.lemmas.List.Folds.{list_any-append}
 use Rattle.std.proofs.lemmas.Map.Views.{All-insert_key}
@@ -143,3 +144,15 @@ named_more names all rest k name new parts e is =
 pub short_rest : (all rest : List Key) (k : Key) → all ≡ k ∷ rest → All IsShort (map (λ (x : Key). x.items) all) → All IsShort (map (λ (x : Key). x.items) rest)
 short_rest all rest k parts h =
     all_short_tail k.items (map (λ (x : Key). x.items) rest) (subst (λ (ks : List Key). All IsShort (map (λ (x : Key). x.items) ks)) parts h)
+
+-- texts of the elements of one more part of a list
+pub inserted_part : {X : Type 0} (g : List ℕ → List ℕ) (f : X → List ℕ) (xs : List X) (i : ℕ) (part : List X) (first now new : List (List ℕ)) → part ≡ take (length part) (drop i xs) → now ≡ with_texts first (map g (map f (take i xs)))
+    → new ≡ with_texts now (map g (map f part)) → new ≡ with_texts first (map g (map f (take (i + length part) xs)))
+inserted_part g f xs i part first now new is so_far more =
+    let whole : take (i + length part) xs ≡ take i xs ++ part = take-add i (length part) xs ∙ ap (λ ys. take i xs ++ ys) (sym is) in
+    let names : map g (map f (take (i + length part) xs)) ≡ map g (map f (take i xs)) ++ map g (map f part) =
+    ap (λ ys. map g (map f ys)) whole ∙ ap (map g) (map-append f (take i xs) part) ∙ map-append g (map f (take i xs)) (map f part) in
+    more ∙ ap (λ ts. with_texts ts (map g (map f part))) so_far ∙ sym (with_texts-append first (map g (map f (take i xs))) (map g (map f part))) ∙ ap (with_texts first) (sym names)
+
+pub part_within : {X : Type 0} (xs : List X) (i : ℕ) (part : List X) → i ≤ length xs → part ≡ take (length part) (drop i xs) → i + length part ≤ length xs
+part_within xs i part within is = omega (arith, within, ap length is, length-take (length part) (drop i xs), length-drop i xs)

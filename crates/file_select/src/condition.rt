@@ -7,7 +7,7 @@ ghost use Rattle.file_select.specs.Steps.{closed, deeper, fresh, opened, run, st
 
 use crate::symbol::{Symbol, symbol_of, word_of};
 use crate::texts::TextSet;
-use cf_types::{Memory, Piece};
+use cf_types::{Memory, PieceView};
 use std::alloc::Global;
 use std::collections::VecDeque;
 use std::marker::Model;
@@ -262,7 +262,11 @@ pub enum Verdict {
 }
 
 /// Reads all symbols. `None` if one of them is at a place where it may not be.
-fn evaluate(alloc: Global, names: &TextSet, pieces: &[Piece]) -> Result<Option<Evaluation>, Memory>
+fn evaluate(
+    alloc: Global,
+    names: &TextSet,
+    pieces: &[PieceView<'_>],
+) -> Result<Option<Evaluation>, Memory>
     ensures { IfOk result (λ read. read ≡ run (has_name names.now) pieces.now start) }
 {
     let mut state = Evaluation::make(alloc);
@@ -279,7 +283,7 @@ fn evaluate(alloc: Global, names: &TextSet, pieces: &[Piece]) -> Result<Option<E
 }
 
 /// What these tokens are as a condition, if these names are true.
-pub fn judge(alloc: Global, names: &TextSet, pieces: &[Piece]) -> Result<Verdict, Memory>
+pub fn judge(alloc: Global, names: &TextSet, pieces: &[PieceView<'_>]) -> Result<Verdict, Memory>
     ensures { IfOk result (Judges (has_name names.now) pieces.now) }
 {
     match evaluate(alloc, names, pieces)? {

@@ -10,7 +10,7 @@ ghost use Rattle.file_select.specs.Texts.{IsShort, with_text, with_texts};
 
 use crate::marks::{attach_of, device_of, reached_marks};
 use crate::texts::TextSet;
-use cf_types::{Attr, Item, List, Memory, Name, Row, Tables};
+use cf_types::{Attr, Item, ItemList, List, Memory, Name, Row, Tables};
 use std::alloc::Global;
 
 /// Adds the names of the device and the attachment of a row.
@@ -84,13 +84,27 @@ fn insert_lower(alloc: Global, names: &mut TextSet, name: &Name) -> Result<(), M
     Ok(())
 }
 
+/// Adds the names of items in lower case.
+fn insert_items(alloc: Global, names: &mut TextSet, items: &[Item]) -> Result<(), Memory>
+    ensures names { OnOk result (names.new ≡ with_texts names.old (map str_to_ascii_lowercase (map (λ i. i.name) items.now))) }
+    ensures short { OnOk result (All IsShort names.old → All IsShort names.new) }
+{
+    for item in items {
+        insert_lower(alloc, names, &item.name)?;
+    }
+    Ok(())
+}
+
 /// Adds the names of options in lower case.
-fn insert_options(alloc: Global, names: &mut TextSet, options: &[Item]) -> Result<(), Memory>
+fn insert_options(alloc: Global, names: &mut TextSet, options: &ItemList) -> Result<(), Memory>
     ensures names { OnOk result (names.new ≡ with_texts names.old (map str_to_ascii_lowercase (map (λ i. i.name) options.now))) }
     ensures short { OnOk result (All IsShort names.old → All IsShort names.new) }
 {
-    for option in options {
-        insert_lower(alloc, names, &option.name)?;
+    let mut place = 0;
+    while place < options.len() {
+        let items = options.from(place);
+        insert_items(alloc, names, items)?;
+        place += items.len();
     }
     Ok(())
 }
@@ -120,7 +134,7 @@ pub fn chosen_set(alloc: Global, tables: &Tables) -> Result<TextSet, Memory>
     let mut names = TextSet::make(alloc);
     insert_rows(alloc, &mut names, tables)?;
     insert_attrs(alloc, &mut names, tables.attrs.items(), &marks)?;
-    insert_options(alloc, &mut names, tables.options.items())?;
+    insert_options(alloc, &mut names, &tables.options)?;
     insert_file_systems(alloc, &mut names, tables.file_systems.items())?;
     Ok(names)
 }

@@ -12,7 +12,7 @@ use crate::texts::TextSet;
 use cf_compile::{CompileStop, compile, refusal};
 use cf_expand::expand;
 use cf_io::Files;
-use cf_types::{Expanded, List, Memory, Piece, Placed, Stmt, Tables, Text};
+use cf_types::{Expanded, List, Memory, PieceView, Placed, Stmt, Tables, Text};
 use std::alloc::Global;
 use std::marker::Model;
 
@@ -71,7 +71,7 @@ fn take_pieces(
     alloc: Global,
     names: &TextSet,
     selection: &mut Selection,
-    pieces: &[Piece],
+    pieces: &[PieceView<'_>],
 ) -> Result<Option<u8>, Memory>
     ensures { IfOk result (λ code. Takes (has_name names.now) pieces.now selection.old code selection.new) }
 {
@@ -79,7 +79,7 @@ fn take_pieces(
         Finding::Bad(code) => return Ok(Some(code)),
         Finding::Good(false) => {}
         Finding::Good(true) => if let Some(path) = pieces.first() {
-            selection.push(alloc, path.text.items())?;
+            selection.push(alloc, path.text)?;
         },
     }
     Ok(None)
@@ -96,8 +96,8 @@ fn take(
 {
     match file_pieces(stmt) {
         Some(pieces) => {
-            let pieces = pieces.copied(alloc)?;
-            take_pieces(alloc, names, selection, pieces.items())
+            let pieces = pieces.views(alloc)?;
+            take_pieces(alloc, names, selection, &pieces)
         }
         None => Ok(None),
     }

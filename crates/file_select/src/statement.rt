@@ -11,7 +11,7 @@ use crate::condition::{Verdict, judge};
 use crate::symbol::word_of;
 use crate::texts::TextSet;
 use cf_types::code::configuration as code;
-use cf_types::{Memory, Piece, Pieces, Stmt};
+use cf_types::{Memory, PieceView, Pieces, Stmt};
 use cf_words::is_path_word;
 use std::alloc::Global;
 
@@ -34,26 +34,26 @@ pub fn file_pieces(stmt: &Stmt) -> Option<&Pieces>
     }
 }
 
-fn is_flag(piece: &Piece) -> bool
+fn is_flag(piece: &PieceView<'_>) -> bool
     ensures { result ≡ is_flag piece.now }
 {
     let word = word_of(piece);
     word.is_word(b"needs-flag") || word.is_word(b"needs-count")
 }
 
-fn ends_condition(piece: &Piece) -> bool
+fn ends_condition(piece: &PieceView<'_>) -> bool
     ensures { result ≡ ends_condition piece.now }
 {
     is_flag(piece) || word_of(piece).is_word(b"compile-with")
 }
 
-fn is_path(piece: &Piece) -> bool
+fn is_path(piece: &PieceView<'_>) -> bool
     ensures { result ≡ is_some (path_of piece.now) }
 {
     is_path_word(word_of(piece))
 }
 
-fn is_rule(pieces: &[Piece]) -> bool
+fn is_rule(pieces: &[PieceView<'_>]) -> bool
     ensures { result ≡ is_rule pieces.now }
 {
     match pieces {
@@ -64,14 +64,14 @@ fn is_rule(pieces: &[Piece]) -> bool
 }
 
 /// How many flags come first.
-fn count_flags(pieces: &[Piece]) -> usize
+fn count_flags(pieces: &[PieceView<'_>]) -> usize
     ensures { result ≡ prefix_len is_flag pieces.now }
 {
     pieces.iter().take_while(|piece| is_flag(piece)).count()
 }
 
 /// How many tokens come before the first that ends a condition.
-fn count_condition(pieces: &[Piece]) -> usize
+fn count_condition(pieces: &[PieceView<'_>]) -> usize
     ensures { result ≡ position_or_len ends_condition pieces.now }
 {
     pieces
@@ -81,7 +81,7 @@ fn count_condition(pieces: &[Piece]) -> usize
 }
 
 /// Whether the tokens are flags, and then perhaps a rule.
-fn is_tail(pieces: &[Piece]) -> bool
+fn is_tail(pieces: &[PieceView<'_>]) -> bool
     ensures { result ≡ is_tail pieces.now }
 {
     let (_, behind) = pieces.split_at(count_flags(pieces));
@@ -89,7 +89,9 @@ fn is_tail(pieces: &[Piece]) -> bool
 }
 
 /// The tokens of the condition, and those after it.
-fn split_condition(pieces: &[Piece]) -> (&[Piece], &[Piece])
+fn split_condition<'t, 'a>(
+    pieces: &'t [PieceView<'a>],
+) -> (&'t [PieceView<'a>], &'t [PieceView<'a>])
     ensures condition { result.0.now ≡ before_first ends_condition pieces.now }
     ensures behind { result.1.now ≡ drop (position_or_len ends_condition pieces.now) pieces.now }
 {
@@ -97,7 +99,11 @@ fn split_condition(pieces: &[Piece]) -> (&[Piece], &[Piece])
 }
 
 /// What a condition is found to be; a missing one is true.
-fn judge_optional(alloc: Global, names: &TextSet, pieces: &[Piece]) -> Result<Verdict, Memory>
+fn judge_optional(
+    alloc: Global,
+    names: &TextSet,
+    pieces: &[PieceView<'_>],
+) -> Result<Verdict, Memory>
     ensures { IfOk result (JudgesOptional (has_name names.now) pieces.now) }
 {
     if pieces.is_empty() {
@@ -107,7 +113,7 @@ fn judge_optional(alloc: Global, names: &TextSet, pieces: &[Piece]) -> Result<Ve
 }
 
 /// Whether a path comes first.
-fn has_path(pieces: &[Piece]) -> bool
+fn has_path(pieces: &[PieceView<'_>]) -> bool
     ensures { result ≡ is_some (path_in pieces.now) }
 {
     match pieces.first() {
@@ -117,7 +123,7 @@ fn has_path(pieces: &[Piece]) -> bool
 }
 
 /// What follows the first token.
-fn behind_path(pieces: &[Piece]) -> &[Piece]
+fn behind_path<'t, 'a>(pieces: &'t [PieceView<'a>]) -> &'t [PieceView<'a>]
     ensures { result.now ≡ drop 1 pieces.now }
 {
     match pieces {
@@ -127,7 +133,7 @@ fn behind_path(pieces: &[Piece]) -> &[Piece]
 }
 
 /// What a `file` statement is found to be by what follows its first word, if these names are chosen.
-pub fn find(alloc: Global, names: &TextSet, pieces: &[Piece]) -> Result<Finding, Memory>
+pub fn find(alloc: Global, names: &TextSet, pieces: &[PieceView<'_>]) -> Result<Finding, Memory>
     ensures { IfOk result (Finds (has_name names.now) pieces.now) }
 {
     if !has_path(pieces) {

@@ -5,7 +5,7 @@ ghost use Rattle.file_rules.specs.Condition as rules;
 ghost use Rattle.file_select.specs.Steps.{mark_of, valued};
 
 use crate::texts::TextSet;
-use cf_types::Piece;
+use cf_types::PieceView;
 use cf_words::{Word, is_name_word};
 
 /// A symbol of a condition; a word is a name, true if it is chosen.
@@ -20,12 +20,12 @@ pub enum Symbol {
 }
 
 /// A token of a statement as a word.
-pub fn word_of(piece: &Piece) -> Word<'_>
+pub fn word_of<'a>(piece: &PieceView<'a>) -> Word<'a>
     ensures { piece_of result ≡ piece.now }
 {
     Word {
         kind: piece.kind,
-        text: piece.text.items(),
+        text: piece.text,
     }
 }
 

@@ -1,8 +1,8 @@
 -- One line of several sections, one after the other.
-use Rattle.std.proofs.Common.{◌≡◌, ℕ, ◌+◌, ◌-◌, ◌<◌, ◌≤◌, Option, Some, None, List, [], ◌∷◌, ◌++◌, length, get_or, map, refl, ap, sym, ◌∙◌, arith, append_assoc, append-nil, length-append}
+use Rattle.std.proofs.Common.{◌≡◌, ℕ, ◌+◌, ◌-◌, ◌<◌, ◌≤◌, Option, Some, None, List, [], ◌∷◌, ◌++◌, length, get_or, map, take, drop, refl, ap, sym, ◌∙◌, arith, append_assoc, append-nil, length-append}
 use Rattle.std.specs.Prelude.{slice_get, option_map}
 use Rattle.std.proofs.lemmas.Option.{slice_get_read}
-use Rattle.std.proofs.lemmas.List.{length-map}
+use Rattle.std.proofs.lemmas.List.{get_or-drop, get_or-take, length-drop, length-map, length-take}
 use Rattle.std.proofs.lemmas.Option.{slice_get_within}
 use Rattle.std.proofs.lemmas.Option.{slice_get-map}
 use Rattle.std.specs.List.{enumerate_from}
@@ -59,3 +59,11 @@ seeks_entry_at f xs ys n x old new e p is h =
 
 pub seeks_past_at : {X : Type 0} (f : ℕ × X → List ℕ) (xs ys : List X) (n : ℕ) (old : List ℕ) → ys ≡ xs → length ys ≤ n → Seeks (map f (enumerate_from 0 xs)) n (Some (n - length ys)) old old
 seeks_past_at f xs ys n old e h = (omega (arith, h, ap length e, length-map (enumerate_from 0 xs) f, length-enumerate_from 0 xs), refl)
+
+-- the first of some entries from a place on
+pub seeks_from : {X : Type 0} (f : X → List ℕ) (xs found : List X) (n : ℕ) (x : X) (old new : List ℕ) → found ≡ take (length found) (drop n xs) → 1 ≤ length found → x ≡ get_or found 0 x → new ≡ old ++ f x → Seeks (map f xs) n None old new
+seeks_from f xs found n x old new is some first put =
+    let inside : n < length xs = omega (arith, some, ap length is, length-take (length found) (drop n xs), length-drop n xs) in
+    let here : x ≡ get_or xs n x =
+    first ∙ ap (λ ys. get_or ys 0 x) is ∙ get_or-take (length found) (drop n xs) 0 x (omega arith) ∙ get_or-drop n xs 0 x ∙ ap (λ m. get_or xs m x) (omega arith) in
+    seeks_here f xs n x old new (slice_get_read xs (length xs) n x refl inside here) put

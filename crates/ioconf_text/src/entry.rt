@@ -9,7 +9,7 @@ use crate::definition::{put_attach, put_attr, put_device};
 use crate::item::{put_file_system, put_item, put_pseudo, put_warning};
 use crate::row::put_row;
 use attr_graph::{Graph, graph_of};
-use cf_types::{Item, Memory, Tables};
+use cf_types::{ItemList, Memory, Tables};
 
 // Each `seek_` puts line `n` of a section of the listing and returns `None`, or returns how far `n` is past the
 // section.
@@ -85,17 +85,17 @@ fn seek_pseudo(out: &mut Vec<u8>, tables: &Tables, n: usize) -> Result<Option<us
 fn seek_item(
     out: &mut Vec<u8>,
     word: &[u8],
-    items: &[Item],
+    items: &ItemList,
     n: usize,
 ) -> Result<Option<usize>, Memory>
     ensures { IfOk result (λ left. Seeks (map (item_line word.now) items.now) n left out.old.items out.new.items) }
 {
-    match items.get(n) {
-        Some(item) => {
+    match items.from(n) {
+        [item, ..] => {
             put_item(out, word, item)?;
             Ok(None)
         }
-        None => Ok(Some(n - items.len())),
+        [] => Ok(Some(n - items.len())),
     }
 }
 
@@ -169,10 +169,10 @@ fn seek_instance(out: &mut Vec<u8>, tables: &Tables, n: usize) -> Result<Option<
 fn seek_option(out: &mut Vec<u8>, tables: &Tables, n: usize) -> Result<Option<usize>, Memory>
     ensures { IfOk result (λ left. Seeks (option_lines tables.now) n left out.old.items out.new.items) }
 {
-    let Some(n) = seek_item(out, b"options", tables.options.items(), n)? else {
+    let Some(n) = seek_item(out, b"options", &tables.options, n)? else {
         return Ok(None);
     };
-    seek_item(out, b"makeoptions", tables.makeoptions.items(), n)
+    seek_item(out, b"makeoptions", &tables.makeoptions, n)
 }
 
 fn seek_rest(out: &mut Vec<u8>, tables: &Tables, n: usize) -> Result<Option<usize>, Memory>

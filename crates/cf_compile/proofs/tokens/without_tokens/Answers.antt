@@ -7,7 +7,7 @@ pub loop-place-preserved : goal.loop-place-preserved
 loop-place-preserved c =
     let lt : c.loop-place.place < length c.args.placed = omega (arith, ap (λ (xs : List Placed). length xs) c.into_vec-kept.ensures) in
     step_emptied c.loop-place.place c.loop-place.kept.items c.args.placed c.index_mut.result.now c.empty.new.statement c.loop-place.invariant lt
-    c.index_mut.ensures.value c.in_ok-empty.ensures
+    c.index_mut.ensures.value c.empty.ensures
 
 pub returns : goal.returns
 returns c =

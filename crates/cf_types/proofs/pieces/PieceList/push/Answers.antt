@@ -1,7 +1,7 @@
 use Rattle.std.proofs.Common.{◌≡◌, ◌∙◌, ◌++◌, ◌∷◌, [], List, ap, rules}
 use Rattle.cf_types.specs.declared.stmt.Piece.{Piece}
 use Rattle.cf_types.proofs.PieceLemmas.{pieces_pushed}
-use Rattle.cf_types.proofs.pieces.Pieces.push.Goals as goal
+use Rattle.cf_types.proofs.pieces.PieceList.push.Goals as goal
 
 pub returns-clause-ok : goal.returns-clause-ok
 returns-clause-ok c =

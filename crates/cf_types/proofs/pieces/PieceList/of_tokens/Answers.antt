@@ -3,7 +3,7 @@ use Rattle.std.specs.Prelude.{All}
 use Rattle.cf_types.specs.Pieces.{IsWithin, piece_at}
 use Rattle.cf_types.specs.declared.pieces.PieceSpan.{PieceSpan}
 use Rattle.cf_types.proofs.PieceLemmas.{spans_in_part, tokens_in_part}
-use Rattle.cf_types.proofs.pieces.Pieces.of_tokens.Goals as goal
+use Rattle.cf_types.proofs.pieces.PieceList.of_tokens.Goals as goal
 
 pub invariant_of-result : goal.invariant_of-result
 invariant_of-result c =

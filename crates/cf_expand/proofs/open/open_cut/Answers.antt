@@ -1,6 +1,6 @@
 use Rattle.std.proofs.Common.{◌∙◌, sym, refl}
 use Rattle.cf_expand.proofs.ReaderLemmas.{cutting_is, opened_reads, uncut_reads}
-use Rattle.cf_expand.proofs.open.open.Goals as goal
+use Rattle.cf_expand.proofs.open.open_cut.Goals as goal
 
 pub returns-in-Ok-clause-below : goal.returns-in-Ok-clause-below
 returns-in-Ok-clause-below c =
