@@ -1,10 +1,10 @@
 #!/bin/sh
 # Runs all examples and compares what they write with the stored outputs: a line for each, and status 1 at the first that
-# differs. Without words it runs ./devconf and ./drvrun, which take the programs where `rt ci` leaves them too, in
-# crates/devconf/out/ and crates/drvrun/out/, and build them only where they are missing or older than a source.
-# Usage: examples/run.sh [DEVCONF DRVRUN]
+# differs. Without words it runs ./devconf, ./drvrun and ./drvall, which take the programs where `rt ci` leaves them too, in
+# crates/devconf/out/ and so on, and build them only where they are missing or older than a source.
+# Usage: examples/run.sh [DEVCONF DRVRUN DRVALL]
 here=$(cd "$(dirname "$0")" && pwd)
-devconf=$(readlink -f "${1:-$here/../devconf}") && drvrun=$(readlink -f "${2:-$here/../drvrun}") || exit 1
+devconf=$(readlink -f "${1:-$here/../devconf}") && drvrun=$(readlink -f "${2:-$here/../drvrun}") && drvall=$(readlink -f "${3:-$here/../drvall}") || exit 1
 written=$(mktemp) || exit 1
 trap 'rm -f "$written"' EXIT
 
@@ -14,7 +14,7 @@ same() {
     folder=$2
     name=$3
     shift 3
-    case $name in devconf) program=$devconf ;; drvrun) program=$drvrun ;; esac
+    case $name in devconf) program=$devconf ;; drvrun) program=$drvrun ;; drvall) program=$drvall ;; esac
     if ! (cd "$here/$folder" && "$program" "$@") >"$written" || ! cmp -s "$written" "$here/outputs/$stored"; then
         echo "$stored: $name $*: not as stored in examples/outputs"
         diff "$here/outputs/$stored" "$written" | head -n 10
@@ -42,3 +42,4 @@ same serial.tables . devconf tables small.conf small.machine serial.plan
 same modules.tables amd64 devconf tables GENERIC ../machines/server ../modules.plan
 same plug.play pc drvrun GENERIC ../machines/pc ../plug.script
 same power.play pc drvrun GENERIC ../machines/pc ../power.script
+same detach.every pc drvall GENERIC ../machines/pc ../hold.script ../detach.script

@@ -29,7 +29,7 @@ use Rattle.app_input.specs.Stop.{status_of_stop}
 use Rattle.app_words.specs.Status.{status_of}
 use Rattle.app_words.specs.Words.{Form, boot, config_of, following, ioconf, is_from_outside, scripted, side_by_side}
 use Rattle.app_words.specs.declared.status.Status.{Status}
-use Rattle.app_words.specs.declared.status.Status.TheVariants.{Ok, ConfigRefused, Usage, MachineRefused, ScriptRefused, HistoryRefused, Absent, TooLong, ReadFault, WriteFault, Memory, Stuck}
+use Rattle.app_words.specs.declared.status.Status.TheVariants.{Ok, ConfigRefused, Usage, MachineRefused, ScriptRefused, HistoryRefused, Absent, TooLong, ReadFault, WriteFault, Memory, Stuck, Worlds, Unknown}
 use Rattle.app_input.proofs.DueLaws.{long_file, short_file}
 use Rattle.app_input.proofs.ScriptedLaws.{called_at, names_left}
 
@@ -80,6 +80,8 @@ all_asked due (MachineRefused line code) old new asked = asked
 all_asked due (ScriptRefused which line code) old new asked = asked
 all_asked due (HistoryRefused line) old new asked = asked
 all_asked due (Stuck waits) old new asked = asked
+all_asked due (Worlds most) old new asked = asked
+all_asked due (Unknown name) old new asked = asked
 all_asked due (Absent name) old new asked = asked
 all_asked due (TooLong name) old new asked = asked
 all_asked due WriteFault old new asked = asked
@@ -99,6 +101,8 @@ memory_asked due (MachineRefused line code) old new asked = front_all due old ne
 memory_asked due (ScriptRefused which line code) old new asked = front_all due old new asked
 memory_asked due (HistoryRefused line) old new asked = front_all due old new asked
 memory_asked due (Stuck waits) old new asked = front_all due old new asked
+memory_asked due (Worlds most) old new asked = front_all due old new asked
+memory_asked due (Unknown name) old new asked = front_all due old new asked
 memory_asked due (Absent name) old new asked = front_all due old new asked
 memory_asked due (TooLong name) old new asked = front_all due old new asked
 memory_asked due WriteFault old new asked = front_all due old new asked
@@ -131,6 +135,8 @@ none_left (MachineRefused line code) rest none = none
 none_left (ScriptRefused which line code) rest none = none
 none_left (HistoryRefused line) rest none = none
 none_left (Stuck waits) rest none = none
+none_left (Worlds most) rest none = none
+none_left (Unknown name) rest none = none
 none_left (Absent name) rest none = none
 none_left (TooLong name) rest none = none
 none_left WriteFault rest none = none
@@ -153,6 +159,8 @@ last_asked due part rest status old mid new so_far asked left = by_status status
     by_status (ScriptRefused which line code) asked left = whole asked left
     by_status (HistoryRefused line) asked left = whole asked left
     by_status (Stuck waits) asked left = whole asked left
+    by_status (Worlds most) asked left = whole asked left
+    by_status (Unknown name) asked left = whole asked left
     by_status (Absent name) asked left = whole asked left
     by_status (TooLong name) asked left = whole asked left
     by_status WriteFault asked left = whole asked left
@@ -368,6 +376,8 @@ machine_refused files name tables Usage reads = elim reads [ ]
 machine_refused files name tables (ScriptRefused which line code) reads = elim reads [ ]
 machine_refused files name tables (HistoryRefused line) reads = elim reads [ ]
 machine_refused files name tables (Stuck waits) reads = elim reads [ ]
+machine_refused files name tables (Worlds most) reads = elim reads [ ]
+machine_refused files name tables (Unknown other) reads = elim reads [ ]
 machine_refused files name tables WriteFault reads = elim reads [ ]
 
 -- ---- the forms
@@ -382,6 +392,8 @@ stops_first told file (MachineRefused line code) reads = elim reads [ ]
 stops_first told file (ScriptRefused which line code) reads = elim reads [ ]
 stops_first told file (HistoryRefused line) reads = elim reads [ ]
 stops_first told file (Stuck waits) reads = elim reads [ ]
+stops_first told file (Worlds most) reads = elim reads [ ]
+stops_first told file (Unknown name) reads = elim reads [ ]
 stops_first told file (Absent name) reads = elim reads [ ]
 stops_first told file (TooLong name) reads = elim reads [ ]
 stops_first told file WriteFault reads = elim reads [ ]

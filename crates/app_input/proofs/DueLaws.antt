@@ -18,7 +18,7 @@ use Rattle.app_input.specs.declared.inputs.Inputs.{Inputs}
 use Rattle.app_input.specs.declared.inputs.Inputs.TheVariants.{Ioconf, Boot, Load, Follow, Play, Replay, Upgrade, Watch, Run}
 use Rattle.app_input.specs.declared.inputs.Inputs.TheVariants as inputs
 use Rattle.app_words.specs.declared.status.Status.{Status}
-use Rattle.app_words.specs.declared.status.Status.TheVariants.{Ok, ConfigRefused, Usage, MachineRefused, ScriptRefused, HistoryRefused, Absent, TooLong, ReadFault, WriteFault, Memory, Stuck}
+use Rattle.app_words.specs.declared.status.Status.TheVariants.{Ok, ConfigRefused, Usage, MachineRefused, ScriptRefused, HistoryRefused, Absent, TooLong, ReadFault, WriteFault, Memory, Stuck, Worlds, Unknown}
 use Rattle.app_input.specs.declared.scripts.Course.{Course}
 use Rattle.app_input.specs.declared.scripts.Course.TheVariants as courses
 use Rattle.app_words.specs.declared.words.Task.{Task}
@@ -203,6 +203,8 @@ due form files before after (std.Err Ok) never counts quiet = elim never [ ]
 due form files before after (std.Err WriteFault) never counts quiet = elim never [ ]
 due form files before after (std.Err (HistoryRefused line)) never counts quiet = elim never [ ]
 due form files before after (std.Err (Stuck waits)) never counts quiet = elim never [ ]
+due form files before after (std.Err (Worlds most)) never counts quiet = elim never [ ]
+due form files before after (std.Err (Unknown name)) never counts quiet = elim never [ ]
 due form files before after (std.Err Memory) reads counts quiet = inl refl
 
 -- the same where the files are told

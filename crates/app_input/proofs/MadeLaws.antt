@@ -10,7 +10,7 @@ use Rattle.config_rules.specs.Reading.{Files}
 use Rattle.app_input.specs.declared.inputs.Inputs.{Inputs}
 use Rattle.app_input.specs.declared.inputs.Inputs.TheVariants.{Load}
 use Rattle.app_words.specs.declared.status.Status.{Status}
-use Rattle.app_words.specs.declared.status.Status.TheVariants.{Ok, ConfigRefused, Usage, MachineRefused, ScriptRefused, HistoryRefused, Absent, TooLong, ReadFault, WriteFault, Memory, Stuck}
+use Rattle.app_words.specs.declared.status.Status.TheVariants.{Ok, ConfigRefused, Usage, MachineRefused, ScriptRefused, HistoryRefused, Absent, TooLong, ReadFault, WriteFault, Memory, Stuck, Worlds, Unknown}
 use Rattle.app_input.specs.Inputs.{Boots, IsDescribed, IsFirstFault, IsLacking, IsLong, IsMeant, Reads, ReadsMachine, ReadsTables, made_files}
 use Rattle.app_words.specs.Status.{Counts}
 use Rattle.app_words.specs.Words.{load}
@@ -39,6 +39,8 @@ made_refused n read told (TooLong name) is why quiet = elim why [ ]
 made_refused n read told WriteFault is why quiet = elim why [ ]
 made_refused n read told (HistoryRefused line) is why quiet = elim why [ ]
 made_refused n read told (Stuck waits) is why quiet = elim why [ ]
+made_refused n read told (Worlds most) is why quiet = elim why [ ]
+made_refused n read told (Unknown name) is why quiet = elim why [ ]
 
 -- the generated configuration means the tables, and P holds of the generated machine file with them
 made_boots : (P : Option Files → List ℕ → Tables → Type 0) (n : ℕ) (read told : Option Files) (tables : Tables) → read ≡ Some (file_named (made_files n)) → IsMeant read (codes "conf") tables
@@ -71,6 +73,8 @@ made_unfit n read told tables Usage is meant why quiet = elim why [ ]
 made_unfit n read told tables WriteFault is meant why quiet = elim why [ ]
 made_unfit n read told tables (HistoryRefused line) is meant why quiet = elim why [ ]
 made_unfit n read told tables (Stuck waits) is meant why quiet = elim why [ ]
+made_unfit n read told tables (Worlds most) is meant why quiet = elim why [ ]
+made_unfit n read told tables (Unknown name) is meant why quiet = elim why [ ]
 
 -- the inputs of generated files
 pub made_read : (n : ℕ) (read told : Option Files) (tables : Tables) (machine : Machine) → read ≡ Some (file_named (made_files n)) → IsMeant read (codes "conf") tables
@@ -93,6 +97,8 @@ counts_quiet n (std.Err (MachineRefused line code)) quiet = refl
 counts_quiet n (std.Err (ScriptRefused which line code)) quiet = refl
 counts_quiet n (std.Err (HistoryRefused line)) quiet = refl
 counts_quiet n (std.Err (Stuck waits)) quiet = refl
+counts_quiet n (std.Err (Worlds most)) quiet = refl
+counts_quiet n (std.Err (Unknown name)) quiet = refl
 counts_quiet n (std.Err (Absent name)) quiet = refl
 counts_quiet n (std.Err (TooLong name)) quiet = refl
 counts_quiet n (std.Err ReadFault) quiet = absurd (quiet refl)

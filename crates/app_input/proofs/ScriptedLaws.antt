@@ -14,7 +14,7 @@ use Rattle.config_rules.specs.Formed.{FittingMachine, FormedTables}
 use Rattle.config_rules.specs.Reading.{Files}
 use Rattle.config_rules.specs.ScriptText.{order_of}
 use Rattle.app_words.specs.declared.status.Status.{Status}
-use Rattle.app_words.specs.declared.status.Status.TheVariants.{Ok, ConfigRefused, Usage, MachineRefused, ScriptRefused, HistoryRefused, Absent, TooLong, ReadFault, WriteFault, Memory, Stuck}
+use Rattle.app_words.specs.declared.status.Status.TheVariants.{Ok, ConfigRefused, Usage, MachineRefused, ScriptRefused, HistoryRefused, Absent, TooLong, ReadFault, WriteFault, Memory, Stuck, Worlds, Unknown}
 use Rattle.app_words.specs.declared.words.Task.{Task}
 use Rattle.app_words.specs.declared.words.Task.TheVariants.{Play, Replay, Upgrade, Watch}
 use Rattle.script_text.specs.WatchText.{watch_of}
@@ -180,6 +180,8 @@ reads_refused form told f which name Usage is outside of refused = absurd of
 reads_refused form told f which name (MachineRefused line code) is outside of refused = absurd of
 reads_refused form told f which name (HistoryRefused line) is outside of refused = absurd of
 reads_refused form told f which name (Stuck waits) is outside of refused = absurd of
+reads_refused form told f which name (Worlds most) is outside of refused = absurd of
+reads_refused form told f which name (Unknown other) is outside of refused = absurd of
 reads_refused form told f which name WriteFault is outside of refused = absurd of
 
 -- by a script or the file with their course

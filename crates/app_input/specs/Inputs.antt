@@ -21,9 +21,9 @@ use Rattle.app_input.specs.declared.inputs.Inputs.{Inputs}
 use Rattle.app_input.specs.declared.inputs.Inputs.TheVariants.{Ioconf, Boot, Load, Follow, Play, Replay, Upgrade, Watch, Run}
 use Rattle.app_input.specs.declared.inputs.Inputs.TheVariants as inputs
 use Rattle.app_words.specs.declared.program.Program.{Program}
-use Rattle.app_words.specs.declared.program.Program.TheVariants.{Devconf, Drvrun}
+use Rattle.app_words.specs.declared.program.Program.TheVariants.{Devconf, Drvrun, Drvall, Devwhy}
 use Rattle.app_words.specs.declared.status.Status.{Status}
-use Rattle.app_words.specs.declared.status.Status.TheVariants.{Ok, ConfigRefused, Usage, MachineRefused, ScriptRefused, HistoryRefused, Absent, TooLong, ReadFault, WriteFault, Memory, Stuck}
+use Rattle.app_words.specs.declared.status.Status.TheVariants.{Ok, ConfigRefused, Usage, MachineRefused, ScriptRefused, HistoryRefused, Absent, TooLong, ReadFault, WriteFault, Memory, Stuck, Worlds, Unknown}
 use Rattle.app_input.specs.declared.scripts.Course.{Course}
 use Rattle.app_input.specs.declared.scripts.Course.TheVariants as courses
 use Rattle.app_input.specs.declared.scripts.Scripted.{Scripted}
@@ -216,6 +216,8 @@ Reads form told (std.Err Ok) = ⊥
 Reads form told (std.Err WriteFault) = ⊥
 Reads form told (std.Err (HistoryRefused line)) = ⊥
 Reads form told (std.Err (Stuck waits)) = ⊥
+Reads form told (std.Err (Worlds most)) = ⊥
+Reads form told (std.Err (Unknown name)) = ⊥
 
 -- the tables are formed, the machine fits them, and the scripts and their course are formed
 abbrev pub AreFormed : Tables → Machine → List (List Command) → Course → Type 0
@@ -234,12 +236,21 @@ FormedInputs (Upgrade tables machine scripts history) = AreFormed tables machine
 FormedInputs (Watch tables machine scripts lines) = AreFormed tables machine scripts (courses.Watch lines)
 FormedInputs (Run tables machine scripts) = FormedTables tables × FittingMachine tables machine × FormedScripts scripts
 
--- the words of the program may ask for such inputs: scripts side by side are what `drvrun` runs, and all that it does
+-- scripts that are to run side by side
+abbrev pub IsSideBySide : Inputs → Type 0
+IsSideBySide (Run tables machine scripts) = ⊤
+IsSideBySide inputs = ⊥
+
+-- the words of the program may ask for such inputs: scripts side by side are all that `drvrun` and `drvall` take, and `devwhy` takes the
+-- tables of a configuration, or these and a machine
 abbrev pub IsInputsOf : Program → Inputs → Type 0
 IsInputsOf Devconf (Run tables machine scripts) = ⊥
 IsInputsOf Devconf inputs = ⊤
-IsInputsOf Drvrun (Run tables machine scripts) = ⊤
-IsInputsOf Drvrun inputs = ⊥
+IsInputsOf Drvrun inputs = IsSideBySide inputs
+IsInputsOf Drvall inputs = IsSideBySide inputs
+IsInputsOf Devwhy (Ioconf tables) = ⊤
+IsInputsOf Devwhy (Boot tables machine) = ⊤
+IsInputsOf Devwhy inputs = ⊥
 
 -- what a machine file gives: what follows by its machine, or its refusal
 abbrev pub booted : (Machine → Result Inputs Status) → Result Machine (ℕ × ℕ) → Result Inputs Status

@@ -1,7 +1,9 @@
 pub mod Asked
+pub mod Explained
 pub mod Inputs
 pub mod Plans
 pub mod Scripted
+pub mod SideBySide
 pub mod Stop
 pub use Rattle.config_rules.specs.Formed
 pub use Rattle.config_rules.specs.MachineText

@@ -3,7 +3,7 @@ use Rattle.std.specs.Prelude.{◌≡◌, ℕ, ◌≤◌, Result}
 use Rattle.std.specs.Prelude as std
 use Rattle.cf_io.specs.Faults.{Rose}
 use Rattle.app_words.specs.declared.status.Status.{Status}
-use Rattle.app_words.specs.declared.status.Status.TheVariants.{Ok, ConfigRefused, Usage, MachineRefused, ScriptRefused, HistoryRefused, Absent, TooLong, ReadFault, WriteFault, Memory, Stuck}
+use Rattle.app_words.specs.declared.status.Status.TheVariants.{Ok, ConfigRefused, Usage, MachineRefused, ScriptRefused, HistoryRefused, Absent, TooLong, ReadFault, WriteFault, Memory, Stuck, Worlds, Unknown}
 
 -- the number of a status
 abbrev pub status_number : Status → ℕ
@@ -19,6 +19,8 @@ status_number ReadFault = 8
 status_number WriteFault = 9
 status_number Memory = 10
 status_number (Stuck waits) = 11
+status_number (Worlds most) = 12
+status_number (Unknown name) = 13
 
 -- the status of what was found, or why nothing was
 abbrev pub status_of : {A : Type 0} → Result A Status → Status

@@ -1,12 +1,12 @@
 -- The forms that the words of a program may have.
-use Rattle.std.specs.Prelude.{◌≡◌, ℕ, ◌≤◌, Bool, true, false, ◌&&◌, ◌==◌, nat_le, nat_lt, not, Option, Some, None, option_map, option_and_then, Result, List, [], ◌∷◌, length, map, slice_index, string_bytes, codes, if◌then◌else◌, ⊤, ℤ, pos, int_le, nat_abs}
+use Rattle.std.specs.Prelude.{◌≡◌, ℕ, ◌≤◌, ◌-◌, Bool, true, false, ◌&&◌, ◌==◌, nat_le, nat_lt, not, Option, Some, None, option_map, option_and_then, unwrap_or, Result, List, [], ◌∷◌, length, map, slice_index, slice_index_or, string_bytes, codes, if◌then◌else◌, ⊤, ℤ, pos, int_le, nat_abs}
 use Rattle.std.specs.Prelude as std
 use Rattle.std.specs.List.{list_all}
 use Rattle.std.specs.Str.{bytes_eq}
 use Rattle.cf_text.specs.Shapes.{number}
 use Rattle.config_rules.specs.Form.{given}
 use Rattle.app_words.specs.declared.program.Program.{Program}
-use Rattle.app_words.specs.declared.program.Program.TheVariants.{Devconf, Drvrun}
+use Rattle.app_words.specs.declared.program.Program.TheVariants.{Devconf, Drvrun, Drvall, Devwhy}
 use Rattle.app_words.specs.declared.words.Task.{Task}
 use Rattle.app_words.specs.declared.words.Task.TheVariants.{Play, Replay, Upgrade, Watch}
 use Rattle.app_words.specs.declared.words.Words.{Words}
@@ -106,10 +106,69 @@ devconf_form (word ∷ operands) = if list_all is_operand operands then form_nam
 abbrev pub drvrun_form : List (List ℕ) → Option Form
 drvrun_form words = if list_all is_operand words then side_by_side_form words else None
 
+-- a bound on worlds is from 1 to 4,294,967,295
+abbrev pub in_bound_range : ℤ → Bool
+in_bound_range v = int_le (pos 1) v && int_le v (pos 4294967295)
+
+-- the bound that a word spells, in the shape of a number
+abbrev pub bound_of : List ℕ → Option ℕ
+bound_of word = option_and_then (λ v. given (in_bound_range v) (nat_abs v)) (number word)
+
+-- `N`, and behind it the words of `drvrun`
+abbrev pub bounded_form : List (List ℕ) → Option Form
+bounded_form [] = None
+bounded_form (word ∷ words) = option_and_then (λ most. drvrun_form words) (bound_of word)
+
+-- the word `-w`
+abbrev pub is_bound_word : List ℕ → Bool
+is_bound_word word = bytes_eq word (codes "-w")
+
+-- the form of the words of `drvall`: those of `drvrun`, maybe behind `-w N`
+abbrev pub drvall_form : List (List ℕ) → Option Form
+drvall_form [] = None
+drvall_form (word ∷ words) = if is_bound_word word then bounded_form words else drvrun_form (word ∷ words)
+
+-- how many words are before those that `drvrun` has
+abbrev pub bound_words : List (List ℕ) → ℕ
+bound_words [] = 0
+bound_words (word ∷ words) = if is_bound_word word then 2 else 0
+
+-- the bound on worlds where no word sets it
+abbrev pub MOST_WORLDS : ℕ
+MOST_WORLDS = 1000000
+
+-- the bound that a first word sets
+abbrev pub first_bound : List (List ℕ) → ℕ
+first_bound [] = MOST_WORLDS
+first_bound (word ∷ words) = unwrap_or (bound_of word) MOST_WORLDS
+
+-- the bound on worlds that the words of `drvall` set
+abbrev pub most_worlds : List (List ℕ) → ℕ
+most_worlds [] = MOST_WORLDS
+most_worlds (word ∷ words) = if is_bound_word word then first_bound words else MOST_WORLDS
+
+-- `FILE NAME` or `FILE MACHINE NAME`: the name is of no file
+abbrev pub named_form : List (List ℕ) → Option Form
+named_form [] = None
+named_form (file ∷ []) = None
+named_form (file ∷ name ∷ []) = Some (ioconf file)
+named_form (file ∷ machine ∷ name ∷ []) = Some (boot file machine)
+named_form (file ∷ machine ∷ name ∷ other ∷ more) = None
+
+-- the name that the words of `devwhy` ask about: the last one
+abbrev pub asked_name : List (List ℕ) → List ℕ
+asked_name words = slice_index_or words (length words - 1) []
+
+-- the form of the words of `devwhy`: each word is an operand
+abbrev pub devwhy_form : List (List ℕ) → Option Form
+devwhy_form words = if list_all is_operand words then named_form words else None
+
 -- the form of the words behind a program's name
 abbrev pub form_of : Program → List (List ℕ) → Option Form
 form_of Devconf words = devconf_form words
 form_of Drvrun words = drvrun_form words
+form_of Drvall words = drvall_form words
+form_of Devwhy words = devwhy_form words
 
 -- the configuration of a form, by its name
 abbrev pub config_of : Form → List ℕ

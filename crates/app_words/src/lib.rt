@@ -1,6 +1,7 @@
 //! The words of the programs: what they ask for, and the status that a run ends with. See config(1).
 #![tactic(auto)]
 
+mod bound;
 mod called;
 mod count;
 mod operands;
@@ -8,7 +9,8 @@ mod program;
 mod status;
 mod words;
 
+pub use bound::{bound_words, most_worlds};
 pub use called::words_behind_name;
 pub use program::Program;
 pub use status::Status;
-pub use words::{Task, WordStop, Words, read_words};
+pub use words::{Task, WordStop, Words, asked_name, read_words};

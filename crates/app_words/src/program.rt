@@ -5,4 +5,8 @@ pub enum Program {
     Devconf,
     /// Boots a machine and runs scripts on it side by side.
     Drvrun,
+    /// Boots a machine and goes through every order in which scripts can take their turns.
+    Drvall,
+    /// Says why a driver attached or did not, in the boot of a machine or by a configuration alone.
+    Devwhy,
 }

@@ -32,13 +32,17 @@ pub enum Status {
     WriteFault,
     /// Memory ran out.
     Memory,
-    /// Scripts that run side by side stand still: nobody goes on, and not all have ended. Who waits for which device, and who
-    /// holds it, a line each with its newline. Only `drvrun` returns this.
+    /// Scripts stand still: nobody goes on, and not all have ended. Who waits for which device, and who holds it, a line each with
+    /// its newline; nothing if the output has these lines. Only `drvrun` and `drvall` return this.
     Stuck { waits: Text },
+    /// More worlds than this bound can be reached. Only `drvall` returns this.
+    Worlds { most: u32 },
+    /// The configuration and the machine have nothing of this name. Only `devwhy` returns this.
+    Unknown { name: Text },
 }
 
 impl Status {
-    /// The exit status of the program, 0 to 11.
+    /// The exit status of the program, 0 to 13.
     pub fn number(&self) -> u8
         ensures { result ≡ status_number self.now }
     {
@@ -55,6 +59,8 @@ impl Status {
             Status::WriteFault => 9,
             Status::Memory => 10,
             Status::Stuck { .. } => 11,
+            Status::Worlds { .. } => 12,
+            Status::Unknown { .. } => 13,
         }
     }
 }

@@ -1,7 +1,8 @@
 ghost use Rattle.std.specs.Prelude.{◌≡◌, map, option_map, string_bytes, true};
 ghost use Rattle.std.specs.List.{list_all};
-ghost use Rattle.app_words.specs.Words.{HasForm, devconf_form, drvrun_form, file_in, form_of, ioconf, is_operand, following_form, load_form, sources};
+ghost use Rattle.app_words.specs.Words.{HasForm, asked_name, bounded_form, devconf_form, devwhy_form, drvall_form, drvrun_form, file_in, form_of, ioconf, is_operand, following_form, load_form, named_form, sources};
 
+use crate::bound::{bound_of, is_bound_word};
 use crate::count::count_of;
 use crate::operands::{MAX_SCRIPTS, boot_words, file_word, scripted_words};
 use crate::program::Program;
@@ -23,7 +24,7 @@ pub enum Task {
 /// What words ask for.
 #[derive(Drop)]
 pub enum Words<'a> {
-    /// `ioconf FILE`
+    /// `ioconf FILE`, or `FILE NAME` of `devwhy`
     Ioconf {
         file: &'a str,
     },
@@ -31,7 +32,7 @@ pub enum Words<'a> {
     Files {
         file: &'a str,
     },
-    /// `boot FILE MACHINE`
+    /// `boot FILE MACHINE`, or `FILE MACHINE NAME` of `devwhy`
     Boot {
         file: &'a str,
         machine: &'a str,
@@ -55,7 +56,7 @@ pub enum Words<'a> {
         course: &'a str,
         scripts: &'a [String],
     },
-    /// `FILE MACHINE SCRIPT..`, with 1 to 16 scripts: the words of `drvrun`.
+    /// `FILE MACHINE SCRIPT..`, with 1 to 16 scripts: the words of `drvrun`, and of `drvall` behind its bound.
     Run {
         file: &'a str,
         machine: &'a str,
@@ -198,6 +199,69 @@ fn drvrun_words<'a>(words: &'a [String]) -> Result<Words<'a>, WordStop>
     })
 }
 
+/// Reads the words `N FILE MACHINE SCRIPT..`. The bound N is read by `most_worlds`.
+fn bounded_words<'a>(words: &'a [String]) -> Result<Words<'a>, WordStop>
+    ensures { HasForm (bounded_form (map string_bytes words.now)) result }
+{
+    let Some((word, more)) = words.split_first() else {
+        return Err(WordStop::Usage);
+    };
+    match bound_of(word.as_bytes()) {
+        Some(_) => drvrun_words(more),
+        None => Err(WordStop::Usage),
+    }
+}
+
+/// Reads the words `FILE MACHINE SCRIPT..` or `-w N FILE MACHINE SCRIPT..`.
+fn drvall_words<'a>(words: &'a [String]) -> Result<Words<'a>, WordStop>
+    ensures { HasForm (drvall_form (map string_bytes words.now)) result }
+{
+    let Some((word, more)) = words.split_first() else {
+        return Err(WordStop::Usage);
+    };
+    if is_bound_word(word.as_bytes()) {
+        bounded_words(more)
+    } else {
+        drvrun_words(words)
+    }
+}
+
+/// The name that the words of `devwhy` ask about.
+pub fn asked_name(words: &[String]) -> &[u8]
+    ensures { result.now ≡ asked_name (map string_bytes words.now) }
+{
+    match words.last() {
+        Some(word) => word.as_bytes(),
+        None => &[],
+    }
+}
+
+/// Reads the operands `FILE NAME` or `FILE MACHINE NAME`, where the name is of no file.
+fn named_words<'a>(operands: &'a [String]) -> Result<Words<'a>, WordStop>
+    ensures { HasForm (named_form (map string_bytes operands.now)) result }
+{
+    match operands {
+        [file, _] => Ok(Words::Ioconf {
+            file: file.as_str(),
+        }),
+        [file, machine, _] => Ok(Words::Boot {
+            file: file.as_str(),
+            machine: machine.as_str(),
+        }),
+        _ => Err(WordStop::Usage),
+    }
+}
+
+/// Reads the words `FILE NAME` or `FILE MACHINE NAME`.
+fn devwhy_words<'a>(words: &'a [String]) -> Result<Words<'a>, WordStop>
+    ensures { HasForm (devwhy_form (map string_bytes words.now)) result }
+{
+    if !are_operands(words) {
+        return Err(WordStop::Usage);
+    }
+    named_words(words)
+}
+
 /// Reads the words after the program's name, by the form that they have.
 pub fn read_words<'a>(
     alloc: Global,
@@ -209,5 +273,7 @@ pub fn read_words<'a>(
     match program {
         Program::Devconf => devconf_words(alloc, words),
         Program::Drvrun => drvrun_words(words),
+        Program::Drvall => drvall_words(words),
+        Program::Devwhy => devwhy_words(words),
     }
 }

@@ -33,7 +33,7 @@ use Rattle.std.proofs.lemmas.Bool.{false_from_ne_true}
 use Rattle.run_sound.proofs.Candidates.{no_candidate}
 use Rattle.boot_laws.proofs.Candidates.{still_first, taken_row, was_candidate, winner_candidate}
 use Rattle.boot_laws.proofs.Scans.{HasTurn, among, has_turn}
-use Rattle.boot_laws.proofs.Watched.{Covers, IsPast, IsToCome, IsWatched, covers_whole}
+use Rattle.boot_laws.proofs.Watched.{Covers, IsPast, IsToCome, IsTurnOf, IsWatched, covers_whole}
 use Rattle.boot_laws.proofs.Deeds.{end_watched, phase_watched, search_watched}
 use Rattle.boot_laws.proofs.Finals.{final_watched}
 
@@ -62,9 +62,9 @@ watched_after w (Plug x) kept e goes is watched = absurd is
 watched_after w (Unplug x of) kept e goes is watched = absurd is
 watched_after w Tell kept e goes is watched = absurd is
 
-opening_watched : (s : Setup) → IsWatched (opening s)
+pub opening_to_come : (s : Setup) (p : ℕ) (t : Turn) → IsTurnOf (opening s) p t → IsToCome (opening s) p t
 unfolding opening
-opening_watched s p t at = inr (inl (inl (root p at.known)))
+opening_to_come s p t at = inl (inl (root p at.known))
   where
     root : (q : ℕ) → IsTrue (q == 0 || false) → Covers q t (scan_of 0)
     root q h = subst (λ (n : ℕ). Covers n t (scan_of 0)) (sym (zero_is q h)) (covers_whole 0 t)
@@ -75,6 +75,9 @@ opening_watched s p t at = inr (inl (inl (root p at.known)))
             left : (b : Bool) → (b || false) ≡ true → b ≡ true
             left true k = refl
             left false k = absurd cc
+
+opening_watched : (s : Setup) → IsWatched (opening s)
+opening_watched s p t at = inr (opening_to_come s p t at)
 
 -- ---- where it ends nothing is left to come
 
@@ -98,7 +101,7 @@ none_waits w kept goes stack on = cases w.deferred kept.sound.deferred (kept.sou
     cases [] sound off = refl
     cases (e ∷ es) sound off = absurd (one e e.key refl sound.0 off.0)
 
-nothing_to_come : (w : World) (p : ℕ) (t : Turn) → (caller_at w 0).stack ≡ [] → w.deferred ≡ [] → IsToCome w p t → ⊥
+pub nothing_to_come : (w : World) (p : ℕ) (t : Turn) → (caller_at w 0).stack ≡ [] → w.deferred ≡ [] → IsToCome w p t → ⊥
 nothing_to_come w p t stack none (inl frame) = rw stack at frame
 nothing_to_come w p t stack none (inr entry) = rw none at entry
 
@@ -145,14 +148,18 @@ settled w watched stack none p place x is bare = cases (is_indirect w.setup w.li
         let row : at.turn.at.row ≡ r = at.row refl in
         inr (passed_over w p place x r style won (λ first. (past true r at).not_it at.style (rw (at.of, at.at, row) won) (rw (at.of, at.at, row) first)))
 
-settled_end : (w : World) → Kept w → next w 0 ≡ Does EndCaller → IsWatched w → IsSettled w
-settled_end w kept e watched =
+-- where the boot ends it has no frame, and no scan is put off
+pub bare_end : (w : World) → Kept w → next w 0 ≡ Does EndCaller → ((caller_at w 0).stack ≡ []) × (w.deferred ≡ [])
+bare_end w kept e =
     let end : IsEnd w 0 = has_reason w 0 EndCaller e in
     let goes : has_ended w 0 ≡ false = (doing_so w 0 EndCaller e).unended in
-    settled w watched end.stack (none_waits w kept goes end.stack (on end))
+    (end.stack, none_waits w kept goes end.stack (on end))
   where
     on : IsEnd w 0 → w.interrupts_on ≡ true
     on end = elim end.over [ inl boot ↦ boot.1 | inr script ↦ absurd (script.0 refl) ]
+
+settled_end : (w : World) → Kept w → next w 0 ≡ Does EndCaller → IsWatched w → IsSettled w
+settled_end w kept e watched = let bare = bare_end w kept e in settled w watched bare.0 bare.1
 
 -- ---- a whole boot
 
@@ -164,7 +171,7 @@ ended_settled w is p place x at bare =
       | inr over ↦ inr (record { indirect = over.indirect; number = over.number; row = over.row; first = over.first; there = over.there; alone = over.alone; taken = over.taken })
     ]
 
-has_now_ended : (w : World) → 0 < length w.callers → has_ended (after w 0 EndCaller) 0 ≡ true
+pub has_now_ended : (w : World) → 0 < length w.callers → has_ended (after w 0 EndCaller) 0 ≡ true
 unfolding after
 has_now_ended w lt = ap (λ (c : Caller). is_ended c.doing) (caller_here w 0 _ lt)
 
@@ -178,27 +185,30 @@ rests w (e ∷ h) v ended alone run is =
     let step : Step w 0 e run.0 = subst (λ (k : ℕ). Step w k e run.0) alone.0 run.1 in
     clash (has_ended w 0) ended (doing_so w 0 step.deed step.chosen).unended
 
+-- a deed of the boot is its end, or the boot goes on
+pub goes_or_ends : (w : World) (d : Deed) → Kept w → next w 0 ≡ Does d → ((has_ended (after w 0 d) 0 ≡ false) × (d ≢ EndCaller)) ⊎ (d ≡ EndCaller)
+goes_or_ends w d kept chosen =
+    elim (kind_of w 0 kept d chosen) [
+      | inl answers ↦ inl (answers.on.goes, no_end answers.on.goes)
+      | inr other ↦ elim other [ inl none ↦ inl (none.on.goes, no_end none.on.goes) | inr is ↦ inr is ]
+    ]
+  where
+    no_end : has_ended (after w 0 d) 0 ≡ false → d ≢ EndCaller
+    no_end goes is = clash (has_ended (after w 0 d) 0) (rw is (has_now_ended w (doing_there w 0 d chosen))) goes
+
 boot_run : (g : List Event) (w : World) (h : List Event) (v : World) → Stands g w → AreOfBoot h → Run w h v → has_ended w 0 ≡ false → has_ended v 0 ≡ true → IsWatched w → IsSettled v
 boot_run g w [] v at alone run goes over watched = clash (has_ended v 0) over (ap (λ (x : World). has_ended x 0) (sym run) ∙ goes)
 boot_run g w (e ∷ h) v at alone run goes over watched =
     let step : Step w 0 e run.0 = subst (λ (k : ℕ). Step w k e run.0) alone.0 run.1 in
     let d : Deed = step.deed in
-    let on : has_ended (after w 0 d) 0 ≡ false → d ≢ EndCaller → IsSettled v =
-    λ still not_end. boot_run (g ++ e ∷ []) run.0 h v (stands_on g w e.caller e run.0 at run.1) alone.1 run.2 (ap (λ (x : World). has_ended x 0) step.world ∙ still) over
-    (subst IsWatched (sym step.world) (watched_after w d at.kept step.chosen not_end (boot_deed w d at.kept.ranges.callers.booting step.chosen) watched)) in
-    elim (kind_of w 0 at.kept d step.chosen) [
-      | inl answers ↦ on answers.on.goes (λ is. clash (has_ended (after w 0 d) 0) (ends step is) answers.on.goes)
-      | inr other ↦ elim other [
-        | inl none ↦ on none.on.goes (λ is. clash (has_ended (after w 0 d) 0) (ends step is) none.on.goes)
-        | inr is ↦ rests run.0 h v (ap (λ (x : World). has_ended x 0) step.world ∙ ends step is) alone.1 run.2
-            (subst IsSettled (sym step.world) (subst (λ (x : Deed). IsSettled (after w 0 x)) (sym is) (ended_settled w (settled_end w at.kept (step.chosen ∙ ap Does is) watched))))
-      ]
+    elim (goes_or_ends w d at.kept step.chosen) [
+      | inl on ↦ boot_run (g ++ e ∷ []) run.0 h v (stands_on g w e.caller e run.0 at run.1) alone.1 run.2 (ap (λ (x : World). has_ended x 0) step.world ∙ on.0) over
+          (subst IsWatched (sym step.world) (watched_after w d at.kept step.chosen on.1 (boot_deed w d at.kept.ranges.callers.booting step.chosen) watched))
+      | inr is ↦ rests run.0 h v (ap (λ (x : World). has_ended x 0) step.world ∙ rw is (has_now_ended w (doing_there w 0 d step.chosen))) alone.1 run.2
+          (subst IsSettled (sym step.world) (subst (λ (x : Deed). IsSettled (after w 0 x)) (sym is) (ended_settled w (settled_end w at.kept (step.chosen ∙ ap Does is) watched))))
     ]
-  where
-    ends : {m : World} (step : Step w 0 e m) → step.deed ≡ EndCaller → has_ended (after w 0 step.deed) 0 ≡ true
-    ends step is = rw is (has_now_ended w (doing_there w 0 step.deed step.chosen))
 
-opening_goes : (s : Setup) → has_ended (opening s) 0 ≡ false
+pub opening_goes : (s : Setup) → has_ended (opening s) 0 ≡ false
 unfolding opening
 opening_goes s = refl
 

@@ -88,7 +88,7 @@ none_past s live p t none = record { no_row = λ direct. none; not_it = λ indir
 -- ---- a turn
 
 -- what was to come is the turn, or still is to come
-turned : (w : World) (p spot : ℕ) (to : Position) (got : Option Arrival) (i : IsTurn w 0 p spot to got) (q : ℕ) (t : Turn) → 0 < length w.callers → IsTurnOf w q t → MayBeDue w q t ≡ true → IsToCome w q t
+pub turned : (w : World) (p spot : ℕ) (to : Position) (got : Option Arrival) (i : IsTurn w 0 p spot to got) (q : ℕ) (t : Turn) → 0 < length w.callers → IsTurnOf w q t → MayBeDue w q t ≡ true → IsToCome w q t
     → ((p ≡ q) × (i.turn ≡ t)) ⊎ IsToCome (with_stack w 0 (moved_top to (caller_at w 0).stack)) q t
 turned w p spot to got i q t lt at may (inr entry) = inr (inr entry)
 turned w p spot to got i q t lt at may (inl frame) = cases (rw i.stack at frame)
@@ -140,7 +140,7 @@ search_watched w p spot to (Some a) kept e watched r x here =
 -- ---- the end of a scan, and interrupts
 
 -- the scan that is over is past each of its turns
-left : (w : World) (p : ℕ) (i : IsScanEnd w 0 p) (q : ℕ) (t : Turn) → IsTurnOf w q t → MayBeDue w q t ≡ true → IsToCome w q t → AnyIn (Covers q t) (under_top (caller_at w 0).stack) ⊎ AnyIn (λ (e : Deferred). e.child ≡ q) w.deferred
+pub left : (w : World) (p : ℕ) (i : IsScanEnd w 0 p) (q : ℕ) (t : Turn) → IsTurnOf w q t → MayBeDue w q t ≡ true → IsToCome w q t → AnyIn (Covers q t) (under_top (caller_at w 0).stack) ⊎ AnyIn (λ (e : Deferred). e.child ≡ q) w.deferred
 left w p i q t at may (inr entry) = inr entry
 left w p i q t at may (inl frame) = inl (rw i.stack (rest (rw i.stack at frame)))
   where

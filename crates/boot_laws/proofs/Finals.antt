@@ -120,12 +120,12 @@ still_hidden (z ∷ hidden) x y other = cases (z == x) refl (still_hidden hidden
         other_way : (a b : ℕ) → (b == a) ≡ false → (a == b) ≡ false
         other_way a b e = false_from_ne_true (a == b) (λ h. clash (b == a) (eq-eqb b a (sym (eqb-true a b h))) e)
 
-bare_before : (m : Machine) (live : List Dev) (absent hidden : List ℕ) (x y : ℕ) → (y == x) ≡ false → is_open m live absent (filter (λ z. not (z == x)) hidden) [] y ≡ true → is_open m live absent hidden [] y ≡ true
+pub bare_before : (m : Machine) (live : List Dev) (absent hidden : List ℕ) (x y : ℕ) → (y == x) ≡ false → is_open m live absent (filter (λ z. not (z == x)) hidden) [] y ≡ true → is_open m live absent hidden [] y ≡ true
 unfolding is_open
 bare_before m live absent hidden x y other h = rw (still_hidden hidden x y other) at h
 
 -- a turn of another spot is as before
-before_shown : (w : World) (x q : ℕ) (t : Turn) → (t.at.spot == x) ≡ false → IsTurnOf (show_spot w (Some x)) q t → IsTurnOf w q t
+pub before_shown : (w : World) (x q : ℕ) (t : Turn) → (t.at.spot == x) ≡ false → IsTurnOf (show_spot w (Some x)) q t → IsTurnOf w q t
 before_shown w x q t other at =
     record { known = at.known; among = at.among; bare = bare_before w.setup.machine w.live w.absent w.hidden x t.at.spot other at.bare }
 
@@ -158,13 +158,11 @@ answered_watched v (Some place) anew watched q t at =
     elim (watched q t before) [ inl none ↦ inl none | inr waits ↦ inr waits ]
 
 -- a frame that goes is of the finaliser
-quiet_watched : (w : World) (s : ℕ) (listed : Option ℕ) (anew : Bool) → 0 < length w.callers → IsCalled w 0 s listed anew → IsWatched w → IsWatched (finaliser_done (list_moved w listed anew false) 0 listed false)
-quiet_watched w s (Some place) anew lt called watched q t at =
-    let before : IsTurnOf w q t = record { known = at.known; among = at.among; bare = at.bare } in
-    elim (watched q t before) [ inl none ↦ inl none | inr waits ↦ inr waits ]
-quiet_watched w s None anew lt called watched q t at =
-    let before : IsTurnOf w q t = record { known = at.known; among = at.among; bare = at.bare } in
-    elim (watched q t before) [ inl none ↦ inl none | inr waits ↦ inr (still waits) ]
+pub quiet_to_come : (w : World) (s : ℕ) (listed : Option ℕ) (anew : Bool) (q : ℕ) (t : Turn) → 0 < length w.callers → IsCalled w 0 s listed anew → IsToCome w q t
+    → IsToCome (finaliser_done (list_moved w listed anew false) 0 listed false) q t
+quiet_to_come w s (Some place) anew q t lt called waits = waits
+quiet_to_come w s None anew q t lt called (inr entry) = inr entry
+quiet_to_come w s None anew q t lt called (inl frame) = inl (rw left (rest (rw called.1 at frame)))
   where
     left : (caller_at (with_stack w 0 (under_top (caller_at w 0).stack)) 0).stack ≡ called.0
     left = stack_is w 0 (under_top (caller_at w 0).stack) lt ∙ ap under_top called.1
@@ -173,9 +171,13 @@ quiet_watched w s None anew lt called watched q t at =
     rest (inl never) = absurd never
     rest (inr more) = more
 
-    still : IsToCome w q t → IsToCome (with_stack w 0 (under_top (caller_at w 0).stack)) q t
-    still (inl frame) = inl (rw left (rest (rw called.1 at frame)))
-    still (inr entry) = inr entry
+quiet_watched : (w : World) (s : ℕ) (listed : Option ℕ) (anew : Bool) → 0 < length w.callers → IsCalled w 0 s listed anew → IsWatched w → IsWatched (finaliser_done (list_moved w listed anew false) 0 listed false)
+quiet_watched w s (Some place) anew lt called watched q t at =
+    let before : IsTurnOf w q t = record { known = at.known; among = at.among; bare = at.bare } in
+    elim (watched q t before) [ inl none ↦ inl none | inr waits ↦ inr waits ]
+quiet_watched w s None anew lt called watched q t at =
+    let before : IsTurnOf w q t = record { known = at.known; among = at.among; bare = at.bare } in
+    elim (watched q t before) [ inl none ↦ inl none | inr waits ↦ inr (quiet_to_come w s None anew q t lt called waits) ]
 
 pub final_watched : (w : World) (s : ℕ) (shown : Option ℕ) (got : Option Arrival) (listed : Option ℕ) (anew : Bool) → Kept w → next w 0 ≡ Does (Finalise s shown got listed anew) → IsWatched w
     → IsWatched (after w 0 (Finalise s shown got listed anew))

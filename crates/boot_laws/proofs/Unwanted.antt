@@ -33,7 +33,7 @@ direct_bus m (Some attach) (At a) h = cases (find (λ line. line.attach == attac
     cases (Some line) e =
         found_of (λ (line : StyleLine). line.indirect ≡ false) (λ line. line.attach == attach && line.attr == a) (reverse m.styles) line (all_reversed (λ (line : StyleLine). line.indirect ≡ false) m.styles h) e
 
-open_so : (w : World) (x : ℕ) → has w.absent x ≡ false → has w.hidden x ≡ false → is_occupied w.live x ≡ false → is_open w.setup.machine w.live w.absent w.hidden [] x ≡ true
+pub open_so : (w : World) (x : ℕ) → has w.absent x ≡ false → has w.hidden x ≡ false → is_occupied w.live x ≡ false → is_open w.setup.machine w.live w.absent w.hidden [] x ≡ true
 unfolding is_open
 open_so w x present seen free = rw (present, seen, free) refl
 

@@ -168,7 +168,7 @@ no_turns s live p r d there row h = rw (there, row, empty (offered_by s r) h) re
     empty [] e = refl
     empty (x ∷ xs) e = absurd cc
 
-new_found : (live : List Dev) (d : Dev) (p : ℕ) → device_at live p ≡ None → p ≡ d.serial → device_at (live ++ d ∷ []) p ≡ Some d
+pub new_found : (live : List Dev) (d : Dev) (p : ℕ) → device_at live p ≡ None → p ≡ d.serial → device_at (live ++ d ∷ []) p ≡ Some d
 new_found live d p none is =
     find-append (λ (e : Dev). e.serial == p) live (d ∷ []) ∙ ap (λ (o : Option Dev). option_or o (cond (d.serial == p) (Some d) None)) none
     ∙ ap (λ (b : Bool). cond b (Some d) None) (eq-eqb d.serial p (sym is))
@@ -185,9 +185,9 @@ known_before live d p other h =
     rest false false h = absurd cc
 
 -- a spot that is free then was free before, and is not the device's
-record IsBareThen (m : Machine) (live : List Dev) (absent hidden : List ℕ) (d : Dev) (x : ℕ) : Type 0 where
-  before : is_open m live absent hidden [] x ≡ true
-  other : x ≢ d.spot
+pub record IsBareThen (m : Machine) (live : List Dev) (absent hidden : List ℕ) (d : Dev) (x : ℕ) : Type 0 where
+  pub before : is_open m live absent hidden [] x ≡ true
+  pub other : x ≢ d.spot
 
 flags : (a b o s f : Bool) → (a && b && not (o || (s || false)) && f) ≡ true → ((a && b && not o && f) ≡ true) × (s ≡ false)
 flags false b o s f h = absurd cc
@@ -196,7 +196,7 @@ flags true true true s f h = absurd cc
 flags true true false true f h = absurd cc
 flags true true false false f h = (h, refl)
 
-bare_then : (m : Machine) (live : List Dev) (absent hidden : List ℕ) (d : Dev) (x : ℕ) → is_open m (live ++ d ∷ []) absent hidden [] x ≡ true → IsBareThen m live absent hidden d x
+pub bare_then : (m : Machine) (live : List Dev) (absent hidden : List ℕ) (d : Dev) (x : ℕ) → is_open m (live ++ d ∷ []) absent hidden [] x ≡ true → IsBareThen m live absent hidden d x
 unfolding is_open
 bare_then m live absent hidden d x h =
     let both = flags (not (has absent x)) (not (has hidden x)) (is_occupied live x) (d.spot == x) (passes_filter (found_at m x) []) (rw (list_any-append (λ (e : Dev). e.spot == x) live (d ∷ [])) at h) in
@@ -211,32 +211,45 @@ still_past s live d p t differs past = record {
       past.not_it indirect (won_before s live d (parent_ref s live p) t.place t.at.spot t.at.row before (rw same at won)) before;
 }
 
+-- a turn that is there once a device comes, and is not the device's, was there before, and is of another spot
+pub record IsOldTurn (u : World) (a : Arrival) (p : ℕ) (t : Turn) : Type 0 where
+  pub before : IsTurnOf u p t
+  pub other : t.at.spot ≢ a.spot
+
+pub old_turn : (u v : World) (a : Arrival) (p : ℕ) (t : Turn) → Comes u v a → p ≢ u.next → IsTurnOf v p t → IsOldTurn u a p t
+old_turn u v a p t is differs at =
+    let d : Dev = new_device u a in
+    let bare : IsBareThen u.setup.machine u.live u.absent u.hidden d t.at.spot = bare_then u.setup.machine u.live u.absent u.hidden d t.at.spot (rw (is.setup, is.live, is.absent, is.hidden) at at.bare) in
+    let among : Among t (turns u.setup u.live p None) = rw (device_more u.live d p differs) at (rw (is.setup, is.live) at at.among) in
+    record { before = record { known = known_before u.live d p differs (rw is.live at at.known); among = among; bare = bare.before }; other = bare.other }
+
+-- one of the device's is to come
+pub new_turn : (u v : World) (a : Arrival) (p : ℕ) (t : Turn) → Comes u v a → AddsScan u v u.next (has_nothing (offered_by u.setup a.row)) → device_at u.live u.next ≡ None → p ≡ u.next → IsTurnOf v p t
+    → IsToCome v p t
+new_turn u v a p t is adds fresh same at = cases (has_nothing (offered_by u.setup a.row)) refl
+  where
+    cases : (b : Bool) → has_nothing (offered_by u.setup a.row) ≡ b → IsToCome v p t
+    cases true nothing =
+        let d : Dev = new_device u a in
+        let found : device_at (u.live ++ d ∷ []) p ≡ Some d = new_found u.live d p (rw same fresh) same in
+        absurd (rw (no_turns u.setup (u.live ++ d ∷ []) p a.row d found refl nothing) at (rw (is.setup, is.live) at at.among))
+    cases false some = rw same (adds.new some t)
+
 -- where each turn but those of its spot is served, each is once it is there
 pub come_watched : (u v : World) (a : Arrival) → Comes u v a → AddsScan u v u.next (has_nothing (offered_by u.setup a.row)) → device_at u.live u.next ≡ None
     → ((p : ℕ) (t : Turn) → IsTurnOf u p t → t.at.spot ≢ a.spot → IsServed u p t) → IsWatched v
 come_watched u v a is adds fresh served p t at = cases (p == u.next) refl
   where
-    d : Dev
-    d = new_device u a
-
-    own : p ≡ u.next → (b : Bool) → has_nothing (offered_by u.setup a.row) ≡ b → IsServed v p t
-    own same true nothing =
-        let found : device_at (u.live ++ d ∷ []) p ≡ Some d = new_found u.live d p (rw same fresh) same in
-        absurd (rw (no_turns u.setup (u.live ++ d ∷ []) p a.row d found refl nothing) at (rw (is.setup, is.live) at at.among))
-    own same false some = inr (rw same (adds.new some t))
-
     other : p ≢ u.next → IsServed v p t
     other differs =
-        let bare : IsBareThen u.setup.machine u.live u.absent u.hidden d t.at.spot = bare_then u.setup.machine u.live u.absent u.hidden d t.at.spot (rw (is.setup, is.live, is.absent, is.hidden) at at.bare) in
-        let among : Among t (turns u.setup u.live p None) = rw (device_more u.live d p differs) at (rw (is.setup, is.live) at at.among) in
-        let before : IsTurnOf u p t = record { known = known_before u.live d p differs (rw is.live at at.known); among = among; bare = bare.before } in
-        elim (served p t before bare.other) [
-          | inl past ↦ inl (rw (is.setup, is.live) (still_past u.setup u.live d p t differs past))
+        let old : IsOldTurn u a p t = old_turn u v a p t is differs at in
+        elim (served p t old.before old.other) [
+          | inl past ↦ inl (rw (is.setup, is.live) (still_past u.setup u.live (new_device u a) p t differs past))
           | inr waits ↦ inr (adds.keeps p t waits)
         ]
 
     cases : (b : Bool) → (p == u.next) ≡ b → IsServed v p t
-    cases true e = own (eqb-true p u.next e) (has_nothing (offered_by u.setup a.row)) refl
+    cases true e = inr (new_turn u v a p t is adds fresh (eqb-true p u.next e) at)
     cases false e = other (λ same. clash (p == u.next) (eq-eqb p u.next same) e)
 
 -- ---- scans that were put off begin

@@ -1,5 +1,5 @@
 -- The match value is that of the line that counts.
-use Rattle.std.proofs.Common.{◌≡◌, ◌∙◌, ℕ, Bool, true, false, not, ◌&&◌, ◌==◌, cond, List, [], ◌∷◌, find, reverse, is_some, Option, Some, None, refl, sym, ap}
+use Rattle.std.proofs.Common.{◌≡◌, ℕ, Bool, not, ◌&&◌, ◌==◌, List, [], ◌∷◌, find, reverse, is_some, Option, Some, None, refl, ap}
 use Rattle.std.specs.Option.{option_map_or, option_or}
 use Rattle.cf_types.specs.declared.machine.Machine.{Machine}
 use Rattle.cf_types.specs.declared.machine.MatchLine.{MatchLine}

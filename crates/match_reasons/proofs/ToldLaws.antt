@@ -15,7 +15,7 @@ use Rattle.config_rules.specs.Formed.{FormedRow, FormedTables}
 use Rattle.run_rules.specs.declared.world.Dev.{Dev}
 use Rattle.run_rules.specs.declared.world.ParentRef.{ParentRef}
 use Rattle.run_rules.specs.declared.world.Setup.{Setup}
-use Rattle.run_rules.specs.Search.{fits, names_parent, parent_offers, parent_ref, winner}
+use Rattle.run_rules.specs.Search.{names_parent, parent_offers, parent_ref}
 use Rattle.run_rules.specs.World.{device_at, row_at, same_place}
 use Rattle.run_rules.proofs.Free.{winner_below}
 use Rattle.match_reasons.specs.declared.reason.RowReason.{RowReason}

@@ -3,7 +3,6 @@ use Rattle.std.specs.Prelude.{◌≡◌, ◌⊎◌, ◌↔◌, ℕ, ◌<◌, ◌
 use Rattle.std.specs.List.{Contains}
 use Rattle.cf_types.specs.declared.tables.Place.{Place}
 use Rattle.cf_types.specs.declared.tables.Row.{Row}
-use Rattle.cf_types.specs.declared.tables.Tables.{Tables}
 use Rattle.cf_types.specs.Locators.{locators_at}
 use Rattle.cf_types.specs.Numbers.{below}
 use Rattle.config_rules.specs.Formed.{FormedTables}

@@ -1,12 +1,13 @@
 -- The search of a spot.
-use Rattle.std.specs.Prelude.{◌≡◌, List, Option}
+use Rattle.std.specs.Prelude.{◌≡◌, ℕ, List, Option}
 use Rattle.std.specs.Option.{option_map_or}
 use Rattle.run_rules.specs.declared.world.Dev.{Dev}
 use Rattle.run_rules.specs.declared.world.ParentRef.{ParentRef}
 use Rattle.run_rules.specs.declared.world.ParentRef.TheVariants as under
 use Rattle.run_rules.specs.declared.world.Setup.{Setup}
 use Rattle.run_rules.specs.Search.{parent_offers, winner}
-use Rattle.run_rules.specs.World.{driver_of}
+use Rattle.run_rules.specs.World.{device_at, driver_of}
+use Rattle.match_reasons.specs.Reasons.{spot_place}
 use Rattle.match_reasons.specs.declared.told.Search.{Search}
 
 -- a device as the parent of a search, or the root
@@ -21,3 +22,10 @@ HasOffers s search = search.offers ≡ parent_offers s.tables (parent_by s searc
 pub record IsSearchOf (s : Setup) (live : List Dev) (search : Search) : Type 0 where
   pub offers : HasOffers s search
   pub winner : winner s live (parent_by s search.parent) search.place search.spot ≡ search.winner
+
+-- it is the search of a spot below the device of a serial, or below the root
+pub record IsSearchAt (s : Setup) (live : List Dev) (p x : ℕ) (search : Search) : Type 0 where
+  pub of : IsSearchOf s live search
+  pub parent : search.parent ≡ device_at live p
+  pub place : search.place ≡ spot_place s.machine x
+  pub spot : search.spot ≡ x

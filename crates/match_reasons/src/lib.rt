@@ -10,4 +10,4 @@ mod told;
 pub use laws::{all_told, first_reasons, winner_alone};
 pub use matches::{counting_line, match_value};
 pub use reason::{Reason, RowReason};
-pub use told::{Told, told_of};
+pub use told::{Search, Told, reason_at, search_of, told_of};

@@ -6,7 +6,7 @@ ghost use Rattle.run_rules.specs.Search as rule;
 ghost use Rattle.run_rules.specs.World as world;
 ghost use Rattle.plain_world.specs.Rules.{AreFit, setup_by};
 ghost use Rattle.match_reasons.specs.Reasons.{beaten, could_stand, has_attachment, kept_off, reason, reason_of, spot_place, told_of, unit_taken};
-ghost use Rattle.match_reasons.specs.Searches.{HasOffers, IsSearchOf, parent_by};
+ghost use Rattle.match_reasons.specs.Searches.{HasOffers, IsSearchAt, IsSearchOf, parent_by};
 
 use crate::locators::missed_at;
 use crate::matches::match_value;
@@ -31,12 +31,12 @@ pub struct Told {
 /// A search: the device below which it goes, none for the root; whether that offers the place; the place, the spot, and the
 /// row that takes it.
 #[derive(Clone, Copy)]
-struct Search {
-    parent: Option<Dev>,
-    offers: bool,
-    place: Place,
-    spot: u16,
-    winner: Option<u32>,
+pub struct Search {
+    pub parent: Option<Dev>,
+    pub offers: bool,
+    pub place: Place,
+    pub spot: u16,
+    pub winner: Option<u32>,
 }
 
 /// Whether a device, or the root, offers a place.
@@ -80,8 +80,11 @@ fn fits(rules: &Rules, search: Search, row: &Row) -> bool
 fn taker(rules: &Rules, live: &Live, row: &Row) -> Option<Dev>
     ensures { result ≡ find (λ d. world.driver_of (setup_by rules.now) d.row == row.now.device && d.unit == row.now.unit) live.now.devices }
 {
-    live.devices().iter().copied().find(|device| driver_of(rules, device.row) == row.device
-        && device.unit == row.unit)
+    // (the unit first, since few devices have it)
+    live.devices()
+        .iter()
+        .copied()
+        .find(|device| device.unit == row.unit && driver_of(rules, device.row) == row.device)
 }
 
 /// The live device that has the one unit of a row.
@@ -200,22 +203,19 @@ fn search_below(rules: &Rules, parent: Option<Dev>, spot: u16) -> Search
     }
 }
 
-/// The search of a spot below the device of a serial, or below the root.
-fn search_of(rules: &Rules, live: &Live, parent: u64, spot: u16) -> Search
-    requires fit { AreFit rules.now }
-    ensures of { IsSearchOf (setup_by rules.now) live.now.devices result }
-    ensures parent { result.parent ≡ world.device_at live.now.devices parent }
-    ensures place { result.place ≡ spot_place rules.now.machine.now spot }
-    ensures spot { result.spot ≡ spot }
+/// The search of a spot below the device of a serial, or below the root. See autoconf(9).
+pub fn search_of(rules: &Rules, live: &Live, parent: u64, spot: u16) -> Search
+    requires { AreFit rules.now }
+    ensures { IsSearchAt (setup_by rules.now) live.now.devices parent spot result }
 {
     let mut search = search_below(rules, device_at(live, parent), spot);
     search.winner = winner(rules, live, search);
     search
 }
 
-/// Why the row of a number does not take the spot of a search.
+/// Why the row of a number does not take the spot of a search; the row that takes it has no reason.
 #[tactic(auto, unfolding(crate::specs::Reasons::reason))]
-fn reason(rules: &Rules, live: &Live, search: Search, number: u32) -> Option<Reason>
+pub fn reason_at(rules: &Rules, live: &Live, search: Search, number: u32) -> Option<Reason>
     requires fit { AreFit rules.now }
     requires search { IsSearchOf (setup_by rules.now) live.now.devices search }
     ensures { result ≡ reason (setup_by rules.now) live.now.devices (parent_by (setup_by rules.now) search.parent) search.place search.spot number }
@@ -269,7 +269,7 @@ pub fn told_of(
     let mut others = 0;
     for row in 0..rules.tables.rows.len() as u32 {
         if could_stand(rules, search.place, row) {
-            let reason = reason(rules, live, search, row);
+            let reason = reason_at(rules, live, search, row);
             rows.push(RowReason { row, reason })?;
         } else {
             others += 1;

@@ -1,5 +1,5 @@
 -- Texts that grow, and the longest of the texts so far.
-use Rattle.std.proofs.Common.{◌≡◌, ◌≤◌, ◌<◌, ◌+◌, ◌^◌, ◌∙◌, ℕ, zero, suc, max, List, [], ◌∷◌, ◌++◌, length, map, take, replicate, get_or, refl, sym, ap, append_assoc, arith}
+use Rattle.std.proofs.Common.{◌≡◌, ◌<◌, ◌+◌, ◌∙◌, ℕ, max, List, [], ◌∷◌, ◌++◌, length, map, take, replicate, get_or, sym, ap, append_assoc, arith}
 use Rattle.std.proofs.lemmas.List.{map_more, replicate-append-replicate}
 use Rattle.why_text.specs.WhyText.{widest}
 

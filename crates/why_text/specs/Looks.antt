@@ -1,5 +1,4 @@
 -- By what the words of reasons go.
-use Rattle.std.specs.Prelude.{List}
 use Rattle.cf_types.specs.declared.tables.Place.{Place}
 use Rattle.run_rules.specs.declared.world.Setup.{Setup}
 use Rattle.plain_world.specs.Rules.{setup_by}

@@ -1,5 +1,5 @@
 -- Reasons in words, a line for each row.
-use Rattle.std.specs.Prelude.{ℕ, ◌-◌, nat_lt, max, if◌then◌else◌, List, [], ◌∷◌, ◌++◌, length, map, replicate, slice_get, Option, Some, None, ℤ, pos, codes, decimal}
+use Rattle.std.specs.Prelude.{ℕ, ◌-◌, nat_lt, max, if◌then◌else◌, List, [], ◌∷◌, ◌++◌, length, map, replicate, slice_get, Option, Some, None, pos, codes, decimal}
 use Rattle.std.specs.List.{slice_index_or}
 use Rattle.std.specs.Option.{option_map_or}
 use Rattle.std.specs.Fmt.{signed_decimal}
@@ -85,12 +85,16 @@ row_reason_text s live p x r why = option_map_or (λ row. reason_text s live p x
 abbrev pub why_text : List ℕ → Setup → List Dev → ℕ → ℕ → RowReason → List ℕ
 why_text takes s live p x told = option_map_or (row_reason_text s live p x told.row) told.reason takes
 
-abbrev pub row_text : List ℕ → ℕ → Setup → List Dev → ℕ → ℕ → RowReason → List ℕ
-row_text takes width s live p x told = padded width (head_text s.tables told.row) ++ codes "  " ++ why_text takes s live p x told
+-- the length of the longest head of these rows
+abbrev pub column : Tables → List ℕ → ℕ
+column t rows = widest (map (head_text t) rows)
 
--- the length of the longest head
-abbrev pub column : Tables → List RowReason → ℕ
-column t rows = widest (map (λ told. head_text t told.row) rows)
+-- the head of a row, up to what is said of it
+abbrev pub row_front : ℕ → Tables → ℕ → List ℕ
+row_front width t r = padded width (head_text t r) ++ codes "  "
+
+abbrev pub row_text : List ℕ → ℕ → Setup → List Dev → ℕ → ℕ → RowReason → List ℕ
+row_text takes width s live p x told = row_front width s.tables told.row ++ why_text takes s live p x told
 
 -- how many rows are not told
 abbrev pub others_text : Tables → Place → ℕ → List ℕ
@@ -99,7 +103,7 @@ others_text t place n = codes "rows of drivers that do not attach at " ++ place_
 -- the lines of what is told of a spot below a parent, where the row without a reason is told in these words
 unfoldable pub told_lines : List ℕ → Setup → List Dev → ℕ → ℕ → Told → List (List ℕ)
 told_lines takes s live p x told =
-    map (row_text takes (column s.tables told.rows) s live p x) told.rows ++ others_text s.tables (spot_place s.machine x) told.others ∷ []
+    map (row_text takes (column s.tables (map (λ it. it.row) told.rows)) s live p x) told.rows ++ others_text s.tables (spot_place s.machine x) told.others ∷ []
 
 abbrev pub reason_lines : List ℕ → Setup → List Dev → ℕ → ℕ → List (List ℕ)
 reason_lines takes s live p x = told_lines takes s live p x (told_of s live p x)

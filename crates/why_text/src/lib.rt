@@ -8,6 +8,7 @@ mod named;
 mod row;
 mod words;
 
-pub use lines::reason_lines;
+pub use lines::{column, reason_lines};
 pub use look::Look;
-pub use named::{place_name, spot_name};
+pub use named::{device_name, place_name, spot_name};
+pub use row::{put_why, row_front};

@@ -22,16 +22,27 @@ fn wider(alloc: Global, tables: &Tables, number: u32, width: usize) -> Result<us
     Ok(width.max(head.as_slice().len()))
 }
 
-/// The length of the longest head.
-fn column(alloc: Global, tables: &Tables, rows: &[RowReason]) -> Result<usize, Memory>
+/// The length of the longest head of these rows.
+pub fn column(alloc: Global, tables: &Tables, rows: &[u32]) -> Result<usize, Memory>
     ensures { IfOk result (λ width. width ≡ column tables.now rows.now) }
 {
     let mut width = 0usize;
-    for told in rows {
-        let wide = wider(alloc, tables, told.row, width)?;
+    for row in rows {
+        let wide = wider(alloc, tables, *row, width)?;
         width = wide;
     }
     Ok(width)
+}
+
+/// The numbers of these rows.
+fn numbers_of(alloc: Global, rows: &[RowReason]) -> Result<Vec<u32>, Memory>
+    ensures { IfOk result (λ numbers. numbers.items ≡ map (λ it. it.row) rows.now) }
+{
+    let mut numbers = Vec::with_capacity(alloc, rows.len())?;
+    for told in rows {
+        numbers.push(told.row)?;
+    }
+    Ok(numbers)
 }
 
 /// The lines of these rows.
@@ -71,7 +82,8 @@ fn told_lines(alloc: Global, look: &Look, takes: &[u8], told: &Told) -> Result<V
     ensures { IfOk result (λ lines. lines.items ≡ told_lines takes.now (setup_in look.now) look.now.live.now.devices look.now.parent look.now.spot told.now) }
 {
     let rows = told.rows.items();
-    let width = column(alloc, look.rules.tables, rows)?;
+    let numbers = numbers_of(alloc, rows)?;
+    let width = column(alloc, look.rules.tables, &numbers)?;
     let mut lines = row_lines(alloc, look, takes, width, rows)?;
     let last = others_line(alloc, look, told.others)?;
     lines.push(last)?;

@@ -1,12 +1,12 @@
 //! The line of a row.
 ghost use Rattle.std.specs.Prelude.{◌≡◌, ◌++◌, IfOk, OnOk, replicate};
-ghost use Rattle.why_text.specs.WhyText.{padded, row_reason_text, row_text, why_text};
+ghost use Rattle.why_text.specs.WhyText.{padded, row_front, row_reason_text, row_text, why_text};
 ghost use Rattle.why_text.specs.Looks.{setup_in};
 
 use crate::head::put_head;
 use crate::look::Look;
 use crate::words::put_reason;
-use cf_types::{List, Memory, Text, put_bytes};
+use cf_types::{List, Memory, Tables, Text, put_bytes};
 use match_reasons::{Reason, RowReason};
 use plain_world::row_at;
 use std::alloc::Global;
@@ -39,14 +39,30 @@ fn put_reason_of(out: &mut Vec<u8>, look: &Look, number: u32, reason: Reason) ->
     }
 }
 
-/// Why a row does not take the spot, or these words if it does.
-fn put_why(out: &mut Vec<u8>, look: &Look, takes: &[u8], told: RowReason) -> Result<(), Memory>
+/// Why a row does not take the spot, or these words if it has no reason.
+pub fn put_why(out: &mut Vec<u8>, look: &Look, takes: &[u8], told: RowReason) -> Result<(), Memory>
     ensures { OnOk result (out.new.items ≡ out.old.items ++ why_text takes.now (setup_in look.now) look.now.live.now.devices look.now.parent look.now.spot told) }
 {
     match told.reason {
         Some(reason) => put_reason_of(out, look, told.row, reason),
         None => put_bytes(out, takes),
     }
+}
+
+/// The head of the row of a number, up to a column, and two blanks.
+pub fn row_front(
+    alloc: Global,
+    tables: &Tables,
+    width: usize,
+    number: u32,
+) -> Result<Vec<u8>, Memory>
+    ensures { IfOk result (λ line. line.items ≡ row_front width tables.now number) }
+{
+    let mut line = Vec::new(alloc);
+    put_head(&mut line, tables, number)?;
+    pad(&mut line, width)?;
+    put_bytes(&mut line, b"  ")?;
+    Ok(line)
 }
 
 /// The line of a row: its head, and why it does not take the spot, or these words if it does.
@@ -59,10 +75,7 @@ pub fn row_line(
 ) -> Result<Text, Memory>
     ensures { IfOk result (λ line. line ≡ row_text takes.now width (setup_in look.now) look.now.live.now.devices look.now.parent look.now.spot told) }
 {
-    let mut line = Vec::new(alloc);
-    put_head(&mut line, look.rules.tables, told.row)?;
-    pad(&mut line, width)?;
-    put_bytes(&mut line, b"  ")?;
+    let mut line = row_front(alloc, look.rules.tables, width, told.row)?;
     put_why(&mut line, look, takes, told)?;
     Ok(List::from_vec(line))
 }

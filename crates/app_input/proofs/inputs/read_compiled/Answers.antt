@@ -8,7 +8,7 @@ pub returns-in-Err-clause-reads : goal.returns-in-Err-clause-reads
 returns-in-Err-clause-reads g c = stopped_by _ _ _ _ c.in-Err.stop c.status_of_stop.result c.status_of_stop.ensures c.in-Err.ensures.compiles
 
 pub returns-in-Err-clause-counted : goal.returns-in-Err-clause-counted
-returns-in-Err-clause-counted g c = counted_by (g.F.Files.told c.args.files.now) c.args.file.now _ _ c.in-Err.stop c.status_of_stop.result c.status_of_stop.ensures c.in-Err.ensures.compiles
+returns-in-Err-clause-counted g c = counted_by Tables (g.F.Files.told c.args.files.now) c.args.file.now _ _ c.in-Err.stop c.status_of_stop.result c.status_of_stop.ensures c.in-Err.ensures.compiles
 
 pub returns-in-Err-clause-asked : goal.returns-in-Err-clause-asked
 returns-in-Err-clause-asked g c =

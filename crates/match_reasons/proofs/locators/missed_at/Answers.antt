@@ -1,4 +1,4 @@
-use Rattle.std.proofs.Common.{◌≡◌, ◌∙◌, ◌<◌, ℕ, Bool, not, length, refl, sym, true, false, arith}
+use Rattle.std.proofs.Common.{◌≡◌, ◌∙◌, ◌<◌, ℕ, Bool, not, length, refl, sym, false, arith}
 use Rattle.run_rules.proofs.Below.{find-is, find-none}
 use Rattle.match_reasons.specs.Reasons.{fits_at}
 use Rattle.match_reasons.proofs.locators.missed_at.Goals as goal

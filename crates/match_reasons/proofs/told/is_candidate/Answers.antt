@@ -1,7 +1,5 @@
-use Rattle.std.proofs.Common.{◌≡◌, ◌∙◌, Some, ap, sym}
-use Rattle.std.specs.Option.{is_none, option_map_or}
-use Rattle.run_rules.specs.Search.{is_candidate}
-use Rattle.run_rules.specs.World.{row_at}
+use Rattle.std.proofs.Common.{◌∙◌, ap, sym}
+use Rattle.std.specs.Option.{is_none}
 use Rattle.plain_world.specs.Rules.{setup_by}
 use Rattle.match_reasons.specs.Searches.{parent_by}
 use Rattle.match_reasons.proofs.ReasonLaws.{candidate_is, no_row, none_from}

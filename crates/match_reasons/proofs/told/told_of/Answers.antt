@@ -26,7 +26,7 @@ loop-row-preserved c =
           let could : could_stand s.tables search.place c.loop-row.row ≡ true = sym c.could_stand.ensures ∙ w.if-could_stand.true in
           let more : c.if-could_stand.rows ≡ c.loop-row.rows ++ row_reason s live p search.place search.spot c.loop-row.row ∷ [] =
           w.rows-is ∙ w.in_ok-push.ensures.ok
-          ∙ ap (λ (why : Option Reason). c.loop-row.rows ++ record { row = c.loop-row.row; reason = why } ∷ []) w.reason-reason.ensures in
+          ∙ ap (λ (why : Option Reason). c.loop-row.rows ++ record { row = c.loop-row.row; reason = why } ∷ []) w.reason_at-reason.ensures in
           subst (λ (n : ℕ). HasTold s live p search.place search.spot (c.loop-row.row + 1) c.if-could_stand.rows n) (sym w.others-is)
           (told_one s live p search.place search.spot c.loop-row.row c.loop-row.rows c.if-could_stand.rows c.loop-row.others could more c.loop-row.invariant)
       | else-could_stand w ↦

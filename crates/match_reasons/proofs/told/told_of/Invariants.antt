@@ -1,8 +1,4 @@
-use Rattle.std.proofs.Common.{◌≡◌, ◌≤◌, not, filter, map}
-use Rattle.std.specs.List.{count_by}
-use Rattle.cf_types.specs.Numbers.{below}
 use Rattle.plain_world.specs.Rules.{setup_by}
-use Rattle.match_reasons.specs.Reasons.{could_stand, row_reason}
 use Rattle.match_reasons.specs.Searches.{parent_by}
 use Rattle.match_reasons.proofs.ToldLaws.{HasTold}
 use Rattle.match_reasons.proofs.told.told_of.Given as goal

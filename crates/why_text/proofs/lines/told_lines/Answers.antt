@@ -11,8 +11,10 @@ returns c =
     let s = setup_in look in
     let line : ℕ → RowReason → List ℕ = λ width told. row_text c.args.takes.now width s look.live.now.devices look.parent look.spot told in
     let last : List ℕ = c.in_ok-last.last in
-    let so_far : c.push.new.self.items ≡ map (line (column s.tables c.items-rows.result.now)) c.items-rows.result.now ++ last ∷ [] =
-    c.in_ok-push.ensures.items
-    ∙ ap (λ (xs : List (List ℕ)). xs ++ last ∷ []) (c.in_ok-lines.ensures ∙ ap (λ (w : ℕ). map (line w) c.items-rows.result.now) c.in_ok-width.ensures) in
-    subst (λ (rows : List RowReason). c.push.new.self.items ≡ map (line (column s.tables rows)) rows ++ last ∷ []) c.items-rows.ensures so_far
-    ∙ ap (λ (x : List ℕ). map (line (column s.tables c.args.told.now.rows)) c.args.told.now.rows ++ x ∷ []) c.in_ok-last.ensures
+    let numbers : List RowReason → List ℕ = map (λ it. it.row) in
+    let rows : List RowReason = c.items-rows.result.now in
+    let width : c.in_ok-width.width ≡ column s.tables (numbers rows) = c.in_ok-width.ensures ∙ ap (column s.tables) (c.deref.ensures.value ∙ c.in_ok-numbers.ensures) in
+    let so_far : c.push.new.self.items ≡ map (line (column s.tables (numbers rows))) rows ++ last ∷ [] =
+    c.in_ok-push.ensures.items ∙ ap (λ (xs : List (List ℕ)). xs ++ last ∷ []) (c.in_ok-lines.ensures ∙ ap (λ (w : ℕ). map (line w) rows) width) in
+    subst (λ (rs : List RowReason). c.push.new.self.items ≡ map (line (column s.tables (numbers rs))) rs ++ last ∷ []) c.items-rows.ensures so_far
+    ∙ ap (λ (x : List ℕ). map (line (column s.tables (numbers c.args.told.now.rows))) c.args.told.now.rows ++ x ∷ []) c.in_ok-last.ensures

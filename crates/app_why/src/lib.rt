@@ -1,0 +1,7 @@
+//! What the program `devwhy` does, from its words to its status.
+#![tactic(auto)]
+
+mod top;
+
+pub use app_words::Status;
+pub use top::devwhy_top;

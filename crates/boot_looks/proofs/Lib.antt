@@ -1,0 +1,8 @@
+pub mod Turns
+pub mod Going
+pub mod Looking
+pub mod Winners
+pub mod Spans
+pub mod Awaited
+pub mod Unvisited
+pub mod Missed

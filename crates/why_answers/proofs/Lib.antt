@@ -1,0 +1,6 @@
+pub mod Named
+pub mod RowLines
+pub mod Puts
+pub mod Nears
+pub mod SeenLaws
+pub mod Reasons
