@@ -18,7 +18,7 @@ use Rattle.app_input.specs.declared.inputs.Inputs.TheVariants as input
 use Rattle.app_words.specs.declared.status.Status.{Status}
 use Rattle.app_words.specs.declared.words.Task.{Task}
 use Rattle.app_words.specs.declared.words.Task.TheVariants.{Play, Replay, Upgrade, Watch}
-use Rattle.app_words.specs.declared.status.Status.TheVariants.{Ok, ConfigRefused, Usage, MachineRefused, ScriptRefused, HistoryRefused, Absent, TooLong, ReadFault, WriteFault, Memory, Stuck}
+use Rattle.app_words.specs.declared.status.Status.TheVariants.{Ok, ConfigRefused, Usage, MachineRefused, ScriptRefused, HistoryRefused, Absent, TooLong, ReadFault, WriteFault, Memory, Stuck, Worlds, Unknown}
 use Rattle.app_input.proofs.AskedLaws.{all_asked, inputs_all, inputs_memory, memory_asked, stopped_asked}
 use Rattle.app_config.specs.FilesAsked.{AsksFiles, AsksSources, AsksThen}
 use Rattle.app_config.specs.declared.found.Found.{Found}
@@ -51,6 +51,8 @@ sources_unread name told Ok never = elim never [ ]
 sources_unread name told WriteFault never = elim never [ ]
 sources_unread name told (HistoryRefused line) never = elim never [ ]
 sources_unread name told (Stuck waits) never = elim never [ ]
+sources_unread name told (Worlds most) never = elim never [ ]
+sources_unread name told (Unknown other) never = elim never [ ]
 
 none_of_sources : (told : Option Files) (name : List ℕ) (old new : Names) → new ≡ old → AsksSources told name Memory old new
 none_of_sources None name old new same = tt

@@ -12,7 +12,7 @@ use Rattle.app_words.specs.Words.{Form}
 use Rattle.app_input.specs.declared.inputs.Inputs.{Inputs}
 use Rattle.app_input.specs.declared.inputs.Inputs.TheVariants as input
 use Rattle.app_words.specs.declared.status.Status.{Status}
-use Rattle.app_words.specs.declared.status.Status.TheVariants.{Ok, ConfigRefused, Usage, MachineRefused, ScriptRefused, HistoryRefused, Absent, TooLong, ReadFault, WriteFault, Memory, Stuck}
+use Rattle.app_words.specs.declared.status.Status.TheVariants.{Ok, ConfigRefused, Usage, MachineRefused, ScriptRefused, HistoryRefused, Absent, TooLong, ReadFault, WriteFault, Memory, Stuck, Worlds, Unknown}
 use Rattle.app_config.specs.Asked.{IsAskedText}
 use Rattle.app_tasks.specs.Retold.{Untaken}
 use Rattle.app_config.specs.Found.{FindsFor, Unfound, Unselected, found_text}
@@ -47,6 +47,8 @@ unselected_status files name before after (MachineRefused line code) why counts 
 unselected_status files name before after (ScriptRefused which line code) why counts quiet = absurd why
 unselected_status files name before after (HistoryRefused line) why counts quiet = absurd why
 unselected_status files name before after (Stuck waits) why counts quiet = absurd why
+unselected_status files name before after (Worlds most) why counts quiet = absurd why
+unselected_status files name before after (Unknown other) why counts quiet = absurd why
 unselected_status files name before after (Absent absent) why counts quiet = absurd why
 unselected_status files name before after (TooLong long) why counts quiet = absurd why
 unselected_status files name before after WriteFault why counts quiet = absurd why
@@ -56,6 +58,8 @@ unselected_status files name before after Memory why counts quiet = absurd why
 untaken_status : (setup : Setup) (history : List ℕ) (status : Status) → Untaken setup history status → status ≡ history_status (reread (opening setup) history)
 untaken_status setup history (HistoryRefused line) bad = sym (ap history_status bad)
 untaken_status setup history (Stuck waits) bad = absurd bad
+untaken_status setup history (Worlds most) bad = absurd bad
+untaken_status setup history (Unknown name) bad = absurd bad
 untaken_status setup history Ok why = absurd why
 untaken_status setup history (ConfigRefused file line code) why = absurd why
 untaken_status setup history Usage why = absurd why
@@ -97,6 +101,8 @@ counts_rise before after (std.Err (MachineRefused line code)) counts = omega ari
 counts_rise before after (std.Err (ScriptRefused which line code)) counts = omega arith
 counts_rise before after (std.Err (HistoryRefused line)) counts = omega arith
 counts_rise before after (std.Err (Stuck waits)) counts = omega arith
+counts_rise before after (std.Err (Worlds most)) counts = omega arith
+counts_rise before after (std.Err (Unknown name)) counts = omega arith
 counts_rise before after (std.Err (Absent name)) counts = omega arith
 counts_rise before after (std.Err (TooLong name)) counts = omega arith
 counts_rise before after (std.Err ReadFault) counts = counts.0

@@ -6,7 +6,6 @@ use Rattle.std.specs.Prelude as std
 use Rattle.cf_types.specs.declared.machine.Command.{Command}
 use Rattle.cf_types.specs.declared.machine.Machine.{Machine}
 use Rattle.cf_types.specs.declared.tables.Tables.{Tables}
-use Rattle.config_rules.specs.Formed.{FitGraph, FormedTables}
 use Rattle.config_rules.specs.Reading.{Files}
 use Rattle.dev_board.specs.Shown.{Shown}
 use Rattle.cf_compile.specs.declared.stop.CompileStop.{CompileStop}
@@ -24,7 +23,7 @@ use Rattle.app_words.specs.Words.{Form}
 use Rattle.app_input.specs.declared.inputs.Inputs.{Inputs}
 use Rattle.app_input.specs.declared.inputs.Inputs.TheVariants as input
 use Rattle.app_words.specs.declared.status.Status.{Status}
-use Rattle.app_words.specs.declared.status.Status.TheVariants.{Ok, ConfigRefused, Usage, MachineRefused, ScriptRefused, HistoryRefused, Absent, TooLong, ReadFault, WriteFault, Memory, Stuck}
+use Rattle.app_words.specs.declared.status.Status.TheVariants.{Ok, ConfigRefused, Usage, MachineRefused, ScriptRefused, HistoryRefused, Absent, TooLong, ReadFault, WriteFault, Memory, Stuck, Worlds, Unknown}
 use Rattle.app_output.proofs.RunLaws.{tree_is}
 use Rattle.app_output.specs.NoteText.{watch_text}
 use Rattle.app_output.specs.RunText.{run_text, tree_of}
@@ -41,19 +40,6 @@ use Rattle.script_text.specs.declared.watch_line.WatchLine.{WatchLine}
 use Rattle.app_config.specs.Found.{FindsFor, Finds, Unfound, Unselected}
 use Rattle.app_config.specs.declared.found.Found.{Found}
 use Rattle.config_rules.specs.Listing.{listing}
-
--- the tables of a run fit into a graph
-run_graph : (tables : Tables) (machine : Machine) (scripts : List (List Command)) (setup : Setup)
-    → FormedTables tables → setup ≡ setup_of tables machine scripts → FitGraph setup.tables
-run_graph tables machine scripts setup formed is = subst (λ (s : Setup). FitGraph s.tables) (sym is) formed.graph
-
-pub boot_graph : (asked : Inputs) (tables : Tables) (machine : Machine) (b : Shown) → FormedInputs asked → asked ≡ input.Boot tables machine
-    → IsBootOf (setup_of tables machine []) b → FitGraph b.world.setup.tables
-boot_graph asked tables machine b formed is boots = run_graph tables machine [] b.world.setup (subst FormedInputs is formed).0 boots.made
-
-pub play_graph : (asked : Inputs) (tables : Tables) (machine : Machine) (scripts : List (List Command)) (order turns : List ℕ) (b : Shown)
-    → FormedInputs asked → asked ≡ input.Play tables machine scripts order → IsPlayOf (setup_of tables machine scripts) turns b → FitGraph b.world.setup.tables
-play_graph asked tables machine scripts order turns b formed is plays = run_graph tables machine scripts b.world.setup (subst FormedInputs is formed).0 plays.made
 
 pub listed : (told : Option Files) (asked : Inputs) (tables : Tables) → asked ≡ input.Ioconf tables → IsAskedText told asked (listing tables)
 unfolding IsAskedText
@@ -88,10 +74,6 @@ play_ran told asked tables machine scripts order turns b is same plays =
       ap (λ (s : Setup). run_text s.tables b.events b.world) plays.made,
     )
 
-pub watch_graph : (asked : Inputs) (tables : Tables) (machine : Machine) (scripts : List (List Command)) (watch lines : List WatchLine) (told : List Reading) (b : Shown)
-    → FormedInputs asked → asked ≡ input.Watch tables machine scripts watch → IsWatchOf (setup_of tables machine scripts) lines told b → FitGraph b.world.setup.tables
-watch_graph asked tables machine scripts watch lines told b formed is watches = run_graph tables machine scripts b.world.setup (subst FormedInputs is formed).0 watches.made
-
 pub watch_ran : (told : Option Files) (asked : Inputs) (tables : Tables) (machine : Machine) (scripts : List (List Command)) (watch lines : List WatchLine) (said : List Reading) (b : Shown)
     → asked ≡ input.Watch tables machine scripts watch → lines ≡ watch → IsWatchOf (setup_of tables machine scripts) lines said b
     → IsAskedText told asked (watch_text b.world.setup.tables b.events b.world said)
@@ -106,9 +88,6 @@ watch_ran told asked tables machine scripts watch lines said b is same watches =
       watches.thorough,
       ap (λ (s : Setup). watch_text s.tables b.events b.world said) watches.made,
     )
-
-pub follow_graph : (asked : Inputs) (tables given : Tables) (machine : Machine) (plan : Plan) → FormedInputs asked → asked ≡ input.Follow tables machine plan → given ≡ tables → FitGraph given
-follow_graph asked tables given machine plan formed is same = subst FitGraph (sym same) (subst FormedInputs is formed).0.graph
 
 pub follow_ran : (told : Option Files) (asked : Inputs) (tables given : Tables) (machine : Machine) (plan : Plan) (lines : List (List ℕ)) → asked ≡ input.Follow tables machine plan → given ≡ tables
     → lines ≡ live_texts (site_of tables machine plan) plan.commands → IsAskedText told asked (listing given ++ text_of lines)
@@ -186,6 +165,8 @@ not_retold told asked given setup history status (std.Err s) is untaken came why
 untaken_counted : (setup : Setup) (history : List ℕ) (n : ℕ) (status : Status) → Untaken setup history status → Counts {A = Found} n n (std.Err status)
 untaken_counted setup history n (HistoryRefused line) why = refl
 untaken_counted setup history n (Stuck waits) why = absurd why
+untaken_counted setup history n (Worlds most) why = absurd why
+untaken_counted setup history n (Unknown name) why = absurd why
 untaken_counted setup history n Ok why = absurd why
 untaken_counted setup history n (ConfigRefused file line code) why = absurd why
 untaken_counted setup history n Usage why = absurd why

@@ -2,7 +2,6 @@
 use Rattle.std.specs.Prelude.{◌≡◌, ℕ, ◌++◌, ◌⊎◌, Option, IfSome, Result, List, ⊤}
 use Rattle.std.specs.Prelude as std
 use Rattle.cf_types.specs.Lines.{text_of}
-use Rattle.config_rules.specs.Formed.{FitGraph}
 use Rattle.config_rules.specs.Listing.{listing}
 use Rattle.config_rules.specs.Reading.{Files}
 use Rattle.file_rules.specs.Sources.{IsFirstFault}
@@ -33,17 +32,6 @@ found_text (Followed run) = listing run.tables ++ text_of run.lines
 found_text (Line line) = line.items
 found_text (Tree devices) = tree_of devices
 found_text (Retold told) = lines told.events ++ tree_of told.tree
-
--- what has to be listed fits into a graph
-abbrev pub HasGraph : Found → Type 0
-HasGraph (Listed tables) = FitGraph tables
-HasGraph (Selected paths) = ⊤
-HasGraph (Ran board) = FitGraph board.world.setup.tables
-HasGraph (Watched run) = FitGraph run.board.world.setup.tables
-HasGraph (Followed run) = FitGraph run.tables
-HasGraph (Line line) = ⊤
-HasGraph (Tree devices) = ⊤
-HasGraph (Retold told) = ⊤
 
 -- why the sources of a configuration were not selected: its first fault, or a fault of reading
 abbrev pub Unselected : Option Files → List ℕ → Status → Type 0

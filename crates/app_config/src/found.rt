@@ -1,15 +1,15 @@
 //! Does what the inputs ask for. Nothing here sees the output, so a run has ended before any of it is put.
-ghost use Rattle.std.specs.Prelude.{◌≡◌, IfOk};
+ghost use Rattle.std.specs.Prelude.{◌≡◌};
 ghost use Rattle.app_input.specs.Inputs.{FormedInputs, IsInputsOf};
 ghost use Rattle.app_words.specs.declared.program.Program.TheVariants as Program;
 ghost use Rattle.app_words.specs.Status.{Counts, status_of};
 ghost use Rattle.app_output.specs.Output.{Puts};
 ghost use Rattle.app_config.specs.FilesAsked.{AsksThen};
-ghost use Rattle.app_config.specs.Found.{FindsFor, HasGraph, found_text};
+ghost use Rattle.app_config.specs.Found.{FindsFor, found_text};
 
 use app_input::{Inputs, status_of_stop};
 use app_output::{
-    OutputStop, put_history, put_listing_with, put_paths, put_piece, put_plan, put_run, put_tree,
+    OutputStop, put_history, put_listing, put_paths, put_piece, put_plan, put_run, put_tree,
     put_watch,
 };
 use app_tasks::{WatchedRun, booted, loaded, played, retold, watched};
@@ -27,7 +27,7 @@ use std::mem::forget;
 /// What was found for the inputs.
 #[derive(Drop)]
 pub enum Found {
-    /// The tables of a configuration, with their graph.
+    /// The tables of a configuration.
     Listed(Compiled),
     /// The paths of the sources that a configuration selects.
     Selected(List<Text>),
@@ -62,7 +62,6 @@ pub fn found_by<F: Files>(alloc: Global, files: &mut F, inputs: Inputs) -> Resul
     ensures found { FindsFor (F.told files.old) inputs result }
     ensures asked { AsksThen (F.told files.old) inputs (status_of result) (F.asked files.old) (F.asked files.new) }
     ensures counted { Counts (F.faults files.old) (F.faults files.new) result }
-    ensures graphed { IfOk result HasGraph }
 {
     match inputs {
         Inputs::Ioconf { tables } => Ok(Found::Listed(tables)),
@@ -136,11 +135,10 @@ pub fn found_by<F: Files>(alloc: Global, files: &mut F, inputs: Inputs) -> Resul
 /// Puts what was found: the listing, or the paths, or the listing, the history and the device tree, or the line, or the
 /// tree, or a history with its tree.
 pub fn put_found<S: Sink>(alloc: Global, found: &Found, out: &mut S) -> Result<(), OutputStop>
-    requires { HasGraph found.now }
     ensures { Puts (found_text found.now) (S.told out.old) (S.told out.new) result }
 {
     match found {
-        Found::Listed(found) => put_listing_with(alloc, found.tables(), found.graph(), out),
+        Found::Listed(found) => put_listing(alloc, found.tables(), found.graph(), out),
         Found::Selected(paths) => put_paths(alloc, paths.items(), out),
         Found::Ran(board) => put_run(alloc, board, out),
         Found::Watched(run) => put_watch(alloc, &run.board, run.readings.items(), out),

@@ -8,7 +8,7 @@ use Rattle.cf_io.proofs.GrowsLemmas.{part_flushed, whole_flushed}
 use Rattle.config_rules.specs.Reading.{Files}
 use Rattle.app_words.specs.Status.{Counts}
 use Rattle.app_words.specs.declared.status.Status.{Status}
-use Rattle.app_words.specs.declared.status.Status.TheVariants.{Ok, ConfigRefused, Usage, MachineRefused, ScriptRefused, HistoryRefused, Absent, TooLong, ReadFault, WriteFault, Memory, Stuck}
+use Rattle.app_words.specs.declared.status.Status.TheVariants.{Ok, ConfigRefused, Usage, MachineRefused, ScriptRefused, HistoryRefused, Absent, TooLong, ReadFault, WriteFault, Memory, Stuck, Worlds, Unknown}
 use Rattle.app_output.specs.Ended.{Explains, Faults, OrMemory, status_after}
 use Rattle.app_output.specs.Output.{IsFlushed, Stops, Writes}
 use Rattle.app_output.specs.declared.stop.OutputStop.{OutputStop}
@@ -57,6 +57,8 @@ explains_refused IsAsked IsRefused old (MachineRefused line code) found written 
 explains_refused IsAsked IsRefused old (ScriptRefused which line code) found written refused = (refused, refl)
 explains_refused IsAsked IsRefused old (HistoryRefused line) found written refused = (refused, refl)
 explains_refused IsAsked IsRefused old (Stuck waits) found written refused = (refused, refl)
+explains_refused IsAsked IsRefused old (Worlds most) found written refused = (refused, refl)
+explains_refused IsAsked IsRefused old (Unknown name) found written refused = (refused, refl)
 explains_refused IsAsked IsRefused old (Absent name) found written refused = (refused, refl)
 explains_refused IsAsked IsRefused old (TooLong name) found written refused = (refused, refl)
 explains_refused IsAsked IsRefused old ReadFault found written refused = (refused, refl)
@@ -71,6 +73,8 @@ faults_refused A reads reads' writes (MachineRefused line code) written counts =
 faults_refused A reads reads' writes (ScriptRefused which line code) written counts = (counts, refl)
 faults_refused A reads reads' writes (HistoryRefused line) written counts = (counts, refl)
 faults_refused A reads reads' writes (Stuck waits) written counts = (counts, refl)
+faults_refused A reads reads' writes (Worlds most) written counts = (counts, refl)
+faults_refused A reads reads' writes (Unknown name) written counts = (counts, refl)
 faults_refused A reads reads' writes (Absent name) written counts = (counts, refl)
 faults_refused A reads reads' writes (TooLong name) written counts = (counts, refl)
 faults_refused A reads reads' writes ReadFault written counts = (counts.0, counts.1, refl)
@@ -97,6 +101,8 @@ explains_want IsAsked IsRefused old new (MachineRefused line code) h = inl h.1
 explains_want IsAsked IsRefused old new (ScriptRefused which line code) h = inl h.1
 explains_want IsAsked IsRefused old new (HistoryRefused line) h = inl h.1
 explains_want IsAsked IsRefused old new (Stuck waits) h = inl h.1
+explains_want IsAsked IsRefused old new (Worlds most) h = inl h.1
+explains_want IsAsked IsRefused old new (Unknown name) h = inl h.1
 explains_want IsAsked IsRefused old new (Absent name) h = inl h.1
 explains_want IsAsked IsRefused old new (TooLong name) h = inl h.1
 explains_want IsAsked IsRefused old new ReadFault h = inl h.1
@@ -116,6 +122,8 @@ faults_want reads reads' writes writes' (MachineRefused line code) h = (omega ar
 faults_want reads reads' writes writes' (ScriptRefused which line code) h = (omega arith, omega arith)
 faults_want reads reads' writes writes' (HistoryRefused line) h = (omega arith, omega arith)
 faults_want reads reads' writes writes' (Stuck waits) h = (omega arith, omega arith)
+faults_want reads reads' writes writes' (Worlds most) h = (omega arith, omega arith)
+faults_want reads reads' writes writes' (Unknown name) h = (omega arith, omega arith)
 faults_want reads reads' writes writes' (Absent name) h = (omega arith, omega arith)
 faults_want reads reads' writes writes' (TooLong name) h = (omega arith, omega arith)
 faults_want reads reads' writes writes' ReadFault h = (h.0, omega arith)

@@ -3,3 +3,4 @@ pub mod NextLines
 pub mod Puts
 pub mod TakenLemmas
 pub mod RunLaws
+pub mod Still

@@ -4,3 +4,4 @@ pub mod NoteText
 pub mod Output
 pub mod RunText
 pub mod Status
+pub mod Still

@@ -2,6 +2,7 @@
 //! history that was read, the sources that are selected, and the line of its status.
 #![tactic(auto)]
 
+mod count;
 mod history;
 mod lines;
 mod listing;
@@ -14,8 +15,9 @@ mod status;
 mod stop;
 mod tree;
 
+pub use count::put_count;
 pub use history::put_history;
-pub use listing::{put_listing, put_listing_with};
+pub use listing::put_listing;
 pub use notes::put_watch;
 pub use paths::put_paths;
 pub use piece::{flush, put_piece};

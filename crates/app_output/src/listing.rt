@@ -1,17 +1,16 @@
 //! Puts the listing of tables.
 ghost use Rattle.std.specs.Prelude.{◌≡◌};
-ghost use Rattle.attr_graph.specs.Graphs.{FitGraph, IsGraphOf, declared_by};
+ghost use Rattle.attr_graph.specs.Graphs.{IsGraphOf, declared_by};
 ghost use Rattle.config_rules.specs.Listing.{listing};
 ghost use Rattle.app_output.specs.Output.{Puts};
 
 use crate::lines::{Lines, put_lines};
 use crate::stop::OutputStop;
-use attr_graph::{Graph, graph_of};
+use attr_graph::Graph;
 use cf_io::Sink;
 use cf_types::{Memory, Tables};
 use ioconf_text::put_line_at_once;
 use std::alloc::Global;
-use std::mem::forget;
 
 /// The lines of the listing of tables, with their graph.
 #[derive(Drop)]
@@ -35,7 +34,7 @@ impl<'a> Lines for Listing<'a> {
 }
 
 /// Puts the listing of tables by their graph.
-pub fn put_listing_with<S: Sink>(
+pub fn put_listing<S: Sink>(
     alloc: Global,
     tables: &Tables,
     graph: &Graph,
@@ -45,17 +44,4 @@ pub fn put_listing_with<S: Sink>(
     ensures { Puts (listing tables.now) (S.told out.old) (S.told out.new) result }
 {
     put_lines(alloc, &Listing { tables, graph }, out)
-}
-
-/// Puts the listing of tables without their graph. The graph is made here and not freed, because the program ends soon.
-pub fn put_listing<S: Sink>(alloc: Global, tables: &Tables, out: &mut S) -> Result<(), OutputStop>
-    requires { FitGraph tables.now }
-    ensures { Puts (listing tables.now) (S.told out.old) (S.told out.new) result }
-{
-    let Ok(graph) = graph_of(alloc, tables) else {
-        return Err(OutputStop::Memory);
-    };
-    let put = put_listing_with(alloc, tables, &graph, out);
-    forget(graph);
-    put
 }

@@ -1,9 +1,9 @@
 //! Puts a run that was watched, with what was read of it.
-ghost use Rattle.std.specs.Prelude.{◌≡◌, ◌++◌, OnOk, decimal, map};
-ghost use Rattle.attr_graph.specs.Graphs.{FitGraph};
+ghost use Rattle.std.specs.Prelude.{◌≡◌, ◌++◌, OnOk, map};
 ghost use Rattle.app_output.specs.NoteText.{lost_text, note_text, notes_text, reading_text, watch_text};
 ghost use Rattle.app_output.specs.Output.{Puts};
 
+use crate::count::put_count;
 use crate::lines::{Lines, put_headed};
 use crate::run::put_run;
 use crate::stop::OutputStop;
@@ -12,15 +12,6 @@ use cf_types::Memory;
 use dev_board::Board;
 use dev_monitor::{Note, Reading};
 use std::alloc::Global;
-
-/// Appends a number.
-fn put_count(line: &mut Vec<u8>, count: u64) -> Result<(), Memory>
-    ensures { OnOk result (line.new.items ≡ line.old.items ++ decimal count) }
-{
-    let digits = format!(in *line.allocator(); "{count}")?;
-    line.extend_from_slice(digits.as_bytes())?;
-    Ok(())
-}
 
 /// Appends how many notes were lost, if any were.
 fn put_lost(line: &mut Vec<u8>, lost: u64) -> Result<(), Memory>
@@ -94,7 +85,6 @@ pub fn put_watch<S: Sink>(
     readings: &[Reading],
     out: &mut S,
 ) -> Result<(), OutputStop>
-    requires { FitGraph board.now.world.setup.tables }
     ensures { Puts (watch_text board.now.world.setup.tables board.now.events board.now.world readings.now) (S.told out.old) (S.told out.new) result }
 {
     put_run(alloc, board, out)?;

@@ -2,7 +2,6 @@
 ghost use Rattle.std.specs.Prelude.{◌++◌, map};
 ghost use Rattle.run_rules.specs.Lines as history;
 ghost use Rattle.run_rules.specs.Tree as tree;
-ghost use Rattle.attr_graph.specs.Graphs.{FitGraph};
 ghost use Rattle.app_output.specs.Output.{Puts};
 ghost use Rattle.app_output.specs.RunText.{run_text};
 
@@ -54,9 +53,8 @@ fn put_rest<S: Sink>(alloc: Global, board: &Board, out: &mut S) -> Result<(), Ou
 
 /// Puts the listing of a board's tables, its history and its device tree.
 pub fn put_run<S: Sink>(alloc: Global, board: &Board, out: &mut S) -> Result<(), OutputStop>
-    requires { FitGraph board.now.world.setup.tables }
     ensures { Puts (run_text board.now.world.setup.tables board.now.events board.now.world) (S.told out.old) (S.told out.new) result }
 {
-    put_listing(alloc, board.tables(), out)?;
+    put_listing(alloc, board.tables(), board.graph(), out)?;
     put_rest(alloc, board, out)
 }

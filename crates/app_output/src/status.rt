@@ -1,10 +1,10 @@
 //! What a status says on standard error.
-ghost use Rattle.std.specs.Prelude.{◌≡◌, [], ◌++◌, ◌∷◌, ◌⊎◌, OnOk, IfOk, map, slice_index_or, string_bytes};
+ghost use Rattle.std.specs.Prelude.{◌≡◌, [], ◌++◌, ◌∷◌, ◌⊎◌, OnOk, IfOk, codes, decimal, map, slice_index_or, string_bytes};
 ghost use Rattle.cf_types.specs.Lines.{ended};
 ghost use Rattle.cf_io.specs.Told.{Takes};
 ghost use Rattle.app_output.specs.Status.{err_text, machine_word, place_text, refused_text, script_word, usage_text};
 
-use app_words::{Program, Status};
+use app_words::{Program, Status, bound_words};
 use cf_io::{Put, Sink};
 use cf_types::{Memory, put_decimal};
 use std::alloc::Global;
@@ -14,6 +14,10 @@ const DEVCONF_USAGE: &[u8] =
 
 const DRVRUN_USAGE: &[u8] = b"usage: drvrun FILE MACHINE SCRIPT..\n";
 
+const DRVALL_USAGE: &[u8] = b"usage: drvall [-w N] FILE MACHINE SCRIPT..\n";
+
+const DEVWHY_USAGE: &[u8] = b"usage: devwhy FILE [MACHINE] NAME\n";
+
 /// The forms that the words of a program may have, with a newline.
 fn usage(program: Program) -> &'static [u8]
     ensures { result.now ≡ ended (usage_text program) }
@@ -21,6 +25,8 @@ fn usage(program: Program) -> &'static [u8]
     match program {
         Program::Devconf => DEVCONF_USAGE,
         Program::Drvrun => DRVRUN_USAGE,
+        Program::Drvall => DRVALL_USAGE,
+        Program::Devwhy => DEVWHY_USAGE,
     }
 }
 
@@ -63,6 +69,16 @@ fn put_named(out: &mut Vec<u8>, name: &[u8], text: &[u8]) -> Result<(), Memory>
     Ok(())
 }
 
+/// Appends the line about a bound on worlds that is exceeded.
+fn put_bound(out: &mut Vec<u8>, most: u32) -> Result<(), Memory>
+    ensures { OnOk result (out.new.items ≡ out.old.items ++ ((codes "more than " ++ decimal most ++ codes " worlds") ++ 10 ∷ [])) }
+{
+    out.extend_from_slice(b"more than ")?;
+    put_decimal(out, i64::from(most))?;
+    out.extend_from_slice(b" worlds\n")?;
+    Ok(())
+}
+
 /// The word at a place, counted from 0.
 fn word_at(words: &[String], place: usize) -> &[u8]
     ensures { result.now ≡ slice_index_or (map string_bytes words.now) place [] }
@@ -79,7 +95,8 @@ fn machine_word(program: Program, words: &[String]) -> &[u8]
 {
     match program {
         Program::Devconf => word_at(words, 2),
-        Program::Drvrun => word_at(words, 1),
+        Program::Drvrun | Program::Devwhy => word_at(words, 1),
+        Program::Drvall => word_at(words, 1 + bound_words(words)),
     }
 }
 
@@ -90,6 +107,8 @@ fn script_word(program: Program, words: &[String], which: u8) -> &[u8]
     match program {
         Program::Devconf => word_at(words, 3 + which as usize),
         Program::Drvrun => word_at(words, 1 + which as usize),
+        Program::Drvall => word_at(words, 1 + bound_words(words) + which as usize),
+        Program::Devwhy => &[],
     }
 }
 
@@ -133,6 +152,8 @@ fn err_line(
         Status::WriteFault => line.extend_from_slice(b"write fault\n")?,
         Status::Memory => line.extend_from_slice(b"out of memory\n")?,
         Status::Stuck { waits } => line.extend_from_slice(waits.items())?,
+        Status::Worlds { most } => put_bound(&mut line, *most)?,
+        Status::Unknown { name } => put_named(&mut line, name.items(), b": unknown")?,
     }
     Ok(line)
 }

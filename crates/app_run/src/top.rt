@@ -1,6 +1,5 @@
 //! The top call.
-ghost use Rattle.std.specs.Prelude.{◌≡◌, ◌≤◌, map, string_bytes, IfOk, IfSome};
-ghost use Rattle.attr_graph.specs.Graphs.{FitGraph};
+ghost use Rattle.std.specs.Prelude.{◌≡◌, ◌≤◌, map, string_bytes, IfSome};
 ghost use Rattle.cf_io.specs.Faults.{Rose};
 ghost use Rattle.cf_io.specs.Told.{Takes};
 ghost use Rattle.app_input.specs.Asked.{AsksInputs};
@@ -63,7 +62,6 @@ fn find<R: Threads + Wait + Sync, F: Files, M: Medium + Sync>(
     ensures due { IfSome (F.told files.old) (λ named. ¬ Rose (F.faults files.old) (F.faults files.new)
         → IsDueOr (drvrun_form (map string_bytes words.now)) named (status_of result)) }
     ensures asked { AsksInputs (drvrun_form (map string_bytes words.now)) (F.told files.old) (status_of result) (F.asked files.old) (F.asked files.new) }
-    ensures graphed { IfOk result (λ left. FitGraph left.board.world.setup.tables) }
 {
     match read_inputs(alloc, Program::Drvrun, words, files) {
         Ok(inputs) => left_of(rt, alloc, inputs, medium),
@@ -73,7 +71,6 @@ fn find<R: Threads + Wait + Sync, F: Files, M: Medium + Sync>(
 
 /// Writes the listing, the history and the tree to the stream.
 fn write_run<S: Sink>(alloc: Global, left: &Finished, out: &mut S) -> Result<(), OutputStop>
-    requires { FitGraph left.now.board.world.setup.tables }
     ensures { Writes (left_text left.now) (S.told out.old) (S.told out.new) result }
 {
     put_run(alloc, left.board(), out)?;

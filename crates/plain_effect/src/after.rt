@@ -42,7 +42,8 @@ pub fn push(plain: &mut Plain, caller: u8, frame: Frame) -> Result<(), Memory>
 /// The deferred scans to a key begin.
 fn release(alloc: Global, plain: &mut Plain, caller: u8, which: Key) -> Result<(), Memory>
     requires { HasCaller plain.old caller 600 }
-    ensures { (s : Setup) → OnOk result (world_of s plain.new ≡ after.released (world_of s plain.old) caller which (state_at plain.old.callers.items caller).stack) }
+    ensures { (s : Setup) → OnOk result (world_of s plain.new
+        ≡ after.released (world_of s plain.old) caller which (state_at plain.old.callers.items caller).stack) }
 {
     plain.callers[caller as usize].release(alloc, plain.deferred.list(), which)?;
     plain.deferred.forget(which);
@@ -72,7 +73,8 @@ pub fn end_scan(alloc: Global, plain: &mut Plain, caller: u8, of: u64) -> Result
 /// The scan on top moves to a position.
 fn advance(plain: &mut Plain, caller: u8, to: Position)
     requires { HasCaller plain.old caller 500 }
-    ensures world { (s : Setup) → world_of s plain.new ≡ after.with_stack (world_of s plain.old) caller (after.moved_top to (state_at plain.old.callers.items caller).stack) }
+    ensures world { (s : Setup) → world_of s plain.new
+        ≡ after.with_stack (world_of s plain.old) caller (after.moved_top to (state_at plain.old.callers.items caller).stack) }
     ensures caller { HasCaller plain.new caller 501 }
     ensures next { plain.new.live.next ≡ plain.old.live.next }
 {
@@ -82,7 +84,8 @@ fn advance(plain: &mut Plain, caller: u8, to: Position)
 /// The frame on top is over.
 fn leave(plain: &mut Plain, caller: u8)
     requires { HasCaller plain.old caller 600 }
-    ensures { (s : Setup) → world_of s plain.new ≡ after.with_stack (world_of s plain.old) caller (after.under_top (state_at plain.old.callers.items caller).stack) }
+    ensures { (s : Setup) → world_of s plain.new
+        ≡ after.with_stack (world_of s plain.old) caller (after.under_top (state_at plain.old.callers.items caller).stack) }
 {
     plain.callers[caller as usize].leave();
 }
@@ -190,26 +193,33 @@ fn put_scan(
     }
 }
 
+/// Who brings a device: a caller, in a search or by a finalizer, whose devices do not put their scans off.
+#[derive(Clone, Copy)]
+struct Bringer {
+    caller: u8,
+    may_defer: bool,
+}
+
 /// The scan of a new device goes where the policy and what the device offers say. See config_defer(9).
 #[tactic(auto, unfolding(run_rules::specs::After::scan_placed))]
 fn place_scan(
     alloc: Global,
     rules: &Rules,
     plain: &mut Plain,
-    caller: u8,
+    by: Bringer,
     serial: u64,
     arrival: Arrival,
-    may_defer: bool,
 ) -> Result<(), Memory>
     requires fit { AreFit rules.now }
-    requires caller { HasCaller plain.old caller 502 }
-    ensures world { (s : Setup) → OnOk result (world_of s plain.new ≡ with_scan (setup_by rules.now) (world_of s plain.old) caller serial arrival may_defer) }
-    ensures caller { OnOk result (HasCaller plain.new caller 503) }
+    requires caller { HasCaller plain.old by.caller 502 }
+    ensures world { (s : Setup)
+        → OnOk result (world_of s plain.new ≡ with_scan (setup_by rules.now) (world_of s plain.old) by.caller serial arrival by.may_defer) }
+    ensures caller { OnOk result (HasCaller plain.new by.caller 503) }
 {
     let policy = policy_of(rules, arrival.row);
     let offers = offered(rules, driver_of(rules, arrival.row));
-    let placing = scan_placing(policy, offers, plain.interrupts_on, may_defer);
-    put_scan(alloc, plain, placing, caller, arrival.parent, serial)
+    let placing = scan_placing(policy, offers, plain.interrupts_on, by.may_defer);
+    put_scan(alloc, plain, placing, by.caller, arrival.parent, serial)
 }
 
 /// A device comes: it is listed, and its finalizer and its scan go where they belong. See config_attach(9).
@@ -218,20 +228,20 @@ fn attach(
     alloc: Global,
     rules: &Rules,
     plain: &mut Plain,
-    caller: u8,
+    by: Bringer,
     arrival: Arrival,
-    may_defer: bool,
 ) -> Result<(), Memory>
     requires fit { AreFit rules.now }
-    requires caller { HasCaller plain.old caller 501 }
+    requires caller { HasCaller plain.old by.caller 501 }
     requires next { plain.old.live.next < 2 ^ 64 - 1 }
-    ensures world { OnOk result (world_of (setup_by rules.now) plain.new ≡ after.attached (world_of (setup_by rules.now) plain.old) caller arrival may_defer) }
-    ensures caller { OnOk result (HasCaller plain.new caller 503) }
+    ensures world { OnOk result (world_of (setup_by rules.now) plain.new
+        ≡ after.attached (world_of (setup_by rules.now) plain.old) by.caller arrival by.may_defer) }
+    ensures caller { OnOk result (HasCaller plain.new by.caller 503) }
 {
     let serial = plain.live.next();
     list(plain, arrival)?;
-    place_finaliser(plain, policy_of(rules, arrival.row), caller, serial)?;
-    place_scan(alloc, rules, plain, caller, serial, arrival, may_defer)
+    place_finaliser(plain, policy_of(rules, arrival.row), by.caller, serial)?;
+    place_scan(alloc, rules, plain, by, serial, arrival)
 }
 
 /// A device comes, if one was found.
@@ -240,18 +250,17 @@ fn arrive(
     alloc: Global,
     rules: &Rules,
     plain: &mut Plain,
-    caller: u8,
+    by: Bringer,
     got: Option<Arrival>,
-    may_defer: bool,
 ) -> Result<(), Memory>
     requires fit { AreFit rules.now }
-    requires caller { HasCaller plain.old caller 501 }
+    requires caller { HasCaller plain.old by.caller 501 }
     requires next { plain.old.live.next < 2 ^ 64 - 1 }
-    ensures world { OnOk result (world_of (setup_by rules.now) plain.new ≡ after.arrived (world_of (setup_by rules.now) plain.old) caller got may_defer) }
-    ensures caller { OnOk result (HasCaller plain.new caller 503) }
+    ensures world { OnOk result (world_of (setup_by rules.now) plain.new ≡ after.arrived (world_of (setup_by rules.now) plain.old) by.caller got by.may_defer) }
+    ensures caller { OnOk result (HasCaller plain.new by.caller 503) }
 {
     match got {
-        Some(arrival) => attach(alloc, rules, plain, caller, arrival, may_defer),
+        Some(arrival) => attach(alloc, rules, plain, by, arrival),
         None => Ok(()),
     }
 }
@@ -269,10 +278,15 @@ pub fn search(
     requires fit { AreFit rules.now }
     requires caller { HasCaller plain.old caller 500 }
     requires next { plain.old.live.next < 2 ^ 64 - 1 }
-    ensures { (parent spot : ℕ) → OnOk result (world_of (setup_by rules.now) plain.new ≡ after.after (world_of (setup_by rules.now) plain.old) caller (deeds.Search parent spot moved got)) }
+    ensures { (parent spot : ℕ) → OnOk result (world_of (setup_by rules.now) plain.new
+        ≡ after.after (world_of (setup_by rules.now) plain.old) caller (deeds.Search parent spot moved got)) }
 {
     advance(plain, caller, moved);
-    arrive(alloc, rules, plain, caller, got, true)
+    let by = Bringer {
+        caller,
+        may_defer: true,
+    };
+    arrive(alloc, rules, plain, by, got)
 }
 
 /// A late spot is seen from now on.
@@ -313,6 +327,16 @@ fn end_call(plain: &mut Plain, caller: u8, listed: Option<u64>, answer: bool)
     }
 }
 
+/// A call of a finalizer: the late spot that it found, what a row takes there, and, for one of the boot's list, its place
+/// there and whether a pass begins with it.
+#[derive(Clone, Copy)]
+pub struct Call {
+    pub shown: Option<u16>,
+    pub got: Option<Arrival>,
+    pub listed: Option<u64>,
+    pub anew: bool,
+}
+
 /// A call of a finalizer: the late spot that it found is shown, what a row takes there is attached, and the boot's list
 /// goes on, or the frame is over.
 #[tactic(auto, unfolding(run_rules::specs::After::after))]
@@ -321,21 +345,23 @@ pub fn finalise(
     rules: &Rules,
     plain: &mut Plain,
     caller: u8,
-    shown: Option<u16>,
-    got: Option<Arrival>,
-    listed: Option<u64>,
-    anew: bool,
+    call: Call,
 ) -> Result<(), Memory>
     requires fit { AreFit rules.now }
     requires caller { HasCaller plain.old caller 500 }
     requires next { plain.old.live.next < 2 ^ 64 - 1 }
-    requires place { IfSome listed (λ place. place < 2 ^ 64 - 1) }
-    ensures { (of : ℕ) → OnOk result (world_of (setup_by rules.now) plain.new ≡ after.after (world_of (setup_by rules.now) plain.old) caller (deeds.Finalise of shown got listed anew)) }
+    requires place { IfSome call.listed (λ place. place < 2 ^ 64 - 1) }
+    ensures { (of : ℕ) → OnOk result (world_of (setup_by rules.now) plain.new
+        ≡ after.after (world_of (setup_by rules.now) plain.old) caller (deeds.Finalise of call.shown call.got call.listed call.anew)) }
 {
-    let answer = shown.is_some();
-    show(plain, shown);
-    arrive(alloc, rules, plain, caller, got, false)?;
-    move_list(plain, listed, anew, answer);
-    end_call(plain, caller, listed, answer);
+    let answer = call.shown.is_some();
+    show(plain, call.shown);
+    let by = Bringer {
+        caller,
+        may_defer: false,
+    };
+    arrive(alloc, rules, plain, by, call.got)?;
+    move_list(plain, call.listed, call.anew, answer);
+    end_call(plain, caller, call.listed, answer);
     Ok(())
 }

@@ -10,7 +10,7 @@ ghost use Rattle.plain_effect.specs.Effects.{HasPlace, is_quiet};
 ghost use Rattle.plain_world.specs.Plain.{HasCaller, state_at, world_of};
 ghost use Rattle.plain_world.specs.Rules.{AreFit, setup_by};
 
-use crate::after::{begin, begin_interrupts, end_scan, finalise, finish, push, search};
+use crate::after::{Call, begin, begin_interrupts, end_scan, finalise, finish, push, search};
 use cf_types::{Command, Given, Memory};
 use plain_world::{Caller, Plain, Rules, command_of, wanted_by};
 use run_rules::{Activity, Deed, Frame, Position, Ref};
@@ -275,7 +275,15 @@ pub fn apply(
             listed,
             anew,
             ..
-        } => finalise(alloc, rules, plain, caller, shown, got, listed, anew),
+        } => {
+            let call = Call {
+                shown,
+                got,
+                listed,
+                anew,
+            };
+            finalise(alloc, rules, plain, caller, call)
+        }
         Deed::Open { of, sole } => open(alloc, plain, caller, of, sole),
         Deed::Detach { of } => detach(alloc, plain, caller, of),
         Deed::Rescan { of, only } => rescan(alloc, rules, plain, caller, of, only),

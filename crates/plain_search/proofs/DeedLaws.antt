@@ -1,7 +1,7 @@
 -- How many live devices have the driver and the unit of a row, after a deed.
-use Rattle.std.proofs.Common.{◌≡◌, ℕ, zero, suc, ◌+◌, ◌-◌, ◌<◌, ◌≤◌, ◌∙◌, Bool, true, false, not, cond, ◌==◌, List, [], ◌∷◌, ◌++◌, length, map, find, Option, Some, None, refl, sym, ap, subst, arith}
+use Rattle.std.proofs.Common.{◌≡◌, ℕ, zero, suc, ◌+◌, ◌-◌, ◌<◌, ◌≤◌, ◌∙◌, Bool, true, false, not, cond, ◌==◌, List, [], ◌∷◌, ◌++◌, length, map, Some, None, refl, ap, subst, arith}
 use Rattle.std.specs.Prelude.{filter, if◌then◌else◌}
-use Rattle.std.specs.List.{AllByRecursion, count_by, slice_index_or}
+use Rattle.std.specs.List.{AllByRecursion, slice_index_or}
 use Rattle.std.proofs.lemmas.List.{length-map}
 use Rattle.cf_types.specs.declared.tables.Row.{Row}
 use Rattle.std.proofs.lemmas.Bool.{eqb-true, ne_eqb}
@@ -11,7 +11,7 @@ use Rattle.run_rules.specs.declared.deed.Deed.TheVariants.{Search, EndScan, Begi
 use Rattle.run_rules.specs.declared.world.Arrival.{Arrival}
 use Rattle.run_rules.specs.declared.world.Dev.{Dev}
 use Rattle.run_rules.specs.declared.world.Setup.{Setup}
-use Rattle.run_rules.specs.After.{after, condemned, freed, freeing_target, new_device, over, with_condemner, with_sleep}
+use Rattle.run_rules.specs.After.{after, freed, freeing_target, new_device, over, with_condemner, with_sleep}
 use Rattle.run_rules.specs.Sound.{EachLater}
 use Rattle.run_rules.specs.World.{World, caller_at, device_at, is_under}
 use Rattle.run_sound.proofs.Beside.{live_found, live_same, live_shown}

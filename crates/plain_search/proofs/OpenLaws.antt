@@ -1,26 +1,23 @@
 -- The first open one of the rows that suit a spot, the best first, is the winner.
-use Rattle.std.proofs.Common.{◌≡◌, ℕ, suc, ◌+◌, ◌<◌, ◌≤◌, Bool, true, false, not, ◌&&◌, ◌||◌, ◌==◌, nat_lt, cond, List, [], ◌∷◌, length, find, Option, Some, None, slice_get, slice_index_or, refl, sym, ◌∙◌, ap, subst, inl, inr, eq-eqb, arith}
-use Rattle.std.specs.List.{AllByRecursion, count_by, list_any}
+use Rattle.std.proofs.Common.{◌≡◌, ℕ, ◌+◌, ◌<◌, ◌≤◌, Bool, true, false, not, ◌&&◌, ◌||◌, ◌==◌, nat_lt, cond, List, [], ◌∷◌, length, find, Option, Some, None, slice_get, slice_index_or, refl, sym, ◌∙◌, ap, subst, inl, inr, arith}
+use Rattle.std.specs.List.{count_by, list_any}
 use Rattle.std.specs.Option.{option_map_or}
 use Rattle.std.specs.Prelude.{option_map}
 use Rattle.std.proofs.lemmas.Bool.{cases_lt, eqb-true}
 use Rattle.std.proofs.lemmas.Bool.Decides.{nat_tests}
 use Rattle.std.proofs.lemmas.List.Sums.{sum_by-append}
 use Rattle.std.proofs.lemmas.Option.{slice_get_past}
-use Rattle.cf_types.specs.declared.machine.Machine.{Machine}
 use Rattle.cf_types.specs.declared.machine.Spot.{Spot}
 use Rattle.cf_types.specs.declared.tables.ParentSpec.{ParentSpec}
 use Rattle.cf_types.specs.declared.tables.Place.{Place}
 use Rattle.cf_types.specs.declared.tables.Place.TheVariants.{Root, At}
 use Rattle.cf_types.specs.declared.tables.Row.{Row}
-use Rattle.cf_types.specs.Gather.{is_in}
 use Rattle.cf_types.specs.Locators.{locators_at, submatch}
 use Rattle.run_rules.specs.declared.world.Dev.{Dev}
 use Rattle.run_rules.specs.declared.world.ParentRef.{ParentRef}
 use Rattle.run_rules.specs.declared.world.Setup.{Setup}
 use Rattle.run_rules.specs.Search.{found_at, is_candidate, is_live_row, is_taken, match_value, names_parent, parent_offers, value_of, winner}
-use Rattle.run_rules.specs.Sound.{EachLater}
-use Rattle.run_rules.specs.World.{driver_of, row_at, same_place}
+use Rattle.run_rules.specs.World.{driver_of, same_place}
 use Rattle.run_rules.proofs.Below.{and_both}
 use Rattle.run_rules.proofs.Turns.{find_same}
 use Rattle.run_rules.proofs.Winner.{IsBest, winner_is}

@@ -10,4 +10,4 @@ mod units;
 
 pub use matches::arrival;
 pub use seeker::Seeker;
-pub use turns::next_scan;
+pub use turns::{is_indirect, is_open, next_scan};

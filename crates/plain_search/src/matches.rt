@@ -1,9 +1,12 @@
 //! The row that takes a spot: the best match of autoconf(9), the first open one of the rows that suit the spot.
 ghost use Rattle.std.specs.Prelude.{◌≡◌, ◌≤◌, List, find, length, true};
+ghost use Rattle.std.specs.Option.{option_map_or};
 ghost use Rattle.cf_types.specs.Offers as offer;
 ghost use Rattle.run_rules.specs.Next as next;
 ghost use Rattle.run_rules.specs.Search as rule;
+ghost use Rattle.run_rules.specs.World as world;
 ghost use Rattle.run_rules.specs.declared.world.Dev.{Dev};
+ghost use Rattle.run_rules.specs.declared.world.ParentRef.TheVariants as under;
 ghost use Rattle.plain_search.specs.Open.{Follows, hangs_at, open_by};
 ghost use Rattle.plain_world.specs.Rules.{AreFit, setup_by};
 
@@ -11,19 +14,27 @@ use crate::seeker::Seeker;
 use crate::units::free_from;
 use cf_types::{ParentSpec, Place};
 use plain_world::{Live, Rules, device_at, driver_of, has, offered, row_at};
-use run_rules::{Arrival, ParentRef};
+use run_rules::{Arrival, Dev, ParentRef};
 
-/// The parent of a search.
-pub fn parent_ref(rules: &Rules, live: &Live, serial: u64) -> ParentRef
-    ensures { result ≡ rule.parent_ref (setup_by rules.now) live.now.devices serial }
+/// How rows name the device that a search is below; the root, if there is none.
+#[inline(always)]
+pub fn named_by(rules: &Rules, device: Option<Dev>) -> ParentRef
+    ensures { result ≡ option_map_or (λ d. under.Dev (world.driver_of (setup_by rules.now) d.row) d.unit) device under.Root }
 {
-    match device_at(live, serial) {
+    match device {
         Some(device) => ParentRef::Dev {
             device: driver_of(rules, device.row),
             unit: device.unit,
         },
         None => ParentRef::Root,
     }
+}
+
+/// The parent of a search.
+fn parent_ref(rules: &Rules, live: &Live, serial: u64) -> ParentRef
+    ensures { result ≡ rule.parent_ref (setup_by rules.now) live.now.devices serial }
+{
+    named_by(rules, device_at(live, serial))
 }
 
 fn names_parent(spec: Option<ParentSpec>, parent: ParentRef) -> bool

@@ -11,7 +11,7 @@ ghost use Rattle.plain_world.specs.Rules.{AreFit, setup_by};
 ghost use Rattle.plain_search.specs.Buses.{IsOffered, IsOnlyAt, IsTurnAt, MaySearch, better, row_turns, takes, takes_below, turn_on, turns_among, turns_on};
 ghost use Rattle.plain_search.specs.Open.{Follows, hangs_at};
 
-use crate::matches::{arrival, parent_offers, parent_ref, winner};
+use crate::matches::{arrival, named_by, parent_offers, winner};
 use crate::seeker::Seeker;
 use cf_types::Place;
 use plain_world::{
@@ -42,14 +42,13 @@ fn passes_filter(rules: &Rules, spot: u16, filter: &[Wanted]) -> bool
 /// Whether a spot is open to search: present, not hidden, free, and with the locator values that are wanted.
 #[inline(always)]
 #[tactic(auto, unfolding(run_rules::specs::Search::is_open))]
-fn is_open(rules: &Rules, plain: &Plain, filter: &[Wanted], spot: u16) -> bool
+pub fn is_open(rules: &Rules, plain: &Plain, filter: &[Wanted], spot: u16) -> bool
     ensures { result ≡ rule.is_open rules.now.machine.now plain.now.live.devices plain.now.absent plain.now.hidden filter.now spot }
 {
-    let absent = plain.absent.has(spot);
-    let hidden = plain.hidden.has(spot);
-    let occupied = is_occupied(&plain.live, spot);
-    let passes = passes_filter(rules, spot, filter);
-    !absent && !hidden && !occupied && passes
+    !plain.absent.has(spot)
+        && !plain.hidden.has(spot)
+        && !is_occupied(&plain.live, spot)
+        && passes_filter(rules, spot, filter)
 }
 
 /// Whether a position is before another: by attribute, then row, then spot.
@@ -288,9 +287,9 @@ fn is_indirect_by(seeker: &Seeker, attach: u32, attr: u32) -> bool
     seeker.styles.is_indirect(attach, attr)
 }
 
-/// Whether a device of this attachment searches a place row by row.
+/// Whether a device of this attachment searches a place row by row. See autoconf(9).
 #[tactic(auto, unfolding(run_rules::specs::Search::is_bus_indirect))]
-fn is_indirect(seeker: &Seeker, attach: Option<u32>, place: Place) -> bool
+pub fn is_indirect(seeker: &Seeker, attach: Option<u32>, place: Place) -> bool
     ensures { result ≡ rule.is_bus_indirect seeker.now.rules.now.machine.now attach place }
 {
     match (attach, place) {
@@ -421,10 +420,11 @@ pub fn next_scan(
     requires follows { Follows seeker.now plain.now.live.devices }
     ensures { next.next_scan (setup_by seeker.now.rules.now) plain.now.live.devices plain.now.absent plain.now.hidden serial only filter.now from ≡ result }
 {
+    let device = device_at(&plain.live, serial);
     let scan = Going {
         serial,
-        device: device_at(&plain.live, serial),
-        parent: parent_ref(seeker.rules, &plain.live, serial),
+        device,
+        parent: named_by(seeker.rules, device),
         filter,
         from,
     };

@@ -1,6 +1,6 @@
 use Rattle.std.proofs.Common.{refl, Err}
 use Rattle.app_input.specs.declared.inputs.Inputs.TheVariants as input
-use Rattle.app_config.proofs.FoundLaws.{boot_graph, boot_ran, follow_graph, follow_ran, history_retold, listed, load_ran, not_selected, not_selected_counted, play_graph, play_ran, selected, tree_retold, watch_graph, watch_ran}
+use Rattle.app_config.proofs.FoundLaws.{boot_ran, follow_ran, history_retold, listed, load_ran, not_selected, not_selected_counted, play_ran, selected, tree_retold, watch_ran}
 use Rattle.app_words.specs.Status.{status_of}
 use Rattle.app_words.specs.declared.status.Status.TheVariants as status
 use Rattle.app_config.proofs.AskedLaws.{selected_then, then_by, unselected_then}
@@ -44,15 +44,6 @@ pub returns-in_ok-told-in-Upgrade-clause-found : goal.returns-in_ok-told-in-Upgr
 returns-in_ok-told-in-Upgrade-clause-found g c =
     history_retold _ c.args.inputs c.in-Upgrade.tables c.in-Upgrade.machine c.in-Upgrade.scripts c.in-Upgrade.history c.in_ok-told-in-Upgrade.told c.in-Upgrade.is c.in_ok-told-in-Upgrade.ensures
 
-pub returns-in_ok-board-in-Boot-clause-graphed : goal.returns-in_ok-board-in-Boot-clause-graphed
-returns-in_ok-board-in-Boot-clause-graphed g c =
-    boot_graph c.args.inputs c.in-Boot.tables c.in-Boot.machine c.in_ok-board-in-Boot.board c.requires.formed c.in-Boot.is c.in_ok-board-in-Boot.ensures
-
-pub returns-in_ok-board-in-Play-clause-graphed : goal.returns-in_ok-board-in-Play-clause-graphed
-returns-in_ok-board-in-Play-clause-graphed g c =
-    play_graph c.args.inputs c.in-Play.tables c.in-Play.machine c.in-Play.scripts c.in-Play.order c.items-in-Play.result.now c.in_ok-board-in-Play.board
-    c.requires.formed c.in-Play.is c.in_ok-board-in-Play.ensures
-
 pub returns-in-Ioconf-clause-asked : goal.returns-in-Ioconf-clause-asked
 returns-in-Ioconf-clause-asked g c = then_by (g.F.Files.told c.args.files.now) c.args.inputs (input.Ioconf c.in-Ioconf.tables) status.Ok (g.F.Files.asked c.args.files.now) c.in-Ioconf.is refl
 
@@ -94,11 +85,6 @@ returns-in_ok-run-in-Watch-clause-found g c =
     watch_ran _ c.args.inputs c.in-Watch.tables c.in-Watch.machine c.in-Watch.scripts c.in-Watch.watch c.items-in-Watch.result.now c.in_ok-run-in-Watch.run'.readings c.in_ok-run-in-Watch.run'.board
     c.in-Watch.is c.items-in-Watch.ensures c.in_ok-run-in-Watch.ensures
 
-pub returns-in_ok-run-in-Watch-clause-graphed : goal.returns-in_ok-run-in-Watch-clause-graphed
-returns-in_ok-run-in-Watch-clause-graphed g c =
-    watch_graph c.args.inputs c.in-Watch.tables c.in-Watch.machine c.in-Watch.scripts c.in-Watch.watch c.items-in-Watch.result.now c.in_ok-run-in-Watch.run'.readings c.in_ok-run-in-Watch.run'.board
-    c.requires.formed c.in-Watch.is c.in_ok-run-in-Watch.ensures
-
 pub returns-in_ok-run-in-Watch-clause-asked : goal.returns-in_ok-run-in-Watch-clause-asked
 returns-in_ok-run-in-Watch-clause-asked g c =
     then_by (g.F.Files.told c.args.files.now) c.args.inputs (input.Watch c.in-Watch.tables c.in-Watch.machine c.in-Watch.scripts c.in-Watch.watch) status.Ok (g.F.Files.asked c.args.files.now) c.in-Watch.is refl
@@ -110,10 +96,6 @@ returns-in_err-run-in-Watch-clause-asked g c =
 pub returns-in_ok-run-in-Follow-clause-found : goal.returns-in_ok-run-in-Follow-clause-found
 returns-in_ok-run-in-Follow-clause-found g c =
     follow_ran _ c.args.inputs c.in-Follow.tables _ c.in-Follow.machine c.in-Follow.plan _ c.in-Follow.is c.in_ok-run-in-Follow.ensures.tables c.in_ok-run-in-Follow.ensures.lines
-
-pub returns-in_ok-run-in-Follow-clause-graphed : goal.returns-in_ok-run-in-Follow-clause-graphed
-returns-in_ok-run-in-Follow-clause-graphed g c =
-    follow_graph c.args.inputs c.in-Follow.tables _ c.in-Follow.machine c.in-Follow.plan c.requires.formed c.in-Follow.is c.in_ok-run-in-Follow.ensures.tables
 
 pub returns-in_ok-run-in-Follow-clause-asked : goal.returns-in_ok-run-in-Follow-clause-asked
 returns-in_ok-run-in-Follow-clause-asked g c =

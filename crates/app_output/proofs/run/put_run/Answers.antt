@@ -2,6 +2,9 @@ use Rattle.app_output.proofs.Puts.{passed_on}
 use Rattle.app_output.proofs.RunLaws.{run_stops, run_then}
 use Rattle.app_output.proofs.run.put_run.Goals as goal
 
+pub put_listing-requires : goal.put_listing-requires
+put_listing-requires g c = rw c.tables.ensures c.graph.ensures
+
 pub returns-in_err-put_listing : goal.returns-in_err-put_listing
 returns-in_err-put_listing g c =
     passed_on _ _ _ c.from_residual.result _ c.from_residual.ensures.1

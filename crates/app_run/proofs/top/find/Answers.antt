@@ -2,7 +2,7 @@ use Rattle.std.proofs.Common.{map, string_bytes}
 use Rattle.app_words.specs.Words.{drvrun_form}
 use Rattle.app_words.specs.Status.{status_of}
 use Rattle.app_input.proofs.AskedLaws.{inputs_all}
-use Rattle.app_run.proofs.Found.{counted_by, due_by, due_refused, found_by, graph_by}
+use Rattle.app_run.proofs.Found.{counted_by, due_by, due_refused, found_by}
 use Rattle.app_run.proofs.top.find.Goals as goal
 
 pub returns-in-Ok-clause-found : goal.returns-in-Ok-clause-found
@@ -23,6 +23,3 @@ returns-in-Err-clause-due g c = due_refused _ _ _ _ c.in-Err.status c.in-Err.ens
 pub returns-in-Ok-clause-asked : goal.returns-in-Ok-clause-asked
 returns-in-Ok-clause-asked g c =
     inputs_all (drvrun_form (map string_bytes c.args.words.now)) (g.F.Files.told c.args.files.now) (status_of c.left_of.result) _ _ c.in-Ok.ensures.asked
-
-pub returns-in-Ok-clause-graphed : goal.returns-in-Ok-clause-graphed
-returns-in-Ok-clause-graphed g c = graph_by g.M.Medium.carried c.in-Ok.inputs c.left_of.result c.in-Ok.ensures.formed c.left_of.ensures

@@ -14,13 +14,13 @@ pub returns-clause-world : goal.returns-clause-world
 unfolding attached
 returns-clause-world c =
     let s = setup_by c.args.rules.now in
-    let k = c.args.caller in
+    let k = c.args.by.caller in
     let a = c.args.arrival in
     let w : World = world_of s c.args.plain.now in
     let serial = c.next-serial.result in
     ok_more c.place_scan.result (c.place_scan.ensures.world s) (λ e.
     e
-    ∙ ap (λ (v : World). scan_placed (policy_of s a.row) (offered_by s a.row) v k a.parent serial c.args.may_defer)
+    ∙ ap (λ (v : World). scan_placed (policy_of s a.row) (offered_by s a.row) v k a.parent serial c.args.by.may_defer)
     (c.in_ok-place_finaliser.ensures.world s ∙ ap (λ (v : World). finaliser_placed c.policy_of.result v k serial) (c.in_ok-list.ensures.world s)
     ∙ ap (λ (p : Policy). finaliser_placed p (listed w a) k serial) c.policy_of.ensures)
-    ∙ ap (λ (n : ℕ). scan_placed (policy_of s a.row) (offered_by s a.row) (finaliser_placed (policy_of s a.row) (listed w a) k n) k a.parent n c.args.may_defer) c.next-serial.ensures)
+    ∙ ap (λ (n : ℕ). scan_placed (policy_of s a.row) (offered_by s a.row) (finaliser_placed (policy_of s a.row) (listed w a) k n) k a.parent n c.args.by.may_defer) c.next-serial.ensures)

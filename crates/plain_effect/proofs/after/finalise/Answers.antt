@@ -17,12 +17,12 @@ unfolding after
 returns c = λ of.
     let s = setup_by c.args.rules.now in
     let k = c.args.caller in
-    let shown = c.args.shown in
-    let listed = c.args.listed in
-    let anew = c.args.anew in
+    let shown = c.args.call.shown in
+    let listed = c.args.call.listed in
+    let anew = c.args.call.anew in
     let b = c.is_some-answer.result in
     c.end_call.ensures s
     ∙ ap (λ (w : World). finaliser_done w k listed b)
     (c.move_list.ensures.world s
-    ∙ ap (λ (w : World). list_moved w listed anew b) (c.in_ok-arrive.ensures.world ∙ ap (λ (w : World). arrived w k c.args.got false) (c.show.ensures.world s)))
-    ∙ ap (λ (x : Bool). finaliser_done (list_moved (arrived (show_spot (world_of s c.args.plain.now) shown) k c.args.got false) listed anew x) k listed x) c.is_some-answer.ensures
+    ∙ ap (λ (w : World). list_moved w listed anew b) (c.in_ok-arrive.ensures.world ∙ ap (λ (w : World). arrived w k c.args.call.got false) (c.show.ensures.world s)))
+    ∙ ap (λ (x : Bool). finaliser_done (list_moved (arrived (show_spot (world_of s c.args.plain.now) shown) k c.args.call.got false) listed anew x) k listed x) c.is_some-answer.ensures

@@ -1,6 +1,5 @@
-use Rattle.std.proofs.Common.{◌≡◌, ◌≤◌, arith, length}
 use Rattle.plain_world.specs.Rules.{setup_by}
-use Rattle.plain_search.proofs.DeedLaws.{few_takers, last_more, none_counted, zeros_length}
+use Rattle.plain_search.proofs.DeedLaws.{none_counted, zeros_length}
 use Rattle.plain_search.proofs.count.count_all.Goals as goal
 
 pub loop-device-init : goal.loop-device-init

@@ -1,0 +1,2 @@
+//! Runs that the definitions compute, each held to the laws: proofs alone; nothing here runs.
+#![tactic(auto)]
