@@ -1,15 +1,18 @@
 #!/bin/sh
 # Refuses each allocation of a call once, and each thread, in a run of its own: of a listing, a boot, a play, a reading of
-# its history and one that is refused, of `files`, `upgrade`, `watch`, a plan, and two pairs of scripts side by side. The answer has to be that of a call
+# its history and one that is refused, of `files`, `upgrade`, `watch`, a plan, two pairs of scripts side by side, every order of two
+# scripts, and three questions why. The answer has to be that of a call
 # which is refused nothing, or `out of memory`, status 10, with a prefix of its output. A thread that cannot be started changes
 # no answer, nor does a signal that interrupts every second reading and writing. A line for each call, and one for each answer that is wrong; status 1 then. It takes a C compiler.
-# Usage: bench/refused.sh [DEVCONF [DRVRUN]]
+# Usage: bench/refused.sh [DEVCONF [DRVRUN [DRVALL [DEVWHY]]]]
 LC_ALL=C
 export LC_ALL
 top=$(cd "$(dirname "$0")/.." && pwd)
 devconf=$(readlink -f "${1:-$top/crates/devconf/out/devconf}")
 drvrun=$(readlink -f "${2:-$top/crates/drvrun/out/drvrun}")
-for program in "$devconf" "$drvrun"; do
+drvall=$(readlink -f "${3:-$top/crates/drvall/out/drvall}")
+devwhy=$(readlink -f "${4:-$top/crates/devwhy/out/devwhy}")
+for program in "$devconf" "$drvrun" "$drvall" "$devwhy"; do
     [ -x "$program" ] || { echo "bench/refused.sh: $program is not built" >&2; exit 1; }
 done
 compiler=$(command -v "${CC:-cc}") || { echo "bench/refused.sh: not tried: there is no C compiler"; exit; }
@@ -157,6 +160,10 @@ try 'upgrade of it' "$devconf" "$work" upgrade conf mach former open detach
 try 'watch of it' "$devconf" "$work" watch conf mach mon open detach
 printf 'group ports com\ngroup bus isa\nscan\nadd ports\nadd bus\nremove ports\nadd ports\nremove bus\n' >"$work/plan"
 try 'tables of ports that come and go' "$devconf" "$work" tables conf mach plan
+try 'drvall of a detach that waits' "$drvall" "$work" conf mach open detach
+try 'devwhy of a device' "$devwhy" "$work" conf mach com1
+try 'devwhy of a spot that is late' "$devwhy" "$work" hubs late l1
+try 'devwhy of a driver' "$devwhy" "$work" conf com
 due=5
 try 'replay of a wrong line' "$devconf" "$work" replay conf mach odd open detach
 due=0 config='conf mach' scripts='s1 s2'

@@ -197,7 +197,7 @@ try_words() {
 try_forms() {
     tool=tools/forms
     before=$wrong
-    grep -E '^(devconf|drvrun) ' "$tools/forms" | cut -f 1 >"$work/forms"
+    grep -E '^(devconf|drvrun|drvall|devwhy) ' "$tools/forms" | cut -f 1 >"$work/forms"
     while read -r program form; do
         usage=$(grep -h "usage: $program " "$top"/crates/*/src/*.rt | sed 's/.*usage: /usage: /; s/\\n.*//')
         echo "${usage#*"$program "}" | tr '|' '\n' | sed 's/^ *//; s/ *$//' >"$work/known"
@@ -516,6 +516,7 @@ faces() {
 try_tour() {
     tool=docs/TOUR.md
     before=$wrong
+    devwhy=$top/crates/devwhy/out/devwhy
     awk -v work="$work" '
     /^    \$ / { print substr($0, 7) >(work "/tour." ++count); printf "" >(work "/told." count); begun = 1; next }
     /^    / { if (begun) print substr($0, 5) >(work "/told." count); next }
@@ -525,7 +526,10 @@ try_tour() {
     [ "$count" -ge 8 ] || differ commands "there are $count" ''
     n=1
     while [ "$n" -le "$count" ]; do
-        command=$(sed "s#/tmp/#$work/#g; s#\.\./\.\./devconf#$DEVCONF#g; s#\.\./\.\./tools/#$shell $tools/#g" "$work/tour.$n")
+        command=$(sed "s#/tmp/#$work/#g; s#\.\./\.\./devconf#$DEVCONF#g; s#\.\./\.\./devwhy#$devwhy#g; s#\.\./\.\./tools/#$shell $tools/#g" "$work/tour.$n")
+        case $command in
+        "$devwhy "*) [ -x "$devwhy" ] || { n=$((n + 1)); continue; } ;;
+        esac
         (cd "$top/examples/amd64" && eval "$command") 2>&1 | sed "s#$work/#/tmp/#g" >"$work/got"
         cmp -s "$work/told.$n" "$work/got" || differ "$(cat "$work/tour.$n")" 'what it prints' "$work/told.$n" "$work/got"
         n=$((n + 1))
@@ -575,7 +579,7 @@ try_install() {
     tool='make install'
     before=$wrong
     command -v make >/dev/null || { echo "$tool: not tried: there is no make"; return; }
-    for program in devconf drvrun; do
+    for program in devconf drvrun drvall devwhy; do
         [ -x "$top/crates/$program/out/$program" ] || { echo "$tool: not tried: $program is not built"; return; }
     done
     prefix=$work/usr
@@ -585,6 +589,8 @@ try_install() {
     "$prefix/bin/devconf" boot "$top/examples/small.conf" "$top/examples/small.machine" 2>&1 \
         | "$prefix/bin/devconf-draw" >"$work/said" 2>&1 || differ devconf-draw "$(cat "$work/said")" ''
     (cd "$top/crates/drvrun/data" && "$prefix/bin/drvrun" conf mach s1) 2>&1 | cmp -s - "$top/crates/drvrun/stdout" || differ drvrun 'the output' ''
+    (cd "$top/crates/drvall/data" && "$prefix/bin/drvall" conf mach s1 s2) 2>&1 | cmp -s - "$top/crates/drvall/stdout" || differ drvall 'the output' ''
+    (cd "$top/crates/devwhy/data" && "$prefix/bin/devwhy" conf mach com1) 2>&1 | cmp -s - "$top/crates/devwhy/stdout" || differ devwhy 'the output' ''
     [ -f "$prefix/share/man/man1/devconf.1" ] || differ man 'no manual page' ''
     (cd "$top" && make -s uninstall PREFIX="$prefix") || differ uninstall 'make ends with a fault' ''
     left=$(find "$prefix" -type f -o -type l)
@@ -597,7 +603,7 @@ try_package() {
     tool='make deb'
     before=$wrong
     command -v dpkg-deb >/dev/null || { echo "$tool: not tried: there is no dpkg-deb"; return; }
-    for program in devconf drvrun; do
+    for program in devconf drvrun drvall devwhy; do
         [ -x "$top/crates/$program/out/$program" ] || { echo "$tool: not tried: $program is not built"; return; }
     done
     "$top/packaging/deb.sh" >"$work/said" 2>&1 || differ package "$(cat "$work/said")" ''

@@ -18,7 +18,7 @@ _devconf() {
 # Installed, the tools have names of their own, and other programs have these.
 for _devconf_name in $(sed -n 's/^\([a-z][a-z]*\) .*/\1/p' "$_devconf_tools/forms" | sort -u); do
     case $_devconf_name in
-    devconf | drvrun) complete -o default -F _devconf "$_devconf_name" ;;
+    devconf | drvrun | drvall | devwhy) complete -o default -F _devconf "$_devconf_name" ;;
     *)
         complete -o default -F _devconf "devconf-$_devconf_name"
         [ ! -e "$_devconf_tools/../crates.txt" ] || complete -o default -F _devconf "$_devconf_name"

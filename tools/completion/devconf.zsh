@@ -1,4 +1,4 @@
-#compdef devconf drvrun devconf-explain devconf-check devconf-lint devconf-summary devconf-draw devconf-compare devconf-machine devconf-trim devconf-fleet devconf-json devconf-page
+#compdef devconf drvrun drvall devwhy devconf-explain devconf-check devconf-lint devconf-summary devconf-draw devconf-compare devconf-machine devconf-trim devconf-fleet devconf-json devconf-page
 # Completion of the words of devconf and its tools for zsh, which reads it behind compinit:
 # `. tools/completion/devconf.zsh`; installed, it stands as _devconf in a folder of $fpath. What may stand where is said in
 # tools/forms.
@@ -15,6 +15,6 @@ _devconf() {
 if [[ $funcstack[1] = _devconf ]]; then
     _devconf "$@"
 else
-    compdef _devconf devconf drvrun explain check lint summary draw compare machine trim fleet devconf-explain devconf-check devconf-lint devconf-summary devconf-draw \
+    compdef _devconf devconf drvrun drvall devwhy explain check lint summary draw compare machine trim fleet devconf-explain devconf-check devconf-lint devconf-summary devconf-draw \
         devconf-compare devconf-machine devconf-trim devconf-fleet devconf-json devconf-page
 fi

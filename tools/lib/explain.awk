@@ -129,7 +129,7 @@ function explain_input(   line, number, faults, is_output) {
     if (!faults && !is_output) complain("no fault line of devconf, so there is nothing to explain")
 }
 
-function explain_line(line,   kind, file, number, code) {
+function explain_line(line,   kind, file, number, code, part) {
     sentence_count = mark_line = 0
     mend = ""
     if (match(line, /^[a-z]+ /) && match(line, /:[0-9]+: code [0-9]+$/)) {
@@ -142,10 +142,11 @@ function explain_line(line,   kind, file, number, code) {
         explain_fault(kind, file, number, code + 0)
         return 1
     }
-    if (line ~ /^usage: (devconf|drvrun) /) {
+    if (line ~ /^usage: (devconf|drvrun|drvall|devwhy) /) {
         tell_status(2)
-        judge_words(line ~ /^usage: devconf/ ? "devconf" : "drvrun")
-        put_forms(line ~ /^usage: devconf/ ? "devconf" : "drvrun")
+        split(line, part, " ")
+        judge_words(part[2])
+        put_forms(part[2])
         return 1
     }
     if (line ~ /^history / && match(line, /:[0-9]+: refused$/)) {
@@ -157,9 +158,11 @@ function explain_line(line,   kind, file, number, code) {
     }
     if (line ~ /^[^:]+: absent$/) return tell_status(6)
     if (line ~ /^[^:]+: too long$/) return tell_status(7)
+    if (line ~ /: unknown$/) return tell_status(13)
     if (line == "read fault") return tell_status(8)
     if (line == "write fault") return tell_status(9)
     if (line == "out of memory") return tell_status(10)
+    if (line ~ /^more than [0-9]+ worlds$/) return tell_status(12)
     return 0
 }
 
@@ -306,7 +309,7 @@ function show_line(n, line,   from, under) {
 
 # The word of the command line that has no place in a form.
 function judge_words(program,   line, word, n, given, takes, names) {
-    if (program == "drvrun" || given_word[1] == "") return
+    if (program != "devconf" || given_word[1] == "") return
     for (given = 1; given in given_word; given++) if (given_word[given] == "" || given_word[given] ~ /^-/) {
         put("`" given_word[given] "` " (given_word[given] == "" ? "is empty" : "begins with `-`"))
         return

@@ -109,6 +109,7 @@ function tell_driverless(   s, n, at) {
             (at[s] in is_spot ? ": " on[at[s]] values[at[s]] why_driverless(at[s]) : ""))
     put_lines()
     if (n && !spot_count) print "    (-m MACHINE shows the values found there, and why no driver takes them)"
+    else if (n) print "    (devwhy " (ENVIRON["CONFIGURATION"] == "" ? "FILE" : ENVIRON["CONFIGURATION"]) " " ENVIRON["MACHINE"] " " at[1] " tells why no row takes it in a boot)"
 }
 
 # Why no row took the spot: no row is for its attribute and parent, none for its values, no driver of these matches, or their

@@ -20,13 +20,22 @@ run_program() {
     shift
     # Standard output has to be open to be handed on.
     wants_words && { true 3>&1; } 2>/dev/null || exec "$program" "$@"
-    # The words of drvrun begin with the configuration; tools/explain takes it from the second one.
+    # The words of drvrun, drvall and devwhy begin with the configuration; tools/explain takes it from the second one.
     case ${program##*/} in
     drvrun)
         begin_watch "$@"
         { said=$("$program" "$@" 2>&1 >&3 3>&-) && status=0 || status=$?; } 3>&1
         end_watch
         set -- drvrun "$@"
+        ;;
+    drvall)
+        { said=$("$program" "$@" 2>&1 >&3 3>&-) && status=0 || status=$?; } 3>&1
+        [ "${1-}" != -w ] || [ $# -lt 2 ] || shift 2
+        set -- drvall "$@"
+        ;;
+    devwhy)
+        { said=$("$program" "$@" 2>&1 >&3 3>&-) && status=0 || status=$?; } 3>&1
+        set -- devwhy "$@"
         ;;
     *) { said=$("$program" "$@" 2>&1 >&3 3>&-) && status=0 || status=$?; } 3>&1 ;;
     esac

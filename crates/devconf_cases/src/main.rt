@@ -1,4 +1,4 @@
-//! Runs the cases of the programs `devconf` and `drvrun`: each file that a word names is a topic, whose cases are run
+//! Runs the cases of the programs `devconf`, `drvrun` and `drvall`: each file that a word names is a topic, whose cases are run
 //! over files and sinks in memory. Each play that ends well is read again by `replay` and by `upgrade`, each play of
 //! one script that has ended is also run by `drvrun`, and the history of each boot and play is re-checked by linear
 //! search. For each topic it prints how many of each there are, and for each case whose answer differs, the first line

@@ -133,6 +133,7 @@ impl Reader {
         match word {
             "words" => self.set_words(Program::Devconf, rest),
             "drvrun" => self.set_words(Program::Drvrun, rest),
+            "drvall" => self.set_words(Program::Drvall, rest),
             "together" => self.set_together(rest),
             "file" => self.open_file(rest),
             "output" => self.open(Section::Output, rest),

@@ -5,6 +5,7 @@ use crate::case::{Answer, Case};
 use crate::medium::Meeting;
 use crate::stop::Stop;
 use app_config::devconf_top;
+use app_every::drvall_top;
 use app_run::drvrun_top;
 use app_words::Program;
 use cf_io::{MemFiles, MemSink};
@@ -51,7 +52,7 @@ pub fn answer_to<R: Threads + Wait + Sync>(
     let mut err = MemSink::make(alloc, failing_errors, ERROR_ROOM)?;
     let medium = Meeting::make(together);
     let (status, output) = match program {
-        Program::Devconf => {
+        Program::Devconf | Program::Devwhy => {
             let status = devconf_top(alloc, &words, &mut files, &mut out, &mut err);
             (status, Vec::from_slice(alloc, out.bytes())?)
         }
@@ -60,6 +61,10 @@ pub fn answer_to<R: Threads + Wait + Sync>(
                 threads, alloc, &words, &mut files, &mut out, &mut err, &medium,
             );
             (status, by_callers(alloc, out.bytes())?)
+        }
+        Program::Drvall => {
+            let status = drvall_top(alloc, &words, &mut files, &mut out, &mut err);
+            (status, Vec::from_slice(alloc, out.bytes())?)
         }
     };
     let mut errors = Vec::from_slice(alloc, err.bytes())?;

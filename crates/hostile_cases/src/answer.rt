@@ -2,6 +2,7 @@
 
 use crate::row::Row;
 use app_config::devconf_top;
+use app_every::drvall_top;
 use app_run::drvrun_top;
 use app_words::Program;
 use cf_io::{Files, MemSink};
@@ -43,7 +44,9 @@ pub fn answer_over<R: Threads + Wait + Sync, F: Files>(
     let mut out = MemSink::make(alloc, List::make(alloc), ROOM)?;
     let mut err = MemSink::make(alloc, List::make(alloc), ROOM)?;
     let status = match row.program {
-        Program::Devconf => devconf_top(alloc, &row.words, files, &mut out, &mut err),
+        Program::Devconf | Program::Devwhy => devconf_top(
+            alloc, &row.words, files, &mut out, &mut err,
+        ),
         Program::Drvrun => drvrun_top(
             threads,
             alloc,
@@ -53,6 +56,7 @@ pub fn answer_over<R: Threads + Wait + Sync, F: Files>(
             &mut err,
             &SoftMedium,
         ),
+        Program::Drvall => drvall_top(alloc, &row.words, files, &mut out, &mut err),
     };
     Ok(Answer {
         status: status.number(),

@@ -38,6 +38,7 @@ fn program_of(word: Option<&str>) -> Option<Program> {
     match word? {
         "devconf" => Some(Program::Devconf),
         "drvrun" => Some(Program::Drvrun),
+        "drvall" => Some(Program::Drvall),
         _ => None,
     }
 }
