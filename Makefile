@@ -8,7 +8,7 @@
 # make try-deb     installs that package into an empty root and runs what it put there
 PREFIX = /usr/local
 DESTDIR =
-PROGRAMS = devconf drvrun
+PROGRAMS = devconf drvrun drvall devwhy
 TOOLS = explain check lint summary draw compare machine trim fleet json page
 
 root = "$(DESTDIR)$(PREFIX)"
@@ -19,6 +19,8 @@ zsh = $(root)/share/zsh/site-functions
 all:
 	./devconf load 1 >/dev/null
 	cd crates/drvrun/data && ../../../drvrun conf mach s1 >/dev/null
+	cd crates/drvall/data && ../../../drvall conf mach s1 s2 >/dev/null
+	cd crates/devwhy/data && ../../../devwhy conf mach u1 >/dev/null
 
 check:
 	.ci/run
@@ -34,7 +36,7 @@ install:
 	cp tools/forms $(share)/tools/forms
 	mkdir -p $(share)/tools/editors && cp -R tools/editors/vim tools/editors/emacs $(share)/tools/editors/
 	cp docs/*.md docs/*.svg docs/*.png $(share)/docs
-	cp -R examples $(share)/ && cd $(share)/examples && rm -f now.sh run.sh contend.sh faults.sh memory.sh
+	cp -R examples $(share)/ && cd $(share)/examples && rm -f now.sh run.sh contend.sh every.sh faults.sh memory.sh why.sh
 	for tool in $(TOOLS); do \
 	    cp tools/$$tool $(share)/tools/ && chmod 755 $(share)/tools/$$tool && \
 	    ln -sf ../share/devconf/tools/$$tool $(root)/bin/devconf-$$tool && \

@@ -1,7 +1,7 @@
 # What the launchers of this repository share; each of them is a script that reads this file. `launch NAME WORD..` runs the
 # proved program NAME on these words. Where it is not built yet, or a source is newer, it is proved and built first: as many
 # crates at once as there are processors and memory for, those first on which the longest chain of work stands. The first time,
-# the libraries of the other program are proved beside. Ctrl-C ends that, and what was proved until then stays.
+# the libraries of `devconf` and `drvrun` are proved beside. Ctrl-C ends that, and what was proved until then stays.
 # tools/lib/terminal.sh says how the program is run.
 programs="devconf drvrun"
 explain=$top/tools/explain
@@ -16,7 +16,7 @@ are_operands() {
 
 # Ends with the usage line of the program $1, where the words behind it certainly have no form: that needs no program.
 refuse_words() {
-    usage=$(sed -n "s/^ *b\"\(usage: $1 .*\)\\\\n\";\$/\1/p" "$top"/crates/*/src/*.rt)
+    usage=$(sed -n "s/^.*b\"\(usage: $1 .*\)\\\\n\";\$/\1/p" "$top"/crates/*/src/*.rt)
     shift
     [ -z "$usage" ] || tell_in_words 2 "$usage" "$@"
 }

@@ -5,7 +5,7 @@ set -e
 cd "$(dirname "$(readlink -f "$0")")/.."
 command -v dpkg-deb >/dev/null || { echo "make deb: the command dpkg-deb is needed" >&2; exit 1; }
 missing=
-for program in devconf drvrun; do
+for program in devconf drvrun drvall devwhy; do
     [ -x "crates/$program/out/$program" ] || missing="$missing crates/$program/out/$program"
 done
 [ -z "$missing" ] || { echo "make deb: not built yet:$missing; run make before" >&2; exit 1; }
@@ -31,7 +31,7 @@ done
 
 # The programs may need the C library, or be linked with all that they need.
 depends=
-for program in devconf drvrun; do
+for program in devconf drvrun drvall devwhy; do
     if ldd "crates/$program/out/$program" 2>/dev/null | grep -q 'libc\.so'; then depends='libc6'; fi
 done
 {
@@ -49,8 +49,9 @@ done
     echo " NetBSD and boots a described machine by them, as autoconf(9) does. Scripts"
     echo " then detach, rescan, suspend and resume its devices, as drvctl(8) and pmf(9)"
     echo " do. Every step is one line of a history, which devconf can check again."
-    echo " drvrun runs the scripts in threads. Every function is proved against its"
-    echo " contract."
+    echo " drvrun runs the scripts in threads, drvall goes through every order of their"
+    echo " turns, and devwhy says why a driver takes a spot. Every function is proved"
+    echo " against its contract."
 } >"$root/DEBIAN/control"
 (cd "$root" && find usr -type f -exec md5sum {} +) | LC_ALL=C sort -k 2 >"$root/DEBIAN/md5sums"
 mkdir -p out

@@ -22,13 +22,14 @@ there=$root/usr/share/doc/devconf/examples
 cmp -s "$work/said" examples/outputs/small.boot || fail 'devconf boot prints something else than examples/outputs/small.boot'
 (cd examples && "$bin/drvrun" disk.conf disk.machine copy.script eject.script) >"$work/run" 2>"$work/said" || fail drvrun
 (cd examples && "$bin/devconf" replay disk.conf disk.machine "$work/run" copy.script eject.script) >"$work/said" 2>&1 || fail 'devconf replay'
+(cd examples && "$bin/drvall" disk.conf disk.machine copy.script eject.script) >"$work/said" 2>&1 || fail drvall
 "$bin/devconf-explain" 13 >"$work/said" 2>&1 || fail devconf-explain
 "$bin/devconf-summary" examples/outputs/small.boot >"$work/said" 2>&1 || fail devconf-summary
 "$bin/devconf-draw" examples/outputs/small.boot >"$work/said" 2>&1 || fail devconf-draw
 "$bin/devconf-compare" examples/outputs/small.boot examples/outputs/small.boot >"$work/said" 2>&1 || fail devconf-compare
 (cd "$there/amd64" && "$bin/devconf-machine" -c GENERIC ../dmesg/box) >"$work/machine" 2>"$work/said" || fail devconf-machine
 cmp -s "$work/machine" examples/machines/box || fail 'devconf-machine prints something else than examples/machines/box'
-for page in man1/devconf.1 man1/drvrun.1 man1/devconf-tools.1 man1/devconf-summary.1 man5/devconf.5; do
+for page in man1/devconf.1 man1/drvrun.1 man1/drvall.1 man1/devwhy.1 man1/devconf-tools.1 man1/devconf-summary.1 man5/devconf.5; do
     gzip -dc "$root/usr/share/man/$page.gz" 2>/dev/null | grep -q "^\.Os devconf $(cat VERSION)\$" || fail "the page $page has no version"
 done
 [ -f "$root/usr/share/bash-completion/completions/devconf" ] || fail 'no completion for bash'
