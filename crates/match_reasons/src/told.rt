@@ -81,10 +81,8 @@ fn taker(rules: &Rules, live: &Live, row: &Row) -> Option<Dev>
     ensures { result ≡ find (λ d. world.driver_of (setup_by rules.now) d.row == row.now.device && d.unit == row.now.unit) live.now.devices }
 {
     // (the unit first, since few devices have it)
-    live.devices()
-        .iter()
-        .copied()
-        .find(|device| device.unit == row.unit && driver_of(rules, device.row) == row.device)
+    live.devices().iter().copied().find(|device| device.unit == row.unit
+        && driver_of(rules, device.row) == row.device)
 }
 
 /// The live device that has the one unit of a row.

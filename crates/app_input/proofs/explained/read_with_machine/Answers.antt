@@ -20,6 +20,8 @@ returns-in-Err-load_machine-clause-asked g c =
     c.in-Err-load_machine.ensures.reads c.in-Err-load_machine.ensures.asked
 
 pub returns-in-Err-load_machine-clause-reads : goal.returns-in-Err-load_machine-clause-reads
-returns-in-Err-load_machine-clause-reads g c =
-    (boot_refused _ _ c.args.file.now c.args.name.now c.in-Ok.known.tables c.in-Err-load_machine.status c.read_known.ensures.told
-    (known_meant _ c.args.file.now c.in-Ok.known c.in-Ok.ensures.reads) c.in-Err-load_machine.ensures.reads, tt)
+returns-in-Err-load_machine-clause-reads g c = (
+  boot_refused _ _ c.args.file.now c.args.name.now c.in-Ok.known.tables c.in-Err-load_machine.status c.read_known.ensures.told
+      (known_meant _ c.args.file.now c.in-Ok.known c.in-Ok.ensures.reads) c.in-Err-load_machine.ensures.reads,
+  tt,
+)
