@@ -6,7 +6,7 @@ use Rattle.run_sound.specs.Kept.{MayRun}
 use Rattle.run_world.proofs.InputLaws.{bounded}
 use Rattle.run_world.specs.Scripted.{FormedScripts}
 use Rattle.dev_board.proofs.ScriptedLaws.{scripts_may}
-use Rattle.dev_board.proofs.board.Board.start_with.Goals as goal
+use Rattle.dev_board.proofs.board.Board.start.Goals as goal
 
 pub make-requires : goal.make-requires
 make-requires c =
