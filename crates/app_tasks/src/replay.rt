@@ -7,7 +7,8 @@ ghost use Rattle.run_rules.specs.World.{setup_of};
 ghost use Rattle.app_tasks.specs.Retold.{Retells};
 
 use app_words::Status;
-use cf_types::{List, Machine, Script, Tables, Text};
+use cf_tables::Compiled;
+use cf_types::{List, Machine, Script, Text};
 use history_replay::{ReplayStop, Replayed, reread};
 use std::alloc::Global;
 use std::mem::forget;
@@ -16,7 +17,7 @@ use std::mem::forget;
 /// status can count.
 fn reread_history(
     alloc: Global,
-    tables: &Tables,
+    tables: &Compiled,
     machine: &Machine,
     scripts: &[Script],
     history: &[u8],
@@ -39,7 +40,7 @@ fn reread_history(
 /// line. The arguments are not freed, because the program ends soon. See drvctl(8).
 pub fn retold(
     alloc: Global,
-    tables: Tables,
+    tables: Compiled,
     machine: Machine,
     scripts: List<Script>,
     history: Text,
