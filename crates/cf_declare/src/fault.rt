@@ -1,6 +1,7 @@
 ghost use Rattle.std.specs.Prelude.{◌≡◌, ◌≤◌, ◌∷◌, true, false, length, map, bytes_eq, IfOk, MatchOption};
 ghost use Rattle.std.specs.List.{list_any};
-ghost use Rattle.config_rules.specs.Fault.{repeats, repeats_locator, place_fault, lacks_attr, attr_numbers, has_attr, has_device, places_fault, attach_fault, is_pseudo};
+ghost use Rattle.config_rules.specs.Fault.{attr_numbers, has_attr, has_device, is_pseudo, lacks_attr};
+ghost use Rattle.config_rules.specs.Fault.{attach_fault, place_fault, places_fault, repeats, repeats_locator};
 ghost use Rattle.cf_declare.specs.Declare.{attach_named, place_named};
 ghost use Rattle.cf_declare.specs.Judging.{Judges};
 
