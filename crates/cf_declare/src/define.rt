@@ -4,12 +4,13 @@ ghost use Rattle.cf_types.specs.Offers.{firsts, interfaces_of, nodes_of};
 ghost use Rattle.config_rules.specs.Fault.{attr_numbers, is_class, define_fault, device_fault};
 ghost use Rattle.cf_declare.specs.Judging.{Judges};
 
+use crate::entry::Entry;
 use crate::fault::{has_attr, has_device, known_numbers, repeats_locator};
 use crate::lookup::is_root;
 use attr_graph::Graph;
 use cf_names::Catalog;
 use cf_types::code::configuration as code;
-use cf_types::{List, Locator, Memory, Name};
+use cf_types::{List, Memory};
 use std::alloc::Global;
 
 /// Whether the interface list of these attributes, with its own if there is one, would have more than 64 entries.
@@ -27,15 +28,19 @@ pub fn define_numbers(
     alloc: Global,
     declared: &Catalog,
     graph: &mut Graph,
-    name: &Name,
-    locators: &Option<List<Locator>>,
-    needs: &[Name],
+    entry: &Entry<'_>,
 ) -> Result<Result<List<u32>, u8>, Memory>
     requires few { length declared.now.attrs ≤ 65536 }
     requires graph { graph.old.attrs ≡ nodes_of declared.now.attrs }
-    ensures found { IfOk result (Judges (define_fault declared.now name.now locators.now needs.now) (attr_numbers declared.now needs.now)) }
+    ensures found { IfOk result (Judges (define_fault declared.now entry.now.name.now entry.now.locators.now entry.now.needs.now)
+        (attr_numbers declared.now entry.now.needs.now)) }
     ensures same { graph.new ≡ graph.old }
 {
+    let Entry {
+        name,
+        locators,
+        needs,
+    } = *entry;
     if is_root(name.bytes()) || has_attr(declared, name) {
         return Ok(Err(code::NAME_TAKEN));
     }
@@ -93,15 +98,19 @@ pub fn device_numbers(
     alloc: Global,
     declared: &Catalog,
     graph: &mut Graph,
-    name: &Name,
-    locators: &Option<List<Locator>>,
-    needs: &[Name],
+    entry: &Entry<'_>,
 ) -> Result<Result<List<u32>, u8>, Memory>
     requires few { length declared.now.attrs ≤ 65536 }
     requires graph { graph.old.attrs ≡ nodes_of declared.now.attrs }
-    ensures found { IfOk result (Judges (device_fault declared.now name.now locators.now needs.now) (attr_numbers declared.now needs.now)) }
+    ensures found { IfOk result (Judges (device_fault declared.now entry.now.name.now entry.now.locators.now entry.now.needs.now)
+        (attr_numbers declared.now entry.now.needs.now)) }
     ensures same { graph.new ≡ graph.old }
 {
+    let Entry {
+        name,
+        locators,
+        needs,
+    } = *entry;
     if is_root(name.bytes())
         || has_device(declared, name)
         || (locators.is_some() && has_attr(declared, name))

@@ -5,6 +5,15 @@ use cf_names::Catalog;
 use cf_types::{Attr, Device, List, Locator, Memory, Name};
 use std::alloc::Global;
 
+/// What a statement says of an attribute or a device: the name, the locators, if there are braces, and the attributes
+/// that it names.
+#[derive(Clone, Copy)]
+pub struct Entry<'a> {
+    pub name: &'a Name,
+    pub locators: &'a Option<List<Locator>>,
+    pub needs: &'a [Name],
+}
+
 fn copied_locator(locator: &Locator) -> Result<Locator, Memory>
     ensures { IfOk result (λ copy. copy ≡ locator.now) }
 {

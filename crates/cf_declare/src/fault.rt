@@ -1,6 +1,7 @@
 ghost use Rattle.std.specs.Prelude.{◌≡◌, ◌≤◌, ◌∷◌, true, false, length, map, bytes_eq, IfOk, MatchOption};
 ghost use Rattle.std.specs.List.{list_any};
-ghost use Rattle.config_rules.specs.Fault.{repeats, repeats_locator, place_fault, lacks_attr, attr_numbers, has_attr, has_device, places_fault, attach_fault, is_pseudo};
+ghost use Rattle.config_rules.specs.Fault.{attr_numbers, has_attr, has_device, is_pseudo, lacks_attr};
+ghost use Rattle.config_rules.specs.Fault.{attach_fault, place_fault, places_fault, repeats, repeats_locator};
 ghost use Rattle.cf_declare.specs.Declare.{attach_named, place_named};
 ghost use Rattle.cf_declare.specs.Judging.{Judges};
 
@@ -111,20 +112,32 @@ fn places_found(
     Ok(Ok(List::from_vec(places)))
 }
 
+/// What an `attach` statement says: the device, the places, the name of the attachment, and the attributes that it names.
+#[derive(Clone, Copy)]
+pub struct Attaching<'a> {
+    pub device: &'a Name,
+    pub places: &'a [Name],
+    pub name: &'a Name,
+    pub needs: &'a [Name],
+}
+
 /// The attachment of a device under a name, or its first code.
 pub fn attached(
     alloc: Global,
     declared: &Catalog,
-    device: &Name,
-    places: &[Name],
-    name: &Name,
-    needs: &[Name],
+    said: &Attaching<'_>,
 ) -> Result<Result<Attach, u8>, Memory>
     requires attrs { length declared.now.attrs ≤ 65536 }
     requires devices { length declared.now.devices ≤ 65536 }
-    ensures { IfOk result (Judges (attach_fault declared.now device.now places.now name.now needs.now)
-        (attach_named declared.now device.now places.now name.now needs.now)) }
+    ensures { IfOk result (Judges (attach_fault declared.now said.now.device.now said.now.places.now said.now.name.now said.now.needs.now)
+        (attach_named declared.now said.now.device.now said.now.places.now said.now.name.now said.now.needs.now)) }
 {
+    let Attaching {
+        device,
+        places,
+        name,
+        needs,
+    } = *said;
     let Some(number) = declared.device_number(device) else {
         return Ok(Err(code::UNKNOWN_DEVICE));
     };

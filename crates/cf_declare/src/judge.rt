@@ -1,14 +1,14 @@
-ghost use Rattle.std.specs.Prelude.{◌≡◌, ℕ, [], None, Some, false, is_some, true, option_map, unwrap_or, IfOk, length};
+ghost use Rattle.std.specs.Prelude.{◌≡◌, ℕ, [], false, is_some, true, option_map, unwrap_or, IfOk, length};
 ghost use Rattle.config_rules.specs.Declared.{attr};
 ghost use Rattle.config_rules.specs.Fault.{attach_fault, attr_numbers, class_fault, code_of, define_fault, device_fault, is_instance, pseudo_fault};
 ghost use Rattle.attr_graph.specs.Graphs.{IsGraphOf};
 ghost use Rattle.cf_declare.specs.Declare.{attach_named, declares};
 ghost use Rattle.cf_declare.specs.Graphs.{FitsDeclared};
-ghost use Rattle.cf_declare.specs.Judging.{Judges, additions};
+ghost use Rattle.cf_declare.specs.Judging.{Judges, additions, one_attach, one_attr};
 
 use crate::define::{define_numbers, device_numbers};
-use crate::entry::{class_attr, defined, device_of, own_attr};
-use crate::fault::{attached, has_attr, is_pseudo};
+use crate::entry::{Entry, class_attr, defined, device_of, own_attr};
+use crate::fault::{Attaching, attached, has_attr, is_pseudo};
 use crate::grow::Additions;
 use crate::lookup::is_root;
 use attr_graph::Graph;
@@ -22,12 +22,29 @@ pub const MAX_INSTANCES: usize = 8_192;
 
 /// One attribute alone is added.
 fn one_attr(attr: Attr) -> Additions
-    ensures { result ≡ record { attr = Some attr; device = None; attach = None } }
+    ensures { result ≡ one_attr attr }
 {
     Additions {
         attr: Some(attr),
         device: None,
         attach: None,
+    }
+}
+
+/// What a statement says of an attribute or a device, in its parts.
+fn entry_of<'a>(
+    name: &'a Name,
+    locators: &'a Option<List<Locator>>,
+    needs: &'a List<Name>,
+) -> Entry<'a>
+    ensures name { result.name.now ≡ name.now }
+    ensures locators { result.locators.now ≡ locators.now }
+    ensures needs { result.needs.now ≡ needs.now }
+{
+    Entry {
+        name,
+        locators,
+        needs: needs.items(),
     }
 }
 
@@ -38,7 +55,7 @@ fn judged_class(
     name: &Name,
 ) -> Result<Result<Additions, u8>, Memory>
     ensures { IfOk result (Judges (class_fault declared.now name.now)
-        (record { attr = Some (attr name.now false true false [] []); device = None; attach = None })) }
+        (one_attr (attr name.now false true false [] []))) }
 {
     if is_root(name.bytes()) || has_attr(declared, name) {
         return Ok(Err(code::NAME_TAKEN));
@@ -51,18 +68,18 @@ fn judged_define(
     alloc: Global,
     declared: &Catalog,
     graph: &mut Graph,
-    name: &Name,
+    entry: &Entry<'_>,
     pseudo: bool,
-    locators: &Option<List<Locator>>,
-    needs: &[Name],
 ) -> Result<Result<Additions, u8>, Memory>
     requires fits { FitsDeclared declared.now }
     requires graph { IsGraphOf declared.now graph.old }
-    ensures found { IfOk result (Judges (define_fault declared.now name.now locators.now needs.now)
-        (record { attr = Some (attr name.now (is_some locators.now) false pseudo (unwrap_or locators.now []) (attr_numbers declared.now needs.now)); device = None; attach = None })) }
+    ensures found { IfOk result (Judges (define_fault declared.now entry.now.name.now entry.now.locators.now entry.now.needs.now)
+        (one_attr (attr entry.now.name.now (is_some entry.now.locators.now) false pseudo (unwrap_or entry.now.locators.now [])
+        (attr_numbers declared.now entry.now.needs.now)))) }
     ensures same { graph.new ≡ graph.old }
 {
-    match define_numbers(alloc, declared, graph, name, locators, needs)? {
+    let Entry { name, locators, .. } = *entry;
+    match define_numbers(alloc, declared, graph, entry)? {
         Ok(numbers) => Ok(Ok(one_attr(defined(alloc, name, pseudo, locators, numbers)?))),
         Err(code) => Ok(Err(code)),
     }
@@ -73,17 +90,16 @@ fn judged_device(
     alloc: Global,
     declared: &Catalog,
     graph: &mut Graph,
-    name: &Name,
-    locators: &Option<List<Locator>>,
-    needs: &[Name],
+    entry: &Entry<'_>,
 ) -> Result<Result<Additions, u8>, Memory>
     requires fits { FitsDeclared declared.now }
     requires graph { IsGraphOf declared.now graph.old }
-    ensures found { IfOk result (Judges (device_fault declared.now name.now locators.now needs.now)
-        (additions declared.now (Stmt.Device name.now locators.now needs.now))) }
+    ensures found { IfOk result (Judges (device_fault declared.now entry.now.name.now entry.now.locators.now entry.now.needs.now)
+        (additions declared.now (Stmt.Device entry.now.name.now entry.now.locators.now entry.now.needs.now))) }
     ensures same { graph.new ≡ graph.old }
 {
-    let numbers = match device_numbers(alloc, declared, graph, name, locators, needs)? {
+    let Entry { name, locators, .. } = *entry;
+    let numbers = match device_numbers(alloc, declared, graph, entry)? {
         Ok(numbers) => numbers,
         Err(code) => return Ok(Err(code)),
     };
@@ -105,16 +121,13 @@ fn judged_device(
 fn judged_attach(
     alloc: Global,
     declared: &Catalog,
-    device: &Name,
-    places: &[Name],
-    name: &Name,
-    needs: &[Name],
+    said: &Attaching<'_>,
 ) -> Result<Result<Additions, u8>, Memory>
     requires { FitsDeclared declared.now }
-    ensures { IfOk result (Judges (attach_fault declared.now device.now places.now name.now needs.now)
-        (record { attr = None; device = None; attach = Some (attach_named declared.now device.now places.now name.now needs.now) })) }
+    ensures { IfOk result (Judges (attach_fault declared.now said.now.device.now said.now.places.now said.now.name.now said.now.needs.now)
+        (one_attach (attach_named declared.now said.now.device.now said.now.places.now said.now.name.now said.now.needs.now))) }
 {
-    match attached(alloc, declared, device, places, name, needs)? {
+    match attached(alloc, declared, said)? {
         Ok(attach) => Ok(Ok(Additions {
             attr: None,
             device: None,
@@ -139,14 +152,17 @@ pub fn judged(
 {
     match stmt {
         Stmt::Define { name, locs, needs } => {
-            judged_define(alloc, declared, graph, name, false, locs, needs.items())
+            let entry = entry_of(name, locs, needs);
+            judged_define(alloc, declared, graph, &entry, false)
         }
         Stmt::DefPseudo { name, locs, needs } => {
-            judged_define(alloc, declared, graph, name, true, locs, needs.items())
+            let entry = entry_of(name, locs, needs);
+            judged_define(alloc, declared, graph, &entry, true)
         }
         Stmt::Class { name } => judged_class(alloc, declared, name),
         Stmt::Device { name, locs, needs } => {
-            judged_device(alloc, declared, graph, name, locs, needs.items())
+            let entry = entry_of(name, locs, needs);
+            judged_device(alloc, declared, graph, &entry)
         }
         Stmt::Attach {
             device,
@@ -154,8 +170,13 @@ pub fn judged(
             attach_name,
             needs,
         } => {
-            let name = attach_name.as_ref().unwrap_or(device);
-            judged_attach(alloc, declared, device, places.items(), name, needs.items())
+            let said = Attaching {
+                device,
+                places: places.items(),
+                name: attach_name.as_ref().unwrap_or(device),
+                needs: needs.items(),
+            };
+            judged_attach(alloc, declared, &said)
         }
         _ => unreachable!(),
     }

@@ -1,5 +1,5 @@
 -- The reading of a file, statement by statement.
-use Rattle.std.specs.Prelude.{◌≡◌, ℕ, ◌-◌, ◌==◌, Bool, List, [], ◌∷◌, ◌++◌, if◌then◌else◌, true, Option, Some, None, IfOk, OnOk, Result, ⊤}
+use Rattle.std.specs.Prelude.{◌≡◌, ℕ, ◌+◌, ◌-◌, ◌==◌, Bool, List, [], ◌∷◌, ◌++◌, if◌then◌else◌, true, Option, Some, None, IfOk, OnOk, Result, ⊤}
 use Rattle.cf_types.specs.declared.stmt.Expanded.{Expanded}
 use Rattle.cf_types.specs.declared.stmt.Stmt.{Stmt}
 use Rattle.cf_types.specs.declared.stmt.Stmt.TheVariants as stmt
@@ -7,7 +7,7 @@ use Rattle.cf_expand.specs.declared.statement.Head.{Head}
 use Rattle.cf_expand.specs.Asked.{AsksIn}
 use Rattle.cf_grammar.specs.Statement.{AreWithin}
 use Rattle.config_rules.specs.Reading.{Files, Here, condition_of, Statement, Reader, Reading, statements_in, place, pop_prefix, reader, refused, under_prefix}
-use Rattle.cf_expand.specs.Levels.{Level, include, read_statements, treat}
+use Rattle.cf_expand.specs.Levels.{Level, include, read_placed, read_statement, read_statements, treat}
 use Rattle.cf_lexer.specs.Rest.{MayRest, all_tokens, is_closed}
 use Rattle.cf_lexer.specs.declared.rest.Cutting.{Cutting}
 use Rattle.cf_expand.specs.declared.source.Include.{Include}
@@ -39,11 +39,28 @@ turned here s None r = pop_prefix here s r.prefixes r
 turned here s (Some path) r =
     place here s (stmt.Prefix (Some path)) (record r { prefixes = under_prefix r.prefixes path ∷ r.prefixes })
 
+-- what the language reads of an include in a source within these levels
+abbrev pub include_at : Files → ℕ → Source → List Level → Statement → Include → Reading → Reading
+include_at named around source levels s i r = include named (reader source.levels named) (here_of around source) levels s i.path i.optional r
+
+-- of a statement there
+abbrev pub statement_at : Files → ℕ → Source → List Level → Statement → Reading → Reading
+statement_at named around source levels s r = read_statement named (reader source.levels named) (here_of around source) levels s r
+
+-- of one that stands in a part that is not left out
+abbrev pub placed_at : Files → ℕ → Source → List Level → Statement → Reading → Reading
+placed_at named around source levels s r = read_placed named (reader source.levels named) (here_of around source) levels s r
+
 -- where a file was opened, its statements are still to be read
 abbrev pub entered : Files → ℕ → Option Opened → Reading → Reading
 entered files around None r = r
 entered files around (Some o) r =
     read_statements files (reader o.source.levels files) (here_of around o.source) [] (statements_in o.source.text (all_tokens o.source.text o.cutting)) r
+
+-- a file of this name and text was opened, with so many levels below it: what is read from there on is the reading of it
+abbrev pub Opens : ℕ → List ℕ → List ℕ → Reading → Option Opened → Reading → Type 0
+Opens levels name text old opened new =
+    (files : Files) (around : ℕ) → entered files around opened new ≡ reader (levels + 1) files around name text old
 
 -- an include on this line whose file is absent
 abbrev pub when_absent : Source → ℕ → List ℕ → Bool → Reading → Reading

@@ -138,7 +138,8 @@ pub fn read_alone(
     requires few { length progress.old.files < 4096 }
     ensures asked { OnOk result (progress.new.asked ≡ progress.old.asked) }
     ensures same { IfOk result (λ read. read ≡ false → progress.new ≡ progress.old) }
-    ensures read { IfOk result (λ read. read ≡ true → (n : ℕ) (files : Told) (around : ℕ) → progress.new ≡ reader (n + 1) files around name.now text.now progress.old) }
+    ensures read { IfOk result (λ read. read ≡ true → (n : ℕ) (files : Told) (around : ℕ)
+        → progress.new ≡ reader (n + 1) files around name.now text.now progress.old) }
 {
     if text.len() < LONG || progress.placed_len() >= MAX_PLACED {
         return Ok(false);

@@ -1,16 +1,14 @@
 ghost use Rattle.std.specs.Prelude.{◌≡◌, ℕ, ◌+◌, ◌-◌, ◌≤◌, ◌<◌, [], ◌∷◌, IfOk, IfSome, OnOk, length};
-ghost use Rattle.config_rules.specs.Reading.{Files as Told, Statement, asking, nothing_read, read_first, reader};
-ghost use Rattle.cf_expand.specs.Levels.{include};
+ghost use Rattle.config_rules.specs.Reading.{Statement, asking, nothing_read, read_first};
 ghost use Rattle.cf_io.specs.Asked.{Asks};
 ghost use Rattle.cf_expand.specs.Asked.{AsksAt, AsksStep};
 ghost use Rattle.cf_expand.specs.Loaded.{IsLoaded, IsShort};
 ghost use Rattle.cf_expand.specs.Stop.{Counted};
-ghost use Rattle.cf_expand.specs.Steps.{IsBelow, WhereTold, entered, here_of, when_absent};
+ghost use Rattle.cf_expand.specs.Steps.{IsBelow, Opens, WhereTold, entered, include_at, when_absent};
 
 use crate::alone::read_alone;
-use crate::conditions::Conditions;
 use crate::progress::Progress;
-use crate::source::{Include, Opened, Source};
+use crate::source::{Include, Limits, Opened, Place, Source};
 use crate::stop::ExpandStop;
 use cf_io::{Files, Load};
 use cf_lexer::{LexStop, cut};
@@ -77,15 +75,15 @@ fn open_cut(
     progress: &mut Progress,
     name: Text,
     text: Vec<u8>,
-    room: usize,
-    levels: u32,
+    limits: Limits,
 ) -> Result<Option<Opened>, Memory>
     requires short { length text.items ≤ 1048576 }
     requires few { length progress.old.files < 4096 }
-    ensures below { IfOk result (λ opened. IsBelow room levels opened) }
+    ensures below { IfOk result (λ opened. IsBelow limits.room limits.levels opened) }
     ensures asked { OnOk result (progress.new.asked ≡ progress.old.asked) }
-    ensures read { IfOk result (λ opened. (files : Told) (around : ℕ) → entered files around opened progress.new ≡ reader (levels + 1) files around name text.items progress.old) }
+    ensures read { IfOk result (λ opened. Opens limits.levels name text.items progress.old opened progress.new) }
 {
+    let Limits { room, levels } = limits;
     let number = progress.files_len() as u32;
     progress.push_file(alloc, name.items())?;
     match cut(alloc, &text) {
@@ -114,19 +112,18 @@ fn open(
     progress: &mut Progress,
     name: Text,
     text: Vec<u8>,
-    room: usize,
-    levels: u32,
+    limits: Limits,
 ) -> Result<Option<Opened>, Memory>
     requires short { length text.items ≤ 1048576 }
     requires few { length progress.old.files < 4096 }
-    ensures below { IfOk result (λ opened. IsBelow room levels opened) }
+    ensures below { IfOk result (λ opened. IsBelow limits.room limits.levels opened) }
     ensures asked { OnOk result (progress.new.asked ≡ progress.old.asked) }
-    ensures read { IfOk result (λ opened. (files : Told) (around : ℕ) → entered files around opened progress.new ≡ reader (levels + 1) files around name text.items progress.old) }
+    ensures read { IfOk result (λ opened. Opens limits.levels name text.items progress.old opened progress.new) }
 {
     if read_alone(alloc, progress, name.items(), &text)? {
         return Ok(None);
     }
-    open_cut(alloc, progress, name, text, room, levels)
+    open_cut(alloc, progress, name, text, limits)
 }
 
 /// Opens the named file.
@@ -140,13 +137,19 @@ pub fn open_first<F: Files>(
     ensures told { F.told files.new ≡ F.told files.old }
     ensures counted { Counted (F.faults files.old) (F.faults files.new) result }
     ensures below { IfOk result (λ opened. IsBelow 16 16 opened) }
-    ensures read { WhereTold (F.told files.old) (λ named. IfOk result (λ opened. entered named 0 opened progress.new ≡ read_first named name.now (named name.now))) }
-    ensures asked { WhereTold (F.told files.old) (λ named. AsksStep (read_first named name.now (named name.now)).asked progress.new.asked result (F.asked files.old) (F.asked files.new)) }
+    ensures read { WhereTold (F.told files.old) (λ named. IfOk result (λ opened.
+        entered named 0 opened progress.new ≡ read_first named name.now (named name.now))) }
+    ensures asked { WhereTold (F.told files.old) (λ named.
+        AsksStep (read_first named name.now (named name.now)).asked progress.new.asked result (F.asked files.old) (F.asked files.new)) }
 {
     match ask(alloc, files, progress, name)? {
         Loaded::Text(text) => {
             let name = List::copied(alloc, name)?;
-            Ok(open(alloc, progress, name, text, MAX_CONDITIONS, MAX_LEVELS)?)
+            let limits = Limits {
+                room: MAX_CONDITIONS,
+                levels: MAX_LEVELS,
+            };
+            Ok(open(alloc, progress, name, text, limits)?)
         }
         Loaded::Absent => {
             progress.refuse(alloc, name, 0, code::FILE_ABSENT)?;
@@ -179,25 +182,26 @@ fn absent(
 
 /// Loads and opens the file of an include, unless that is too deep, one too many, absent or too long.
 pub fn open_include<F: Files>(
-    alloc: Global,
     files: &mut F,
     progress: &mut Progress,
-    source: &Source,
-    conditions: &Conditions,
+    place: Place<'_>,
     line: u32,
     wanted: Include,
 ) -> Result<Option<Opened>, ExpandStop>
     requires { length progress.old.placed < 65536 }
     ensures told { F.told files.new ≡ F.told files.old }
     ensures counted { Counted (F.faults files.old) (F.faults files.new) result }
-    ensures below { IfOk result (λ opened. IfSome opened (λ _. 1 ≤ source.now.levels) × IsBelow (source.now.room - length conditions.now) (source.now.levels - 1) opened) }
+    ensures below { IfOk result (λ opened. IfSome opened (λ _. 1 ≤ place.entry.source.now.levels)
+        × IsBelow (place.entry.source.now.room - length place.entry.conditions.now) (place.entry.source.now.levels - 1) opened) }
     ensures read { WhereTold (F.told files.old) (λ named. IfOk result (λ opened. (around : ℕ) (s : Statement) → s.line ≡ line
-        → entered named (around + length conditions.now) opened progress.new
-        ≡ include named (reader source.now.levels named) (here_of around source.now) conditions.now s wanted.path wanted.optional progress.old)) }
+        → entered named (around + length place.entry.conditions.now) opened progress.new
+        ≡ include_at named around place.entry.source.now place.entry.conditions.now s wanted progress.old)) }
     ensures asked { AsksAt (F.told files.old) line progress.old progress.new
-        (λ named around s. include named (reader source.now.levels named) (here_of around source.now) conditions.now s wanted.path wanted.optional progress.old)
+        (λ named around s. include_at named around place.entry.source.now place.entry.conditions.now s wanted progress.old)
         result (F.asked files.old) (F.asked files.new) }
 {
+    let alloc = progress.alloc();
+    let Place { source, conditions } = place;
     if source.levels == 0 || progress.files_len() >= MAX_FILES {
         progress.refuse(alloc, source.name.items(), line, code::TOO_MANY_FILES)?;
         return Ok(None);
@@ -217,8 +221,11 @@ pub fn open_include<F: Files>(
                     optional,
                 },
             )?;
-            let room = source.room.saturating_sub(conditions.len());
-            Ok(open(alloc, progress, path, text, room, source.levels - 1)?)
+            let limits = Limits {
+                room: source.room.saturating_sub(conditions.len()),
+                levels: source.levels - 1,
+            };
+            Ok(open(alloc, progress, path, text, limits)?)
         }
         Loaded::Absent => {
             absent(alloc, progress, source, line, wanted)?;

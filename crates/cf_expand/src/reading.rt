@@ -1,11 +1,11 @@
 ghost use Rattle.std.specs.Prelude.{◌≡◌, ℕ, ◌-◌, ◌<◌, IfOk, IfSome, OnOk, Some, length};
 ghost use Rattle.cf_io.specs.Asked.{Asks};
 ghost use Rattle.config_rules.specs.Written.{AreWritten, IsWritten};
-ghost use Rattle.config_rules.specs.Reading.{nothing_read, reader, reading};
-ghost use Rattle.cf_expand.specs.Levels.{read_end, read_placed, read_statement};
+ghost use Rattle.config_rules.specs.Reading.{nothing_read, reading};
+ghost use Rattle.cf_expand.specs.Levels.{read_end};
 ghost use Rattle.cf_expand.specs.Asked.{AsksIn};
 ghost use Rattle.cf_expand.specs.Stop.{Counted};
-ghost use Rattle.cf_expand.specs.Steps.{AsksTreating, IsCutting, Treats, WhereTold, entered, expanded, here_of};
+ghost use Rattle.cf_expand.specs.Steps.{AsksTreating, IsCutting, Treats, WhereTold, entered, expanded, here_of, placed_at, statement_at};
 
 use crate::conditions::Conditions;
 use crate::open::{open_first, open_include};
@@ -56,21 +56,20 @@ fn read_directive<F: Files>(
     ensures told { F.told files.new ≡ F.told files.old }
     ensures counted { Counted (F.faults files.old) (F.faults files.new) result }
     ensures read { Treats (F.told files.old) place.entry.source.now place.entry.conditions.now head stmt progress.old result progress.new }
-    ensures asked { AsksTreating (F.told files.old) place.entry.source.now place.entry.conditions.now head stmt progress.old result (F.asked files.old) (F.asked files.new) }
+    ensures asked { AsksTreating (F.told files.old) place.entry.source.now place.entry.conditions.now head stmt progress.old result
+        (F.asked files.old) (F.asked files.new) }
 {
-    let alloc = progress.alloc();
-    let Place { source, conditions } = place;
-    let Head { word, line } = head;
-    let Some(wanted) = treat(alloc, progress, source, conditions, word, line, stmt)? else {
+    let Some(wanted) = treat(progress, place, head, stmt)? else {
         return Ok(());
     };
-    let Some(below) = open_include(alloc, files, progress, source, conditions, line, wanted)? else {
+    let Some(below) = open_include(files, progress, place, head.line, wanted)? else {
         return Ok(());
     };
     let Opened {
         source: inner,
         cutting,
     } = below;
+    let alloc = progress.alloc();
     read_source(alloc, files, progress, &inner, cutting)
 }
 
@@ -89,7 +88,8 @@ fn read_formed<F: Files>(
     ensures told { F.told files.new ≡ F.told files.old }
     ensures counted { Counted (F.faults files.old) (F.faults files.new) result }
     ensures read { Treats (F.told files.old) place.entry.source.now place.entry.conditions.now head stmt progress.old result progress.new }
-    ensures asked { AsksTreating (F.told files.old) place.entry.source.now place.entry.conditions.now head stmt progress.old result (F.asked files.old) (F.asked files.new) }
+    ensures asked { AsksTreating (F.told files.old) place.entry.source.now place.entry.conditions.now head stmt progress.old result
+        (F.asked files.old) (F.asked files.new) }
 {
     match &stmt {
         Stmt::Include { .. } | Stmt::Prefix { .. } | Stmt::Cond { .. } => {
@@ -106,37 +106,36 @@ fn read_formed<F: Files>(
 #[cycle(statements)]
 #[inline(always)]
 fn read_placed<'a, F: Files>(
-    alloc: Global,
     files: &mut F,
     progress: &mut Progress,
-    source: &Source,
-    conditions: &Conditions,
+    place: Place<'_>,
     statement: &Statement<'a, '_>,
     words: &mut Vec<Word<'a>>,
 ) -> Result<(), ExpandStop>
     ensures told { F.told files.new ≡ F.told files.old }
     ensures counted { Counted (F.faults files.old) (F.faults files.new) result }
-    ensures read { WhereTold (F.told files.old) (λ named. OnOk result ((around : ℕ) → source.now.room ≡ 16 - around
-        → progress.new ≡ read_placed named (reader source.now.levels named) (here_of around source.now) conditions.now statement.now progress.old)) }
-    ensures asked { AsksIn (F.told files.old) source.now progress.old
-        (λ named around. read_placed named (reader source.now.levels named) (here_of around source.now) conditions.now statement.now progress.old)
+    ensures read { WhereTold (F.told files.old) (λ named. OnOk result ((around : ℕ) → place.entry.source.now.room ≡ 16 - around
+        → progress.new ≡ placed_at named around place.entry.source.now place.entry.conditions.now statement.now progress.old)) }
+    ensures asked { AsksIn (F.told files.old) place.entry.source.now progress.old
+        (λ named around. placed_at named around place.entry.source.now place.entry.conditions.now statement.now progress.old)
         result (F.asked files.old) (F.asked files.new) }
 {
     let line = statement.line();
     if progress.placed_len() >= MAX_PLACED {
-        progress.refuse(alloc, source.name.items(), line, code::TOO_MANY_STATEMENTS)?;
+        let alloc = progress.alloc();
+        progress.refuse(
+            alloc,
+            place.source.name.items(),
+            line,
+            code::TOO_MANY_STATEMENTS,
+        )?;
         return Ok(());
     }
     match statement.read(progress, words) {
-        Ok(stmt) => read_formed(
-            files,
-            progress,
-            Place { source, conditions },
-            statement.head(),
-            stmt,
-        ),
+        Ok(stmt) => read_formed(files, progress, place, statement.head(), stmt),
         Err(GrammarStop::Fault { code }) => {
-            progress.refuse(alloc, source.name.items(), line, code)?;
+            let alloc = progress.alloc();
+            progress.refuse(alloc, place.source.name.items(), line, code)?;
             Ok(())
         }
         Err(GrammarStop::Memory) => Err(ExpandStop::Memory),
@@ -147,27 +146,26 @@ fn read_placed<'a, F: Files>(
 #[cycle(statements)]
 #[inline(always)]
 fn read_with_include<'a, F: Files>(
-    alloc: Global,
     files: &mut F,
     progress: &mut Progress,
-    source: &Source,
-    conditions: &Conditions,
+    place: Place<'_>,
     statement: &Statement<'a, '_>,
     words: &mut Vec<Word<'a>>,
 ) -> Result<(), ExpandStop>
     ensures told { F.told files.new ≡ F.told files.old }
     ensures counted { Counted (F.faults files.old) (F.faults files.new) result }
-    ensures read { WhereTold (F.told files.old) (λ named. OnOk result ((around : ℕ) → source.now.room ≡ 16 - around
-        → progress.new ≡ read_statement named (reader source.now.levels named) (here_of around source.now) conditions.now statement.now progress.old)) }
-    ensures asked { AsksIn (F.told files.old) source.now progress.old
-        (λ named around. read_statement named (reader source.now.levels named) (here_of around source.now) conditions.now statement.now progress.old)
+    ensures read { WhereTold (F.told files.old) (λ named. OnOk result ((around : ℕ) → place.entry.source.now.room ≡ 16 - around
+        → progress.new ≡ statement_at named around place.entry.source.now place.entry.conditions.now statement.now progress.old)) }
+    ensures asked { AsksIn (F.told files.old) place.entry.source.now progress.old
+        (λ named around. statement_at named around place.entry.source.now place.entry.conditions.now statement.now progress.old)
         result (F.asked files.old) (F.asked files.new) }
 {
     let word = statement.word();
-    if conditions.is_placed(word) {
-        return read_placed(alloc, files, progress, source, conditions, statement, words);
+    if place.conditions.is_placed(word) {
+        return read_placed(files, progress, place, statement, words);
     }
-    pass_over(alloc, progress, source, conditions, word, statement.line())?;
+    let line = statement.line();
+    pass_over(progress, place, Head { word, line })?;
     Ok(())
 }
 
@@ -196,15 +194,11 @@ fn read_source<F: Files>(
     while let Some((first, rest)) = left.first() {
         let statement = source.statement(first);
         let condition_holds = statement.holds(progress);
-        read_with_include(
-            alloc,
-            files,
-            progress,
+        let place = Place {
             source,
-            &conditions,
-            &statement,
-            &mut words,
-        )?;
+            conditions: &conditions,
+        };
+        read_with_include(files, progress, place, &statement, &mut words)?;
         if progress.has_fault() {
             return Ok(());
         }

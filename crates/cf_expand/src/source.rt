@@ -38,6 +38,13 @@ pub struct Place<'a> {
     pub conditions: &'a Conditions,
 }
 
+/// How far a file may go: how many conditions may be open in it at once, and how many levels of files may be below it.
+#[derive(Clone, Copy)]
+pub struct Limits {
+    pub room: usize,
+    pub levels: u32,
+}
+
 /// A file that was opened, with its text cut into tokens.
 #[derive(Drop)]
 pub struct Opened {

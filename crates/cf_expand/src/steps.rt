@@ -5,11 +5,11 @@ ghost use Rattle.cf_expand.specs.Levels.{is_misplaced, treat};
 ghost use Rattle.config_rules.specs.Written.{IsWritten};
 ghost use Rattle.cf_expand.specs.Steps.{Follows, here_of, turned};
 
-use crate::conditions::Conditions;
 use crate::progress::Progress;
-use crate::source::{Include, Source};
+use crate::source::{Include, Place, Source};
+use crate::statement::Head;
 use cf_types::code::configuration as code;
-use cf_types::{CondWord, Memory, Stmt, Text};
+use cf_types::{Memory, Stmt, Text};
 use std::alloc::Global;
 
 fn turn_prefix(
@@ -40,22 +40,22 @@ fn turn_prefix(
 /// Reads a statement on this line, with its condition word, if it begins with one, and its form, up to the file that it
 /// includes.
 pub fn treat(
-    alloc: Global,
     progress: &mut Progress,
-    source: &Source,
-    conditions: &Conditions,
-    word: Option<CondWord>,
-    line: u32,
+    place: Place<'_>,
+    head: Head,
     stmt: Stmt,
 ) -> Result<Option<Include>, Memory>
     requires few { length progress.old.placed < 65536 }
     requires written { IsWritten stmt }
     ensures few { IfOk result (λ wanted. IfSome wanted (λ _. length progress.new.placed < 65536)) }
     ensures asked { OnOk result (progress.new.asked ≡ progress.old.asked) }
-    ensures steps { (s : Statement) → s.line ≡ line → condition_of s ≡ word
+    ensures steps { (s : Statement) → s.line ≡ head.line → condition_of s ≡ head.word
         → Follows (λ files below here levels s. treat files below here levels s stmt)
-        source.now conditions.now s progress.old result progress.new }
+        place.entry.source.now place.entry.conditions.now s progress.old result progress.new }
 {
+    let alloc = progress.alloc();
+    let Place { source, conditions } = place;
+    let Head { word, line } = head;
     match stmt {
         Stmt::Include { path, optional } => return Ok(Some(Include { path, optional })),
         Stmt::Prefix { path } => turn_prefix(alloc, progress, source, line, path)?,
@@ -71,19 +71,15 @@ pub fn treat(
 
 /// Reads a statement of a part that is left out: only its first word is looked at.
 #[inline(always)]
-pub fn pass_over(
-    alloc: Global,
-    progress: &mut Progress,
-    source: &Source,
-    conditions: &Conditions,
-    word: Option<CondWord>,
-    line: u32,
-) -> Result<(), Memory>
+pub fn pass_over(progress: &mut Progress, place: Place<'_>, head: Head) -> Result<(), Memory>
     ensures asked { OnOk result (progress.new.asked ≡ progress.old.asked) }
-    ensures read { OnOk result (progress.new ≡ (if is_misplaced source.now.room word conditions.now
-        then refused source.now.name line BAD_NESTING progress.old else progress.old)) }
+    ensures read { OnOk result (progress.new ≡ (if is_misplaced place.entry.source.now.room head.word place.entry.conditions.now
+        then refused place.entry.source.now.name head.line BAD_NESTING progress.old else progress.old)) }
 {
+    let Place { source, conditions } = place;
+    let Head { word, line } = head;
     if conditions.is_misplaced(source.room, word) {
+        let alloc = progress.alloc();
         progress.refuse(alloc, source.name.items(), line, code::BAD_NESTING)?;
     }
     Ok(())

@@ -19,6 +19,8 @@ use Rattle.cf_select.specs.declared.instance.Inst.{Inst}
 use Rattle.cf_select.specs.declared.want.Want.{Want}
 use Rattle.cf_select.specs.Carried.{inst_of}
 use Rattle.cf_select.specs.Reached.{AllRooted, AreMarked, AreWaiting, AreWithin, Serves}
+use Rattle.cf_select.specs.Wanted.{wants, wants_at}
+use Rattle.std.specs.Option.{option_map_or}
 
 pub are_rooted : (at_root : ℕ → Bool) (carries : ℕ → ℕ → Bool) (n : ℕ) (marks : List Bool) → AllRooted at_root carries n marks → ((i : ℕ) → i < n → at_root i ≡ true → get_or marks i false ≡ true) → Closed carries n marks → AreRooted at_root carries n marks
 are_rooted at_root carries n marks sound roots closed = record {
@@ -116,4 +118,12 @@ known_at graph insts n i known is = elim (slice_get_cases insts n).1 [
       let same : e.0 ≡ i = cc (is, e.2) in
       subst P same (subst P e.3 (All-get_or P insts n e.0 e.1 known)))
   | inr e ↦ (let no_way : Some i ≡ None = sym is ∙ e.1 in absurd (cc))
+]
+
+-- what an instance waits for has a mark
+pub wanted_within : (insts : List Inst) (marks : List Bool) (q : Want) (x : ℕ) (so : Bool) → length marks ≡ length insts → so ≡ wants_at (map inst_of insts) q x → so ≡ true → x < length marks
+wanted_within insts marks q x so size is so_is = elim (slice_get_cases (map inst_of insts) x).1 [
+  | inl e ↦ omega (arith, e.1, size, length-map insts inst_of)
+  | inr e ↦ (let none : wants_at (map inst_of insts) q x ≡ false = ap (λ i. option_map_or (λ j. wants j q) i false) e.1 in
+      let no_way : false ≡ true = sym none ∙ sym is ∙ so_is in absurd (cc))
 ]

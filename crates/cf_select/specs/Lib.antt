@@ -11,3 +11,4 @@ pub use Rattle.config_rules.specs.Declared
 pub use Rattle.config_rules.specs.Fault
 pub use Rattle.config_rules.specs.Meaning
 pub use Rattle.config_rules.specs.Select
+pub mod Spread

@@ -5,7 +5,8 @@ ghost use Rattle.config_rules.specs.Select.{AreRooted, RootedInsts, carries_at, 
 ghost use Rattle.attr_graph.specs.Graphs.{IsGraphOf};
 ghost use Rattle.cf_types.specs.Gather.{is_in};
 ghost use Rattle.cf_select.specs.Carried.{RootedIn, inst_of, interfaces_in, offered_in};
-ghost use Rattle.cf_select.specs.Reached.{AllRooted, AreMarked, AreWaiting, AreWithin, Marks, Serves};
+ghost use Rattle.cf_select.specs.Reached.{AllRooted, AreMarked, AreWaiting, AreWithin, Marks};
+ghost use Rattle.cf_select.specs.Spread.{Goes};
 ghost use Rattle.cf_select.specs.Wanted.{carriers_of, wants_at, wants_of};
 ghost use Rattle.cf_select.specs.declared.want.Want.{Want as Wanted};
 
@@ -16,6 +17,14 @@ use crate::wants::{own_carrier, waiting_lists};
 use attr_graph::Graph;
 use cf_types::{List, Memory};
 use std::alloc::Global;
+
+/// Which places are marked, with those places in the order in which they were marked, and who still waits.
+#[derive(Drop)]
+struct Reached {
+    waiting: Waiting,
+    marks: Vec<bool>,
+    order: Vec<usize>,
+}
 
 /// Marks a place, and appends it to those that are marked, unless it is one of them.
 fn mark(marks: &mut Vec<bool>, order: &mut Vec<usize>, place: usize) -> Result<(), Memory>
@@ -41,69 +50,47 @@ fn mark_all(marks: &mut Vec<bool>, order: &mut Vec<usize>, places: &[usize]) -> 
 }
 
 /// Marks all that wait for this, and they wait no longer.
-fn serve_want(
-    alloc: Global,
-    waiting: &mut Waiting,
-    marks: &mut Vec<bool>,
-    order: &mut Vec<usize>,
-    want: Want,
-) -> Result<(), Memory>
-    requires { AreWithin waiting.old.lists marks.old.items }
-    ensures { OnOk result (Serves waiting.old.lists marks.old.items order.old.items waiting.new.lists marks.new.items order.new.items (want ∷ [])) }
+fn serve_want(alloc: Global, reached: &mut Reached, want: Want) -> Result<(), Memory>
+    requires { AreWithin reached.old.waiting.lists reached.old.marks.items }
+    ensures { OnOk result (Goes reached.old reached.new (want ∷ [])) }
 {
-    let places = waiting.take(alloc, &want);
-    mark_all(marks, order, places.items())?;
+    let places = reached.waiting.take(alloc, &want);
+    mark_all(&mut reached.marks, &mut reached.order, places.items())?;
     Ok(())
 }
 
 /// Marks all that wait for an instance because of an attribute that it offers.
-fn serve_attr(
-    alloc: Global,
-    waiting: &mut Waiting,
-    marks: &mut Vec<bool>,
-    order: &mut Vec<usize>,
-    attr: u32,
-    inst: &Inst,
-) -> Result<(), Memory>
-    requires { AreWithin waiting.old.lists marks.old.items }
-    ensures { OnOk result (Serves waiting.old.lists marks.old.items order.old.items waiting.new.lists marks.new.items order.new.items (wants_of (inst_of inst.now) (attr ∷ []))) }
+fn serve_attr(alloc: Global, reached: &mut Reached, attr: u32, inst: &Inst) -> Result<(), Memory>
+    requires { AreWithin reached.old.waiting.lists reached.old.marks.items }
+    ensures { OnOk result (Goes reached.old reached.new (wants_of (inst_of inst.now) (attr ∷ []))) }
 {
-    if !waiting.is_noted(attr) {
+    if !reached.waiting.is_noted(attr) {
         return Ok(());
     }
     let any = Carrier::Any;
     let of_device = Carrier::Of(inst.device);
     let own = own_carrier(inst);
-    serve_want(alloc, waiting, marks, order, Want { attr, carrier: any })?;
+    serve_want(alloc, reached, Want { attr, carrier: any })?;
     serve_want(
         alloc,
-        waiting,
-        marks,
-        order,
+        reached,
         Want {
             attr,
             carrier: of_device,
         },
     )?;
-    serve_want(alloc, waiting, marks, order, Want { attr, carrier: own })?;
+    serve_want(alloc, reached, Want { attr, carrier: own })?;
     Ok(())
 }
 
 /// Marks all that an instance can carry, of those that wait.
-fn serve(
-    alloc: Global,
-    graph: &Graph,
-    waiting: &mut Waiting,
-    marks: &mut Vec<bool>,
-    order: &mut Vec<usize>,
-    inst: &Inst,
-) -> Result<(), Memory>
+fn serve(alloc: Global, graph: &Graph, reached: &mut Reached, inst: &Inst) -> Result<(), Memory>
     requires known { inst.now.device < length graph.now.devices }
-    requires within { AreWithin waiting.old.lists marks.old.items }
-    ensures { OnOk result (Serves waiting.old.lists marks.old.items order.old.items waiting.new.lists marks.new.items order.new.items (wants_of (inst_of inst.now) (interfaces_in graph.now inst.now.device))) }
+    requires within { AreWithin reached.old.waiting.lists reached.old.marks.items }
+    ensures { OnOk result (Goes reached.old reached.new (wants_of (inst_of inst.now) (interfaces_in graph.now inst.now.device))) }
 {
     for attr in graph.interfaces(inst.device) {
-        serve_attr(alloc, waiting, marks, order, *attr, inst)?;
+        serve_attr(alloc, reached, *attr, inst)?;
     }
     Ok(())
 }
@@ -117,33 +104,23 @@ fn inst_at(insts: &[Inst], place: usize) -> &Inst
 }
 
 /// Marks all that are rooted, starting from the marked ones at the root; the others wait.
-fn spread(
-    alloc: Global,
-    graph: &Graph,
-    insts: &[Inst],
-    waiting: &mut Waiting,
-    marks: &mut Vec<bool>,
-    order: &mut Vec<usize>,
-) -> Result<(), Memory>
+fn spread(alloc: Global, graph: &Graph, insts: &[Inst], reached: &mut Reached) -> Result<(), Memory>
     requires known { All (λ i. i.device < length graph.now.devices) insts.now }
-    requires size { length marks.old.items ≡ length insts.now }
-    requires order { AreMarked marks.old.items order.old.items }
-    requires within { AreWithin waiting.old.lists marks.old.items }
-    requires waiting { AreWaiting (wants_at (map inst_of insts.now)) waiting.old.lists marks.old.items }
-    requires sound { AllRooted (is_at_root_at (map inst_of insts.now)) (carries_at (offered_in graph.now) (map inst_of insts.now)) (length insts.now) marks.old.items }
-    requires roots { (i : ℕ) → i < length insts.now → is_at_root_at (map inst_of insts.now) i ≡ true → slice_index_or marks.old.items i false ≡ true }
-    ensures { OnOk result (AreRooted (is_at_root_at (map inst_of insts.now)) (carries_at (offered_in graph.now) (map inst_of insts.now)) (length insts.now) marks.new.items) }
+    requires size { length reached.old.marks.items ≡ length insts.now }
+    requires order { AreMarked reached.old.marks.items reached.old.order.items }
+    requires within { AreWithin reached.old.waiting.lists reached.old.marks.items }
+    requires waiting { AreWaiting (wants_at (map inst_of insts.now)) reached.old.waiting.lists reached.old.marks.items }
+    requires sound { AllRooted (is_at_root_at (map inst_of insts.now)) (carries_at (offered_in graph.now) (map inst_of insts.now)) (length insts.now)
+        reached.old.marks.items }
+    requires roots { (i : ℕ) → i < length insts.now → is_at_root_at (map inst_of insts.now) i ≡ true
+        → slice_index_or reached.old.marks.items i false ≡ true }
+    ensures { OnOk result (AreRooted (is_at_root_at (map inst_of insts.now)) (carries_at (offered_in graph.now) (map inst_of insts.now)) (length insts.now)
+        reached.new.marks.items) }
 {
     let mut next = 0;
-    while next < order.len() {
-        serve(
-            alloc,
-            graph,
-            waiting,
-            marks,
-            order,
-            inst_at(insts, order[next]),
-        )?;
+    while next < reached.order.len() {
+        let inst = inst_at(insts, reached.order[next]);
+        serve(alloc, graph, reached, inst)?;
         next += 1;
     }
     Ok(())
@@ -182,8 +159,14 @@ fn rooted_marks(alloc: Global, graph: &Graph, insts: &[Inst]) -> Result<Vec<bool
     let mut marks = Vec::new(alloc);
     let mut order = Vec::new(alloc);
     mark_roots(&mut marks, &mut order, insts)?;
-    let mut waiting = waiting_lists(alloc, insts)?;
-    spread(alloc, graph, insts, &mut waiting, &mut marks, &mut order)?;
+    let waiting = waiting_lists(alloc, insts)?;
+    let mut reached = Reached {
+        waiting,
+        marks,
+        order,
+    };
+    spread(alloc, graph, insts, &mut reached)?;
+    let Reached { marks, .. } = reached;
     Ok(marks)
 }
 

@@ -1,4 +1,5 @@
-ghost use Rattle.std.specs.Prelude.{◌≡◌, None, ℕ, Bool, List as Items, ◌<◌, ◌≤◌, ◌&&◌, not, true, false, [], ◌∷◌, ◌++◌, if◌then◌else◌, length, map, All, IfOk, OnOk};
+ghost use Rattle.std.specs.Prelude.{◌≡◌, ◌<◌, ◌≤◌, ◌&&◌, ◌∷◌, ◌++◌, [], if◌then◌else◌, length, map, not};
+ghost use Rattle.std.specs.Prelude.{None, ℕ, Bool, List as Items, true, false, All, IfOk, OnOk};
 ghost use Rattle.std.specs.List.{list_any, slice_index_or};
 ghost use Rattle.cf_types.specs.Gather.{is_in};
 ghost use Rattle.cf_types.specs.declared.stmt.Stmt.{Stmt as Statement};
@@ -82,7 +83,8 @@ fn take_back<'a>(
     ensures size { length free.new.items ≡ length free.old.items }
     ensures short { AreShort lists.new free.new.items }
     ensures listed { (stmts : Items Statement) → AreListed (names_at stmts) lists.old free.old.items → AreListed (names_at stmts) lists.new free.new.items }
-    ensures free { (stmts : Items Statement) → length free.old.items ≡ length stmts → AreListed (names_at stmts) lists.old free.old.items → free.new.items ≡ without stmt.now stmts free.old.items }
+    ensures free { (stmts : Items Statement) → length free.old.items ≡ length stmts → AreListed (names_at stmts) lists.old free.old.items
+        → free.new.items ≡ without stmt.now stmts free.old.items }
     ensures idle { TellsIdle stmt.now lists.old free.old.items result }
 {
     match named_by(stmt) {

@@ -35,7 +35,8 @@ impl Waiting {
     /// Removes the places of those that wait for this.
     pub fn take(&mut self, alloc: Global, want: &Want) -> Places
         ensures list { result ≡ list_at block.ghosts.eq self.old.lists want.now }
-        ensures rest { (q : Want) → list_at block.ghosts.eq self.new.lists q ≡ (if block.ghosts.eq want.now q then [] else list_at block.ghosts.eq self.old.lists q) }
+        ensures rest { (q : Want) → list_at block.ghosts.eq self.new.lists q
+            ≡ (if block.ghosts.eq want.now q then [] else list_at block.ghosts.eq self.old.lists q) }
         ensures same { (q : Want) → block.ghosts.eq want.now q ≡ true → list_at block.ghosts.eq self.old.lists q ≡ result }
     {
         take_places(alloc, &mut self.lists, want)

@@ -8,10 +8,10 @@ returns-in-Ok-clause-below c =
 
 pub returns-in-Ok-clause-read : goal.returns-in-Ok-clause-read
 returns-in-Ok-clause-read c = λ files around.
-    opened_reads c.args.levels files around c.args.name c.args.text.items c.from_vec.result c.deref.result.now c.items.result.now c.in-Ok.cutting c.files_len-number.result c.args.progress.now c.push_file.new.self
+    opened_reads c.args.limits.levels files around c.args.name c.args.text.items c.from_vec.result c.deref.result.now c.items.result.now c.in-Ok.cutting c.files_len-number.result c.args.progress.now c.push_file.new.self
     c.files_len-number.ensures c.from_vec.ensures c.deref.ensures.value c.items.ensures c.in_ok-push_file.ensures c.in-Ok.ensures.exact
 
 pub returns-in-Err-Fault-clause-read : goal.returns-in-Err-Fault-clause-read
 returns-in-Err-Fault-clause-read c = λ files around.
-    uncut_reads c.args.levels files around c.args.name c.args.text.items c.deref.result.now c.items.result.now c.items-in-Err-Fault.result.now c.in-Err-Fault.line c.in-Err-Fault.code c.args.progress.now c.push_file.new.self c.refuse.new.self
+    uncut_reads c.args.limits.levels files around c.args.name c.args.text.items c.deref.result.now c.items.result.now c.items-in-Err-Fault.result.now c.in-Err-Fault.line c.in-Err-Fault.code c.args.progress.now c.push_file.new.self c.refuse.new.self
     c.deref.ensures.value c.items.ensures c.items-in-Err-Fault.ensures c.in_ok-push_file.ensures (rw c.in-Err-Fault.field-0-is at c.in-Err-Fault.ensures.exact) c.in_ok-refuse-in-Err-Fault.ensures

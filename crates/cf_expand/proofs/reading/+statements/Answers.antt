@@ -63,41 +63,41 @@ read_directive-returns-clause-asked g t c = λ s begins named e start around roo
 
 pub read_placed-returns-in-Ok-clause-read : goal.read_placed-returns-in-Ok-clause-read
 read_placed-returns-in-Ok-clause-read g t c = λ named e.
-    let source = c.args.source.now in
+    let source = c.args.place.source.now in
     let few : length c.args.progress.now.placed < 65536 = omega arith in
     on_ok c.read_formed.result (c.read_formed.ensures.read named e)
     (λ h. λ around room. h around c.args.statement.now room c.head.ensures
-    ∙ placed_form named (reader source.levels named) (here_of around source) c.args.conditions.now c.args.statement.now c.in-Ok.stmt c.args.progress.now c.read.new.progress few c.in-Ok.ensures.form c.read.ensures.same)
+    ∙ placed_form named (reader source.levels named) (here_of around source) c.args.place.conditions.now c.args.statement.now c.in-Ok.stmt c.args.progress.now c.read.new.progress few c.in-Ok.ensures.form c.read.ensures.same)
 
 pub read_placed-returns-in-Ok-clause-asked : goal.read_placed-returns-in-Ok-clause-asked
 read_placed-returns-in-Ok-clause-asked g t c = λ named e start around room before.
-    let source = c.args.source.now in
+    let source = c.args.place.source.now in
     let s = c.args.statement.now in
     let few : length c.args.progress.now.placed < 65536 = omega arith in
-    asks_same (treated named around source c.args.conditions.now s c.in-Ok.stmt c.read.new.progress) (read_placed named (reader source.levels named) (here_of around source) c.args.conditions.now s c.args.progress.now) c.read_formed.result start _
-    (placed_form named (reader source.levels named) (here_of around source) c.args.conditions.now s c.in-Ok.stmt c.args.progress.now c.read.new.progress few c.in-Ok.ensures.form c.read.ensures.same)
+    asks_same (treated named around source c.args.place.conditions.now s c.in-Ok.stmt c.read.new.progress) (read_placed named (reader source.levels named) (here_of around source) c.args.place.conditions.now s c.args.progress.now) c.read_formed.result start _
+    (placed_form named (reader source.levels named) (here_of around source) c.args.place.conditions.now s c.in-Ok.stmt c.args.progress.now c.read.new.progress few c.in-Ok.ensures.form c.read.ensures.same)
     (c.read_formed.ensures.asked s c.head.ensures named e start around room (asked_still _ _ start _ (ap (λ (r : Reading). r.asked) c.read.ensures.same) before))
 
 pub read_placed-returns-in-Err-Memory-clause-asked : goal.read_placed-returns-in-Err-Memory-clause-asked
 read_placed-returns-in-Err-Memory-clause-asked g t c = λ named e start around room before.
-    let source = c.args.source.now in
+    let source = c.args.place.source.now in
     let s = c.args.statement.now in
-    let whole = read_placed named (reader source.levels named) (here_of around source) c.args.conditions.now s c.args.progress.now in
-    all_grown c.args.progress.now whole _ _ (placed_grows named (reader source.levels named) (reader_grows source.levels named) (here_of around source) c.args.conditions.now s c.args.progress.now) before
+    let whole = read_placed named (reader source.levels named) (here_of around source) c.args.place.conditions.now s c.args.progress.now in
+    all_grown c.args.progress.now whole _ _ (placed_grows named (reader source.levels named) (reader_grows source.levels named) (here_of around source) c.args.place.conditions.now s c.args.progress.now) before
 
 pub read_with_include-returns-then-is_placed-clause-read : goal.read_with_include-returns-then-is_placed-clause-read
 read_with_include-returns-then-is_placed-clause-read g t c = λ named e.
-    let source = c.args.source.now in
+    let source = c.args.place.source.now in
     on_ok c.read_placed.result (c.read_placed.ensures.read named e)
     (λ h. λ around room. h around room
-    ∙ placed_here named (reader source.levels named) (here_of around source) c.args.conditions.now c.args.statement.now c.word-word.result c.args.progress.now c.word-word.ensures (sym c.is_placed.ensures ∙ c.if-is_placed.true))
+    ∙ placed_here named (reader source.levels named) (here_of around source) c.args.place.conditions.now c.args.statement.now c.word-word.result c.args.progress.now c.word-word.ensures (sym c.is_placed.ensures ∙ c.if-is_placed.true))
 
 pub read_with_include-returns-then-is_placed-clause-asked : goal.read_with_include-returns-then-is_placed-clause-asked
 read_with_include-returns-then-is_placed-clause-asked g t c = λ named e start around room before.
-    let source = c.args.source.now in
+    let source = c.args.place.source.now in
     let s = c.args.statement.now in
-    asks_same (read_placed named (reader source.levels named) (here_of around source) c.args.conditions.now s c.args.progress.now) (read_statement named (reader source.levels named) (here_of around source) c.args.conditions.now s c.args.progress.now) c.read_placed.result start _
-    (placed_here named (reader source.levels named) (here_of around source) c.args.conditions.now s c.word-word.result c.args.progress.now c.word-word.ensures (sym c.is_placed.ensures ∙ c.if-is_placed.true))
+    asks_same (read_placed named (reader source.levels named) (here_of around source) c.args.place.conditions.now s c.args.progress.now) (read_statement named (reader source.levels named) (here_of around source) c.args.place.conditions.now s c.args.progress.now) c.read_placed.result start _
+    (placed_here named (reader source.levels named) (here_of around source) c.args.place.conditions.now s c.word-word.result c.args.progress.now c.word-word.ensures (sym c.is_placed.ensures ∙ c.if-is_placed.true))
     (c.read_placed.ensures.asked named e start around room before)
 
 pub read_source-returns-in_err-read_with_include-clause-asked : goal.read_source-returns-in_err-read_with_include-clause-asked

@@ -15,10 +15,10 @@ abbrev pub decreases-read_formed : goal.decreases-read_formed
 decreases-read_formed g l = 5 * l.place.source.now.levels + 1
 
 abbrev pub decreases-read_placed : goal.decreases-read_placed
-decreases-read_placed g l = 5 * l.source.now.levels + 2
+decreases-read_placed g l = 5 * l.place.source.now.levels + 2
 
 abbrev pub decreases-read_with_include : goal.decreases-read_with_include
-decreases-read_with_include g l = 5 * l.source.now.levels + 3
+decreases-read_with_include g l = 5 * l.place.source.now.levels + 3
 
 abbrev pub decreases-read_source : goal.decreases-read_source
 decreases-read_source g l = 5 * l.source.now.levels + 4

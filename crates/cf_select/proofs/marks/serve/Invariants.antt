@@ -5,4 +5,4 @@ use Rattle.cf_select.specs.Wanted.{wants_of}
 use Rattle.cf_select.proofs.marks.serve.Given as goal
 
 abbrev pub invariant-loop-attr : goal.invariant-loop-attr
-invariant-loop-attr l = Serves l.initial.waiting.lists l.initial.marks.items l.initial.order.items l.waiting.lists l.marks.items l.order.items (wants_of (inst_of l.inst) (take l.attr-index l.attr-items))
+invariant-loop-attr l = Serves l.initial.reached.waiting.lists l.initial.reached.marks.items l.initial.reached.order.items l.reached.waiting.lists l.reached.marks.items l.reached.order.items (wants_of (inst_of l.inst) (take l.attr-index l.attr-items))

@@ -5,24 +5,24 @@ use Rattle.cf_select.proofs.RootedLemmas.{listed_below, read_at, known_at, sprea
 use Rattle.cf_select.proofs.WantLemmas.{carried_wants, inst_got}
 use Rattle.cf_select.proofs.marks.spread.Goals as goal
 
-pub inst_at-requires : goal.inst_at-requires
-inst_at-requires c =
-    let within : c.loop-next.next < length c.loop-next.order.items = omega (arith, c.loop-next-test.true, c.len.ensures) in
-    let read : c.index.result.now ≡ get_or c.loop-next.order.items c.loop-next.next 0 = read_at c.loop-next.order.items c.loop-next.next c.index.result.now within c.index.ensures in
+pub inst_at-inst-requires : goal.inst_at-inst-requires
+inst_at-inst-requires c =
+    let within : c.loop-next.next < length c.loop-next.reached.order.items = omega (arith, c.loop-next-test.true, c.len.ensures) in
+    let read : c.index.result.now ≡ get_or c.loop-next.reached.order.items c.loop-next.next 0 = read_at c.loop-next.reached.order.items c.loop-next.next c.index.result.now within c.index.ensures in
     omega (arith, read, (listed_below _ _ _ _ _ _ _ _ within c.loop-next.invariant).1)
 
 pub serve-requires-clause-known : goal.serve-requires-clause-known
-serve-requires-clause-known c = known_at c.args.graph.now c.args.insts.now c.index.result.now c.inst_at.result.now c.requires.known c.inst_at.ensures
+serve-requires-clause-known c = known_at c.args.graph.now c.args.insts.now c.index.result.now c.inst_at-inst.result.now c.requires.known c.inst_at-inst.ensures
 
 pub loop-next-preserved : goal.loop-next-preserved
 loop-next-preserved c =
-    let within : c.loop-next.next < length c.loop-next.order.items = omega (arith, c.loop-next-test.true, c.len.ensures) in
-    let read : c.index.result.now ≡ get_or c.loop-next.order.items c.loop-next.next 0 = read_at c.loop-next.order.items c.loop-next.next c.index.result.now within c.index.ensures in
+    let within : c.loop-next.next < length c.loop-next.reached.order.items = omega (arith, c.loop-next-test.true, c.len.ensures) in
+    let read : c.index.result.now ≡ get_or c.loop-next.reached.order.items c.loop-next.next 0 = read_at c.loop-next.reached.order.items c.loop-next.next c.index.result.now within c.index.ensures in
     spread_more _ _ _ _ _ _ _ _ _ _ _ _ within c.loop-next.invariant c.in_ok-serve.ensures
-    (λ x. carried_wants c.args.graph.now (map inst_of c.args.insts.now) c.index.result.now (inst_of c.inst_at.result.now) x (inst_got c.args.insts.now c.index.result.now c.inst_at.result.now c.inst_at.ensures)
+    (λ x. carried_wants c.args.graph.now (map inst_of c.args.insts.now) c.index.result.now (inst_of c.inst_at-inst.result.now) x (inst_got c.args.insts.now c.index.result.now c.inst_at-inst.result.now c.inst_at-inst.ensures)
     ∙ ap (λ k. carries_at (offered_in c.args.graph.now) (map inst_of c.args.insts.now) k x) read)
 
 pub returns : goal.returns
 returns c =
-    let past : length c.loop-next.order.items ≤ c.loop-next.next = omega (arith, c.loop-next-test.false, c.len.ensures) in
+    let past : length c.loop-next.reached.order.items ≤ c.loop-next.next = omega (arith, c.loop-next-test.false, c.len.ensures) in
     spread_all _ _ _ _ _ _ _ _ past c.loop-next.invariant

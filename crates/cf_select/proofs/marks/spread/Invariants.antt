@@ -6,7 +6,7 @@ use Rattle.cf_select.proofs.RootedLemmas.{Spreads}
 use Rattle.cf_select.proofs.marks.spread.Given as goal
 
 abbrev pub invariant-loop-next : goal.invariant-loop-next
-invariant-loop-next l = Spreads (is_at_root_at (map inst_of l.insts)) (carries_at (offered_in l.graph) (map inst_of l.insts)) (wants_at (map inst_of l.insts)) (length l.insts) l.waiting.lists l.marks.items l.order.items l.next
+invariant-loop-next l = Spreads (is_at_root_at (map inst_of l.insts)) (carries_at (offered_in l.graph) (map inst_of l.insts)) (wants_at (map inst_of l.insts)) (length l.insts) l.reached.waiting.lists l.reached.marks.items l.reached.order.items l.next
 
 abbrev pub decreases-loop-next : goal.decreases-loop-next
 decreases-loop-next l = length l.insts - l.next
