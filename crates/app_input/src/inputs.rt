@@ -13,17 +13,18 @@ use crate::plans::load_plan;
 use crate::scripts::{Course, Scripted, load_scripted, load_scripts};
 use crate::stop::status_of_stop;
 use app_words::{Program, Status, Task, WordStop, Words, read_words};
-use cf_compile::{Compiled, compile};
+use cf_compile::compile;
 use cf_io::Files;
-use cf_types::{List, Machine, Script, Tables, Text};
+use cf_tables::Compiled;
+use cf_types::{List, Machine, Script, Text};
 use live_tables::Plan;
 use script_text::WatchLine;
 use std::alloc::Global;
 
-/// What the words ask for, read from the files that they name.
+/// What the words ask for, read from the files that they name. All tables have their graph with them.
 #[derive(Drop)]
 pub enum Inputs {
-    /// The tables of a configuration, with their graph. See config(5).
+    /// The tables of a configuration. See config(5).
     Ioconf {
         tables: Compiled,
     },
@@ -33,47 +34,47 @@ pub enum Inputs {
     },
     /// The tables of a configuration, and a machine that is to boot by them.
     Boot {
-        tables: Tables,
+        tables: Compiled,
         machine: Machine,
     },
     /// The same for a generated machine and its configuration; the machine has this many spots on its bus, 1 to 1,000.
     Load {
         count: u32,
-        tables: Tables,
+        tables: Compiled,
         machine: Machine,
     },
     /// The tables of a configuration and a machine, and a plan by which groups of rows come and go. See
     /// config_cfdata_attach(9).
     Follow {
-        tables: Tables,
+        tables: Compiled,
         machine: Machine,
         plan: Plan,
     },
     /// The same with 1 to 16 scripts to run after the boot, and the order of their turns: numbers of scripts, counted
     /// from 1. See drvctl(8).
     Play {
-        tables: Tables,
+        tables: Compiled,
         machine: Machine,
         scripts: List<Script>,
         order: List<u8>,
     },
     /// The same with a history to be checked in place of the order. The history is not judged yet.
     Replay {
-        tables: Tables,
+        tables: Compiled,
         machine: Machine,
         scripts: List<Script>,
         history: Text,
     },
     /// The same; the history is also to be written in format 2.
     Upgrade {
-        tables: Tables,
+        tables: Compiled,
         machine: Machine,
         scripts: List<Script>,
         history: Text,
     },
     /// The same with the lines of a watch file, which have turns, subscriptions and reads.
     Watch {
-        tables: Tables,
+        tables: Compiled,
         machine: Machine,
         scripts: List<Script>,
         watch: List<WatchLine>,
@@ -81,14 +82,14 @@ pub enum Inputs {
     /// The tables of a configuration, a machine that is to boot by them, and 1 to 16 scripts to run side by side after
     /// the boot. See drvctl(8).
     Run {
-        tables: Tables,
+        tables: Compiled,
         machine: Machine,
         scripts: List<Script>,
     },
 }
 
 /// Compiles the configuration.
-fn read_compiled<F: Files>(alloc: Global, files: &mut F, file: &[u8]) -> Result<Compiled, Status>
+fn read_tables<F: Files>(alloc: Global, files: &mut F, file: &[u8]) -> Result<Compiled, Status>
     ensures told { F.told files.new ≡ F.told files.old }
     ensures reads { ReadsTables (F.told files.old) file.now result }
     ensures asked { IfSome (F.told files.old)
@@ -102,21 +103,6 @@ fn read_compiled<F: Files>(alloc: Global, files: &mut F, file: &[u8]) -> Result<
     }
 }
 
-/// Compiles the configuration to its tables, without their graph.
-fn read_tables<F: Files>(alloc: Global, files: &mut F, file: &[u8]) -> Result<Tables, Status>
-    ensures told { F.told files.new ≡ F.told files.old }
-    ensures reads { ReadsTables (F.told files.old) file.now result }
-    ensures asked { IfSome (F.told files.old)
-        (λ named. IsAskedFor (reading named file.now).asked (status_of result) (F.asked files.old) (F.asked files.new)) }
-    ensures counted { Counts (F.faults files.old) (F.faults files.new) result }
-    ensures formed { IfOk result FormedTables }
-{
-    match read_compiled(alloc, files, file) {
-        Ok(compiled) => Ok(compiled.into_tables()),
-        Err(status) => Err(status),
-    }
-}
-
 /// Reads the inputs of `ioconf FILE`.
 fn read_ioconf<F: Files>(alloc: Global, files: &mut F, file: &[u8]) -> Result<Inputs, Status>
     ensures told { F.told files.new ≡ F.told files.old }
@@ -126,7 +112,7 @@ fn read_ioconf<F: Files>(alloc: Global, files: &mut F, file: &[u8]) -> Result<In
     ensures counted { Counts (F.faults files.old) (F.faults files.new) result }
     ensures formed { IfOk result FormedInputs }
 {
-    match read_compiled(alloc, files, file) {
+    match read_tables(alloc, files, file) {
         Ok(tables) => Ok(Inputs::Ioconf { tables }),
         Err(status) => Err(status),
     }
@@ -212,7 +198,7 @@ fn read_follow<F: Files>(
 }
 
 /// The inputs of a machine and its scripts with their course.
-fn inputs_by(tables: Tables, machine: Machine, run: Scripted) -> Inputs
+fn inputs_by(tables: Compiled, machine: Machine, run: Scripted) -> Inputs
     ensures { result ≡ inputs_by tables machine run }
 {
     let Scripted { scripts, course } = run;

@@ -9,6 +9,7 @@ ghost use Rattle.app_words.specs.Status.{Counts, status_of};
 use crate::file::load_file;
 use app_words::Status;
 use cf_io::Files;
+use cf_tables::Compiled;
 use cf_types::{Machine, Tables};
 use machine_model::{MachineStop, read_machine};
 use std::alloc::Global;
@@ -32,7 +33,7 @@ pub fn load_machine<F: Files>(
     alloc: Global,
     files: &mut F,
     name: &[u8],
-    tables: &Tables,
+    tables: &Compiled,
 ) -> Result<Machine, Status>
     requires { FormedTables tables.now }
     ensures told { F.told files.new ≡ F.told files.old }
@@ -42,7 +43,7 @@ pub fn load_machine<F: Files>(
     ensures fits { IfOk result (λ machine. FittingMachine tables.now machine) }
 {
     match load_file(alloc, files, name) {
-        Ok(text) => judge(alloc, text.items(), tables),
+        Ok(text) => judge(alloc, text.items(), tables.tables()),
         Err(status) => Err(status),
     }
 }

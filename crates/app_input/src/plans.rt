@@ -11,6 +11,7 @@ ghost use Rattle.app_words.specs.Status.{Counts, status_of};
 use crate::file::load_file;
 use app_words::Status;
 use cf_io::Files;
+use cf_tables::Compiled;
 use cf_types::Tables;
 use live_tables::{Plan, read_plan};
 use script_text::ScriptStop;
@@ -39,7 +40,7 @@ pub fn load_plan<F: Files>(
     alloc: Global,
     files: &mut F,
     name: &[u8],
-    tables: &Tables,
+    tables: &Compiled,
 ) -> Result<Plan, Status>
     requires { FormedTables tables.now }
     ensures told { F.told files.new ≡ F.told files.old }
@@ -50,7 +51,7 @@ pub fn load_plan<F: Files>(
     ensures formed { IfOk result FormedPlan }
 {
     match load_file(alloc, files, name) {
-        Ok(text) => judge_plan(alloc, text.items(), tables),
+        Ok(text) => judge_plan(alloc, text.items(), tables.tables()),
         Err(status) => Err(status),
     }
 }

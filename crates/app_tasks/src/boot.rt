@@ -4,12 +4,13 @@ ghost use Rattle.config_rules.specs.Formed.{FittingMachine, FormedTables};
 ghost use Rattle.run_rules.specs.World.{setup_of};
 ghost use Rattle.app_tasks.specs.Ran.{IsBootOf};
 
-use cf_types::{List, Machine, Memory, Tables};
+use cf_tables::Compiled;
+use cf_types::{List, Machine, Memory};
 use dev_board::{Board, booted_board};
 use std::alloc::Global;
 
 /// The board of a machine after its boot, without scripts.
-pub fn booted(alloc: Global, tables: Tables, machine: Machine) -> Result<Board, Memory>
+pub fn booted(alloc: Global, tables: Compiled, machine: Machine) -> Result<Board, Memory>
     requires formed { FormedTables tables }
     requires fits { FittingMachine tables machine }
     ensures { IfOk result (IsBootOf (setup_of tables machine [])) }

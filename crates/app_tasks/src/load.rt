@@ -5,14 +5,15 @@ ghost use Rattle.app_tasks.specs.Summary.{IsSummary};
 
 use crate::boot::booted;
 use crate::summary::summary_of;
-use cf_types::{Machine, Memory, Tables};
+use cf_tables::Compiled;
+use cf_types::{Machine, Memory};
 use std::alloc::Global;
 
 /// The summary of the boot of a generated machine with this many spots on its bus.
 pub fn loaded(
     alloc: Global,
     count: u32,
-    tables: Tables,
+    tables: Compiled,
     machine: Machine,
 ) -> Result<Vec<u8>, Memory>
     requires formed { FormedTables tables }

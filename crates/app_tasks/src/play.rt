@@ -5,14 +5,15 @@ ghost use Rattle.config_rules.specs.ScriptText.{FormedScript};
 ghost use Rattle.run_rules.specs.World.{setup_of};
 ghost use Rattle.app_tasks.specs.Ran.{IsPlayOf};
 
-use cf_types::{List, Machine, Memory, Script, Tables};
+use cf_tables::Compiled;
+use cf_types::{List, Machine, Memory, Script};
 use dev_board::{Board, booted_board, run_turns};
 use std::alloc::Global;
 
 /// The board of a machine after its boot and the turns of an order over its scripts. See drvctl(8).
 pub fn played(
     alloc: Global,
-    tables: Tables,
+    tables: Compiled,
     machine: Machine,
     scripts: List<Script>,
     order: &[u8],

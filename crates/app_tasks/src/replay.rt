@@ -7,7 +7,8 @@ ghost use Rattle.run_rules.specs.World.{setup_of};
 ghost use Rattle.app_tasks.specs.Retold.{Retells, RetellsRun};
 
 use app_words::Status;
-use cf_types::{List, Machine, Script, Tables, Text};
+use cf_tables::Compiled;
+use cf_types::{List, Machine, Script, Text};
 use history_replay::{ReplayStop, Replayed, reread};
 use std::alloc::Global;
 
@@ -24,7 +25,7 @@ pub struct RetoldRun {
 /// status can count.
 fn reread_history(
     alloc: Global,
-    tables: &Tables,
+    tables: &Compiled,
     machine: &Machine,
     scripts: &[Script],
     history: &[u8],
@@ -47,7 +48,7 @@ fn reread_history(
 /// line. See drvctl(8).
 pub fn retold(
     alloc: Global,
-    tables: Tables,
+    tables: Compiled,
     machine: Machine,
     scripts: List<Script>,
     history: Text,

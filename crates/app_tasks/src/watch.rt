@@ -9,7 +9,8 @@ ghost use Rattle.script_text.specs.WatchText.{FormedWatchLine};
 ghost use Rattle.app_tasks.specs.Watched.{IsWatchOf, after_readings, readings};
 ghost use Rattle.app_tasks.specs.Watching.{IsAt, IsReady, TakesLine, TakesLines};
 
-use cf_types::{List, Machine, Memory, Script, Tables};
+use cf_tables::Compiled;
+use cf_types::{List, Machine, Memory, Script};
 use dev_board::{Board, run_boot, run_turns};
 use dev_monitor::{Monitor, Reading};
 use ref_ledger::PlainSlots;
@@ -107,7 +108,7 @@ fn take_lines(watch: &mut Watch, lines: &[WatchLine]) -> Result<(), Memory>
 /// A run that is about to boot, and that nobody watches yet.
 fn begin(
     alloc: Global,
-    tables: Tables,
+    tables: Compiled,
     machine: Machine,
     scripts: List<Script>,
 ) -> Result<Watch, Memory>
@@ -139,7 +140,7 @@ fn begin(
 /// drvctl(4) and drvctl(8).
 pub fn watched(
     alloc: Global,
-    tables: Tables,
+    tables: Compiled,
     machine: Machine,
     scripts: List<Script>,
     lines: &[WatchLine],

@@ -10,7 +10,7 @@ ghost use Rattle.cf_compile.specs.Meant.{IsMeant, IsSplit, inst_of, written_unit
 
 use attr_graph::Graph;
 use cf_options::items;
-use cf_rows::{Split, rows_of, split_by_marks, warnings};
+use cf_rows::{Split, Warned, rows_of, split_by_marks, warnings};
 use cf_select::{Inst, rooted};
 use cf_types::{Declared, Instance, List, Memory, Placed, Tables, Text, UnitMark};
 use std::alloc::Global;
@@ -94,14 +94,12 @@ pub fn tables_of(
     drop(rooted);
     drop(instances);
     let kept = items(alloc, placed)?;
-    let warnings = warnings(
-        alloc,
-        files,
-        placed,
-        idle,
-        kept.idle.items(),
-        orphans.items(),
-    )?;
+    let warned = Warned {
+        instances: idle,
+        items: kept.idle.items(),
+        orphans: orphans.items(),
+    };
+    let warnings = warnings(alloc, files, placed, &warned)?;
     Ok(Tables {
         attrs: lists.attrs,
         devices: lists.devices,

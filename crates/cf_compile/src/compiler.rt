@@ -9,13 +9,13 @@ ghost use Rattle.config_rules.specs.Written.{AreWritten};
 ghost use Rattle.cf_compile.specs.Meant.{Finds, IsMeant, read_from, reading_of};
 
 use crate::build::tables_of;
-use crate::compiled::Compiled;
 use crate::judge::{Standing, Verdict, judge};
 use crate::stop::CompileStop;
 use crate::tokens::without_tokens;
 use cf_expand::expand;
 use cf_io::Files;
 use cf_select::{Kept, survivors};
+use cf_tables::Compiled;
 use cf_types::{Expanded, Memory, Placed, Refusal, Text};
 use std::alloc::Global;
 

@@ -16,13 +16,14 @@ use cf_expand::expand;
 use cf_io::Files;
 use cf_rows::Split;
 use cf_select::{Kept, survivors};
-use cf_types::{Expanded, List, Memory, Placed, Tables, Text};
+use cf_tables::Compiled;
+use cf_types::{Expanded, List, Memory, Placed, Text};
 use std::alloc::Global;
 
-/// The tables of a configuration, with the statements that they were made from.
+/// The tables of a configuration with their graph, and the statements that they were made from.
 #[derive(Drop)]
 pub struct Known {
-    pub tables: Tables,
+    pub tables: Compiled,
     /// The statements in reading order.
     pub placed: List<Placed>,
     /// The names of the files, in the order in which they were loaded.
@@ -71,15 +72,14 @@ fn known_of(alloc: Global, read: Expanded) -> Result<Known, CompileStop>
         files,
         fault,
     } = read;
-    let compiled = match compile_placed(alloc, files.items(), placed.items(), fault) {
-        Ok(compiled) => compiled,
+    let tables = match compile_placed(alloc, files.items(), placed.items(), fault) {
+        Ok(tables) => tables,
         Err(stop) => {
             drop(placed);
             drop(files);
             return Err(stop);
         }
     };
-    let tables = compiled.into_tables();
     match orphans_of(alloc, files.items(), placed.items()) {
         Ok(orphans) => Ok(Known {
             tables,

@@ -2,14 +2,13 @@
 #![tactic(auto)]
 
 mod build;
-mod compiled;
 mod compiler;
 mod judge;
 mod known;
 mod stop;
 mod tokens;
 
-pub use compiled::Compiled;
+pub use cf_tables::Compiled;
 pub use compiler::compile;
 pub use judge::refusal;
 pub use known::{Known, compile_known};

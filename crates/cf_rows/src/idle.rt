@@ -1,6 +1,5 @@
 ghost use Rattle.std.specs.Prelude.{◌≡◌, ◌≤◌, ◌==◌, ◌++◌, [], drop, length, replicate, IfOk, OnOk};
 ghost use Rattle.std.specs.List.{prefix_len, slice_index_or};
-ghost use Rattle.cf_types.specs.declared.tables.WarnKind.TheVariants as warns;
 ghost use Rattle.config_rules.specs.Meaning.{warning, warnings};
 ghost use Rattle.cf_rows.specs.Idle.{ArePlacesOfNegations, ArePlacesOfNames, ArePlacesOfOrphans};
 
@@ -39,36 +38,38 @@ fn shared_name(alloc: Global, files: &[SharedText], file: u32) -> Result<SharedT
     }
 }
 
+/// A statement with its place, and the names of files that its warnings share.
+#[derive(Drop)]
+struct Source<'a> {
+    alloc: Global,
+    files: &'a [SharedText],
+    statement: &'a Placed,
+    place: usize,
+}
+
 /// A warning at the file and line of a statement.
 #[inline(always)]
-fn make_warning(
-    alloc: Global,
-    files: &[SharedText],
-    statement: &Placed,
-    kind: WarnKind,
-) -> Result<Warning, Memory>
-    ensures { IfOk result (λ made. made ≡ warning files.now statement.now kind) }
+fn make_warning(source: &Source, kind: WarnKind) -> Result<Warning, Memory>
+    ensures { IfOk result (λ made. made ≡ warning source.now.files.now source.now.statement.now kind) }
 {
     Ok(Warning {
-        file: shared_name(alloc, files, statement.file)?,
-        line: statement.line,
+        file: shared_name(source.alloc, source.files, source.statement.file)?,
+        line: source.statement.line,
         kind,
     })
 }
 
 /// Appends this many warnings of one kind.
 fn push_warnings(
-    alloc: Global,
     out: &mut List<Warning>,
-    files: &[SharedText],
-    statement: &Placed,
+    source: &Source,
     kind: WarnKind,
     count: usize,
 ) -> Result<(), Memory>
-    ensures { OnOk result (out.new ≡ out.old ++ replicate count (warning files.now statement.now kind)) }
+    ensures { OnOk result (out.new ≡ out.old ++ replicate count (warning source.now.files.now source.now.statement.now kind)) }
 {
     for _time in 0..count {
-        out.push(make_warning(alloc, files, statement, kind)?)?;
+        out.push(make_warning(source, kind)?)?;
     }
     Ok(())
 }
@@ -88,106 +89,83 @@ fn front_count(places: &[u32], place: usize) -> usize
     count
 }
 
-/// Appends a warning for each time that the place is at the beginning, and returns the places after that.
+/// Appends a warning for each time that the place of a statement is at the beginning, and returns the places after that.
 fn push_front<'a>(
-    alloc: Global,
     out: &mut List<Warning>,
-    files: &[SharedText],
-    statement: &Placed,
-    place: usize,
+    source: &Source,
+    kind: WarnKind,
     places: &'a [u32],
 ) -> Result<&'a [u32], Memory>
-    ensures pushed { OnOk result (out.new ≡ out.old ++ replicate (prefix_len (λ p. p == place) places.now) (warning files.now statement.now warns.Nothing)) }
-    ensures left { IfOk result (λ left. left.now ≡ drop (prefix_len (λ p. p == place) places.now) places.now) }
+    ensures pushed { OnOk result (out.new ≡ out.old
+        ++ replicate (prefix_len (λ p. p == source.now.place) places.now) (warning source.now.files.now source.now.statement.now kind)) }
+    ensures left { IfOk result (λ left. left.now ≡ drop (prefix_len (λ p. p == source.now.place) places.now) places.now) }
 {
-    let count = front_count(places, place);
+    let count = front_count(places, source.place);
     if count == 0 {
         return Ok(places);
     }
-    push_warnings(alloc, out, files, statement, WarnKind::Nothing, count)?;
+    push_warnings(out, source, kind, count)?;
     Ok(&places[count..])
 }
 
-/// Appends a warning if the first of the orphans is of this statement, and returns the places of the remaining ones.
-fn push_orphan<'a>(
-    alloc: Global,
-    out: &mut List<Warning>,
-    files: &[SharedText],
-    statement: &Placed,
-    place: usize,
-    orphans: &'a [u32],
-) -> Result<&'a [u32], Memory>
-    ensures pushed { OnOk result (out.new ≡ out.old ++ replicate (prefix_len (λ p. p == place) orphans.now) (warning files.now statement.now warns.Orphan)) }
-    ensures left { IfOk result (λ left. left.now ≡ drop (prefix_len (λ p. p == place) orphans.now) orphans.now) }
-{
-    let count = front_count(orphans, place);
-    if count == 0 {
-        return Ok(orphans);
-    }
-    push_warnings(alloc, out, files, statement, WarnKind::Orphan, count)?;
-    Ok(&orphans[count..])
+/// The places of the statements that get warnings, in order: of negations of instances that take nothing back; of negations of
+/// items, once for each name that takes nothing back; and of orphans.
+#[derive(Drop)]
+pub struct Warned<'a> {
+    pub instances: &'a [u32],
+    pub items: &'a [u32],
+    pub orphans: &'a [u32],
 }
 
 /// No warning, with room for one for each of these places.
-fn room_for(
-    alloc: Global,
-    idle_instances: &[u32],
-    idle_items: &[u32],
-    orphans: &[u32],
-) -> Result<List<Warning>, Memory>
+fn room_for(alloc: Global, warned: &Warned) -> Result<List<Warning>, Memory>
     ensures { IfOk result (λ made. made ≡ []) }
 {
-    let count = idle_instances.len() + idle_items.len() + orphans.len();
+    let count = warned.instances.len() + warned.items.len() + warned.orphans.len();
     Ok(List::from_vec(Vec::with_capacity(alloc, count)?))
 }
 
-/// The warnings of statements in their order, at the places that these lists give.
+/// The warnings of statements in their order, at these places.
 fn merged(
     alloc: Global,
     files: &[SharedText],
     placed: &[Placed],
-    idle_instances: &[u32],
-    idle_items: &[u32],
-    orphans: &[u32],
+    warned: &Warned,
 ) -> Result<List<Warning>, Memory>
-    requires instances { ArePlacesOfNegations idle_instances.now placed.now }
-    requires items { ArePlacesOfNames idle_items.now placed.now }
-    ensures { IfOk result (λ made. (insts : _) → ArePlacesOfOrphans orphans.now insts → made ≡ warnings files.now insts [] placed.now) }
+    requires instances { ArePlacesOfNegations warned.now.instances.now placed.now }
+    requires items { ArePlacesOfNames warned.now.items.now placed.now }
+    ensures { IfOk result (λ made. (insts : _) → ArePlacesOfOrphans warned.now.orphans.now insts → made ≡ warnings files.now insts [] placed.now) }
 {
-    let mut made = room_for(alloc, idle_instances, idle_items, orphans)?;
-    let mut instances = idle_instances;
-    let mut items = idle_items;
-    let mut left = orphans;
+    let mut made = room_for(alloc, warned)?;
+    let mut instances = warned.instances;
+    let mut items = warned.items;
+    let mut left = warned.orphans;
     for (place, statement) in placed.iter().enumerate() {
-        instances = push_front(alloc, &mut made, files, statement, place, instances)?;
-        items = push_front(alloc, &mut made, files, statement, place, items)?;
-        left = push_orphan(alloc, &mut made, files, statement, place, left)?;
+        let source = Source {
+            alloc,
+            files,
+            statement,
+            place,
+        };
+        instances = push_front(&mut made, &source, WarnKind::Nothing, instances)?;
+        items = push_front(&mut made, &source, WarnKind::Nothing, items)?;
+        left = push_front(&mut made, &source, WarnKind::Orphan, left)?;
     }
     Ok(made)
 }
 
 /// The warnings of a configuration in the order of its statements: one for each negation of instances and for each name
-/// in a negation of items that takes nothing back, and one for each orphan. The places are those of such negations and
-/// of the orphans, in order; the place of a negation of items is there once for each such name. See config(5).
+/// in a negation of items that takes nothing back, and one for each orphan. See config(5).
 pub fn warnings(
     alloc: Global,
     files: &[Text],
     placed: &[Placed],
-    idle_instances: &[u32],
-    idle_items: &[u32],
-    orphans: &[u32],
+    warned: &Warned,
 ) -> Result<List<Warning>, Memory>
-    requires instances { ArePlacesOfNegations idle_instances.now placed.now }
-    requires items { ArePlacesOfNames idle_items.now placed.now }
-    ensures { IfOk result (λ made. (insts : _) → ArePlacesOfOrphans orphans.now insts → made ≡ warnings files.now insts [] placed.now) }
+    requires instances { ArePlacesOfNegations warned.now.instances.now placed.now }
+    requires items { ArePlacesOfNames warned.now.items.now placed.now }
+    ensures { IfOk result (λ made. (insts : _) → ArePlacesOfOrphans warned.now.orphans.now insts → made ≡ warnings files.now insts [] placed.now) }
 {
     let names = shared_names(alloc, files)?;
-    merged(
-        alloc,
-        names.items(),
-        placed,
-        idle_instances,
-        idle_items,
-        orphans,
-    )
+    merged(alloc, names.items(), placed, warned)
 }

@@ -8,6 +8,6 @@ mod marks;
 mod rows;
 mod units;
 
-pub use idle::{file_name, warnings};
+pub use idle::{Warned, file_name, warnings};
 pub use marks::{Split, split_by_marks};
 pub use rows::rows_of;

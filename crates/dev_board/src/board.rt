@@ -69,31 +69,6 @@ impl Board {
     /// drvctl(8) commands.
     pub fn start(
         alloc: Global,
-        tables: Tables,
-        machine: Machine,
-        scripts: List<Script>,
-    ) -> Result<Board, Memory>
-        requires tables { FormedTables tables }
-        requires machine { FittingMachine tables machine }
-        requires few_scripts { length scripts ≤ 16 }
-        requires scripts { All FormedScript scripts }
-        ensures world { IfOk result (λ b. b.world ≡ opening (setup_of tables machine scripts)) }
-        ensures events { IfOk result (λ b. b.events ≡ []) }
-        ensures stops { IfOk result (λ b. (b.stops ≡ 0) × (b.stopped ≡ None)) }
-    {
-        match Compiled::of(alloc, tables) {
-            Ok(tables) => Board::start_with(alloc, tables, machine, scripts),
-            Err(stop) => {
-                drop(machine);
-                drop(scripts);
-                Err(stop)
-            }
-        }
-    }
-
-    /// The same, by tables that have their graph.
-    pub fn start_with(
-        alloc: Global,
         tables: Compiled,
         machine: Machine,
         scripts: List<Script>,

@@ -8,7 +8,7 @@ ghost use Rattle.dev_board.specs.Booting.{IsNew, IsStarted};
 use crate::board::Board;
 use crate::boot::run_boot;
 use cf_tables::Compiled;
-use cf_types::{List, Machine, Memory, Script, Tables};
+use cf_types::{List, Machine, Memory, Script};
 use ref_ledger::PlainSlots;
 use std::alloc::Global;
 use std::mem::drop;
@@ -41,25 +41,6 @@ fn with_slots(alloc: Global, mut board: Board) -> Result<(Board, PlainSlots), Me
 /// The board of a machine after its boot, with its slots. See autoconf(9).
 pub fn booted_board(
     alloc: Global,
-    tables: Tables,
-    machine: Machine,
-    scripts: List<Script>,
-) -> Result<(Board, PlainSlots), Memory>
-    requires tables { FormedTables tables }
-    requires machine { FittingMachine tables machine }
-    requires few_scripts { length scripts ≤ 16 }
-    requires scripts { All FormedScript scripts }
-    ensures { IfOk result (λ r. IsStarted (setup_of tables machine scripts) r.0 r.1) }
-{
-    match Board::start(alloc, tables, machine, scripts) {
-        Ok(board) => with_slots(alloc, board),
-        Err(_) => Err(Memory),
-    }
-}
-
-/// The same, by tables that have their graph.
-pub fn booted_with(
-    alloc: Global,
     tables: Compiled,
     machine: Machine,
     scripts: List<Script>,
@@ -70,7 +51,7 @@ pub fn booted_with(
     requires scripts { All FormedScript scripts }
     ensures { IfOk result (λ r. IsStarted (setup_of tables machine scripts) r.0 r.1) }
 {
-    match Board::start_with(alloc, tables, machine, scripts) {
+    match Board::start(alloc, tables, machine, scripts) {
         Ok(board) => with_slots(alloc, board),
         Err(_) => Err(Memory),
     }

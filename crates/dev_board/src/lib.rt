@@ -23,7 +23,7 @@ mod waiting;
 pub use answer::{Answer, LeaseStep};
 pub use board::Board;
 pub use boot::run_boot;
-pub use booted::{booted_board, booted_with};
+pub use booted::booted_board;
 pub use io_result::IoResult;
 pub use posted::Posted;
 pub use run_rules::Wait;

@@ -14,8 +14,8 @@ use crate::boot::booted;
 use crate::known::Met;
 use crate::search::worlds_from;
 use crate::ways::{Noted, Way, notes_of, ways_of};
-use attr_graph::graph_of;
-use cf_types::{Machine, Memory, Script, Tables};
+use cf_tables::Compiled;
+use cf_types::{Machine, Memory, Script};
 use plain_search::Seeker;
 use plain_world::{Plain, Rules, opening, stretches_of};
 use std::alloc::Global;
@@ -90,7 +90,7 @@ fn every_under(alloc: Global, rules: &Rules, most: u32) -> Result<Option<Every>,
 /// than the bound.
 pub fn every_order(
     alloc: Global,
-    tables: &Tables,
+    tables: &Compiled,
     machine: &Machine,
     scripts: &[Script],
     most: u32,
@@ -101,13 +101,10 @@ pub fn every_order(
     requires scripts { All FormedScript scripts.now }
     ensures { IfOk result (IsEveryOrder (setup_of tables.now machine.now scripts.now) most) }
 {
-    let Ok(graph) = graph_of(alloc, tables) else {
-        return Err(Memory);
-    };
     let stretches = stretches_of(alloc, machine)?;
     let rules = Rules {
-        tables,
-        graph: &graph,
+        tables: tables.tables(),
+        graph: tables.graph(),
         machine,
         stretches: &stretches,
         scripts,

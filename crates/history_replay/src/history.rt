@@ -12,6 +12,7 @@ ghost use Rattle.history_replay.specs.Stops.{IsReliableTree, IsReplay, Replays, 
 
 use crate::reader::read_history;
 use attr_graph::graph_of;
+use cf_tables::Compiled;
 use cf_types::{DevLine, List, Machine, Script, Tables};
 use plain_names::tree_lines;
 use plain_world::{Plain, Rules, opening, stretches_of};
@@ -43,7 +44,7 @@ pub enum ReplayStop {
 /// and the device tree that they lead to, or the first bad line. The events that it returns are lawful.
 pub fn reread(
     alloc: Global,
-    tables: &Tables,
+    tables: &Compiled,
     machine: &Machine,
     scripts: &[Script],
     text: &[u8],
@@ -56,15 +57,12 @@ pub fn reread(
     ensures lawful { IfOk result (λ told. Lawful told.events) }
     ensures tree { IfOk result (λ told. TellsTree told.events told.tree) }
 {
-    let Ok(graph) = graph_of(alloc, tables) else {
-        return Err(ReplayStop::Memory);
-    };
     let Ok(stretches) = stretches_of(alloc, machine) else {
         return Err(ReplayStop::Memory);
     };
     let rules = Rules {
-        tables,
-        graph: &graph,
+        tables: tables.tables(),
+        graph: tables.graph(),
         machine,
         stretches: &stretches,
         scripts,
@@ -87,7 +85,20 @@ pub fn replay(
     ensures replays { Replays (setup_of tables.now machine.now scripts.now) text.now result }
     ensures reliable { IfOk result (IsReliableTree (setup_of tables.now machine.now scripts.now) text.now) }
 {
-    match reread(alloc, tables, machine, scripts, text) {
+    let Ok(graph) = graph_of(alloc, tables) else {
+        return Err(ReplayStop::Memory);
+    };
+    let Ok(stretches) = stretches_of(alloc, machine) else {
+        return Err(ReplayStop::Memory);
+    };
+    let rules = Rules {
+        tables,
+        graph: &graph,
+        machine,
+        stretches: &stretches,
+        scripts,
+    };
+    match reread_under(alloc, &rules, text) {
         Ok(replayed) => Ok(replayed.tree),
         Err(stop) => Err(stop),
     }

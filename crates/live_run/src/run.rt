@@ -9,7 +9,7 @@ ghost use Rattle.live_run.specs.Told.{Tells, commands_texts, site_of};
 
 use crate::told::{push_answer, push_tree, push_word};
 use cf_tables::Compiled;
-use cf_types::{List, Machine, Memory, Tables, Text};
+use cf_types::{List, Machine, Memory, Text};
 use live_tables::{LiveLine, LiveReply, LiveTables, Plan, PlanCommand};
 use std::alloc::Global;
 use std::mem::drop;
@@ -104,7 +104,7 @@ fn lines_by(
 /// each command with its reply and its lines, then the device tree that is left.
 pub fn live_run(
     alloc: Global,
-    tables: Tables,
+    tables: Compiled,
     machine: Machine,
     plan: Plan,
 ) -> Result<LiveRun, Memory>
@@ -115,7 +115,6 @@ pub fn live_run(
     ensures lines { IfOk result (λ run. run.lines ≡ live_texts (site_of tables machine plan) plan.commands) }
 {
     let Plan { groups, commands } = plan;
-    let tables = Compiled::of(alloc, tables)?;
     let mut live = LiveTables::start(alloc, tables, machine, groups)?;
     match lines_by(alloc, &mut live, commands.items()) {
         Ok(lines) => Ok(LiveRun {

@@ -10,7 +10,8 @@ ghost use Rattle.sample_machine.specs.Ready.{IsReady};
 use app_input::{Inputs, read_inputs};
 use app_words::{Program, Status};
 use cf_io::{MemFile, MemFiles};
-use cf_types::{List, Machine, Memory, Script, Tables, Text};
+use cf_tables::Compiled;
+use cf_types::{List, Machine, Memory, Script, Text};
 use dev_board::{Board, booted_board};
 use std::alloc::Global;
 
@@ -65,7 +66,7 @@ fn words_of(alloc: Global, scripts: usize) -> Result<Vec<String>, Memory> {
 // The board of a machine after its boot; none if memory ran out.
 fn ready_board(
     alloc: Global,
-    tables: Tables,
+    tables: Compiled,
     machine: Machine,
     scripts: List<Script>,
 ) -> Option<Board>

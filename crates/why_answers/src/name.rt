@@ -10,9 +10,9 @@ ghost use Rattle.why_answers.specs.Answers.{IsAnswer, answer_by, spot_by};
 
 use crate::near_rows::near_answer;
 use crate::spot::spot_lines;
-use attr_graph::graph_of;
 use boot_looks::{BootLooks, boot_looks};
-use cf_types::{List, Machine, Memory, Tables, Text};
+use cf_tables::Compiled;
+use cf_types::{List, Machine, Memory, Text};
 use gone_rows::Statements;
 use plain_names::device_named;
 use plain_world::{Plain, Rules, spot_named, stretches_of};
@@ -74,7 +74,7 @@ fn lines_under(
 /// configuration that are not in the tables; `None` if it has neither and is no driver. See autoconf(9).
 pub fn why_lines(
     alloc: Global,
-    tables: &Tables,
+    tables: &Compiled,
     machine: &Machine,
     stated: &Statements,
     name: &[u8],
@@ -83,13 +83,10 @@ pub fn why_lines(
     requires machine { FittingMachine tables.now machine.now }
     ensures { IfOk result (IsAnswer (setup_of tables.now machine.now []) (stated_by stated.now) name.now) }
 {
-    let Ok(graph) = graph_of(alloc, tables) else {
-        return Err(Memory);
-    };
     let stretches = stretches_of(alloc, machine)?;
     let rules = Rules {
-        tables,
-        graph: &graph,
+        tables: tables.tables(),
+        graph: tables.graph(),
         machine,
         stretches: &stretches,
         scripts: &[],

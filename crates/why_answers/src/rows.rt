@@ -1,15 +1,18 @@
 //! The rows of a configuration that a word names.
 ghost use Rattle.std.specs.Prelude.{◌≡◌, ◌≤◌, ◌^◌, IfOk, length};
 ghost use Rattle.cf_text.specs.Split.{split_of};
+ghost use Rattle.attr_graph.specs.Graphs.{IsGraphOf, declared_by};
 ghost use Rattle.config_rules.specs.Formed.{FormedTables};
 ghost use Rattle.why_answers.specs.Rows.{carries, count_text, first_row, has_row, is_driver, is_meant, names_row, row_text, rows_lines, rows_named};
 ghost use Rattle.gone_rows.specs.Gone.{stated_by};
 ghost use Rattle.why_answers.specs.Known.{known_answer, says};
 
+use attr_graph::Graph;
+use cf_tables::Compiled;
 use cf_text::{Split, split_unit};
 use cf_types::{List, Memory, Row, Tables, Text, put_bytes, put_decimal};
 use gone_rows::{Statements, begins, put_gone};
-use ioconf_text::put_line;
+use ioconf_text::put_line_with;
 use std::alloc::Global;
 use why_text::device_name;
 
@@ -79,13 +82,14 @@ fn first_row(tables: &Tables) -> u32
 }
 
 /// The row of a number as in the listing; empty if there is none.
-fn row_line(alloc: Global, tables: &Tables, number: u32) -> Result<Text, Memory>
-    requires { FormedTables tables.now }
+fn row_line(alloc: Global, tables: &Tables, graph: &Graph, number: u32) -> Result<Text, Memory>
+    requires formed { FormedTables tables.now }
+    requires graph { IsGraphOf (declared_by tables.now) graph.now }
     ensures { IfOk result (λ line. line ≡ row_text tables.now number) }
 {
     let mut line = Vec::new(alloc);
     if (number as usize) < tables.rows.len() {
-        put_line(tables, first_row(tables) + number, &mut line)?;
+        put_line_with(tables, graph, first_row(tables) + number, &mut line)?;
     }
     Ok(List::from_vec(line))
 }
@@ -107,17 +111,19 @@ pub fn count_line(alloc: Global, word: &[u8], count: usize) -> Result<Text, Memo
 fn rows_lines(
     alloc: Global,
     tables: &Tables,
+    graph: &Graph,
     word: &[u8],
     rows: &[u32],
 ) -> Result<Vec<Text>, Memory>
     requires formed { FormedTables tables.now }
+    requires graph { IsGraphOf (declared_by tables.now) graph.now }
     requires few { length rows.now ≤ 2 ^ 32 }
     ensures { IfOk result (λ lines. lines.items ≡ rows_lines tables.now word.now rows.now) }
 {
     let mut lines = Vec::new(alloc);
     lines.push(count_line(alloc, word, rows.len())?)?;
     for number in rows {
-        lines.push(row_line(alloc, tables, *number)?)?;
+        lines.push(row_line(alloc, tables, graph, *number)?)?;
     }
     Ok(lines)
 }
@@ -140,23 +146,38 @@ pub fn says(tables: &Tables, word: &[u8], lines: &[Text]) -> bool
     lines.len() > 1 || is_driver(tables, word)
 }
 
+/// The lines for a word by tables and their graph.
+fn answer_in(
+    alloc: Global,
+    tables: &Tables,
+    graph: &Graph,
+    stated: &Statements,
+    word: &[u8],
+) -> Result<Option<List<Text>>, Memory>
+    requires formed { FormedTables tables.now }
+    requires graph { IsGraphOf (declared_by tables.now) graph.now }
+    ensures { IfOk result (λ lines. lines ≡ known_answer tables.now (stated_by stated.now) word.now) }
+{
+    let rows = rows_named(alloc, tables, word)?;
+    let mut lines = rows_lines(alloc, tables, graph, word, &rows)?;
+    put_gone(alloc, &mut lines, stated, word)?;
+    if !says(tables, word, &lines) {
+        return Ok(None);
+    }
+    Ok(Some(List::from_vec(lines)))
+}
+
 /// The rows of the tables that a word names, as in the listing, below a line with their count: those of a driver, or those that
 /// may attach a device of the name. Behind them a line for each instance of the name that is not in the tables. `None` if there is
 /// neither, and the name is no driver. See config(5).
 pub fn known_answer(
     alloc: Global,
-    tables: &Tables,
+    tables: &Compiled,
     stated: &Statements,
     word: &[u8],
 ) -> Result<Option<List<Text>>, Memory>
     requires { FormedTables tables.now }
     ensures { IfOk result (λ lines. lines ≡ known_answer tables.now (stated_by stated.now) word.now) }
 {
-    let rows = rows_named(alloc, tables, word)?;
-    let mut lines = rows_lines(alloc, tables, word, &rows)?;
-    put_gone(alloc, &mut lines, stated, word)?;
-    if !says(tables, word, &lines) {
-        return Ok(None);
-    }
-    Ok(Some(List::from_vec(lines)))
+    answer_in(alloc, tables.tables(), tables.graph(), stated, word)
 }

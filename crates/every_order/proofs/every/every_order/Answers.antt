@@ -4,8 +4,11 @@ use Rattle.every_order.proofs.May.{may_run}
 use Rattle.every_order.proofs.every.every_order.Goals as goal
 
 pub every_under-requires : goal.every_under-requires
-every_under-requires c = record {
-  graph = c.in-Ok.ensures;
+every_under-requires c = rw c.tables.ensures (record {
+  graph = c.graph.ensures;
   stretches = subst (AreStretchesOf c.args.machine.now) (sym c.deref.ensures.value) c.in_ok-stretches.ensures;
   may = may_run c.args.tables.now c.args.machine.now c.args.scripts.now c.requires.tables c.requires.machine c.requires.few_scripts c.requires.scripts;
-}
+})
+
+pub returns : goal.returns
+returns c = rw c.tables.ensures at c.every_under.ensures

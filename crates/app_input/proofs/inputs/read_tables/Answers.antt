@@ -2,7 +2,7 @@ use Rattle.cf_types.specs.declared.tables.Tables.{Tables}
 use Rattle.config_rules.specs.Reading.{reading}
 use Rattle.app_input.proofs.AskedLaws.{stopped_asked}
 use Rattle.app_input.proofs.StopLaws.{counted_by, stopped_by}
-use Rattle.app_input.proofs.inputs.read_compiled.Goals as goal
+use Rattle.app_input.proofs.inputs.read_tables.Goals as goal
 
 pub returns-in-Err-clause-reads : goal.returns-in-Err-clause-reads
 returns-in-Err-clause-reads g c = stopped_by _ _ _ _ c.in-Err.stop c.status_of_stop.result c.status_of_stop.ensures c.in-Err.ensures.compiles
