@@ -14,8 +14,8 @@ use app_output::{
 };
 use app_tasks::{RetoldRun, WatchedRun, booted, loaded, played, retold, watched};
 use app_words::Status;
-use cf_compile::Compiled;
 use cf_io::{Files, Sink};
+use cf_tables::Compiled;
 use cf_types::{List, Text};
 use dev_board::Board;
 use file_select::select;

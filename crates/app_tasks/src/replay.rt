@@ -15,7 +15,7 @@ use std::alloc::Global;
 /// A history that was read again, and what it was read by.
 #[derive(Drop)]
 pub struct RetoldRun {
-    pub tables: Tables,
+    pub tables: Compiled,
     pub machine: Machine,
     pub scripts: List<Script>,
     pub told: Replayed,

@@ -30,10 +30,10 @@ returns-in-Ok g c =
     let status = c.left_status-status.result in
     answers (drvrun_does carried words) old new status status c.report-status.result (bears carried words) (record {
       explained = left_so (Asks carried form told) (AsksStuck carried form told) (IsRefused form told) (HaveEnded left) waits text old.out new.out written status
-      c.in-Ok.ensures.found c.write_run-written.ensures c.left_status-status.ensures;
+          c.in-Ok.ensures.found c.write_run-written.ensures c.left_status-status.ensures;
       faults = faults_left (HaveEnded left) waits text old.faults new.faults old.out new.out written status c.in-Ok.ensures.counted c.write_run-written.ensures c.left_status-status.ensures;
       due = due_left told IsStuckStatus (CallsFor form) (HaveEnded left) waits text old.faults new.faults old.out new.out written status (λ never. never) tt
-      c.in-Ok.ensures.due c.write_run-written.ensures c.left_status-status.ensures;
+          c.in-Ok.ensures.due c.write_run-written.ensures c.left_status-status.ensures;
       asked = inputs_all form told status old.asked new.asked c.in-Ok.ensures.asked;
       files = c.find.ensures.told;
     }) refl c.report-status.ensures.status c.report-status.ensures.told
@@ -50,7 +50,7 @@ returns-in-Err g c =
     let status = c.in-Err.status in
     answers (drvrun_does carried words) old new status status c.report.result (bears carried words) (record {
       explained = refused_so (Asks carried form told) (AsksStuck carried form told) (IsRefused form told) old.out status (λ never. never) (λ never. never) (λ waits never. never)
-      c.in-Err.ensures.found;
+          c.in-Err.ensures.found;
       faults = faults_refused FinishedShown old.faults new.faults old.out.faults status (λ written. subst (IsRefused form told) written c.in-Err.ensures.found) c.in-Err.ensures.counted;
       due = due_unfound told (IsDueStatus form) old.faults new.faults old.out.faults new.out.faults status c.in-Err.ensures.due;
       asked = c.in-Err.ensures.asked;
