@@ -30,8 +30,8 @@ found_text (Ran board) = run_text board.world.setup.tables board.events board.wo
 found_text (Watched run) = watch_text run.board.world.setup.tables run.board.events run.board.world run.readings
 found_text (Followed run) = listing run.tables ++ text_of run.lines
 found_text (Line line) = line.items
-found_text (Tree devices) = tree_of devices
-found_text (Retold told) = lines told.events ++ tree_of told.tree
+found_text (Tree run) = tree_of run.told.tree
+found_text (Retold run) = lines run.told.events ++ tree_of run.told.tree
 
 -- why the sources of a configuration were not selected: its first fault, or a fault of reading
 abbrev pub Unselected : Option Files → List ℕ → Status → Type 0

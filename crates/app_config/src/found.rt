@@ -12,17 +12,15 @@ use app_output::{
     OutputStop, put_history, put_listing, put_paths, put_piece, put_plan, put_run, put_tree,
     put_watch,
 };
-use app_tasks::{WatchedRun, booted, loaded, played, retold, watched};
+use app_tasks::{RetoldRun, WatchedRun, booted, loaded, played, retold, watched};
 use app_words::Status;
 use cf_io::{Files, Sink};
 use cf_tables::Compiled;
-use cf_types::{DevLine, List, Text};
+use cf_types::{List, Text};
 use dev_board::Board;
 use file_select::select;
-use history_replay::Replayed;
 use live_run::{LiveRun, live_run};
 use std::alloc::Global;
-use std::mem::forget;
 
 /// What was found for the inputs.
 #[derive(Drop)]
@@ -39,19 +37,10 @@ pub enum Found {
     Followed(LiveRun),
     /// A line with its newline.
     Line(Vec<u8>),
-    /// The device tree that a history leads to.
-    Tree(List<DevLine>),
-    /// A history that was read, with its tree.
-    Retold(Replayed),
-}
-
-/// The tree of a history that was read. Its events are not freed, because the program ends soon.
-fn tree_alone(told: Replayed) -> List<DevLine>
-    ensures { result ≡ told.tree }
-{
-    let Replayed { events, tree } = told;
-    forget(events);
-    tree
+    /// A history that was read, of which the device tree is to be put.
+    Tree(RetoldRun),
+    /// A history that was read, which is to be put with its tree.
+    Retold(RetoldRun),
 }
 
 /// Compiles, selects, boots, plays, watches, replays and follows a plan as the inputs ask for. Files are read for the sources alone.
@@ -99,8 +88,8 @@ pub fn found_by<F: Files>(alloc: Global, files: &mut F, inputs: Inputs) -> Resul
             scripts,
             history,
         } => {
-            let told = retold(alloc, tables, machine, scripts, history)?;
-            Ok(Found::Tree(tree_alone(told)))
+            let run = retold(alloc, tables, machine, scripts, history)?;
+            Ok(Found::Tree(run))
         }
         Inputs::Upgrade {
             tables,
@@ -108,8 +97,8 @@ pub fn found_by<F: Files>(alloc: Global, files: &mut F, inputs: Inputs) -> Resul
             scripts,
             history,
         } => {
-            let told = retold(alloc, tables, machine, scripts, history)?;
-            Ok(Found::Retold(told))
+            let run = retold(alloc, tables, machine, scripts, history)?;
+            Ok(Found::Retold(run))
         }
         Inputs::Watch {
             tables,
@@ -144,7 +133,9 @@ pub fn put_found<S: Sink>(alloc: Global, found: &Found, out: &mut S) -> Result<(
         Found::Watched(run) => put_watch(alloc, &run.board, run.readings.items(), out),
         Found::Followed(run) => put_plan(alloc, &run.tables, run.lines.items(), out),
         Found::Line(line) => put_piece(line, out),
-        Found::Tree(devices) => put_tree(alloc, devices.items(), out),
-        Found::Retold(told) => put_history(alloc, told.events.items(), told.tree.items(), out),
+        Found::Tree(run) => put_tree(alloc, run.told.tree.items(), out),
+        Found::Retold(run) => {
+            put_history(alloc, run.told.events.items(), run.told.tree.items(), out)
+        }
     }
 }

@@ -1,3 +1,4 @@
+pub mod Bears
 pub mod Found
 pub mod Texts
 pub mod Told

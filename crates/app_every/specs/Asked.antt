@@ -9,13 +9,17 @@ use Rattle.config_rules.specs.Reading.{Files}
 use Rattle.every_order.specs.Every.{IsEveryOrder}
 use Rattle.every_order.specs.declared.every.Every.{Every}
 use Rattle.run_rules.specs.World.{setup_of}
+use Rattle.app_input.specs.Asked.{AsksInputs}
 use Rattle.app_input.specs.SideBySide.{AsksSideBySide, CallsFor, OfSideBySide}
 use Rattle.app_input.specs.SideBySide as side
 use Rattle.app_input.specs.declared.inputs.Inputs.{Inputs}
-use Rattle.app_words.specs.Words.{Form}
+use Rattle.app_words.specs.Words.{Form, drvall_form, most_worlds}
+use Rattle.app_words.specs.declared.program.Program.TheVariants.{Drvall}
 use Rattle.app_words.specs.declared.status.Status.{Status}
 use Rattle.app_words.specs.declared.status.Status.TheVariants.{Memory, Stuck, Worlds}
 use Rattle.app_output.specs.Ended.{OrMemory}
+use Rattle.app_output.specs.Headline.{Does}
+use Rattle.app_output.specs.Status.{err_text}
 use Rattle.app_output.specs.Still.{FindsText}
 use Rattle.app_output.specs.Still as still
 use Rattle.app_output.specs.declared.stop.OutputStop.{OutputStop}
@@ -76,3 +80,12 @@ IsDueStatus form files status = still.IsDueStatus IsFoundStatus (CallsFor form f
 -- the same, or memory ran out
 abbrev pub IsDueOr : Option Form → Files → Status → Type 0
 IsDueOr form files status = OrMemory (IsDueStatus form files) status
+
+-- what `drvall` says of its own
+abbrev pub drvall_does : List (List ℕ) → Does
+drvall_does words = record {
+  Explains = Explains (most_worlds words) (drvall_form words);
+  CallsFor = IsDueStatus (drvall_form words);
+  AsksFor = AsksInputs (drvall_form words);
+  err_text = err_text Drvall words;
+}

@@ -1,26 +1,23 @@
 //! The top call.
-ghost use Rattle.std.specs.Prelude.{◌≡◌, ◌≤◌, map, string_bytes, IfSome};
+ghost use Rattle.std.specs.Prelude.{◌≡◌, map, string_bytes, IfSome};
 ghost use Rattle.cf_io.specs.Faults.{Rose};
-ghost use Rattle.cf_io.specs.Told.{Takes};
 ghost use Rattle.app_input.specs.Asked.{AsksInputs};
 ghost use Rattle.app_input.specs.Inputs.{FormedInputs, IsInputsOf};
 ghost use Rattle.app_words.specs.Status.{Counts, status_of};
 ghost use Rattle.app_words.specs.Words.{drvall_form, most_worlds};
-ghost use Rattle.app_output.specs.Ended.{Faults};
+ghost use Rattle.app_output.specs.Headline.{Answers, seen};
 ghost use Rattle.app_output.specs.Output.{Writes};
-ghost use Rattle.app_output.specs.Status.{err_text};
-ghost use Rattle.app_every.specs.Asked.{EndsWith, EveryFor, Explains, FindsEvery, IsDueOr};
+ghost use Rattle.app_every.specs.Asked.{EndsWith, EveryFor, FindsEvery, IsDueOr, drvall_does};
 ghost use Rattle.app_every.specs.EveryText as told;
 
 use crate::text::every_text;
 use app_input::{Inputs, read_inputs};
-use app_output::{OutputStop, flush, put_piece, report, status_after};
+use app_output::{Outcome, OutputStop, flush, put_piece, report, status_after};
 use app_words::{Program, Status, most_worlds};
 use cf_io::{Files, Sink};
 use cf_types::List;
 use every_order::{Every, every_order};
 use std::alloc::Global;
-use std::mem::forget;
 
 /// All that the orders of the scripts of these inputs lead to.
 fn every_of(alloc: Global, inputs: Inputs, most: u32) -> Result<Every, Status>
@@ -89,48 +86,35 @@ fn every_status(alloc: Global, every: &Every, written: Result<(), OutputStop>) -
     }
 }
 
-/// Goes through every order of the scripts that the words name, and writes what they lead to.
-fn run<F: Files, S: Sink>(alloc: Global, words: &[String], files: &mut F, out: &mut S) -> Status
-    ensures explained { Explains (most_worlds (map string_bytes words.now)) (drvall_form (map string_bytes words.now)) (F.told files.old) (S.told out.old) (S.told out.new) result }
-    ensures faults { Faults (F.faults files.old) (F.faults files.new) (S.told out.old).faults (S.told out.new).faults result }
-    ensures due { IfSome (F.told files.old) (λ named. ¬ Rose (F.faults files.old) (F.faults files.new) → ¬ Rose (S.told out.old).faults (S.told out.new).faults
-        → IsDueOr (drvall_form (map string_bytes words.now)) named result) }
-    ensures asked { AsksInputs (drvall_form (map string_bytes words.now)) (F.told files.old) result (F.asked files.old) (F.asked files.new) }
-    ensures files { F.told files.new ≡ F.told files.old }
-{
-    match find(alloc, words, files) {
-        Ok(every) => {
-            let written = write_every(alloc, &every, out);
-            let status = every_status(alloc, &every, written);
-            forget(every);
-            status
-        }
-        Err(status) => status,
-    }
-}
-
 /// Runs the program on the words after its name: reads the files that they name from `files`, boots the machine, goes through
 /// every order in which the scripts can take their turns, and writes to `out` how they can end and where they can stand still, each
 /// with a shortest order that leads there. If there are more worlds than the bound, only the status says so. The line of a refusal
-/// or a fault goes to `err`. It leaves nothing held back. See config(1), autoconf(9) and drvctl(8).
+/// or a fault goes to `err`. It leaves nothing held back. What the orders lead to is handed out with the status. See config(1),
+/// autoconf(9) and drvctl(8).
 pub fn drvall_top<F: Files, S: Sink, E: Sink>(
     alloc: Global,
     words: &[String],
     files: &mut F,
     out: &mut S,
     err: &mut E,
-) -> Status
-    ensures explained { Explains (most_worlds (map string_bytes words.now)) (drvall_form (map string_bytes words.now)) (F.told files.old) (S.told out.old) (S.told out.new) result }
-    ensures faults { Faults (F.faults files.old) (F.faults files.new) (S.told out.old).faults (S.told out.new).faults result }
-
-    // If the files are told and no fault was counted, the status is the one that is due, or memory ran out.
-    ensures due { IfSome (F.told files.old) (λ named. ¬ Rose (F.faults files.old) (F.faults files.new) → ¬ Rose (S.told out.old).faults (S.told out.new).faults
-        → IsDueOr (drvall_form (map string_bytes words.now)) named result) }
-    ensures asked { AsksInputs (drvall_form (map string_bytes words.now)) (F.told files.old) result (F.asked files.old) (F.asked files.new) }
-    ensures files { F.told files.new ≡ F.told files.old }
-    ensures err { Takes (err_text Program.Drvall (map string_bytes words.now) result) (E.told err.old) (E.told err.new) }
-    ensures err_counted { (E.told err.old).faults ≤ (E.told err.new).faults }
+) -> Outcome<Every>
+    ensures { Answers (drvall_does (map string_bytes words.now))
+        (seen (F.told files.old) (F.asked files.old) (F.faults files.old) (S.told out.old) (E.told err.old))
+        (seen (F.told files.new) (F.asked files.new) (F.faults files.new) (S.told out.new) (E.told err.new)) result.status }
 {
-    let status = run(alloc, words, files, out);
-    report(alloc, Program::Drvall, words, status, err)
+    match find(alloc, words, files) {
+        Ok(every) => {
+            let written = write_every(alloc, &every, out);
+            let status = every_status(alloc, &every, written);
+            let status = report(alloc, Program::Drvall, words, status, err);
+            Outcome {
+                status,
+                found: Some(every),
+            }
+        }
+        Err(status) => Outcome {
+            status: report(alloc, Program::Drvall, words, status, err),
+            found: None,
+        },
+    }
 }

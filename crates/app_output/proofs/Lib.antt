@@ -1,4 +1,5 @@
 pub mod Ended
+pub mod Headline
 pub mod NextLines
 pub mod Puts
 pub mod TakenLemmas

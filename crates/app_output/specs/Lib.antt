@@ -1,4 +1,5 @@
 pub mod Ended
+pub mod Headline
 pub mod NextLine
 pub mod NoteText
 pub mod Output

@@ -10,14 +10,18 @@ use Rattle.config_rules.specs.Reading.{Files}
 use Rattle.board_lock.specs.Boards.{FinishedShown}
 use Rattle.run_rules.specs.declared.event.Event.{Event}
 use Rattle.run_rules.specs.World.{World, setup_of}
+use Rattle.app_input.specs.Asked.{AsksInputs}
 use Rattle.app_input.specs.SideBySide.{AsksSideBySide, CallsFor, IsRefused, OfSideBySide}
-use Rattle.app_words.specs.Words.{Form}
+use Rattle.app_words.specs.Words.{Form, drvrun_form}
 use Rattle.app_input.specs.declared.inputs.Inputs.{Inputs}
+use Rattle.app_words.specs.declared.program.Program.TheVariants.{Drvrun}
 use Rattle.app_words.specs.declared.status.Status.{Status}
 use Rattle.app_words.specs.declared.status.Status.TheVariants.{Memory}
 use Rattle.app_output.specs.Ended.{OrMemory}
 use Rattle.app_output.specs.declared.stop.OutputStop.{OutputStop}
+use Rattle.app_output.specs.Headline.{Does}
 use Rattle.app_output.specs.RunText.{run_text}
+use Rattle.app_output.specs.Status.{err_text}
 use Rattle.app_output.specs.Still.{FindsText, IsStuckStatus}
 use Rattle.app_output.specs.Still as still
 use Rattle.app_run.specs.Ran.{HasRunOut, HaveEnded, RanSideBySide, RanStuck}
@@ -75,3 +79,12 @@ IsDueStatus form files status = still.IsDueStatus IsStuckStatus (CallsFor form f
 -- the same, or memory ran out
 abbrev pub IsDueOr : Option Form → Files → Status → Type 0
 IsDueOr form files status = OrMemory (IsDueStatus form files) status
+
+-- what `drvrun` says of its own
+abbrev pub drvrun_does : (Ticket → Type 0) → List (List ℕ) → Does
+drvrun_does carried words = record {
+  Explains = Explains carried (drvrun_form words);
+  CallsFor = IsDueStatus (drvrun_form words);
+  AsksFor = AsksInputs (drvrun_form words);
+  err_text = err_text Drvrun words;
+}

@@ -1,26 +1,23 @@
 //! The top call.
-ghost use Rattle.std.specs.Prelude.{◌≡◌, ◌≤◌, map, string_bytes, IfSome};
+ghost use Rattle.std.specs.Prelude.{◌≡◌, map, string_bytes, IfSome};
 ghost use Rattle.cf_io.specs.Faults.{Rose};
-ghost use Rattle.cf_io.specs.Told.{Takes};
 ghost use Rattle.app_input.specs.Asked.{AsksInputs};
 ghost use Rattle.app_input.specs.Inputs.{FormedInputs, IsInputsOf};
 ghost use Rattle.app_words.specs.Status.{Counts, status_of};
 ghost use Rattle.app_words.specs.Words.{drvrun_form};
-ghost use Rattle.app_output.specs.Ended.{Faults};
+ghost use Rattle.app_output.specs.Headline.{Answers, seen};
 ghost use Rattle.app_output.specs.Output.{Writes};
-ghost use Rattle.app_output.specs.Status.{err_text};
-ghost use Rattle.app_run.specs.Asked.{EndsWith, Explains, FindsRun, IsDueOr, RanFor, left_text};
+ghost use Rattle.app_run.specs.Asked.{EndsWith, FindsRun, IsDueOr, RanFor, drvrun_does, left_text};
 
 use crate::scripts::side_by_side;
 use crate::stuck::stuck_text;
 use app_input::{Inputs, read_inputs};
-use app_output::{OutputStop, flush, put_run, report, status_after};
+use app_output::{Outcome, OutputStop, flush, put_run, report, status_after};
 use app_words::{Program, Status};
 use board_lock::Finished;
 use cf_io::{Files, Sink};
 use drv_workers::Medium;
 use std::alloc::Global;
-use std::mem::forget;
 use std::sync::Wait;
 use std::thread::Threads;
 
@@ -93,37 +90,11 @@ fn left_status(alloc: Global, left: &Finished, written: Result<(), OutputStop>) 
     }
 }
 
-/// Runs the scripts that the words name, and writes what they did once all of them have ended or nobody goes on.
-fn run<R: Threads + Wait + Sync, F: Files, S: Sink, M: Medium + Sync>(
-    rt: &R,
-    alloc: Global,
-    words: &[String],
-    files: &mut F,
-    out: &mut S,
-    medium: &M,
-) -> Status
-    ensures explained { Explains M.carried (drvrun_form (map string_bytes words.now)) (F.told files.old) (S.told out.old) (S.told out.new) result }
-    ensures faults { Faults (F.faults files.old) (F.faults files.new) (S.told out.old).faults (S.told out.new).faults result }
-    ensures due { IfSome (F.told files.old) (λ named. ¬ Rose (F.faults files.old) (F.faults files.new) → ¬ Rose (S.told out.old).faults (S.told out.new).faults
-        → IsDueOr (drvrun_form (map string_bytes words.now)) named result) }
-    ensures asked { AsksInputs (drvrun_form (map string_bytes words.now)) (F.told files.old) result (F.asked files.old) (F.asked files.new) }
-    ensures files { F.told files.new ≡ F.told files.old }
-{
-    match find(rt, alloc, words, files, medium) {
-        Ok(left) => {
-            let written = write_run(alloc, &left, out);
-            let status = left_status(alloc, &left, written);
-            forget(left);
-            status
-        }
-        Err(status) => status,
-    }
-}
-
 /// Runs the program on the words after its name: reads the files that they name from `files`, boots the machine, runs
 /// each script in a thread of its own, with transfers through `medium`, and once all have ended or nobody goes on writes the
 /// listing, the history and the device tree to `out`; the line of a refusal or a fault goes to `err`, and so does a line for each
-/// caller that waits, if nobody goes on. It leaves nothing held back. See config(1), autoconf(9) and drvctl(8).
+/// caller that waits, if nobody goes on. It leaves nothing held back. What is left of the run is handed out with the status. See
+/// config(1), autoconf(9) and drvctl(8).
 pub fn drvrun_top<R: Threads + Wait + Sync, F: Files, S: Sink, E: Sink, M: Medium + Sync>(
     rt: &R,
     alloc: Global,
@@ -132,18 +103,24 @@ pub fn drvrun_top<R: Threads + Wait + Sync, F: Files, S: Sink, E: Sink, M: Mediu
     out: &mut S,
     err: &mut E,
     medium: &M,
-) -> Status
-    ensures explained { Explains M.carried (drvrun_form (map string_bytes words.now)) (F.told files.old) (S.told out.old) (S.told out.new) result }
-    ensures faults { Faults (F.faults files.old) (F.faults files.new) (S.told out.old).faults (S.told out.new).faults result }
-
-    // If the files are told and no fault was counted, the status is the one that is due, or memory ran out.
-    ensures due { IfSome (F.told files.old) (λ named. ¬ Rose (F.faults files.old) (F.faults files.new) → ¬ Rose (S.told out.old).faults (S.told out.new).faults
-        → IsDueOr (drvrun_form (map string_bytes words.now)) named result) }
-    ensures asked { AsksInputs (drvrun_form (map string_bytes words.now)) (F.told files.old) result (F.asked files.old) (F.asked files.new) }
-    ensures files { F.told files.new ≡ F.told files.old }
-    ensures err { Takes (err_text Program.Drvrun (map string_bytes words.now) result) (E.told err.old) (E.told err.new) }
-    ensures err_counted { (E.told err.old).faults ≤ (E.told err.new).faults }
+) -> Outcome<Finished>
+    ensures { Answers (drvrun_does M.carried (map string_bytes words.now))
+        (seen (F.told files.old) (F.asked files.old) (F.faults files.old) (S.told out.old) (E.told err.old))
+        (seen (F.told files.new) (F.asked files.new) (F.faults files.new) (S.told out.new) (E.told err.new)) result.status }
 {
-    let status = run(rt, alloc, words, files, out, medium);
-    report(alloc, Program::Drvrun, words, status, err)
+    match find(rt, alloc, words, files, medium) {
+        Ok(left) => {
+            let written = write_run(alloc, &left, out);
+            let status = left_status(alloc, &left, written);
+            let status = report(alloc, Program::Drvrun, words, status, err);
+            Outcome {
+                status,
+                found: Some(left),
+            }
+        }
+        Err(status) => Outcome {
+            status: report(alloc, Program::Drvrun, words, status, err),
+            found: None,
+        },
+    }
 }

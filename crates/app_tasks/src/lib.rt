@@ -12,5 +12,5 @@ mod watch;
 pub use boot::booted;
 pub use load::loaded;
 pub use play::played;
-pub use replay::retold;
+pub use replay::{RetoldRun, retold};
 pub use watch::{WatchedRun, watched};

@@ -4,14 +4,22 @@ ghost use Rattle.cf_io.specs.declared.files.TheConstants.{MAX_FILE};
 ghost use Rattle.config_rules.specs.Formed.{FittingMachine, FormedTables};
 ghost use Rattle.config_rules.specs.ScriptText.{FormedScript};
 ghost use Rattle.run_rules.specs.World.{setup_of};
-ghost use Rattle.app_tasks.specs.Retold.{Retells};
+ghost use Rattle.app_tasks.specs.Retold.{Retells, RetellsRun};
 
 use app_words::Status;
 use cf_tables::Compiled;
 use cf_types::{List, Machine, Script, Text};
 use history_replay::{ReplayStop, Replayed, reread};
 use std::alloc::Global;
-use std::mem::forget;
+
+/// A history that was read again, and what it was read by.
+#[derive(Drop)]
+pub struct RetoldRun {
+    pub tables: Compiled,
+    pub machine: Machine,
+    pub scripts: List<Script>,
+    pub told: Replayed,
+}
 
 /// Reads a history of a machine and its scripts: what it says, or its first bad line. A file has fewer lines than a
 /// status can count.
@@ -37,24 +45,26 @@ fn reread_history(
 }
 
 /// Reads a history of a machine and its scripts: its events and the device tree that they lead to, or its first bad
-/// line. The arguments are not freed, because the program ends soon. See drvctl(8).
+/// line. See drvctl(8).
 pub fn retold(
     alloc: Global,
     tables: Compiled,
     machine: Machine,
     scripts: List<Script>,
     history: Text,
-) -> Result<Replayed, Status>
+) -> Result<RetoldRun, Status>
     requires formed { FormedTables tables }
     requires fits { FittingMachine tables machine }
     requires few_scripts { length scripts ≤ 16 }
     requires scripts { All FormedScript scripts }
     requires short { length history ≤ MAX_FILE }
-    ensures { Retells (setup_of tables machine scripts) history result }
+    ensures { RetellsRun (setup_of tables machine scripts) history result }
 {
-    let told = reread_history(alloc, &tables, &machine, scripts.items(), history.items());
-    forget(tables);
-    forget(machine);
-    forget(scripts);
-    told
+    let told = reread_history(alloc, &tables, &machine, scripts.items(), history.items())?;
+    Ok(RetoldRun {
+        tables,
+        machine,
+        scripts,
+        told,
+    })
 }

@@ -19,6 +19,7 @@ use Rattle.app_words.specs.Status.{Counts, status_of}
 use Rattle.app_words.specs.Words.{Form}
 use Rattle.app_words.specs.declared.status.Status.{Status}
 use Rattle.app_words.specs.declared.status.Status.TheVariants.{Ok, Memory, WriteFault}
+use Rattle.app_why.specs.declared.top.Why.{Why}
 use Rattle.app_why.specs.Asked.{Answers, AnswersWith, FindsWhy, IsDueOr, IsRefused, WhyFor, stated_in}
 
 -- the answer in the boot of a machine, if one is named
@@ -34,21 +35,21 @@ not_found name form told e status read formed (inl want) = subst (IsRefused name
 not_found name form told e status read formed (inr (is, none)) = inr (is, record { explained = e; read = read; formed = formed; answers = none })
 
 -- what was found for the words and the files
-pub found_by : (name : List ℕ) (form : Option Form) (told : Option Files) (e : Explained) (result : Result (List (List ℕ)) Status) → ReadsExplained form told (std.Ok e) → FormedExplained e
+pub found_by : (name : List ℕ) (form : Option Form) (told : Option Files) (e : Explained) (result : Result Why Status) → ReadsExplained form told (std.Ok e) → FormedExplained e
     → WhyFor name e result → FindsWhy name form told result
-found_by name form told e (std.Ok lines) read formed why = record { explained = e; read = read; formed = formed; answers = why }
+found_by name form told e (std.Ok found) read formed why = record { explained = e; read = read; formed = formed; answers = why }
 found_by name form told e (std.Err status) read formed why = not_found name form told e status read formed why
 
 -- ---- the count of faults: no file is read behind the inputs
 
 counted_status : (before after : ℕ) (name : List ℕ) (e : Explained) (status : Status) → after ≡ before → WhyFor name e (std.Err status)
-    → Counts {A = List (List ℕ)} before after (std.Err status)
-counted_status before after name e status same (inl want) = subst (λ (s : Status). Counts {A = List (List ℕ)} before after (std.Err s)) (sym want) same
-counted_status before after name e status same (inr (is, none)) = subst (λ (s : Status). Counts {A = List (List ℕ)} before after (std.Err s)) (sym is) same
+    → Counts {A = Why} before after (std.Err status)
+counted_status before after name e status same (inl want) = subst (λ (s : Status). Counts {A = Why} before after (std.Err s)) (sym want) same
+counted_status before after name e status same (inr (is, none)) = subst (λ (s : Status). Counts {A = Why} before after (std.Err s)) (sym is) same
 
-pub counted_by : (before after : ℕ) (name : List ℕ) (e : Explained) (result : Result (List (List ℕ)) Status) → Counts before after (given (std.Ok e)) → WhyFor name e result
+pub counted_by : (before after : ℕ) (name : List ℕ) (e : Explained) (result : Result Why Status) → Counts before after (given (std.Ok e)) → WhyFor name e result
     → Counts before after result
-counted_by before after name e (std.Ok lines) counts why = counts
+counted_by before after name e (std.Ok found) counts why = counts
 counted_by before after name e (std.Err status) counts why = counted_status before after name e status counts why
 
 -- ---- the status that is due
@@ -58,12 +59,12 @@ due_status : (name : List ℕ) (form : Option Form) (files : Files) (e : Explain
 due_status name form files e status (inl want) calls = inl want
 due_status name form files e status (inr (is, none)) calls = inr (inr (is, calls))
 
-due_found : (name : List ℕ) (form : Option Form) (files : Files) (e : Explained) (result : Result (List (List ℕ)) Status) → WhyFor name e result → CallsFor form files Ok
+due_found : (name : List ℕ) (form : Option Form) (files : Files) (e : Explained) (result : Result Why Status) → WhyFor name e result → CallsFor form files Ok
     → IsDueOr name form files (status_of result)
-due_found name form files e (std.Ok lines) why calls = inr (inl calls)
+due_found name form files e (std.Ok found) why calls = inr (inl calls)
 due_found name form files e (std.Err status) why calls = due_status name form files e status why calls
 
-pub due_by : (told : Option Files) (form : Option Form) (before after : ℕ) (name : List ℕ) (e : Explained) (result : Result (List (List ℕ)) Status) → WhyFor name e result
+pub due_by : (told : Option Files) (form : Option Form) (before after : ℕ) (name : List ℕ) (e : Explained) (result : Result Why Status) → WhyFor name e result
     → IfSome told (λ files. ¬ Rose before after → (given (std.Ok e) ≡ std.Err Memory) ⊎ IsDue form files (given (std.Ok e)))
     → IfSome told (λ files. ¬ Rose before after → IsDueOr name form files (status_of result))
 due_by told form before after name e result why due =

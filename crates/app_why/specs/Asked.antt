@@ -10,15 +10,20 @@ use Rattle.gone_rows.specs.Gone.{Stated}
 use Rattle.run_rules.specs.World.{setup_of}
 use Rattle.why_answers.specs.Answers.{IsAnswer}
 use Rattle.why_answers.specs.Known.{known_answer}
+use Rattle.app_input.specs.Asked.{AsksInputs}
 use Rattle.app_input.specs.Explained.{FormedExplained, ReadsExplained}
 use Rattle.app_input.specs.Inputs.{Reads}
 use Rattle.app_input.specs.SideBySide.{CallsFor}
 use Rattle.app_input.specs.declared.explained.Explained.{Explained}
-use Rattle.app_words.specs.Words.{Form}
+use Rattle.app_words.specs.Words.{Form, asked_name, devwhy_form}
+use Rattle.app_words.specs.declared.program.Program.TheVariants.{Devwhy}
 use Rattle.app_words.specs.declared.status.Status.{Status}
 use Rattle.app_words.specs.declared.status.Status.TheVariants.{Ok, Memory, Unknown}
 use Rattle.app_output.specs.Ended.{OrMemory}
 use Rattle.app_output.specs.Ended as ended
+use Rattle.app_output.specs.Headline.{Does}
+use Rattle.app_output.specs.Status.{err_text}
+use Rattle.app_why.specs.declared.top.Why.{Why}
 
 -- the files, statements and orphans of a configuration
 abbrev pub stated_in : Known → Stated
@@ -48,13 +53,13 @@ abbrev pub IsRefused : List ℕ → Option Form → Option Files → Status → 
 IsRefused name form told status = Reads form told (std.Err status) ⊎ ((status ≡ Unknown name) × AsksName name None form told)
 
 -- the lines for the name by these were found, or memory ran out, or the name is unknown
-abbrev pub WhyFor : List ℕ → Explained → Result (List (List ℕ)) Status → Type 0
-WhyFor name e (std.Ok lines) = Answers name e (Some lines)
+abbrev pub WhyFor : List ℕ → Explained → Result Why Status → Type 0
+WhyFor name e (std.Ok why) = Answers name e (Some why.lines)
 WhyFor name e (std.Err status) = (status ≡ Memory) ⊎ ((status ≡ Unknown name) × Answers name e None)
 
 -- they are what is asked for, or the words or the files are refused
-abbrev pub FindsWhy : List ℕ → Option Form → Option Files → Result (List (List ℕ)) Status → Type 0
-FindsWhy name form told (std.Ok lines) = AsksName name (Some lines) form told
+abbrev pub FindsWhy : List ℕ → Option Form → Option Files → Result Why Status → Type 0
+FindsWhy name form told (std.Ok why) = AsksName name (Some why.lines) form told
 FindsWhy name form told (std.Err status) = IsRefused name form told status
 
 -- why the program answers so, and what its output then got
@@ -68,3 +73,12 @@ IsDueStatus name form files status = CallsFor form files status ⊎ ((status ≡
 -- the same, or memory ran out
 abbrev pub IsDueOr : List ℕ → Option Form → Files → Status → Type 0
 IsDueOr name form files status = OrMemory (IsDueStatus name form files) status
+
+-- what `devwhy` says of its own
+abbrev pub devwhy_does : List (List ℕ) → Does
+devwhy_does words = record {
+  Explains = Explains (asked_name words) (devwhy_form words);
+  CallsFor = IsDueStatus (asked_name words) (devwhy_form words);
+  AsksFor = AsksInputs (devwhy_form words);
+  err_text = err_text Devwhy words;
+}

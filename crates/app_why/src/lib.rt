@@ -4,4 +4,4 @@
 mod top;
 
 pub use app_words::Status;
-pub use top::devwhy_top;
+pub use top::{Why, devwhy_top};

@@ -53,17 +53,18 @@ pub fn answer_to<R: Threads + Wait + Sync>(
     let medium = Meeting::make(together);
     let (status, output) = match program {
         Program::Devconf | Program::Devwhy => {
-            let status = devconf_top(alloc, &words, &mut files, &mut out, &mut err);
+            let status = devconf_top(alloc, &words, &mut files, &mut out, &mut err).status;
             (status, Vec::from_slice(alloc, out.bytes())?)
         }
         Program::Drvrun => {
             let status = drvrun_top(
                 threads, alloc, &words, &mut files, &mut out, &mut err, &medium,
-            );
+            )
+            .status;
             (status, by_callers(alloc, out.bytes())?)
         }
         Program::Drvall => {
-            let status = drvall_top(alloc, &words, &mut files, &mut out, &mut err);
+            let status = drvall_top(alloc, &words, &mut files, &mut out, &mut err).status;
             (status, Vec::from_slice(alloc, out.bytes())?)
         }
     };

@@ -7,6 +7,7 @@ use app_words::{Status, words_behind_name};
 use cf_io::{Buffered, HostFiles, HostSink, Sink};
 use cf_types::Memory;
 use drv_workers::SoftMedium;
+use std::mem::forget;
 use std::process::ExitCode;
 use std::sync::Wait;
 use std::thread::Threads;
@@ -20,7 +21,7 @@ fn run<R: Threads + Wait + Sync, E: Sink>(
     let words = words_behind_name(rt, rt.alloc())?;
     let mut files = HostFiles::make(*rt);
     let mut out = Buffered::make(rt.alloc(), HostSink::make(rt.stdout()))?;
-    Ok(drvrun_top(
+    let ended = drvrun_top(
         threads,
         rt.alloc(),
         &words,
@@ -28,7 +29,10 @@ fn run<R: Threads + Wait + Sync, E: Sink>(
         &mut out,
         err,
         &SoftMedium,
-    ))
+    );
+    // What is left of the run is not freed, because the process ends here.
+    forget(ended.found);
+    Ok(ended.status)
 }
 
 fn main(rt: HostRuntime) -> ExitCode {

@@ -46,7 +46,7 @@ pub fn answer_over<R: Threads + Wait + Sync, F: Files>(
     let status = match row.program {
         Program::Devconf | Program::Devwhy => devconf_top(
             alloc, &row.words, files, &mut out, &mut err,
-        ),
+        ).status,
         Program::Drvrun => drvrun_top(
             threads,
             alloc,
@@ -55,8 +55,9 @@ pub fn answer_over<R: Threads + Wait + Sync, F: Files>(
             &mut out,
             &mut err,
             &SoftMedium,
-        ),
-        Program::Drvall => drvall_top(alloc, &row.words, files, &mut out, &mut err),
+        )
+        .status,
+        Program::Drvall => drvall_top(alloc, &row.words, files, &mut out, &mut err).status,
     };
     Ok(Answer {
         status: status.number(),

@@ -36,13 +36,13 @@ returns-in_ok-board-in-Play-clause-found g c =
     play_ran _ c.args.inputs c.in-Play.tables c.in-Play.machine c.in-Play.scripts c.in-Play.order c.items-in-Play.result.now c.in_ok-board-in-Play.board
     c.in-Play.is c.items-in-Play.ensures c.in_ok-board-in-Play.ensures
 
-pub returns-in_ok-told-in-Replay-clause-found : goal.returns-in_ok-told-in-Replay-clause-found
-returns-in_ok-told-in-Replay-clause-found g c =
-    rw c.tree_alone.ensures (tree_retold _ c.args.inputs c.in-Replay.tables c.in-Replay.machine c.in-Replay.scripts c.in-Replay.history c.in_ok-told-in-Replay.told c.in-Replay.is c.in_ok-told-in-Replay.ensures)
+pub returns-in_ok-run-in-Replay-clause-found : goal.returns-in_ok-run-in-Replay-clause-found
+returns-in_ok-run-in-Replay-clause-found g c =
+    tree_retold _ c.args.inputs c.in-Replay.tables c.in-Replay.machine c.in-Replay.scripts c.in-Replay.history c.in_ok-run-in-Replay.run'.told c.in-Replay.is c.in_ok-run-in-Replay.ensures
 
-pub returns-in_ok-told-in-Upgrade-clause-found : goal.returns-in_ok-told-in-Upgrade-clause-found
-returns-in_ok-told-in-Upgrade-clause-found g c =
-    history_retold _ c.args.inputs c.in-Upgrade.tables c.in-Upgrade.machine c.in-Upgrade.scripts c.in-Upgrade.history c.in_ok-told-in-Upgrade.told c.in-Upgrade.is c.in_ok-told-in-Upgrade.ensures
+pub returns-in_ok-run-in-Upgrade-clause-found : goal.returns-in_ok-run-in-Upgrade-clause-found
+returns-in_ok-run-in-Upgrade-clause-found g c =
+    history_retold _ c.args.inputs c.in-Upgrade.tables c.in-Upgrade.machine c.in-Upgrade.scripts c.in-Upgrade.history c.in_ok-run-in-Upgrade.run'.told c.in-Upgrade.is c.in_ok-run-in-Upgrade.ensures
 
 pub returns-in-Ioconf-clause-asked : goal.returns-in-Ioconf-clause-asked
 returns-in-Ioconf-clause-asked g c = then_by (g.F.Files.told c.args.files.now) c.args.inputs (input.Ioconf c.in-Ioconf.tables) status.Ok (g.F.Files.asked c.args.files.now) c.in-Ioconf.is refl

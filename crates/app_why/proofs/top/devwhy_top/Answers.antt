@@ -1,26 +1,51 @@
-use Rattle.std.proofs.Common.{map, string_bytes}
+use Rattle.std.proofs.Common.{map, refl, string_bytes, subst}
+use Rattle.cf_types.specs.Lines.{text_of}
 use Rattle.app_words.specs.Words.{asked_name, devwhy_form}
-use Rattle.app_input.proofs.AskedLaws.{inputs_told}
-use Rattle.app_output.proofs.Ended.{due_told, err_rises, explains_told, faults_told}
-use Rattle.app_why.specs.Asked.{Asks, IsDueStatus, IsRefused}
+use Rattle.app_input.proofs.AskedLaws.{inputs_all}
+use Rattle.app_output.specs.Ended.{status_after}
+use Rattle.app_output.specs.Headline.{seen}
+use Rattle.app_output.proofs.Ended.{due_put, due_unfound, explains_refused, explains_written, faults_refused, faults_written}
+use Rattle.app_output.proofs.Headline.{answers}
+use Rattle.app_why.specs.Asked.{Asks, IsDueStatus, IsRefused, devwhy_does}
+use Rattle.app_why.specs.declared.top.Why.{Why}
+use Rattle.app_why.proofs.Bears.{bears}
+use Rattle.app_why.proofs.Found.{never_ok, never_unwritten}
 use Rattle.app_why.proofs.top.devwhy_top.Goals as goal
 
-pub returns-clause-explained : goal.returns-clause-explained
-returns-clause-explained g c =
-    let name = asked_name (map string_bytes c.args.words.now) in
-    let form = devwhy_form (map string_bytes c.args.words.now) in
+pub returns-in-Ok : goal.returns-in-Ok
+returns-in-Ok g c =
+    let words = map string_bytes c.args.words.now in
+    let name = asked_name words in
+    let form = devwhy_form words in
     let told = g.F.Files.told c.args.files.now in
-    explains_told (Asks name form told) (IsRefused name form told) _ _ c.run-status.result c.report.result c.run-status.ensures.explained c.report.ensures.status
+    let lines = c.in-Ok.why.lines in
+    let text = text_of lines in
+    let old = seen told (g.F.Files.asked c.args.files.now) (g.F.Files.faults c.args.files.now) (g.S.Sink.told c.args.out.now) (g.E.Sink.told c.args.err.now) in
+    let files = c.find.new.files in
+    let new = seen (g.F.Files.told files) (g.F.Files.asked files) (g.F.Files.faults files) (g.S.Sink.told c.write_lines-written.new.out) (g.E.Sink.told c.report-status.new.err) in
+    let written = c.write_lines-written.result in
+    answers (devwhy_does words) old new (status_after written) c.status_after.result c.report-status.result (bears words) (record {
+      explained = explains_written (Asks name form told) (IsRefused name form told) text old.out new.out written (lines, c.in-Ok.ensures.found, refl) c.write_lines-written.ensures;
+      faults = faults_written text old.faults new.faults old.out new.out written c.in-Ok.ensures.counted c.write_lines-written.ensures;
+      due = due_put told (IsDueStatus name form) text old.faults new.faults old.out new.out written c.in-Ok.ensures.due c.write_lines-written.ensures;
+      asked = inputs_all form told (status_after written) old.asked new.asked c.in-Ok.ensures.asked;
+      files = c.find.ensures.told;
+    }) c.status_after.ensures c.report-status.ensures.status c.report-status.ensures.told
 
-pub returns-clause-faults : goal.returns-clause-faults
-returns-clause-faults g c = faults_told _ _ _ _ c.run-status.result c.report.result c.run-status.ensures.faults c.report.ensures.status
-
-pub returns-clause-due : goal.returns-clause-due
-returns-clause-due g c =
-    due_told _ (IsDueStatus (asked_name (map string_bytes c.args.words.now)) (devwhy_form (map string_bytes c.args.words.now))) _ _ _ _ c.run-status.result c.report.result c.run-status.ensures.due c.report.ensures.status
-
-pub returns-clause-err_counted : goal.returns-clause-err_counted
-returns-clause-err_counted g c = err_rises _ _ _ c.report.ensures.told
-
-pub returns-clause-asked : goal.returns-clause-asked
-returns-clause-asked g c = inputs_told _ _ c.run-status.result c.report.result _ _ c.run-status.ensures.asked c.report.ensures.status
+pub returns-in-Err : goal.returns-in-Err
+returns-in-Err g c =
+    let words = map string_bytes c.args.words.now in
+    let name = asked_name words in
+    let form = devwhy_form words in
+    let told = g.F.Files.told c.args.files.now in
+    let old = seen told (g.F.Files.asked c.args.files.now) (g.F.Files.faults c.args.files.now) (g.S.Sink.told c.args.out.now) (g.E.Sink.told c.args.err.now) in
+    let files = c.find.new.files in
+    let new = seen (g.F.Files.told files) (g.F.Files.asked files) (g.F.Files.faults files) old.out (g.E.Sink.told c.report.new.err) in
+    let status = c.in-Err.status in
+    answers (devwhy_does words) old new status status c.report.result (bears words) (record {
+      explained = explains_refused (Asks name form told) (IsRefused name form told) old.out status (never_ok name form told) (never_unwritten name form told) c.in-Err.ensures.found;
+      faults = faults_refused Why old.faults new.faults old.out.faults status (λ written. never_unwritten name form told (subst (IsRefused name form told) written c.in-Err.ensures.found)) c.in-Err.ensures.counted;
+      due = due_unfound told (IsDueStatus name form) old.faults new.faults old.out.faults new.out.faults status c.in-Err.ensures.due;
+      asked = c.in-Err.ensures.asked;
+      files = c.find.ensures.told;
+    }) refl c.report.ensures.status c.report.ensures.told
