@@ -7,7 +7,6 @@ ghost use Rattle.run_rules.specs.World as world;
 ghost use Rattle.run_sound.specs.Kept.{Kept};
 ghost use Rattle.plain_search.specs.Open.{Follows};
 ghost use Rattle.plain_world.specs.Plain.{world_of};
-ghost use Rattle.plain_world.specs.Rules.{AreFit, setup_by};
 ghost use Rattle.boot_looks.specs.Looks.{AreBootLooks};
 
 use crate::see::{no_looks, see};
@@ -32,12 +31,12 @@ pub struct BootLooks {
 
 /// What caller 0 does next, while it has not ended.
 fn boot_deed(alloc: Global, seeker: &Seeker, plain: &Plain) -> Result<Deed, Memory>
-    requires fit { AreFit seeker.now.rules.now }
-    requires kept { Kept (world_of (setup_by seeker.now.rules.now) plain.now) }
+    requires kept { Kept (world_of seeker.now.rules.now plain.now) }
     requires follows { Follows seeker.now plain.now.live.devices }
-    requires goes_on { world.has_ended (world_of (setup_by seeker.now.rules.now) plain.now) 0 ≡ false }
-    ensures { IfOk result (λ deed. choices.next (world_of (setup_by seeker.now.rules.now) plain.now) 0 ≡ Does deed) }
+    requires goes_on { world.has_ended (world_of seeker.now.rules.now plain.now) 0 ≡ false }
+    ensures { IfOk result (λ deed. choices.next (world_of seeker.now.rules.now plain.now) 0 ≡ Does deed) }
 {
+    seeker.rules.stands();
     match next(alloc, seeker, plain, 0)? {
         Choice::Does(deed) => Ok(deed),
         Choice::Waits(_) => unreachable!(),
@@ -47,24 +46,24 @@ fn boot_deed(alloc: Global, seeker: &Seeker, plain: &Plain) -> Result<Deed, Memo
 
 /// Does what caller 0 does next.
 fn boot_on(alloc: Global, rules: &Rules, plain: &mut Plain, deed: &Deed) -> Result<(), Memory>
-    requires fit { AreFit rules.now }
-    requires kept { Kept (world_of (setup_by rules.now) plain.old) }
+    requires kept { Kept (world_of rules.now plain.old) }
     requires next { plain.old.live.next < 2 ^ 64 - 1 }
-    requires due { choices.next (world_of (setup_by rules.now) plain.old) 0 ≡ Does deed.now }
-    ensures { OnOk result (world_of (setup_by rules.now) plain.new ≡ rule.after (world_of (setup_by rules.now) plain.old) 0 deed.now) }
+    requires due { choices.next (world_of rules.now plain.old) 0 ≡ Does deed.now }
+    ensures { OnOk result (world_of rules.now plain.new ≡ rule.after (world_of rules.now plain.old) 0 deed.now) }
 {
     apply(alloc, rules, plain, 0, deed)
 }
 
 /// The last searches that came to the spots from the opening world on, and the world in which the boot ends.
 fn looks_from(alloc: Global, seeker: &mut Seeker, opening: Plain) -> Result<BootLooks, Memory>
-    requires fit { AreFit seeker.old.rules.now }
-    requires opens { world_of (setup_by seeker.old.rules.now) opening ≡ world.opening (setup_by seeker.old.rules.now) }
+    requires opens { world_of seeker.old.rules.now opening ≡ world.opening seeker.old.rules.now }
     requires follows { Follows seeker.old [] }
-    ensures { IfOk result (AreBootLooks (setup_by seeker.old.rules.now)) }
+    ensures { IfOk result (AreBootLooks seeker.old.rules.now) }
 {
+    let rules = seeker.rules;
+    rules.stands();
     let mut plain = opening;
-    let mut looks = no_looks(alloc, seeker.rules.machine.spots.len())?;
+    let mut looks = no_looks(alloc, rules.machine.spots.len())?;
     for _turn in 0..MOST_EVENTS {
         if has_ended(&plain.callers, 0) {
             let looks = List::from_vec(looks);
@@ -82,8 +81,7 @@ fn looks_from(alloc: Global, seeker: &mut Seeker, opening: Plain) -> Result<Boot
 /// a device took the spot or none did, or the end of a search row by row that passed the open spot; and the world in which the boot
 /// ends. It costs a boot, and a copy of the live devices for each event. See autoconf(9).
 pub fn boot_looks(alloc: Global, rules: &Rules) -> Result<BootLooks, Memory>
-    requires { AreFit rules.now }
-    ensures { IfOk result (AreBootLooks (setup_by rules.now)) }
+    ensures { IfOk result (AreBootLooks rules.now) }
 {
     let plain = opening(alloc, rules)?;
     let mut seeker = Seeker::make(alloc, rules)?;

@@ -1,7 +1,6 @@
 //! What the deeds of a boot come to.
 ghost use Rattle.std.specs.Prelude.{◌≡◌, ◌<◌, ◌≤◌, None, Some, length, replicate, slice_set, IfOk, OnOk, option_copied};
 ghost use Rattle.plain_world.specs.Plain.{world_of};
-ghost use Rattle.plain_world.specs.Rules.{AreFit, setup_by};
 ghost use Rattle.boot_looks.specs.Looks.{AreSeen, look_at, span_of};
 
 use crate::visit::{Look, visit_by};
@@ -69,9 +68,8 @@ pub fn see(
     deed: &Deed,
     looks: &mut Vec<Option<Look>>,
 ) -> Result<(), Memory>
-    requires fit { AreFit seeker.now.rules.now }
     requires few { length looks.old.items ≤ 1024 }
-    ensures { OnOk result (AreSeen (world_of (setup_by seeker.now.rules.now) plain.now) plain.now.live deed.now looks.old.items looks.new.items) }
+    ensures { OnOk result (AreSeen (world_of seeker.now.rules.now plain.now) plain.now.live deed.now looks.old.items looks.new.items) }
 {
     let span = span_of(deed, looks.len() as u16);
     for spot in span.first..span.end {

@@ -3,7 +3,6 @@ ghost use Rattle.std.specs.Prelude.{◌≡◌, [], false};
 ghost use Rattle.std.specs.Option.{option_map_or};
 ghost use Rattle.run_rules.specs.Search as rule;
 ghost use Rattle.plain_world.specs.Plain.{world_of};
-ghost use Rattle.plain_world.specs.Rules.{AreFit, setup_by};
 ghost use Rattle.boot_looks.specs.Looks.{is_on_row_bus, is_passed, visit_by, visit_if};
 
 use plain_choice::hangs_below;
@@ -28,8 +27,7 @@ pub struct Look {
 
 /// Whether a spot is below a device, at an attribute that the device offers and searches row by row.
 fn is_on_row_bus(seeker: &Seeker, device: Dev, spot: u16) -> bool
-    requires { AreFit seeker.now.rules.now }
-    ensures { result ≡ is_on_row_bus (setup_by seeker.now.rules.now) device spot }
+    ensures { result ≡ is_on_row_bus seeker.now.rules.now device spot }
 {
     let rules = seeker.rules;
     let attach = attach_of(rules, device.row);
@@ -38,8 +36,7 @@ fn is_on_row_bus(seeker: &Seeker, device: Dev, spot: u16) -> bool
 
 /// Whether the end of the search below the device of a serial passes a spot.
 fn is_passed(seeker: &Seeker, plain: &Plain, serial: u64, spot: u16) -> bool
-    requires { AreFit seeker.now.rules.now }
-    ensures { result ≡ is_passed (world_of (setup_by seeker.now.rules.now) plain.now) serial spot }
+    ensures { result ≡ is_passed (world_of seeker.now.rules.now plain.now) serial spot }
 {
     match device_at(&plain.live, serial) {
         Some(device) => {
@@ -58,8 +55,7 @@ fn visit_if(comes: bool, visit: Visit) -> Option<Visit>
 
 /// How a deed of the boot comes to a spot, if it does.
 pub fn visit_by(seeker: &Seeker, plain: &Plain, deed: &Deed, spot: u16) -> Option<Visit>
-    requires { AreFit seeker.now.rules.now }
-    ensures { result ≡ visit_by (world_of (setup_by seeker.now.rules.now) plain.now) deed.now spot }
+    ensures { result ≡ visit_by (world_of seeker.now.rules.now plain.now) deed.now spot }
 {
     match *deed {
         Deed::Search {

@@ -5,7 +5,6 @@ ghost use Rattle.config_rules.specs.ScriptText.{FormedScript};
 ghost use Rattle.run_rules.specs.World.{setup_of};
 ghost use Rattle.run_sound.specs.Kept.{Kept};
 ghost use Rattle.plain_world.specs.Plain.{world_of};
-ghost use Rattle.plain_world.specs.Rules.{AreFit, setup_by};
 ghost use Rattle.every_order.specs.Every.{IsEvery, IsEveryOrMore, IsEveryOrder};
 ghost use Rattle.every_order.specs.Noted.{IsFoundIn};
 ghost use Rattle.every_order.specs.Search.{AreMet};
@@ -35,10 +34,9 @@ pub struct Every {
 
 /// What was found in worlds that a search has met.
 fn found_in(alloc: Global, seeker: &mut Seeker, met: &[Met]) -> Result<Every, Memory>
-    requires fit { AreFit seeker.old.rules.now }
-    requires met { AreMet (setup_by seeker.old.rules.now) met.now }
+    requires met { AreMet seeker.old.rules.now met.now }
     requires few { length met.now < 2 ^ 32 }
-    ensures { IfOk result (IsFoundIn (setup_by seeker.old.rules.now) met.now) }
+    ensures { IfOk result (IsFoundIn seeker.old.rules.now met.now) }
 {
     let noted = notes_of(alloc, seeker, met)?;
     let Noted { ends, stuck, turns } = noted;
@@ -60,10 +58,9 @@ fn every_from(
     start: Plain,
     most: u32,
 ) -> Result<Option<Every>, Memory>
-    requires fit { AreFit seeker.old.rules.now }
-    requires kept { Kept (world_of (setup_by seeker.old.rules.now) start) }
+    requires kept { Kept (world_of seeker.old.rules.now start) }
     requires low { start.live.next ≤ 2 ^ 63 }
-    ensures { IfOk result (IsEveryOrMore (world_of (setup_by seeker.old.rules.now) start) most) }
+    ensures { IfOk result (IsEveryOrMore (world_of seeker.old.rules.now start) most) }
 {
     match worlds_from(alloc, seeker, start, most)? {
         Some(met) => {
@@ -76,8 +73,7 @@ fn every_from(
 
 /// The same behind the boot.
 fn every_under(alloc: Global, rules: &Rules, most: u32) -> Result<Option<Every>, Memory>
-    requires { AreFit rules.now }
-    ensures { IfOk result (IsEveryOrder (setup_by rules.now) most) }
+    ensures { IfOk result (IsEveryOrder rules.now most) }
 {
     let plain = opening(alloc, rules)?;
     let mut seeker = Seeker::make(alloc, rules)?;

@@ -5,7 +5,6 @@ ghost use Rattle.run_rules.specs.World as world;
 ghost use Rattle.run_sound.specs.Kept.{Kept};
 ghost use Rattle.plain_world.specs.Plain.{world_of};
 ghost use Rattle.plain_search.specs.Open.{Follows};
-ghost use Rattle.plain_world.specs.Rules.{AreFit, setup_by};
 ghost use Rattle.progress_laws.specs.Still.{HaveAllEnded};
 ghost use Rattle.every_order.specs.Kinds.{IsKind, goers, goes};
 
@@ -29,11 +28,11 @@ pub enum Kind {
 
 /// Whether a caller can go on.
 fn can_go(alloc: Global, seeker: &Seeker, plain: &Plain, caller: u8) -> Result<bool, Memory>
-    requires fit { AreFit seeker.now.rules.now }
-    requires kept { Kept (world_of (setup_by seeker.now.rules.now) plain.now) }
+    requires kept { Kept (world_of seeker.now.rules.now plain.now) }
     requires follows { Follows seeker.now plain.now.live.devices }
-    ensures { IfOk result (λ can. can ≡ goes (world_of (setup_by seeker.now.rules.now) plain.now) caller) }
+    ensures { IfOk result (λ can. can ≡ goes (world_of seeker.now.rules.now plain.now) caller) }
 {
+    seeker.rules.stands();
     match next(alloc, seeker, plain, caller)? {
         Choice::Does(_) => Ok(true),
         _ => Ok(false),
@@ -42,11 +41,10 @@ fn can_go(alloc: Global, seeker: &Seeker, plain: &Plain, caller: u8) -> Result<b
 
 /// How many callers can go on.
 pub fn goers_in(alloc: Global, seeker: &Seeker, plain: &Plain) -> Result<u64, Memory>
-    requires fit { AreFit seeker.now.rules.now }
-    requires kept { Kept (world_of (setup_by seeker.now.rules.now) plain.now) }
+    requires kept { Kept (world_of seeker.now.rules.now plain.now) }
     requires follows { Follows seeker.now plain.now.live.devices }
     requires few { length plain.now.callers.items ≤ 17 }
-    ensures counted { IfOk result (λ n. n ≡ goers (world_of (setup_by seeker.now.rules.now) plain.now)) }
+    ensures counted { IfOk result (λ n. n ≡ goers (world_of seeker.now.rules.now plain.now)) }
     ensures few { IfOk result (λ n. n ≤ 17) }
 {
     let mut count = 0;

@@ -3,7 +3,6 @@
 ghost use Rattle.std.specs.Prelude.{◌≡◌, ◌<◌, ◌≤◌, ◌+◌, ◌-◌, ◌^◌, IfOk, OnOk, length, option_map};
 ghost use Rattle.run_sound.specs.Kept.{Kept};
 ghost use Rattle.plain_world.specs.Plain.{world_of};
-ghost use Rattle.plain_world.specs.Rules.{AreFit, setup_by};
 ghost use Rattle.every_order.specs.Search.{Follows, FollowsAll, FollowsAt, IsBeginning, IsKnown, IsWholeOrMore};
 
 use crate::known::{Known, Met, meet};
@@ -23,13 +22,13 @@ fn follow(
     at: usize,
     caller: u8,
 ) -> Result<(), Memory>
-    requires fit { AreFit seeker.now.rules.now }
-    requires known { IsKnown (setup_by seeker.now.rules.now) known.old at }
+    requires known { IsKnown seeker.now.rules.now known.old at }
     requires at { at < length known.old.met.items }
     requires few { length known.old.met.items < 2 ^ 62 }
     requires follows { FollowsAt seeker.now known.old.met.items at }
-    ensures { OnOk result (Follows (setup_by seeker.now.rules.now) known.old at caller known.new) }
+    ensures { OnOk result (Follows seeker.now.rules.now known.old at caller known.new) }
 {
+    seeker.rules.stands();
     let one = &known.met[at];
     let depth = one.depth + 1;
     match turn(alloc, seeker, &one.plain, caller)? {
@@ -40,14 +39,14 @@ fn follow(
 
 /// Follows the turns of all callers from a world.
 fn follow_all(alloc: Global, seeker: &Seeker, known: &mut Known, at: usize) -> Result<(), Memory>
-    requires fit { AreFit seeker.now.rules.now }
-    requires known { IsKnown (setup_by seeker.now.rules.now) known.old at }
+    requires known { IsKnown seeker.now.rules.now known.old at }
     requires at { at < length known.old.met.items }
     requires few { length known.old.met.items < 2 ^ 61 }
     requires follows { FollowsAt seeker.now known.old.met.items at }
-    ensures { OnOk result (FollowsAll (setup_by seeker.now.rules.now) known.old at known.new) }
+    ensures { OnOk result (FollowsAll seeker.now.rules.now known.old at known.new) }
 {
-    for caller in 0..seeker.rules.scripts.len() as u8 + 1 {
+    let rules = seeker.rules;
+    for caller in 0..rules.scripts.len() as u8 + 1 {
         follow(alloc, seeker, known, at, caller)?;
     }
     Ok(())
@@ -60,13 +59,13 @@ fn follow_from(
     known: &mut Known,
     at: usize,
 ) -> Result<(), Memory>
-    requires fit { AreFit seeker.old.rules.now }
-    requires known { IsKnown (setup_by seeker.old.rules.now) known.old at }
+    requires known { IsKnown seeker.old.rules.now known.old at }
     requires at { at < length known.old.met.items }
     requires few { length known.old.met.items < 2 ^ 61 }
     ensures rules { seeker.new.rules.now ≡ seeker.old.rules.now }
-    ensures followed { OnOk result (FollowsAll (setup_by seeker.old.rules.now) known.old at known.new) }
+    ensures followed { OnOk result (FollowsAll seeker.old.rules.now known.old at known.new) }
 {
+    seeker.rules.stands();
     seeker.recount(alloc, &known.met[at].plain.live)?;
     follow_all(alloc, seeker, known, at)
 }
@@ -97,11 +96,10 @@ pub fn worlds_from(
     start: Plain,
     most: u32,
 ) -> Result<Option<Vec<Met>>, Memory>
-    requires fit { AreFit seeker.old.rules.now }
-    requires kept { Kept (world_of (setup_by seeker.old.rules.now) start) }
+    requires kept { Kept (world_of seeker.old.rules.now start) }
     requires low { start.live.next ≤ 2 ^ 63 }
     ensures rules { seeker.new.rules.now ≡ seeker.old.rules.now }
-    ensures worlds { IfOk result (λ all. IsWholeOrMore (setup_by seeker.old.rules.now) (world_of (setup_by seeker.old.rules.now) start) most (option_map (λ v. v.items) all)) }
+    ensures worlds { IfOk result (λ all. IsWholeOrMore seeker.old.rules.now (world_of seeker.old.rules.now start) most (option_map (λ v. v.items) all)) }
 {
     let mut known = first_known(alloc, start)?;
     let mut at = 0;

@@ -9,7 +9,6 @@ ghost use Rattle.run_rules.specs.World.{is_live};
 ghost use Rattle.run_sound.specs.Kept.{Kept};
 ghost use Rattle.plain_world.specs.Plain.{world_of};
 ghost use Rattle.plain_search.specs.Open.{Follows};
-ghost use Rattle.plain_world.specs.Rules.{AreFit, setup_by};
 ghost use Rattle.wait_lines.specs.Waits.{lines_at, wait_line};
 ghost use Rattle.every_order.specs.Kinds.{wait_text};
 
@@ -37,10 +36,10 @@ fn put_devices(out: &mut Vec<u8>, devices: &[DevLine]) -> Result<(), Memory>
 /// The tree of a world.
 #[tactic(auto, unfolding(run_rules::specs::Tree::tree_text))]
 pub fn tree_of(alloc: Global, seeker: &Seeker, plain: &Plain) -> Result<Vec<u8>, Memory>
-    requires fit { AreFit seeker.now.rules.now }
-    requires kept { Kept (world_of (setup_by seeker.now.rules.now) plain.now) }
-    ensures { IfOk result (λ text. text.items ≡ tree.tree_text (world_of (setup_by seeker.now.rules.now) plain.now)) }
+    requires kept { Kept (world_of seeker.now.rules.now plain.now) }
+    ensures { IfOk result (λ text. text.items ≡ tree.tree_text (world_of seeker.now.rules.now plain.now)) }
 {
+    seeker.rules.stands();
     let devices = tree_lines(alloc, seeker.rules, plain)?;
     let mut text = Vec::new(alloc);
     text.extend_from_slice(b"tree\n")?;
@@ -50,9 +49,8 @@ pub fn tree_of(alloc: Global, seeker: &Seeker, plain: &Plain) -> Result<Vec<u8>,
 
 /// The name of a live device.
 fn name_at(alloc: Global, rules: &Rules, plain: &Plain, serial: u64) -> Result<Name, Memory>
-    requires fit { AreFit rules.now }
     requires live { is_live plain.now.live.devices serial ≡ true }
-    ensures { IfOk result (λ name. name ≡ choices.name_at (world_of (setup_by rules.now) plain.now) serial) }
+    ensures { IfOk result (λ name. name ≡ choices.name_at (world_of rules.now plain.now) serial) }
 {
     match device_at(&plain.live, serial) {
         Some(device) => unit_name(alloc, rules, device.row, device.unit),
@@ -93,10 +91,9 @@ fn put_waiting(
     caller: u8,
     serial: u64,
 ) -> Result<(), Memory>
-    requires fit { AreFit rules.now }
     requires live { is_live plain.now.live.devices serial ≡ true }
     requires counted { (k s : ℕ) → count_in plain.now.refs k s ≤ 15 }
-    ensures { OnOk result (out.new.items ≡ out.old.items ++ ended (wait_line (world_of (setup_by rules.now) plain.now) caller serial)) }
+    ensures { OnOk result (out.new.items ≡ out.old.items ++ ended (wait_line (world_of rules.now plain.now) caller serial)) }
 {
     let alloc = *out.allocator();
     let device = name_at(alloc, rules, plain, serial)?;
@@ -108,11 +105,11 @@ fn put_waiting(
 
 /// Appends the line of a caller, if it waits until nobody holds a device.
 fn put_caller(out: &mut Vec<u8>, seeker: &Seeker, plain: &Plain, caller: u8) -> Result<(), Memory>
-    requires fit { AreFit seeker.now.rules.now }
-    requires kept { Kept (world_of (setup_by seeker.now.rules.now) plain.now) }
+    requires kept { Kept (world_of seeker.now.rules.now plain.now) }
     requires follows { Follows seeker.now plain.now.live.devices }
-    ensures { OnOk result (out.new.items ≡ out.old.items ++ text_of (lines_at (world_of (setup_by seeker.now.rules.now) plain.now) caller)) }
+    ensures { OnOk result (out.new.items ≡ out.old.items ++ text_of (lines_at (world_of seeker.now.rules.now plain.now) caller)) }
 {
+    seeker.rules.stands();
     match next(*out.allocator(), seeker, plain, caller)? {
         Choice::Waits(Wait::Refs(serial)) => {
             put_waiting(out, seeker.rules, plain, caller, serial)
@@ -124,13 +121,13 @@ fn put_caller(out: &mut Vec<u8>, seeker: &Seeker, plain: &Plain, caller: u8) -> 
 /// Who waits for whom in a world, a line each.
 #[tactic(auto, unfolding(wait_lines::specs::Waits::wait_lines))]
 pub fn waits_of(alloc: Global, seeker: &Seeker, plain: &Plain) -> Result<Vec<u8>, Memory>
-    requires fit { AreFit seeker.now.rules.now }
-    requires kept { Kept (world_of (setup_by seeker.now.rules.now) plain.now) }
+    requires kept { Kept (world_of seeker.now.rules.now plain.now) }
     requires follows { Follows seeker.now plain.now.live.devices }
-    ensures { IfOk result (λ text. text.items ≡ wait_text (world_of (setup_by seeker.now.rules.now) plain.now)) }
+    ensures { IfOk result (λ text. text.items ≡ wait_text (world_of seeker.now.rules.now plain.now)) }
 {
     let mut text = Vec::new(alloc);
-    for place in 0..seeker.rules.scripts.len() as u8 {
+    let rules = seeker.rules;
+    for place in 0..rules.scripts.len() as u8 {
         put_caller(&mut text, seeker, plain, place + 1)?;
     }
     Ok(text)

@@ -6,7 +6,6 @@ ghost use Rattle.run_rules.specs.Next as choices;
 ghost use Rattle.run_sound.specs.Kept.{Kept};
 ghost use Rattle.plain_world.specs.Plain.{world_of};
 ghost use Rattle.plain_search.specs.Open.{Follows};
-ghost use Rattle.plain_world.specs.Rules.{AreFit, setup_by};
 ghost use Rattle.every_order.specs.Search.{IsLeft};
 
 use cf_types::Memory;
@@ -25,12 +24,12 @@ fn after(
     caller: u8,
     deed: &Deed,
 ) -> Result<Plain, Memory>
-    requires fit { AreFit rules.now }
-    requires kept { Kept (world_of (setup_by rules.now) plain.now) }
+    requires kept { Kept (world_of rules.now plain.now) }
     requires next { plain.now.live.next < 2 ^ 64 - 1 }
-    requires due { choices.next (world_of (setup_by rules.now) plain.now) caller ≡ Does deed.now }
-    ensures { IfOk result (λ left. world_of (setup_by rules.now) left ≡ rule.after (world_of (setup_by rules.now) plain.now) caller deed.now) }
+    requires due { choices.next (world_of rules.now plain.now) caller ≡ Does deed.now }
+    ensures { IfOk result (λ left. world_of rules.now left ≡ rule.after (world_of rules.now plain.now) caller deed.now) }
 {
+    rules.stands();
     let mut left = copied(alloc, plain)?;
     apply(alloc, rules, &mut left, caller, deed)?;
     Ok(left)
@@ -43,12 +42,12 @@ pub fn turn(
     plain: &Plain,
     caller: u8,
 ) -> Result<Option<Plain>, Memory>
-    requires fit { AreFit seeker.now.rules.now }
-    requires kept { Kept (world_of (setup_by seeker.now.rules.now) plain.now) }
+    requires kept { Kept (world_of seeker.now.rules.now plain.now) }
     requires follows { Follows seeker.now plain.now.live.devices }
     requires next { plain.now.live.next < 2 ^ 64 - 1 }
-    ensures { IfOk result (IsLeft (setup_by seeker.now.rules.now) plain.now caller) }
+    ensures { IfOk result (IsLeft seeker.now.rules.now plain.now caller) }
 {
+    seeker.rules.stands();
     match next(alloc, seeker, plain, caller)? {
         Choice::Does(deed) => {
             let left = after(alloc, seeker.rules, plain, caller, &deed)?;

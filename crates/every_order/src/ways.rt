@@ -1,7 +1,6 @@
 //! The texts of worlds, each once, with a shortest order that leads there.
 ghost use Rattle.std.specs.Prelude.{◌≡◌, ◌<◌, ◌≤◌, ◌*◌, ◌^◌, IfOk, OnOk, length};
 ghost use Rattle.run_rules.specs.declared.world.Setup.{Setup};
-ghost use Rattle.plain_world.specs.Rules.{AreFit, setup_by};
 ghost use Rattle.every_order.specs.Noted.{AddsText, AreBack, AreNoted, AreSorted, IsOrderTo, Notes, ways_in};
 ghost use Rattle.every_order.specs.Search.{AreMet};
 
@@ -73,14 +72,14 @@ fn note(
     place: usize,
     noted: &mut Noted,
 ) -> Result<(), Memory>
-    requires fit { AreFit seeker.old.rules.now }
-    requires met { AreMet (setup_by seeker.old.rules.now) met.now }
+    requires met { AreMet seeker.old.rules.now met.now }
     requires place { place < length met.now }
     requires turns { noted.old.turns ≤ 17 * place }
     requires few { place < 2 ^ 32 }
     ensures rules { seeker.new.rules.now ≡ seeker.old.rules.now }
-    ensures noted { OnOk result (Notes (setup_by seeker.old.rules.now) met.now place noted.old noted.new) }
+    ensures noted { OnOk result (Notes seeker.old.rules.now met.now place noted.old noted.new) }
 {
+    seeker.rules.stands();
     let plain = &met[place].plain;
     seeker.recount(alloc, &plain.live)?;
     let goers = goers_in(alloc, seeker, plain)?;
@@ -100,11 +99,11 @@ fn note(
 
 /// Notes all worlds of a list.
 pub fn notes_of(alloc: Global, seeker: &mut Seeker, met: &[Met]) -> Result<Noted, Memory>
-    requires fit { AreFit seeker.old.rules.now }
-    requires met { AreMet (setup_by seeker.old.rules.now) met.now }
+    requires met { AreMet seeker.old.rules.now met.now }
     requires few { length met.now < 2 ^ 32 }
-    ensures { IfOk result (AreNoted (setup_by seeker.old.rules.now) met.now (length met.now)) }
+    ensures { IfOk result (AreNoted seeker.old.rules.now met.now (length met.now)) }
 {
+    seeker.rules.stands();
     let ends = BTreeMap::new(alloc);
     let stuck = BTreeMap::new(alloc);
     let mut noted = Noted {

@@ -5,10 +5,9 @@ use Rattle.run_rules.specs.World.{World}
 use Rattle.history_replay.specs.declared.means.Reader.{Reader}
 use Rattle.plain_world.specs.declared.world.Plain.{Plain}
 use Rattle.plain_world.specs.Plain.{world_of}
-use Rattle.plain_world.specs.Rules.{setup_by}
 
 abbrev pub setup_in : Reader → Setup
-setup_in r = setup_by r.teller.rules.now
+setup_in r = r.teller.rules.now
 
 -- the world that a plain world is by its rules
 abbrev pub world_in : Reader → Plain → World

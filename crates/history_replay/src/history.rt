@@ -5,7 +5,6 @@ ghost use Rattle.run_rules.specs.Laws.{Lawful};
 ghost use Rattle.run_rules.specs.Reread as rule;
 ghost use Rattle.run_rules.specs.World.{setup_of};
 ghost use Rattle.plain_world.specs.Plain.{world_of};
-ghost use Rattle.plain_world.specs.Rules.{AreFit, setup_by};
 ghost use Rattle.history_replay.specs.Going.{IsGoing};
 ghost use Rattle.history_laws.specs.Tells.{TellsTree};
 ghost use Rattle.history_replay.specs.Stops.{IsReliableTree, IsReplay, Replays, Rereads};
@@ -106,9 +105,9 @@ pub fn replay(
 
 /// Reads a history from the opening world on.
 fn reread_under(alloc: Global, rules: &Rules, text: &[u8]) -> Result<Replayed, ReplayStop>
-    requires { AreFit rules.now }
-    ensures { Rereads (setup_by rules.now) text.now result }
+    ensures { Rereads rules.now text.now result }
 {
+    rules.stands();
     let Ok(plain) = opening(alloc, rules) else {
         return Err(ReplayStop::Memory);
     };
@@ -122,12 +121,12 @@ fn reread_by(
     plain: Plain,
     text: &[u8],
 ) -> Result<Replayed, ReplayStop>
-    requires fit { AreFit rules.now }
-    requires going { IsGoing (setup_by rules.now) plain }
+    requires going { IsGoing rules.now plain }
     requires none { plain.live.devices ≡ [] }
     requires next { plain.live.next ≤ 1 }
-    ensures { IsReplay (rule.reread (world_of (setup_by rules.now) plain) text.now) result }
+    ensures { IsReplay (rule.reread (world_of rules.now plain) text.now) result }
 {
+    rules.stands();
     let mut plain = plain;
     match read_history(alloc, rules, &mut plain, text) {
         Ok(events) => match tree_lines(alloc, rules, &plain) {

@@ -1,7 +1,6 @@
 //! What the reader of the lines of a history uses.
 ghost use Rattle.std.specs.Prelude.{◌≡◌, [], IfOk};
 ghost use Rattle.plain_search.specs.Open.{Follows};
-ghost use Rattle.plain_world.specs.Rules.{AreFit};
 
 use crate::head::Heads;
 use cf_types::Memory;
@@ -32,7 +31,6 @@ pub fn reader_by<'a>(
     rules: &'a Rules<'a>,
     format: Format,
 ) -> Result<Reader<'a>, Memory>
-    requires fit { AreFit rules.now }
     ensures means { IfOk result (λ r. (r.teller.rules.now ≡ rules.now) × (r.format ≡ format)) }
     ensures follows { IfOk result (λ r. Follows r.seeker []) }
 {

@@ -6,7 +6,6 @@ ghost use Rattle.run_rules.specs.declared.event.Format.TheVariants.{Second};
 ghost use Rattle.run_rules.specs.declared.world.Setup.{Setup};
 ghost use Rattle.plain_search.specs.Open.{Follows};
 ghost use Rattle.plain_world.specs.Plain.{HasCaller, IsReady, world_of};
-ghost use Rattle.plain_world.specs.Rules.{AreFit, setup_by};
 ghost use Rattle.history_replay.specs.Going.{GoesOn, IsDue, IsGoing};
 ghost use Rattle.history_replay.specs.Readers.{IsSame, setup_in, world_in};
 ghost use Rattle.history_replay.specs.Steps.{ReadsHistory, ReadsLines, TellsDeed, TellsNext, TellsStep, event_as, event_in, given};
@@ -80,13 +79,13 @@ fn event_anew(
     deed: &Deed,
     line: &[u8],
 ) -> Result<Option<Event>, Memory>
-    requires fit { AreFit reader.old.teller.rules.now }
     requires going { IsGoing (setup_in reader.old) plain.now }
     requires due { IsDue (setup_in reader.old) plain.now caller deed.now }
     ensures told { IfOk result (λ e. event_in reader.old.format (world_in reader.old plain.now) caller deed.now line.now ≡ e) }
     ensures same { IsSame reader.old reader.new }
     ensures seeker { reader.new.seeker ≡ reader.old.seeker }
 {
+    reader.teller.rules.stands();
     match event_of(&mut reader.teller, plain, caller, deed) {
         Ok(event) => event_if(&mut reader.due, reader.format, event, line),
         Err(memory) => Err(memory),
@@ -124,7 +123,6 @@ fn event_by_text(
     deed: &Deed,
     line: &[u8],
 ) -> Result<Option<Event>, Memory>
-    requires fit { AreFit reader.old.teller.rules.now }
     requires going { IsGoing (setup_in reader.old) plain.now }
     requires due { IsDue (setup_in reader.old) plain.now caller deed.now }
     requires format { reader.old.format ≡ Second }
@@ -132,6 +130,7 @@ fn event_by_text(
     ensures same { IsSame reader.old reader.new }
     ensures seeker { reader.new.seeker ≡ reader.old.seeker }
 {
+    reader.teller.rules.stands();
     match told_before(&reader.teller, plain, deed) {
         Some(kept) => event_again(&mut reader.heads, plain, caller, kept, line),
         None => event_anew(reader, plain, caller, deed, line),
@@ -146,7 +145,6 @@ fn event_told(
     deed: &Deed,
     line: &[u8],
 ) -> Result<Option<Event>, Memory>
-    requires fit { AreFit reader.old.teller.rules.now }
     requires going { IsGoing (setup_in reader.old) plain.now }
     requires due { IsDue (setup_in reader.old) plain.now caller deed.now }
     ensures told { IfOk result (λ e. event_in reader.old.format (world_in reader.old plain.now) caller deed.now line.now ≡ e) }
@@ -161,7 +159,6 @@ fn event_told(
 
 /// Does what a caller does next, and counts the devices as they are then.
 fn perform(reader: &mut Reader, plain: &mut Plain, caller: u8, deed: &Deed) -> Result<(), Memory>
-    requires fit { AreFit reader.old.teller.rules.now }
     requires going { IsGoing (setup_in reader.old) plain.old }
     requires next { plain.old.live.next < 2 ^ 64 - 1 }
     requires due { IsDue (setup_in reader.old) plain.old caller deed.now }
@@ -170,6 +167,7 @@ fn perform(reader: &mut Reader, plain: &mut Plain, caller: u8, deed: &Deed) -> R
     ensures same { IsSame reader.old reader.new }
     ensures follows { OnOk result (Follows reader.new.seeker plain.new.live.devices) }
 {
+    reader.teller.rules.stands();
     reader.seeker.heed(&plain.live, deed);
     apply(
         reader.teller.alloc,
@@ -188,7 +186,6 @@ fn take(
     deed: &Deed,
     line: &[u8],
 ) -> Result<Option<Event>, Memory>
-    requires fit { AreFit reader.old.teller.rules.now }
     requires going { IsGoing (setup_in reader.old) plain.old }
     requires follows { Follows reader.old.seeker plain.old.live.devices }
     requires next { plain.old.live.next < 2 ^ 64 - 1 }
@@ -212,7 +209,6 @@ fn take(
 
 /// What a caller does next.
 fn next_by(reader: &Reader, plain: &Plain, caller: u8) -> Result<Choice, Memory>
-    requires fit { AreFit reader.now.teller.rules.now }
     requires ready { IsReady plain.now }
     requires follows { Follows reader.now.seeker plain.now.live.devices }
     ensures { IfOk result (λ does. rules.next (world_in reader.now plain.now) caller ≡ does) }
@@ -227,7 +223,6 @@ fn told_by(
     caller: u8,
     line: &[u8],
 ) -> Result<Option<Event>, Memory>
-    requires fit { AreFit reader.old.teller.rules.now }
     requires going { IsGoing (setup_in reader.old) plain.old }
     requires follows { Follows reader.old.seeker plain.old.live.devices }
     requires next { plain.old.live.next < 2 ^ 64 - 1 }
@@ -235,6 +230,7 @@ fn told_by(
     ensures same { IsSame reader.old reader.new }
     ensures follows { OnOk result (Follows reader.new.seeker plain.new.live.devices) }
 {
+    reader.teller.rules.stands();
     match next_by(reader, plain, caller) {
         Ok(Choice::Does(deed)) => take(reader, plain, caller, &deed, line),
         Ok(_) => Ok(None),
@@ -244,7 +240,6 @@ fn told_by(
 
 /// The event of a line, if it is what its caller does next: the world is then the one after it.
 fn step(reader: &mut Reader, plain: &mut Plain, line: &[u8]) -> Result<Option<Event>, Memory>
-    requires fit { AreFit reader.old.teller.rules.now }
     requires going { IsGoing (setup_in reader.old) plain.old }
     requires follows { Follows reader.old.seeker plain.old.live.devices }
     requires next { plain.old.live.next < 2 ^ 64 - 1 }
@@ -278,7 +273,6 @@ fn read_lines(
     text: &[u8],
     first: u64,
 ) -> Result<List<Event>, ReplayStop>
-    requires fit { AreFit reader.old.teller.rules.now }
     requires going { IsGoing (setup_in reader.old) plain.old }
     requires follows { Follows reader.old.seeker plain.old.live.devices }
     requires next { plain.old.live.next ≤ first }
@@ -319,13 +313,12 @@ fn read_behind_head(
     text: &[u8],
     first: u64,
 ) -> Result<List<Event>, ReplayStop>
-    requires fit { AreFit rules.now }
-    requires going { IsGoing (setup_by rules.now) plain.old }
+    requires going { IsGoing rules.now plain.old }
     requires none { plain.old.live.devices ≡ [] }
     requires next { plain.old.live.next ≤ first }
     requires few { first + length text.now < 2 ^ 64 - 1 }
-    ensures read { ReadsLines (setup_by rules.now) format plain.old first text.now result plain.new }
-    ensures going { OnOk result (IsGoing (setup_by rules.now) plain.new) }
+    ensures read { ReadsLines rules.now format plain.old first text.now result plain.new }
+    ensures going { OnOk result (IsGoing rules.now plain.new) }
 {
     match reader_by(alloc, rules, format) {
         Ok(mut reader) => read_lines(&mut reader, plain, text, first),
@@ -340,12 +333,11 @@ pub fn read_history(
     plain: &mut Plain,
     text: &[u8],
 ) -> Result<List<Event>, ReplayStop>
-    requires fit { AreFit rules.now }
-    requires going { IsGoing (setup_by rules.now) plain.old }
+    requires going { IsGoing rules.now plain.old }
     requires none { plain.old.live.devices ≡ [] }
     requires next { plain.old.live.next ≤ 1 }
-    ensures read { ReadsHistory (setup_by rules.now) plain.old text.now result plain.new }
-    ensures going { OnOk result (IsGoing (setup_by rules.now) plain.new) }
+    ensures read { ReadsHistory rules.now plain.old text.now result plain.new }
+    ensures going { OnOk result (IsGoing rules.now plain.new) }
 {
     let mut left = text;
     let mut number = 1;

@@ -4,7 +4,6 @@ ghost use Rattle.std.specs.List.{list_any};
 ghost use Rattle.std.specs.Option.{option_map_or};
 ghost use Rattle.run_rules.specs.Search as rule;
 ghost use Rattle.run_rules.specs.World as world;
-ghost use Rattle.plain_world.specs.Rules.{AreFit, setup_by};
 ghost use Rattle.match_reasons.specs.Reasons.{beaten, could_stand, has_attachment, kept_off, reason, reason_of, spot_place, told_of, unit_taken};
 ghost use Rattle.match_reasons.specs.Searches.{HasOffers, IsSearchAt, IsSearchOf, parent_by};
 
@@ -42,8 +41,7 @@ pub struct Search {
 /// Whether a device, or the root, offers a place.
 #[tactic(auto, unfolding(cf_types::specs::Offers::offers))]
 fn offers(rules: &Rules, parent: Option<Dev>, place: Place) -> bool
-    requires { AreFit rules.now }
-    ensures { result ≡ rule.parent_offers rules.now.tables.now (parent_by (setup_by rules.now) parent) place }
+    ensures { result ≡ rule.parent_offers rules.now.tables (parent_by rules.now parent) place }
 {
     match (parent, place) {
         (None, Place::Root) => true,
@@ -56,7 +54,7 @@ fn offers(rules: &Rules, parent: Option<Dev>, place: Place) -> bool
 
 /// Whether a row names this device as its parent, or names none.
 fn names(rules: &Rules, spec: Option<ParentSpec>, parent: Option<Dev>) -> bool
-    ensures { result ≡ rule.names_parent spec (parent_by (setup_by rules.now) parent) }
+    ensures { result ≡ rule.names_parent spec (parent_by rules.now parent) }
 {
     match (spec, parent) {
         (None, _) => true,
@@ -70,15 +68,15 @@ fn names(rules: &Rules, spec: Option<ParentSpec>, parent: Option<Dev>) -> bool
 
 /// Whether a row fits the parent and the place of a search.
 fn fits(rules: &Rules, search: Search, row: &Row) -> bool
-    requires { HasOffers (setup_by rules.now) search }
-    ensures { result ≡ rule.fits rules.now.tables.now (parent_by (setup_by rules.now) search.parent) search.place row.now }
+    requires { HasOffers rules.now search }
+    ensures { result ≡ rule.fits rules.now.tables (parent_by rules.now search.parent) search.place row.now }
 {
     same_place(row.place, search.place) && search.offers && names(rules, row.parent, search.parent)
 }
 
 /// The first live device that has the driver and the unit of a row.
 fn taker(rules: &Rules, live: &Live, row: &Row) -> Option<Dev>
-    ensures { result ≡ find (λ d. world.driver_of (setup_by rules.now) d.row == row.now.device && d.unit == row.now.unit) live.now.devices }
+    ensures { result ≡ find (λ d. world.driver_of rules.now d.row == row.now.device && d.unit == row.now.unit) live.now.devices }
 {
     // (the unit first, since few devices have it)
     live.devices().iter().copied().find(|device| device.unit == row.unit
@@ -87,7 +85,7 @@ fn taker(rules: &Rules, live: &Live, row: &Row) -> Option<Dev>
 
 /// The live device that has the one unit of a row.
 fn unit_taken(rules: &Rules, live: &Live, row: &Row) -> Option<Reason>
-    ensures { result ≡ unit_taken (setup_by rules.now) live.now.devices row.now }
+    ensures { result ≡ unit_taken rules.now live.now.devices row.now }
 {
     if row.star {
         return None;
@@ -110,9 +108,8 @@ fn beaten(winner: Option<u32>, row: u32) -> Option<Reason>
 
 /// Why a row is no candidate for the spot of a search.
 fn kept_off(rules: &Rules, live: &Live, search: Search, row: &Row) -> Option<Reason>
-    requires fit { AreFit rules.now }
-    requires offers { HasOffers (setup_by rules.now) search }
-    ensures { result ≡ kept_off (setup_by rules.now) live.now.devices (parent_by (setup_by rules.now) search.parent) search.place search.spot row.now }
+    requires offers { HasOffers rules.now search }
+    ensures { result ≡ kept_off rules.now live.now.devices (parent_by rules.now search.parent) search.place search.spot row.now }
 {
     if !fits(rules, search, row) {
         return Some(Reason::Parent);
@@ -129,9 +126,8 @@ fn kept_off(rules: &Rules, live: &Live, search: Search, row: &Row) -> Option<Rea
 
 /// Whether the row of a number is a candidate for the spot of a search.
 fn is_candidate(rules: &Rules, live: &Live, search: Search, number: u32) -> bool
-    requires fit { AreFit rules.now }
-    requires offers { HasOffers (setup_by rules.now) search }
-    ensures { result ≡ rule.is_candidate (setup_by rules.now) live.now.devices (parent_by (setup_by rules.now) search.parent) search.place search.spot number }
+    requires offers { HasOffers rules.now search }
+    ensures { result ≡ rule.is_candidate rules.now live.now.devices (parent_by rules.now search.parent) search.place search.spot number }
 {
     match row_at(rules, number) {
         Some(row) => kept_off(rules, live, search, row).is_none(),
@@ -141,14 +137,14 @@ fn is_candidate(rules: &Rules, live: &Live, search: Search, number: u32) -> bool
 
 /// The match value of the row of a number at a spot.
 fn value_of(rules: &Rules, number: u32, spot: u16) -> u32
-    ensures { result ≡ rule.value_of (setup_by rules.now) number spot }
+    ensures { result ≡ rule.value_of rules.now number spot }
 {
     match_value(rules.machine, attach_of(rules, number), spot)
 }
 
 /// Whether a row has a greater match value than the best so far.
 fn is_above(rules: &Rules, number: u32, best: Option<u32>, spot: u16) -> bool
-    ensures { result ≡ option_map_or (λ b. nat_lt (rule.value_of (setup_by rules.now) b spot) (rule.value_of (setup_by rules.now) number spot)) best true }
+    ensures { result ≡ option_map_or (λ b. nat_lt (rule.value_of rules.now b spot) (rule.value_of rules.now number spot)) best true }
 {
     match best {
         Some(best) => value_of(rules, best, spot) < value_of(rules, number, spot),
@@ -158,9 +154,8 @@ fn is_above(rules: &Rules, number: u32, best: Option<u32>, spot: u16) -> bool
 
 /// The row that takes the spot of a search.
 fn winner(rules: &Rules, live: &Live, search: Search) -> Option<u32>
-    requires fit { AreFit rules.now }
-    requires offers { HasOffers (setup_by rules.now) search }
-    ensures { rule.winner (setup_by rules.now) live.now.devices (parent_by (setup_by rules.now) search.parent) search.place search.spot ≡ result }
+    requires offers { HasOffers rules.now search }
+    ensures { rule.winner rules.now live.now.devices (parent_by rules.now search.parent) search.place search.spot ≡ result }
 {
     let mut best = None;
     for row in 0..rules.tables.rows.len() as u32 {
@@ -173,9 +168,8 @@ fn winner(rules: &Rules, live: &Live, search: Search) -> Option<u32>
 
 /// Why a row does not take the spot of a search.
 fn reason_of(rules: &Rules, live: &Live, search: Search, number: u32, row: &Row) -> Option<Reason>
-    requires fit { AreFit rules.now }
-    requires search { IsSearchOf (setup_by rules.now) live.now.devices search }
-    ensures { result ≡ reason_of (setup_by rules.now) live.now.devices (parent_by (setup_by rules.now) search.parent) search.place search.spot number row.now }
+    requires search { IsSearchOf rules.now live.now.devices search }
+    ensures { result ≡ reason_of rules.now live.now.devices (parent_by rules.now search.parent) search.place search.spot number row.now }
 {
     match kept_off(rules, live, search, row) {
         Some(reason) => Some(reason),
@@ -185,10 +179,9 @@ fn reason_of(rules: &Rules, live: &Live, search: Search, number: u32, row: &Row)
 
 /// The search of a spot below a device, or below the root, with no row that takes the spot.
 fn search_below(rules: &Rules, parent: Option<Dev>, spot: u16) -> Search
-    requires fit { AreFit rules.now }
-    ensures offers { HasOffers (setup_by rules.now) result }
+    ensures offers { HasOffers rules.now result }
     ensures parent { result.parent ≡ parent }
-    ensures place { result.place ≡ spot_place rules.now.machine.now spot }
+    ensures place { result.place ≡ spot_place rules.now.machine spot }
     ensures spot { result.spot ≡ spot }
 {
     let place = place_of(rules, spot);
@@ -203,8 +196,7 @@ fn search_below(rules: &Rules, parent: Option<Dev>, spot: u16) -> Search
 
 /// The search of a spot below the device of a serial, or below the root. See autoconf(9).
 pub fn search_of(rules: &Rules, live: &Live, parent: u64, spot: u16) -> Search
-    requires { AreFit rules.now }
-    ensures { IsSearchAt (setup_by rules.now) live.now.devices parent spot result }
+    ensures { IsSearchAt rules.now live.now.devices parent spot result }
 {
     let mut search = search_below(rules, device_at(live, parent), spot);
     search.winner = winner(rules, live, search);
@@ -214,9 +206,8 @@ pub fn search_of(rules: &Rules, live: &Live, parent: u64, spot: u16) -> Search
 /// Why the row of a number does not take the spot of a search; the row that takes it has no reason.
 #[tactic(auto, unfolding(crate::specs::Reasons::reason))]
 pub fn reason_at(rules: &Rules, live: &Live, search: Search, number: u32) -> Option<Reason>
-    requires fit { AreFit rules.now }
-    requires search { IsSearchOf (setup_by rules.now) live.now.devices search }
-    ensures { result ≡ reason (setup_by rules.now) live.now.devices (parent_by (setup_by rules.now) search.parent) search.place search.spot number }
+    requires search { IsSearchOf rules.now live.now.devices search }
+    ensures { result ≡ reason rules.now live.now.devices (parent_by rules.now search.parent) search.place search.spot number }
 {
     match row_at(rules, number) {
         Some(row) => reason_of(rules, live, search, number, row),
@@ -233,7 +224,7 @@ fn has_place(places: &[Place], place: Place) -> bool
 
 /// Whether a device has an attachment at a place.
 fn has_attachment(rules: &Rules, place: Place, device: u32) -> bool
-    ensures { result ≡ has_attachment rules.now.tables.now place device }
+    ensures { result ≡ has_attachment rules.now.tables place device }
 {
     let attaches = rules.tables.attaches.items();
     attaches.iter().any(|attach| attach.device == device && has_place(attach.places.items(), place))
@@ -241,7 +232,7 @@ fn has_attachment(rules: &Rules, place: Place, device: u32) -> bool
 
 /// Whether the device of a row has an attachment at a place.
 fn could_stand(rules: &Rules, place: Place, number: u32) -> bool
-    ensures { result ≡ could_stand rules.now.tables.now place number }
+    ensures { result ≡ could_stand rules.now.tables place number }
 {
     match row_at(rules, number) {
         Some(row) => has_attachment(rules, place, row.device),
@@ -259,8 +250,7 @@ pub fn told_of(
     parent: u64,
     spot: u16,
 ) -> Result<Told, Memory>
-    requires { AreFit rules.now }
-    ensures { IfOk result (λ told. told ≡ told_of (setup_by rules.now) live.now.devices parent spot) }
+    ensures { IfOk result (λ told. told ≡ told_of rules.now live.now.devices parent spot) }
 {
     let search = search_of(rules, live, parent, spot);
     let mut rows = List::make(alloc);

@@ -5,7 +5,6 @@ ghost use Rattle.run_rules.specs.declared.deed.Choice.TheVariants.{Does};
 ghost use Rattle.run_rules.specs.declared.world.Frame as frames;
 ghost use Rattle.plain_search.specs.Open.{Follows};
 ghost use Rattle.plain_world.specs.Plain.{world_of, state_at, IsReady};
-ghost use Rattle.plain_world.specs.Rules.{AreFit, setup_by};
 
 use crate::command::{Asker, command_deed};
 use crate::late::finalise;
@@ -20,10 +19,9 @@ use std::alloc::Global;
 /// autoconf(9).
 #[tactic(auto, unfolding(run_rules::specs::Next::next_boot))]
 fn next_boot(seeker: &Seeker, plain: &Plain) -> Choice
-    requires fit { AreFit seeker.now.rules.now }
     requires few { length plain.now.live.devices ≤ 1024 }
     requires follows { Follows seeker.now plain.now.live.devices }
-    ensures { next.next_boot (world_of (setup_by seeker.now.rules.now) plain.now) ≡ result }
+    ensures { next.next_boot (world_of seeker.now.rules.now plain.now) ≡ result }
 {
     if !plain.interrupts_on {
         return Choice::Does(Deed::BeginInterrupts);
@@ -90,10 +88,9 @@ fn starting(
     over: u32,
     said: &Command,
 ) -> Result<Choice, Memory>
-    requires fit { AreFit rules.now }
     requires ready { IsReady plain.now }
     requires over { over ≡ (state_at plain.now.callers.items caller).over }
-    ensures { IfOk result (λ does. next.starting (world_of (setup_by rules.now) plain.now) caller said.now ≡ does) }
+    ensures { IfOk result (λ does. next.starting (world_of rules.now plain.now) caller said.now ≡ does) }
 {
     match waits_for(plain, caller, said) {
         Some(other) => Ok(Choice::Waits(Wait::Power(other))),
@@ -117,10 +114,9 @@ fn next_command(
     caller: u8,
     over: u32,
 ) -> Result<Choice, Memory>
-    requires fit { AreFit rules.now }
     requires ready { IsReady plain.now }
     requires over { over ≡ (state_at plain.now.callers.items caller).over }
-    ensures { IfOk result (λ does. next.next_command (world_of (setup_by rules.now) plain.now) caller ≡ does) }
+    ensures { IfOk result (λ does. next.next_command (world_of rules.now plain.now) caller ≡ does) }
 {
     match command_at(rules, caller, over) {
         Some(said) => starting(alloc, rules, plain, caller, over, said),
@@ -131,10 +127,9 @@ fn next_command(
 /// What a frame on top leads to.
 #[inline(always)]
 fn next_frame(seeker: &Seeker, plain: &Plain, frame: &Frame) -> Deed
-    requires fit { AreFit seeker.now.rules.now }
     requires few { length plain.now.live.devices ≤ 1024 }
     requires follows { Follows seeker.now plain.now.live.devices }
-    ensures { (k : ℕ) (rest : List frames.Frame) → next.on_top (world_of (setup_by seeker.now.rules.now) plain.now) k (frame.now ∷ rest) ≡ Does result }
+    ensures { (k : ℕ) (rest : List frames.Frame) → next.on_top (world_of seeker.now.rules.now plain.now) k (frame.now ∷ rest) ≡ Does result }
 {
     match frame {
         Frame::Scan {
@@ -156,11 +151,10 @@ fn on_top(
     caller: u8,
     state: &Caller,
 ) -> Result<Choice, Memory>
-    requires fit { AreFit seeker.now.rules.now }
     requires ready { IsReady plain.now }
     requires follows { Follows seeker.now plain.now.live.devices }
     requires state { state.now ≡ state_at plain.now.callers.items caller }
-    ensures { IfOk result (λ does. next.on_top (world_of (setup_by seeker.now.rules.now) plain.now) caller state.now.stack ≡ does) }
+    ensures { IfOk result (λ does. next.on_top (world_of seeker.now.rules.now plain.now) caller state.now.stack ≡ does) }
 {
     match state.stack() {
         [frame, ..] => Ok(Choice::Does(next_frame(seeker, plain, frame))),
@@ -183,11 +177,10 @@ fn by_activity(
     caller: u8,
     state: &Caller,
 ) -> Result<Choice, Memory>
-    requires fit { AreFit seeker.now.rules.now }
     requires ready { IsReady plain.now }
     requires follows { Follows seeker.now plain.now.live.devices }
     requires state { state.now ≡ state_at plain.now.callers.items caller }
-    ensures { IfOk result (λ does. next.by_activity (world_of (setup_by seeker.now.rules.now) plain.now) caller state.now.doing ≡ does) }
+    ensures { IfOk result (λ does. next.by_activity (world_of seeker.now.rules.now plain.now) caller state.now.doing ≡ does) }
 {
     match state.doing() {
         Activity::Ended => Ok(Choice::Ended),
@@ -203,10 +196,9 @@ fn by_activity(
 #[inline(always)]
 #[tactic(auto, unfolding(run_rules::specs::Next::next))]
 pub fn next(alloc: Global, seeker: &Seeker, plain: &Plain, caller: u8) -> Result<Choice, Memory>
-    requires fit { AreFit seeker.now.rules.now }
     requires ready { IsReady plain.now }
     requires follows { Follows seeker.now plain.now.live.devices }
-    ensures { IfOk result (λ does. next.next (world_of (setup_by seeker.now.rules.now) plain.now) caller ≡ does) }
+    ensures { IfOk result (λ does. next.next (world_of seeker.now.rules.now plain.now) caller ≡ does) }
 {
     if has_ended(&plain.callers, caller) {
         return Ok(Choice::Ended);

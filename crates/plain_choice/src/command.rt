@@ -8,7 +8,6 @@ ghost use Rattle.run_rules.specs.declared.deed.Deed.TheVariants as deeds;
 ghost use Rattle.run_rules.specs.declared.deed.Refusal.TheVariants as refusal;
 ghost use Rattle.plain_choice.specs.Commands.{begun, closed, detached, granted, granted_alone, if_held, started};
 ghost use Rattle.plain_world.specs.Plain.{world_of};
-ghost use Rattle.plain_world.specs.Rules.{AreFit, setup_by};
 
 use crate::rescan::{Limits, rescanning};
 use cf_types::{Command, Memory, Name, Ticket};
@@ -36,7 +35,7 @@ struct Detachment {
 
 /// The live device that a command names.
 fn named(alloc: Global, rules: &Rules, plain: &Plain, name: &Name) -> Result<Option<Dev>, Memory>
-    ensures { IfOk result (λ found. world.device_named (setup_by rules.now) plain.now.live.devices name.now ≡ found) }
+    ensures { IfOk result (λ found. world.device_named rules.now plain.now.live.devices name.now ≡ found) }
 {
     device_named(alloc, rules, &plain.live, name.bytes())
 }
@@ -49,7 +48,7 @@ fn open(
     caller: u8,
     name: &Name,
 ) -> Result<Deed, Memory>
-    ensures { let w = world_of (setup_by rules.now) plain.now in IfOk result (λ does. next.on_device w name.now (granted w caller) ≡ does) }
+    ensures { let w = world_of rules.now plain.now in IfOk result (λ does. next.on_device w name.now (granted w caller) ≡ does) }
 {
     let Some(device) = named(alloc, rules, plain, name)? else {
         return Ok(Deed::Refuse(Refusal::NoDevice));
@@ -70,7 +69,7 @@ fn open(
 
 /// The only reference is asked for.
 fn open_sole(alloc: Global, rules: &Rules, plain: &Plain, name: &Name) -> Result<Deed, Memory>
-    ensures { let w = world_of (setup_by rules.now) plain.now in IfOk result (λ does. next.on_device w name.now (granted_alone w) ≡ does) }
+    ensures { let w = world_of rules.now plain.now in IfOk result (λ does. next.on_device w name.now (granted_alone w) ≡ does) }
 {
     let Some(device) = named(alloc, rules, plain, name)? else {
         return Ok(Deed::Refuse(Refusal::NoDevice));
@@ -95,7 +94,7 @@ fn close(
     caller: u8,
     name: &Name,
 ) -> Result<Deed, Memory>
-    ensures { IfOk result (λ does. next.on_held (world_of (setup_by rules.now) plain.now) caller name.now closed ≡ does) }
+    ensures { IfOk result (λ does. next.on_held (world_of rules.now plain.now) caller name.now closed ≡ does) }
 {
     let Some(device) = named(alloc, rules, plain, name)? else {
         return Ok(Deed::Refuse(Refusal::NotHeld));
@@ -109,7 +108,7 @@ fn close(
 
 /// The transfer of a command of this number.
 fn ticket_of(rules: &Rules, plain: &Plain, asker: Asker, device: Dev, value: u32) -> Ticket
-    ensures { result ≡ next.ticket_of (world_of (setup_by rules.now) plain.now) asker.caller asker.number device value }
+    ensures { result ≡ next.ticket_of (world_of rules.now plain.now) asker.caller asker.number device value }
 {
     Ticket {
         caller: asker.caller,
@@ -123,7 +122,7 @@ fn ticket_of(rules: &Rules, plain: &Plain, asker: Asker, device: Dev, value: u32
 
 /// A transfer is asked for, by the command of this number.
 fn io(rules: &Rules, plain: &Plain, asker: Asker, found: Option<Dev>, value: u32) -> Deed
-    ensures { let w = world_of (setup_by rules.now) plain.now in
+    ensures { let w = world_of rules.now plain.now in
         if_held w asker.caller found (started w asker.caller asker.number value) ≡ result }
 {
     let Some(device) = found else {
@@ -140,7 +139,7 @@ fn io(rules: &Rules, plain: &Plain, asker: Asker, found: Option<Dev>, value: u32
 
 /// Whether a device keeps the target's subtree from going.
 fn is_hindrance(rules: &Rules, plain: &Plain, going: Detachment, device: Dev) -> bool
-    ensures { result ≡ next.is_hindrance (world_of (setup_by rules.now) plain.now) going.target going.caller going.forced device }
+    ensures { result ≡ next.is_hindrance (world_of rules.now plain.now) going.target going.caller going.forced device }
 {
     is_under(&plain.live, going.target, device.serial)
         && ((!going.forced && policy_of(rules, device.row).nodetach)
@@ -152,7 +151,7 @@ fn is_hindrance(rules: &Rules, plain: &Plain, going: Detachment, device: Dev) ->
 /// The first device that keeps the target's subtree from being freed. See config_detach(9).
 #[tactic(auto, unfolding(run_rules::specs::Next::hindered))]
 fn hindered(rules: &Rules, plain: &Plain, going: Detachment) -> Option<Dev>
-    ensures { result ≡ next.hindered (world_of (setup_by rules.now) plain.now) going.target going.caller going.forced }
+    ensures { result ≡ next.hindered (world_of rules.now plain.now) going.target going.caller going.forced }
 {
     plain
         .live
@@ -164,7 +163,7 @@ fn hindered(rules: &Rules, plain: &Plain, going: Detachment) -> Option<Dev>
 
 /// The deed, unless a device keeps the target's subtree from going.
 fn unless_hindered(rules: &Rules, plain: &Plain, going: Detachment, deed: Deed) -> Deed
-    ensures { next.unless_hindered (world_of (setup_by rules.now) plain.now) going.caller going.target going.forced deed ≡ result }
+    ensures { next.unless_hindered (world_of rules.now plain.now) going.caller going.target going.forced deed ≡ result }
 {
     match hindered(rules, plain, going) {
         Some(device) => Deed::Refuse(Refusal::Busy(device.serial)),
@@ -180,7 +179,7 @@ fn detach(
     caller: u8,
     name: &Name,
 ) -> Result<Deed, Memory>
-    ensures { let w = world_of (setup_by rules.now) plain.now in IfOk result (λ does. next.on_device w name.now (detached w caller) ≡ does) }
+    ensures { let w = world_of rules.now plain.now in IfOk result (λ does. next.on_device w name.now (detached w caller) ≡ does) }
 {
     let Some(device) = named(alloc, rules, plain, name)? else {
         return Ok(Deed::Refuse(Refusal::NoDevice));
@@ -205,8 +204,7 @@ fn rescan(
     name: &Name,
     limits: &Limits<'_>,
 ) -> Result<Deed, Memory>
-    requires { AreFit rules.now }
-    ensures { let w = world_of (setup_by rules.now) plain.now in
+    ensures { let w = world_of rules.now plain.now in
         IfOk result (λ does. next.on_device w name.now (λ d. next.rescanning w d limits.now.attr.now limits.now.given.now) ≡ does) }
 {
     let Some(device) = named(alloc, rules, plain, name)? else {
@@ -220,7 +218,7 @@ fn rescan(
 
 /// A list or a tree is asked for, of a device or of the root.
 fn tell(alloc: Global, rules: &Rules, plain: &Plain, of: &Option<Name>) -> Result<Deed, Memory>
-    ensures { IfOk result (λ does. next.telling (world_of (setup_by rules.now) plain.now) of.now ≡ does) }
+    ensures { IfOk result (λ does. next.telling (world_of rules.now plain.now) of.now ≡ does) }
 {
     let Some(name) = of else {
         return Ok(Deed::Tell);
@@ -239,7 +237,7 @@ fn begin_power(
     kind: PowerKind,
     name: &Name,
 ) -> Result<Deed, Memory>
-    ensures { IfOk result (λ does. next.on_device (world_of (setup_by rules.now) plain.now) name.now (begun kind) ≡ does) }
+    ensures { IfOk result (λ does. next.on_device (world_of rules.now plain.now) name.now (begun kind) ≡ does) }
 {
     let Some(device) = named(alloc, rules, plain, name)? else {
         return Ok(Deed::Refuse(Refusal::NoDevice));
@@ -256,8 +254,7 @@ fn begin_power(
 
 /// Hardware comes to the spot of a name.
 fn plug(rules: &Rules, plain: &Plain, name: &Name) -> Deed
-    requires { AreFit rules.now }
-    ensures { option_map_or (λ x. deeds.Plug x) (spot_number (world_of (setup_by rules.now) plain.now).setup.machine.spots name.now)
+    ensures { option_map_or (λ x. deeds.Plug x) (spot_number (world_of rules.now plain.now).setup.machine.spots name.now)
         (deeds.Refuse refusal.NoSpot) ≡ result }
 {
     match spot_named(rules, name.bytes()) {
@@ -268,7 +265,7 @@ fn plug(rules: &Rules, plain: &Plain, name: &Name) -> Deed
 
 /// Hardware goes from a spot, with the device on it.
 fn unplugging(rules: &Rules, plain: &Plain, caller: u8, spot: u16) -> Deed
-    ensures { next.unplugging (world_of (setup_by rules.now) plain.now) caller spot ≡ result }
+    ensures { next.unplugging (world_of rules.now plain.now) caller spot ≡ result }
 {
     let Some(device) = device_on(&plain.live, spot) else {
         return Deed::Unplug { spot, of: None };
@@ -287,8 +284,7 @@ fn unplugging(rules: &Rules, plain: &Plain, caller: u8, spot: u16) -> Deed
 
 /// Hardware goes from the spot of a name.
 fn unplug(rules: &Rules, plain: &Plain, caller: u8, name: &Name) -> Deed
-    requires fit { AreFit rules.now }
-    ensures { let w = world_of (setup_by rules.now) plain.now in
+    ensures { let w = world_of rules.now plain.now in
         option_map_or (next.unplugging w caller) (spot_number w.setup.machine.spots name.now) (deeds.Refuse refusal.NoSpot) ≡ result }
 {
     match spot_named(rules, name.bytes()) {
@@ -306,8 +302,7 @@ pub fn command_deed(
     asker: Asker,
     said: &Command,
 ) -> Result<Deed, Memory>
-    requires fit { AreFit rules.now }
-    ensures { IfOk result (λ does. next.command_deed (world_of (setup_by rules.now) plain.now) asker.caller asker.number said.now ≡ does) }
+    ensures { IfOk result (λ does. next.command_deed (world_of rules.now plain.now) asker.caller asker.number said.now ≡ does) }
 {
     let caller = asker.caller;
     match said {

@@ -5,7 +5,6 @@ ghost use Rattle.run_rules.specs.Next as next;
 ghost use Rattle.plain_choice.specs.Late.{is_late_below, shown_by};
 ghost use Rattle.plain_search.specs.Open.{Follows};
 ghost use Rattle.plain_world.specs.Plain.{world_of};
-ghost use Rattle.plain_world.specs.Rules.{AreFit, setup_by};
 
 use cf_types::Place;
 use plain_search::{Seeker, arrival};
@@ -25,8 +24,7 @@ fn offers_place(offered: &[u32], place: Place) -> bool
 
 /// Whether a spot is below a device, on an attribute that the device offers.
 pub fn hangs_below(rules: &Rules, device: Dev, spot: u16) -> bool
-    requires { AreFit rules.now }
-    ensures { result ≡ option_map_or (next.hangs_below (setup_by rules.now) device) (slice_get rules.now.machine.now.spots spot) false }
+    ensures { result ≡ option_map_or (next.hangs_below rules.now device) (slice_get rules.now.machine.spots spot) false }
 {
     match rules.machine.spots.items().get(spot as usize) {
         Some(spot) => {
@@ -39,8 +37,7 @@ pub fn hangs_below(rules: &Rules, device: Dev, spot: u16) -> bool
 
 /// Whether a finalizer of a device would show a spot.
 fn is_late_below(rules: &Rules, plain: &Plain, device: Dev, spot: u16) -> bool
-    requires { AreFit rules.now }
-    ensures { result ≡ is_late_below (world_of (setup_by rules.now) plain.now) device spot }
+    ensures { result ≡ is_late_below (world_of rules.now plain.now) device spot }
 {
     plain.hidden.has(spot) && !plain.absent.has(spot) && hangs_below(rules, device, spot)
 }
@@ -49,8 +46,7 @@ fn is_late_below(rules: &Rules, plain: &Plain, device: Dev, spot: u16) -> bool
 /// device.
 #[tactic(auto, unfolding(run_rules::specs::Next::late_spot))]
 fn late_spot(rules: &Rules, plain: &Plain, device: Dev) -> Option<u16>
-    requires { AreFit rules.now }
-    ensures { next.late_spot (world_of (setup_by rules.now) plain.now) device ≡ result }
+    ensures { next.late_spot (world_of rules.now plain.now) device ≡ result }
 {
     let below = stretch_at(rules.stretches, Some(device.spot));
     let end = below.end.min(rules.machine.spots.len() as u16);
@@ -64,8 +60,7 @@ fn late_spot(rules: &Rules, plain: &Plain, device: Dev) -> Option<u16>
 
 /// The spot that the finalizer of a device shows.
 fn shown_by(rules: &Rules, plain: &Plain, serial: u64) -> Option<u16>
-    requires { AreFit rules.now }
-    ensures { shown_by (world_of (setup_by rules.now) plain.now) serial ≡ result }
+    ensures { shown_by (world_of rules.now plain.now) serial ≡ result }
 {
     match device_at(&plain.live, serial) {
         Some(device) => late_spot(rules, plain, device),
@@ -82,10 +77,9 @@ pub fn finalise(
     listed: Option<u64>,
     anew: bool,
 ) -> Deed
-    requires fit { AreFit seeker.now.rules.now }
     requires few { length plain.now.live.devices ≤ 1024 }
     requires follows { Follows seeker.now plain.now.live.devices }
-    ensures { next.finalise (world_of (setup_by seeker.now.rules.now) plain.now) serial listed anew ≡ result }
+    ensures { next.finalise (world_of seeker.now.rules.now plain.now) serial listed anew ≡ result }
 {
     match shown_by(seeker.rules, plain, serial) {
         None => Deed::Finalise {

@@ -8,7 +8,6 @@ ghost use Rattle.plain_world.specs.Plain.{world_of};
 ghost use Rattle.plain_choice.specs.Power.{has_to_sleep, has_to_wake, sleeping};
 ghost use Rattle.plain_choice.specs.Under.{AllMiss};
 ghost use Rattle.plain_choice.specs.Waking.{AreMarked};
-ghost use Rattle.plain_world.specs.Rules.{setup_by};
 
 use crate::under::{Aside, is_below};
 use crate::waking::{Waking, descends_from, mark_up};
@@ -127,7 +126,7 @@ fn next_wake(live: &Live, target: u64, whole: bool) -> Option<Dev>
 
 /// How a suspension goes on with the device that sleeps next: it is put to sleep, or is waited for, or is in the way.
 fn sleeping(rules: &Rules, plain: &Plain, device: Dev) -> Choice
-    ensures { sleeping (world_of (setup_by rules.now) plain.now) device ≡ result }
+    ensures { sleeping (world_of rules.now plain.now) device ≡ result }
 {
     if is_pinned(plain, device.serial) {
         return Choice::Waits(Wait::Scan(device.serial));
@@ -145,7 +144,7 @@ fn sleeping(rules: &Rules, plain: &Plain, device: Dev) -> Choice
 /// How a suspension goes on.
 #[tactic(auto, unfolding(run_rules::specs::Next::suspending))]
 fn suspending(rules: &Rules, plain: &Plain, target: u64) -> Choice
-    ensures { next.suspending (world_of (setup_by rules.now) plain.now) target ≡ result }
+    ensures { next.suspending (world_of rules.now plain.now) target ≡ result }
 {
     match next_sleep(&plain.live, target) {
         Some(device) => sleeping(rules, plain, device),
@@ -166,7 +165,7 @@ fn waking(plain: &Plain, target: u64, whole: bool) -> Choice
 
 /// How a power command goes on with a target that is live.
 fn going(rules: &Rules, plain: &Plain, kind: PowerKind, target: u64) -> Choice
-    ensures { next.powering (world_of (setup_by rules.now) plain.now) kind target ≡ result }
+    ensures { next.powering (world_of rules.now plain.now) kind target ≡ result }
 {
     match kind {
         PowerKind::Suspend => suspending(rules, plain, target),
@@ -177,7 +176,7 @@ fn going(rules: &Rules, plain: &Plain, kind: PowerKind, target: u64) -> Choice
 
 /// How a power command goes on.
 pub fn powering(rules: &Rules, plain: &Plain, kind: PowerKind, target: u64) -> Choice
-    ensures { (k : ℕ) → next.by_activity (world_of (setup_by rules.now) plain.now) k (activity.Power kind target) ≡ result }
+    ensures { (k : ℕ) → next.by_activity (world_of rules.now plain.now) k (activity.Power kind target) ≡ result }
 {
     if is_live(&plain.live, target) {
         going(rules, plain, kind, target)

@@ -2,7 +2,6 @@
 ghost use Rattle.std.specs.Prelude.{◌≡◌, IfOk};
 ghost use Rattle.run_rules.specs.Next as next;
 ghost use Rattle.plain_world.specs.Plain.{world_of};
-ghost use Rattle.plain_world.specs.Rules.{AreFit, setup_by};
 
 use cf_types::{Given, Memory, Name, Place};
 use locator_rules::locators_at;
@@ -28,8 +27,7 @@ fn rescan_of(
     device: Dev,
     limits: &Limits<'_>,
 ) -> Result<Deed, Memory>
-    requires fit { AreFit rules.now }
-    ensures { IfOk result (λ does. next.rescan_of (world_of (setup_by rules.now) plain.now) device limits.now.attr.now limits.now.given.now ≡ does) }
+    ensures { IfOk result (λ does. next.rescan_of (world_of rules.now plain.now) device limits.now.attr.now limits.now.given.now ≡ does) }
 {
     let Some(name) = limits.attr else {
         return Ok(Deed::Rescan {
@@ -64,8 +62,7 @@ pub fn rescanning(
     device: Dev,
     limits: &Limits<'_>,
 ) -> Result<Deed, Memory>
-    requires fit { AreFit rules.now }
-    ensures { IfOk result (λ does. next.rescanning (world_of (setup_by rules.now) plain.now) device limits.now.attr.now limits.now.given.now ≡ does) }
+    ensures { IfOk result (λ does. next.rescanning (world_of rules.now plain.now) device limits.now.attr.now limits.now.given.now ≡ does) }
 {
     if is_pinned(plain, device.serial) {
         return Ok(Deed::Refuse(Refusal::Busy(device.serial)));

@@ -6,7 +6,6 @@ ghost use Rattle.run_rules.specs.declared.world.Setup.{Setup};
 ghost use Rattle.run_rules.specs.declared.deed.Deed.TheVariants as deeds;
 ghost use Rattle.plain_effect.specs.Effects.{with_scan};
 ghost use Rattle.plain_world.specs.Plain.{HasCaller, state_at, world_of};
-ghost use Rattle.plain_world.specs.Rules.{AreFit, setup_by};
 
 use cf_types::{Memory, Policy};
 use plain_world::{Plain, Rules, driver_of, has_ended, is_nothing, new_scan, offered, policy_of};
@@ -210,10 +209,9 @@ fn place_scan(
     serial: u64,
     arrival: Arrival,
 ) -> Result<(), Memory>
-    requires fit { AreFit rules.now }
     requires caller { HasCaller plain.old by.caller 502 }
     ensures world { (s : Setup)
-        → OnOk result (world_of s plain.new ≡ with_scan (setup_by rules.now) (world_of s plain.old) by.caller serial arrival by.may_defer) }
+        → OnOk result (world_of s plain.new ≡ with_scan rules.now (world_of s plain.old) by.caller serial arrival by.may_defer) }
     ensures caller { OnOk result (HasCaller plain.new by.caller 503) }
 {
     let policy = policy_of(rules, arrival.row);
@@ -231,11 +229,10 @@ fn attach(
     by: Bringer,
     arrival: Arrival,
 ) -> Result<(), Memory>
-    requires fit { AreFit rules.now }
     requires caller { HasCaller plain.old by.caller 501 }
     requires next { plain.old.live.next < 2 ^ 64 - 1 }
-    ensures world { OnOk result (world_of (setup_by rules.now) plain.new
-        ≡ after.attached (world_of (setup_by rules.now) plain.old) by.caller arrival by.may_defer) }
+    ensures world { OnOk result (world_of rules.now plain.new
+        ≡ after.attached (world_of rules.now plain.old) by.caller arrival by.may_defer) }
     ensures caller { OnOk result (HasCaller plain.new by.caller 503) }
 {
     let serial = plain.live.next();
@@ -253,10 +250,9 @@ fn arrive(
     by: Bringer,
     got: Option<Arrival>,
 ) -> Result<(), Memory>
-    requires fit { AreFit rules.now }
     requires caller { HasCaller plain.old by.caller 501 }
     requires next { plain.old.live.next < 2 ^ 64 - 1 }
-    ensures world { OnOk result (world_of (setup_by rules.now) plain.new ≡ after.arrived (world_of (setup_by rules.now) plain.old) by.caller got by.may_defer) }
+    ensures world { OnOk result (world_of rules.now plain.new ≡ after.arrived (world_of rules.now plain.old) by.caller got by.may_defer) }
     ensures caller { OnOk result (HasCaller plain.new by.caller 503) }
 {
     match got {
@@ -275,11 +271,10 @@ pub fn search(
     moved: Position,
     got: Option<Arrival>,
 ) -> Result<(), Memory>
-    requires fit { AreFit rules.now }
     requires caller { HasCaller plain.old caller 500 }
     requires next { plain.old.live.next < 2 ^ 64 - 1 }
-    ensures { (parent spot : ℕ) → OnOk result (world_of (setup_by rules.now) plain.new
-        ≡ after.after (world_of (setup_by rules.now) plain.old) caller (deeds.Search parent spot moved got)) }
+    ensures { (parent spot : ℕ) → OnOk result (world_of rules.now plain.new
+        ≡ after.after (world_of rules.now plain.old) caller (deeds.Search parent spot moved got)) }
 {
     advance(plain, caller, moved);
     let by = Bringer {
@@ -347,12 +342,11 @@ pub fn finalise(
     caller: u8,
     call: Call,
 ) -> Result<(), Memory>
-    requires fit { AreFit rules.now }
     requires caller { HasCaller plain.old caller 500 }
     requires next { plain.old.live.next < 2 ^ 64 - 1 }
     requires place { IfSome call.listed (λ place. place < 2 ^ 64 - 1) }
-    ensures { (of : ℕ) → OnOk result (world_of (setup_by rules.now) plain.new
-        ≡ after.after (world_of (setup_by rules.now) plain.old) caller (deeds.Finalise of call.shown call.got call.listed call.anew)) }
+    ensures { (of : ℕ) → OnOk result (world_of rules.now plain.new
+        ≡ after.after (world_of rules.now plain.old) caller (deeds.Finalise of call.shown call.got call.listed call.anew)) }
 {
     let answer = call.shown.is_some();
     show(plain, call.shown);

@@ -8,7 +8,6 @@ ghost use Rattle.run_rules.specs.declared.world.Activity.TheVariants as activity
 ghost use Rattle.run_rules.specs.declared.world.Setup.{Setup};
 ghost use Rattle.plain_effect.specs.Effects.{HasPlace, is_quiet};
 ghost use Rattle.plain_world.specs.Plain.{HasCaller, state_at, world_of};
-ghost use Rattle.plain_world.specs.Rules.{AreFit, setup_by};
 
 use crate::after::{Call, begin, begin_interrupts, end_scan, finalise, finish, push, search};
 use cf_types::{Command, Given, Memory};
@@ -104,7 +103,7 @@ fn given_in(said: &Command) -> &[Given]
 
 /// The locator values that the command of a caller gives.
 fn given_by<'a>(rules: &'a Rules, plain: &Plain, caller: u8) -> &'a [Given]
-    ensures { result.now ≡ after.given_by (next.command_of (world_of (setup_by rules.now) plain.now) caller) }
+    ensures { result.now ≡ after.given_by (next.command_of (world_of rules.now plain.now) caller) }
 {
     match command_of(rules, plain, caller) {
         Some(said) => given_in(said),
@@ -121,8 +120,7 @@ fn rescan_frame(
     of: u64,
     only: Option<u32>,
 ) -> Result<Frame, Memory>
-    requires { AreFit rules.now }
-    ensures { IfOk result (λ frame. frame ≡ after.rescan_frame (world_of (setup_by rules.now) plain.now) caller of only) }
+    ensures { IfOk result (λ frame. frame ≡ after.rescan_frame (world_of rules.now plain.now) caller of only) }
 {
     let filter = wanted_by(alloc, rules, given_by(rules, plain, caller), only)?;
     Ok(Frame::Scan {
@@ -147,9 +145,8 @@ fn rescan(
     of: u64,
     only: Option<u32>,
 ) -> Result<(), Memory>
-    requires fit { AreFit rules.now }
     requires caller { HasCaller plain.old caller 500 }
-    ensures { OnOk result (world_of (setup_by rules.now) plain.new ≡ after.after (world_of (setup_by rules.now) plain.old) caller (deeds.Rescan of only)) }
+    ensures { OnOk result (world_of rules.now plain.new ≡ after.after (world_of rules.now plain.old) caller (deeds.Rescan of only)) }
 {
     let frame = rescan_frame(alloc, rules, plain, caller, of, only)?;
     begin(plain, caller, Activity::Scans);
@@ -259,11 +256,10 @@ pub fn apply(
     caller: u8,
     deed: &Deed,
 ) -> Result<(), Memory>
-    requires fit { AreFit rules.now }
     requires caller { HasCaller plain.old caller 500 }
     requires next { plain.old.live.next < 2 ^ 64 - 1 }
     requires place { HasPlace deed.now }
-    ensures { OnOk result (world_of (setup_by rules.now) plain.new ≡ after.after (world_of (setup_by rules.now) plain.old) caller deed.now) }
+    ensures { OnOk result (world_of rules.now plain.new ≡ after.after (world_of rules.now plain.old) caller deed.now) }
 {
     match *deed {
         Deed::Search { moved, got, .. } => search(alloc, rules, plain, caller, moved, got),

@@ -5,10 +5,9 @@ use Rattle.run_rules.specs.World.{World}
 use Rattle.plain_event.specs.declared.teller.Teller.{Teller}
 use Rattle.plain_world.specs.declared.world.Plain.{Plain}
 use Rattle.plain_world.specs.Plain.{world_of}
-use Rattle.plain_world.specs.Rules.{setup_by}
 
 abbrev pub setup_in : Teller → Setup
-setup_in t = setup_by t.rules.now
+setup_in t = t.rules.now
 
 -- the world that a plain world is by them
 abbrev pub world_in : Teller → Plain → World

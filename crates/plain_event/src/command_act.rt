@@ -9,7 +9,6 @@ ghost use Rattle.run_rules.specs.World.{World};
 ghost use Rattle.plain_event.specs.Tellers.{KeepsRules, world_in};
 ghost use Rattle.plain_event.specs.Told.{AnswersLive, EndsLive, RefusesLive, answer_by, name_given};
 ghost use Rattle.plain_world.specs.Plain.{state_at};
-ghost use Rattle.plain_world.specs.Rules.{AreFit};
 
 use crate::teller::Teller;
 use crate::telling::live_name;
@@ -20,7 +19,6 @@ use run_rules::{Act, PowerEnd, PowerKind, Refusal, Reply};
 
 /// The reply of a refusal.
 fn reply_of(teller: &mut Teller, plain: &Plain, why: Refusal) -> Result<Reply, Memory>
-    requires fit { AreFit teller.old.rules.now }
     requires live { RefusesLive (world_in teller.old plain.now) why }
     ensures reply { IfOk result (λ r. r ≡ run.reply_of (world_in teller.old plain.now) why) }
     ensures rules { KeepsRules teller.old teller.new }
@@ -46,7 +44,6 @@ fn reply_of(teller: &mut Teller, plain: &Plain, why: Refusal) -> Result<Reply, M
 
 /// The reply of a command that was refused, or had its effect.
 fn answer_by(teller: &mut Teller, plain: &Plain, refused: Option<Refusal>) -> Result<Reply, Memory>
-    requires fit { AreFit teller.old.rules.now }
     requires live { AnswersLive (world_in teller.old plain.now) refused }
     ensures reply { IfOk result (λ r. r ≡ answer_by (world_in teller.old plain.now) refused) }
     ensures rules { KeepsRules teller.old teller.new }
@@ -59,7 +56,6 @@ fn answer_by(teller: &mut Teller, plain: &Plain, refused: Option<Refusal>) -> Re
 
 /// The reply with which a power command ends.
 fn end_of(teller: &mut Teller, plain: &Plain, end: PowerEnd) -> Result<Reply, Memory>
-    requires fit { AreFit teller.old.rules.now }
     requires live { EndsLive (world_in teller.old plain.now) end }
     ensures reply { IfOk result (λ r. r ≡ run.end_of (world_in teller.old plain.now) end) }
     ensures rules { KeepsRules teller.old teller.new }
@@ -85,7 +81,6 @@ fn answered(
     name: &Name,
     refused: Option<Refusal>,
 ) -> Result<(Name, Reply), Memory>
-    requires fit { AreFit teller.old.rules.now }
     requires live { AnswersLive (world_in teller.old plain.now) refused }
     ensures told { IfOk result (λ told. told ≡ (name.now, answer_by (world_in teller.old plain.now) refused)) }
     ensures rules { KeepsRules teller.old teller.new }
@@ -110,7 +105,6 @@ fn name_or_none(name: &Option<Name>) -> Result<Option<Name>, Memory>
 
 /// A list with its names.
 fn list_act(teller: &Teller, plain: &Plain, name: &Option<Name>) -> Result<Act, Memory>
-    requires { AreFit teller.now.rules.now }
     ensures { IfOk result (λ a. a ≡ act.ListDev name.now (run.list_names (world_in teller.now plain.now) name.now)) }
 {
     let device = name_or_none(name)?;
@@ -120,7 +114,6 @@ fn list_act(teller: &Teller, plain: &Plain, name: &Option<Name>) -> Result<Act, 
 
 /// A tree with its names.
 fn tree_act(teller: &Teller, plain: &Plain, name: &Option<Name>) -> Result<Act, Memory>
-    requires fit { AreFit teller.now.rules.now }
     requires few { length plain.now.live.devices ≤ 1024 }
     ensures { IfOk result (λ a. a ≡ act.TreeDev name.now (run.tree_names (world_in teller.now plain.now) name.now)) }
 {
@@ -131,7 +124,6 @@ fn tree_act(teller: &Teller, plain: &Plain, name: &Option<Name>) -> Result<Act, 
 
 /// The names in a list or a tree.
 fn listing_act(teller: &Teller, plain: &Plain, said: &Command) -> Result<Act, Memory>
-    requires fit { AreFit teller.now.rules.now }
     requires few { length plain.now.live.devices ≤ 1024 }
     requires listing { name_given said.now ≡ None }
     ensures { (r : Reply) → IfOk result (λ a. a ≡ run.told (world_in teller.now plain.now) said.now r) }
@@ -222,7 +214,6 @@ fn command_act(
     said: &Command,
     refused: Option<Refusal>,
 ) -> Result<Act, Memory>
-    requires fit { AreFit teller.old.rules.now }
     requires few { length plain.now.live.devices ≤ 1024 }
     requires live { AnswersLive (world_in teller.old plain.now) refused }
     ensures act { IfOk result (λ a. a ≡ run.told (world_in teller.old plain.now) said.now (answer_by (world_in teller.old plain.now) refused)) }
@@ -253,7 +244,6 @@ pub fn answered_act(
     caller: u8,
     refused: Option<Refusal>,
 ) -> Result<Act, Memory>
-    requires fit { AreFit teller.old.rules.now }
     requires few { length plain.now.live.devices ≤ 1024 }
     requires there { caller < length plain.now.callers.items }
     requires live { AnswersLive (world_in teller.old plain.now) refused }
@@ -288,7 +278,6 @@ pub fn power_end_act(
     caller: u8,
     end: PowerEnd,
 ) -> Result<Act, Memory>
-    requires fit { AreFit teller.old.rules.now }
     requires there { caller < length plain.now.callers.items }
     requires live { EndsLive (world_in teller.old plain.now) end }
     requires power { option_map_or next.is_power (next.command_of (world_in teller.old plain.now) caller) false ≡ true }

@@ -2,7 +2,6 @@
 ghost use Rattle.std.specs.Prelude.{◌≡◌, IfOk, IfSome};
 ghost use Rattle.run_rules.specs.declared.world.Setup.{Setup};
 ghost use Rattle.plain_event.specs.Kept.{AreKept, IsKept, act_by};
-ghost use Rattle.plain_world.specs.Rules.{setup_by};
 
 use crate::act::{Kept, Key};
 use crate::kept::{kept_at, place_of, places};
@@ -18,7 +17,7 @@ pub struct Teller<'a> {
     pub rules: &'a Rules<'a>,
     pub(crate) names: Names,
     kept: Vec<Option<Kept>>,
-    ghost kept_so: { AreKept (setup_by rules.now) kept.items },
+    ghost kept_so: { AreKept rules.now kept.items },
 }
 
 /// Room for this many acts.
@@ -50,9 +49,10 @@ impl<'a> Teller<'a> {
     /// What is kept by a key.
     #[inline(always)]
     pub fn kept_by(&self, key: Key) -> Option<&Kept>
-        ensures { IfSome result (λ k. k.now.act ≡ act_by (setup_by self.now.rules.now) key) }
+        ensures { IfSome result (λ k. k.now.act ≡ act_by self.now.rules.now key) }
     {
-        match kept_at(&self.kept, place_of(key, self.rules.machine.spots.len())) {
+        let rules = self.rules;
+        match kept_at(&self.kept, place_of(key, rules.machine.spots.len())) {
             Some(kept) => { if kept.key == key { Some(kept) } else { None } }
             None => None,
         }
@@ -60,10 +60,11 @@ impl<'a> Teller<'a> {
 
     /// Keeps an act, replacing the one that was kept at its place.
     pub fn put(&mut self, kept: Kept)
-        requires { IsKept (setup_by self.old.rules.now) kept }
+        requires { IsKept self.old.rules.now kept }
         ensures { self.new.rules.now ≡ self.old.rules.now }
     {
-        let place = place_of(kept.key, self.rules.machine.spots.len());
+        let rules = self.rules;
+        let place = place_of(kept.key, rules.machine.spots.len());
         if place < self.kept.len() {
             self.kept[place] = Some(kept);
         } else {

@@ -4,7 +4,6 @@ ghost use Rattle.run_rules.specs.Run as run;
 ghost use Rattle.run_rules.specs.World as world;
 ghost use Rattle.plain_event.specs.Tellers.{KeepsRules, setup_in, world_in};
 ghost use Rattle.plain_names.specs.Names.{name_live};
-ghost use Rattle.plain_world.specs.Rules.{AreFit, setup_by};
 
 use crate::act::Kept;
 use crate::kept::{key_of, with_text};
@@ -16,7 +15,7 @@ use run_rules::{Deed, Dev, SharedAct};
 
 /// The name of a row's driver, if there is one.
 fn driver_at<'a>(rules: &'a Rules, row: u32) -> Option<&'a Name>
-    ensures { IfSome result (λ n. n.now ≡ world.driver_name (setup_by rules.now) (world.driver_of (setup_by rules.now) row)) }
+    ensures { IfSome result (λ n. n.now ≡ world.driver_name rules.now (world.driver_of rules.now row)) }
 {
     match rules
         .tables
@@ -61,7 +60,6 @@ pub fn keep(
 /// The name of a device.
 #[tactic(auto, unfolding(run_rules::specs::World::unit_name))]
 fn device_name(teller: &mut Teller, device: &Dev) -> Result<Name, Memory>
-    requires { AreFit teller.old.rules.now }
     ensures name { IfOk result (λ n. n ≡ world.name_of (setup_in teller.old) device.now) }
     ensures rules { KeepsRules teller.old teller.new }
 {
@@ -82,7 +80,6 @@ fn device_name(teller: &mut Teller, device: &Dev) -> Result<Name, Memory>
 /// The name of a parent, which may be the root.
 #[tactic(auto, unfolding(run_rules::specs::World::parent_name, run_rules::specs::World::root_name))]
 pub fn parent_name(teller: &mut Teller, live: &Live, serial: u64) -> Result<Name, Memory>
-    requires { AreFit teller.old.rules.now }
     ensures name { IfOk result (λ n. n ≡ world.parent_name (setup_in teller.old) live.now.devices serial) }
     ensures rules { KeepsRules teller.old teller.new }
 {
@@ -94,7 +91,6 @@ pub fn parent_name(teller: &mut Teller, live: &Live, serial: u64) -> Result<Name
 
 /// The name of a live device.
 pub fn live_name(teller: &mut Teller, live: &Live, serial: u64) -> Result<Name, Memory>
-    requires fit { AreFit teller.old.rules.now }
     requires live { world.is_live live.now.devices serial ≡ true }
     ensures name { IfOk result (λ n. n ≡ name_live (setup_in teller.old) live.now.devices serial) }
     ensures rules { KeepsRules teller.old teller.new }

@@ -10,7 +10,6 @@ ghost use Rattle.plain_event.specs.Tellers.{KeepsRules, setup_in, world_in};
 ghost use Rattle.plain_event.specs.Told.{MayBeTold, device_told, event_with};
 ghost use Rattle.plain_names.specs.Names.{name_live};
 ghost use Rattle.plain_world.specs.Plain.{HasCaller, world_of};
-ghost use Rattle.plain_world.specs.Rules.{AreFit};
 
 use crate::act::Kept;
 use crate::command_act::{answered_act, over_of, power_end_act};
@@ -41,8 +40,7 @@ fn found_act(
     spot: u16,
     got: Option<Arrival>,
 ) -> Result<Act, Memory>
-    requires fit { AreFit teller.old.rules.now }
-    requires spot { spot < length teller.old.rules.now.machine.now.spots }
+    requires spot { spot < length teller.old.rules.now.machine.spots }
     ensures act { IfOk result (λ a. a ≡ act.Found (world.parent_name (setup_in teller.old) live.now.devices parent) (run.spot_name (setup_in teller.old) spot) (run.got_of (setup_in teller.old) got)) }
     ensures rules { KeepsRules teller.old teller.new }
 {
@@ -56,7 +54,6 @@ fn found_act(
 
 /// The end of a scan.
 fn scan_end_act(teller: &mut Teller, live: &Live, of: u64) -> Result<Act, Memory>
-    requires fit { AreFit teller.old.rules.now }
     ensures act { IfOk result (λ a. a ≡ act.ScanEnd (world.parent_name (setup_in teller.old) live.now.devices of)) }
     ensures rules { KeepsRules teller.old teller.new }
 {
@@ -73,9 +70,8 @@ fn final_act(
     shown: Option<u16>,
     got: Option<Arrival>,
 ) -> Result<Act, Memory>
-    requires fit { AreFit teller.old.rules.now }
     requires live { world.is_live live.now.devices of ≡ true }
-    requires spot { IfSome shown (λ x. x < length teller.old.rules.now.machine.now.spots) }
+    requires spot { IfSome shown (λ x. x < length teller.old.rules.now.machine.spots) }
     ensures act { IfOk result (λ a. a ≡ act.Final (name_live (setup_in teller.old) live.now.devices of) (run.shown_of (setup_in teller.old) shown got)) }
     ensures rules { KeepsRules teller.old teller.new }
 {
@@ -107,7 +103,6 @@ fn line_with(deed: &Deed, of: u64, device: Name) -> Act
 
 /// What happens by a deed that names only this device.
 fn device_act(teller: &mut Teller, plain: &Plain, of: u64, deed: &Deed) -> Result<Act, Memory>
-    requires fit { AreFit teller.old.rules.now }
     requires live { world.is_live plain.now.live.devices of ≡ true }
     requires told { device_told deed.now ≡ Some of }
     ensures act { (k : ℕ) → IfOk result (λ a. a ≡ run.printed (world_in teller.old plain.now) k deed.now) }
@@ -122,7 +117,6 @@ fn device_act(teller: &mut Teller, plain: &Plain, of: u64, deed: &Deed) -> Resul
 /// What happens by a deed; a deed of a command is described by its command.
 #[tactic(auto, unfolding(run_rules::specs::Run::printed))]
 fn act_of(teller: &mut Teller, plain: &Plain, caller: u8, deed: &Deed) -> Result<Act, Memory>
-    requires fit { AreFit teller.old.rules.now }
     requires few { length plain.now.live.devices ≤ 1024 }
     requires there { caller < length plain.now.callers.items }
     requires may { MayBeTold (world_in teller.old plain.now) caller deed.now }
@@ -171,7 +165,6 @@ fn act_anew(
     caller: u8,
     deed: &Deed,
 ) -> Result<SharedAct, Memory>
-    requires fit { AreFit teller.old.rules.now }
     requires few { length plain.now.live.devices ≤ 1024 }
     requires there { caller < length plain.now.callers.items }
     requires may { MayBeTold (world_in teller.old plain.now) caller deed.now }
@@ -200,7 +193,6 @@ fn event_again(plain: &Plain, caller: u8, kept: &Kept) -> Result<Event, Memory>
 /// The event of a deed that was not kept before.
 #[tactic(auto, unfolding(run_rules::specs::Run::event_of))]
 fn event_anew(teller: &mut Teller, plain: &Plain, caller: u8, deed: &Deed) -> Result<Event, Memory>
-    requires fit { AreFit teller.old.rules.now }
     requires few { length plain.now.live.devices ≤ 1024 }
     requires caller { HasCaller plain.now caller 500 }
     requires may { MayBeTold (world_in teller.old plain.now) caller deed.now }
@@ -223,7 +215,6 @@ pub fn event_of(
     caller: u8,
     deed: &Deed,
 ) -> Result<Event, Memory>
-    requires fit { AreFit teller.old.rules.now }
     requires few { length plain.now.live.devices ≤ 1024 }
     requires caller { HasCaller plain.now caller 500 }
     requires may { MayBeTold (world_in teller.old plain.now) caller deed.now }

@@ -2,7 +2,6 @@
 ghost use Rattle.std.specs.Prelude.{◌≡◌, ◌<◌, ◌++◌, ℕ, List, false, IfOk, IfSome, OnOk, length, bytes_eq, decimal};
 ghost use Rattle.run_rules.specs.Run as run;
 ghost use Rattle.run_rules.specs.World as world;
-ghost use Rattle.plain_world.specs.Rules.{AreFit, setup_by};
 
 use cf_types::{Memory, Name, put_bytes, put_decimal};
 use plain_world::{Live, Rules, device_at, driver_of};
@@ -14,7 +13,7 @@ const USUAL: usize = 24;
 
 /// The name of a driver.
 fn driver_name<'a>(rules: &'a Rules, driver: u32) -> &'a [u8]
-    ensures { result.now ≡ world.driver_name (setup_by rules.now) driver }
+    ensures { result.now ≡ world.driver_name rules.now driver }
 {
     match rules.tables.devices.items().get(driver as usize) {
         Some(device) => device.name.bytes(),
@@ -25,7 +24,7 @@ fn driver_name<'a>(rules: &'a Rules, driver: u32) -> &'a [u8]
 /// Appends the name of a row's driver and a unit.
 #[tactic(auto, unfolding(run_rules::specs::World::unit_name))]
 fn put_unit_name(out: &mut Vec<u8>, rules: &Rules, row: u32, unit: u32) -> Result<(), Memory>
-    ensures { OnOk result (out.new.items ≡ out.old.items ++ world.unit_name (setup_by rules.now) row unit) }
+    ensures { OnOk result (out.new.items ≡ out.old.items ++ world.unit_name rules.now row unit) }
 {
     put_bytes(out, driver_name(rules, driver_of(rules, row)))?;
     put_decimal(out, i64::from(unit))
@@ -33,9 +32,9 @@ fn put_unit_name(out: &mut Vec<u8>, rules: &Rules, row: u32, unit: u32) -> Resul
 
 /// The name of a row's driver and a unit.
 pub fn unit_name(alloc: Global, rules: &Rules, row: u32, unit: u32) -> Result<Name, Memory>
-    requires { AreFit rules.now }
-    ensures { IfOk result (λ n. n ≡ world.unit_name (setup_by rules.now) row unit) }
+    ensures { IfOk result (λ n. n ≡ world.unit_name rules.now row unit) }
 {
+    rules.stands();
     let mut text = Vec::with_capacity(alloc, USUAL)?;
     put_unit_name(&mut text, rules, row, unit)?;
     Name::make(alloc, &text)
@@ -44,8 +43,7 @@ pub fn unit_name(alloc: Global, rules: &Rules, row: u32, unit: u32) -> Result<Na
 /// The name of a parent, which may be the root.
 #[tactic(auto, unfolding(run_rules::specs::World::parent_name, run_rules::specs::World::root_name))]
 pub fn parent_name(alloc: Global, rules: &Rules, live: &Live, serial: u64) -> Result<Name, Memory>
-    requires { AreFit rules.now }
-    ensures { IfOk result (λ n. n ≡ world.parent_name (setup_by rules.now) live.now.devices serial) }
+    ensures { IfOk result (λ n. n ≡ world.parent_name rules.now live.now.devices serial) }
 {
     match device_at(live, serial) {
         Some(device) => unit_name(alloc, rules, device.row, device.unit),
@@ -55,8 +53,8 @@ pub fn parent_name(alloc: Global, rules: &Rules, live: &Live, serial: u64) -> Re
 
 /// The name of a spot.
 pub fn spot_name(rules: &Rules, spot: u16) -> Result<Name, Memory>
-    requires { spot < length rules.now.machine.now.spots }
-    ensures { IfOk result (λ n. n ≡ run.spot_name (setup_by rules.now) spot) }
+    requires { spot < length rules.now.machine.spots }
+    ensures { IfOk result (λ n. n ≡ run.spot_name rules.now spot) }
 {
     match rules.machine.spots.items().get(spot as usize) {
         Some(spot) => Ok(spot.name.clone()?),
@@ -66,8 +64,7 @@ pub fn spot_name(rules: &Rules, spot: u16) -> Result<Name, Memory>
 
 /// The name and the row of what came, if anything did.
 pub fn got_of(alloc: Global, rules: &Rules, got: Option<Arrival>) -> Result<Option<Got>, Memory>
-    requires { AreFit rules.now }
-    ensures { IfOk result (λ named. named ≡ run.got_of (setup_by rules.now) got) }
+    ensures { IfOk result (λ named. named ≡ run.got_of rules.now got) }
 {
     match got {
         Some(arrival) => {
@@ -88,9 +85,8 @@ pub fn shown_of(
     shown: Option<u16>,
     got: Option<Arrival>,
 ) -> Result<Option<Shown>, Memory>
-    requires fit { AreFit rules.now }
-    requires spot { IfSome shown (λ x. x < length rules.now.machine.now.spots) }
-    ensures { IfOk result (λ told. told ≡ run.shown_of (setup_by rules.now) shown got) }
+    requires spot { IfSome shown (λ x. x < length rules.now.machine.spots) }
+    ensures { IfOk result (λ told. told ≡ run.shown_of rules.now shown got) }
 {
     match shown {
         Some(spot) => {
@@ -115,7 +111,7 @@ fn ends_with(name: &[u8], unit: u32) -> bool
 /// Whether a device has a name.
 #[tactic(auto, unfolding(run_rules::specs::World::unit_name))]
 fn is_called(text: &mut Vec<u8>, rules: &Rules, device: &Dev, name: &[u8]) -> Result<bool, Memory>
-    ensures { IfOk result (λ is. is ≡ bytes_eq (world.name_of (setup_by rules.now) device.now) name.now) }
+    ensures { IfOk result (λ is. is ≡ bytes_eq (world.name_of rules.now device.now) name.now) }
 {
     if !ends_with(name, device.unit) {
         return Ok(false);
@@ -132,7 +128,7 @@ fn first_called(
     devices: &[Dev],
     name: &[u8],
 ) -> Result<Option<Dev>, Memory>
-    ensures { IfOk result (λ found. world.device_named (setup_by rules.now) devices.now name.now ≡ found) }
+    ensures { IfOk result (λ found. world.device_named rules.now devices.now name.now ≡ found) }
 {
     let mut text = Vec::new(alloc);
     for device in devices {
@@ -150,7 +146,7 @@ pub fn device_named(
     live: &Live,
     name: &[u8],
 ) -> Result<Option<Dev>, Memory>
-    ensures { IfOk result (λ found. world.device_named (setup_by rules.now) live.now.devices name.now ≡ found) }
+    ensures { IfOk result (λ found. world.device_named rules.now live.now.devices name.now ≡ found) }
 {
     first_called(alloc, rules, live.devices(), name)
 }

@@ -5,7 +5,6 @@ ghost use Rattle.run_rules.specs.Run as run;
 ghost use Rattle.run_rules.specs.Tree as rule;
 ghost use Rattle.run_rules.specs.World as world;
 ghost use Rattle.plain_world.specs.Plain.{world_of};
-ghost use Rattle.plain_world.specs.Rules.{AreFit, setup_by};
 
 use crate::names::{device_named, parent_name, unit_name};
 use cf_types::{DevLine, Hold, List, Memory, Name};
@@ -20,8 +19,7 @@ fn child_names(
     live: &[Dev],
     serial: u64,
 ) -> Result<List<Name>, Memory>
-    requires { AreFit rules.now }
-    ensures { IfOk result (λ names. names ≡ map (world.name_of (setup_by rules.now)) (world.children live.now serial)) }
+    ensures { IfOk result (λ names. names ≡ map (world.name_of rules.now) (world.children live.now serial)) }
 {
     let mut names = List::make(alloc);
     for device in live {
@@ -41,8 +39,7 @@ pub fn list_names(
     plain: &Plain,
     name: &Option<Name>,
 ) -> Result<Option<List<Name>>, Memory>
-    requires { AreFit rules.now }
-    ensures { IfOk result (λ names. names ≡ run.list_names (world_of (setup_by rules.now) plain.now) name.now) }
+    ensures { IfOk result (λ names. names ≡ run.list_names (world_of rules.now plain.now) name.now) }
 {
     match name {
         Some(name) => match device_named(alloc, rules, &plain.live, name.bytes())? {
@@ -101,8 +98,7 @@ fn all_below(
 
 /// The name of a device in a tree, with its depth.
 fn depth_name(alloc: Global, rules: &Rules, depth: u32, device: &Dev) -> Result<DepthName, Memory>
-    requires { AreFit rules.now }
-    ensures { IfOk result (λ d. d ≡ run.depth_name (setup_by rules.now) (depth, device.now)) }
+    ensures { IfOk result (λ d. d ≡ run.depth_name rules.now (depth, device.now)) }
 {
     let name = unit_name(alloc, rules, device.row, device.unit)?;
     Ok(DepthName { depth, name })
@@ -115,8 +111,7 @@ fn push_names(
     placed: &[(u32, Dev)],
     names: &mut List<DepthName>,
 ) -> Result<(), Memory>
-    requires { AreFit rules.now }
-    ensures { OnOk result (names.new ≡ names.old ++ map (run.depth_name (setup_by rules.now)) placed.now) }
+    ensures { OnOk result (names.new ≡ names.old ++ map (run.depth_name rules.now) placed.now) }
 {
     for (depth, device) in placed {
         let name = depth_name(alloc, rules, *depth, device)?;
@@ -132,9 +127,8 @@ fn names_from(
     live: &[Dev],
     top: Dev,
 ) -> Result<List<DepthName>, Memory>
-    requires fit { AreFit rules.now }
     requires few { length live.now ≤ 1024 }
-    ensures { IfOk result (λ names. names ≡ map (run.depth_name (setup_by rules.now)) ((0, top) ∷ rule.tree_below (length live.now) live.now 1 top.serial)) }
+    ensures { IfOk result (λ names. names ≡ map (run.depth_name rules.now) ((0, top) ∷ rule.tree_below (length live.now) live.now 1 top.serial)) }
 {
     let placed = all_below(alloc, live, 1, top.serial)?;
     let mut names = List::make(alloc);
@@ -146,9 +140,8 @@ fn names_from(
 
 /// The names of all that is below the root.
 fn names_of_all(alloc: Global, rules: &Rules, live: &[Dev]) -> Result<List<DepthName>, Memory>
-    requires fit { AreFit rules.now }
     requires few { length live.now ≤ 1024 }
-    ensures { IfOk result (λ names. names ≡ map (run.depth_name (setup_by rules.now)) (rule.tree_below (length live.now) live.now 0 0)) }
+    ensures { IfOk result (λ names. names ≡ map (run.depth_name rules.now) (rule.tree_below (length live.now) live.now 0 0)) }
 {
     let placed = all_below(alloc, live, 0, 0)?;
     let mut names = List::make(alloc);
@@ -164,9 +157,8 @@ pub fn tree_names(
     plain: &Plain,
     name: &Option<Name>,
 ) -> Result<Option<List<DepthName>>, Memory>
-    requires fit { AreFit rules.now }
     requires few { length plain.now.live.devices ≤ 1024 }
-    ensures { IfOk result (λ names. names ≡ run.tree_names (world_of (setup_by rules.now) plain.now) name.now) }
+    ensures { IfOk result (λ names. names ≡ run.tree_names (world_of rules.now plain.now) name.now) }
 {
     match name {
         Some(name) => match device_named(alloc, rules, &plain.live, name.bytes())? {
@@ -217,9 +209,8 @@ fn line_of(
     depth: u32,
     device: &Dev,
 ) -> Result<DevLine, Memory>
-    requires fit { AreFit rules.now }
     requires counted { (k s : ℕ) → refs.count_in plain.now.refs k s ≤ 15 }
-    ensures { IfOk result (λ line. line ≡ rule.dev_line (world_of (setup_by rules.now) plain.now) (depth, device.now)) }
+    ensures { IfOk result (λ line. line ≡ rule.dev_line (world_of rules.now plain.now) (depth, device.now)) }
 {
     let name = unit_name(alloc, rules, device.row, device.unit)?;
     let parent = parent_name(alloc, rules, &plain.live, device.parent)?;
@@ -238,10 +229,9 @@ fn line_of(
 /// The lines of the whole tree.
 #[tactic(auto, unfolding(run_rules::specs::Tree::tree_lines))]
 pub fn tree_lines(alloc: Global, rules: &Rules, plain: &Plain) -> Result<List<DevLine>, Memory>
-    requires fit { AreFit rules.now }
     requires few { length plain.now.live.devices ≤ 1024 }
     requires counted { (k s : ℕ) → refs.count_in plain.now.refs k s ≤ 15 }
-    ensures { IfOk result (λ lines. lines ≡ rule.tree_lines (world_of (setup_by rules.now) plain.now)) }
+    ensures { IfOk result (λ lines. lines ≡ rule.tree_lines (world_of rules.now plain.now)) }
 {
     let placed = all_below(alloc, plain.live.devices(), 0, 0)?;
     let mut lines = List::make(alloc);

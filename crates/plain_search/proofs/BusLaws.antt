@@ -14,7 +14,6 @@ use Rattle.run_rules.specs.declared.world.Position.{Position}
 use Rattle.run_rules.specs.Search.{is_before, is_child, attach_at, bus_turns, child_spots, driver_at, places_of, spot_of, is_bus_indirect, turns, turns_at, turns_of}
 use Rattle.run_rules.proofs.Below.{find-none}
 use Rattle.run_rules.proofs.Turns.{find_children, find_first, find_later}
-use Rattle.plain_world.specs.Rules.{setup_by}
 use Rattle.plain_search.proofs.IndirectLaws.{pairs_none}
 use Rattle.plain_world.specs.declared.rules.Rules.{Rules}
 use Rattle.plain_world.specs.declared.world.Plain.{Plain}
@@ -26,7 +25,7 @@ pub indirect_is : (r : Rules) (parent : Option ℕ) (b : Bus) → b.indirect ≡
 unfolding bus_turns
 indirect_is r parent b on = rw on refl
 
-pub direct_is : (r : Rules) (parent : Option ℕ) (b : Bus) → b.indirect ≡ false → turns_on r parent b ≡ map (turn_on b 0) (child_spots r.machine.now parent b.place)
+pub direct_is : (r : Rules) (parent : Option ℕ) (b : Bus) → b.indirect ≡ false → turns_on r parent b ≡ map (turn_on b 0) (child_spots r.machine parent b.place)
 unfolding bus_turns
 direct_is r parent b off = rw off refl
 
@@ -82,18 +81,18 @@ attr_before : (r : Rules) (p : Plain) (g : Going) (t : Turn) (child : Bool) → 
 unfolding is_before
 attr_before r p g t child lt = passed_by r p g t child (earlier_attr t.at.attr g.from.attr _ lt)
 
-pub place_behind : (r : Rules) (p : Plain) (g : Going) (live : List Dev) (serial attr : ℕ) (place : Place) → attr < g.from.attr → find (takes r p g) (turns_at (setup_by r) live serial (attr, place)) ≡ None
+pub place_behind : (r : Rules) (p : Plain) (g : Going) (live : List Dev) (serial attr : ℕ) (place : Place) → attr < g.from.attr → find (takes r p g) (turns_at r live serial (attr, place)) ≡ None
 unfolding bus_turns
-place_behind r p g live serial attr place lt = cases (is_bus_indirect r.machine.now (attach_at (setup_by r) live serial) place)
+place_behind r p g live serial attr place lt = cases (is_bus_indirect r.machine (attach_at r live serial) place)
   where
-    cases : (indirect : Bool) → find (takes r p g) (bus_turns r.machine.now (length r.tables.now.rows) indirect (spot_of live serial) (attr, place)) ≡ None
+    cases : (indirect : Bool) → find (takes r p g) (bus_turns r.machine (length r.tables.rows) indirect (spot_of live serial) (attr, place)) ≡ None
     cases false =
-        find_children (takes r p g) (λ x. record { at = record { attr = attr; row = 0; spot = x }; place = place; indirect = false }) r.machine.now (spot_of live serial) place
+        find_children (takes r p g) (λ x. record { at = record { attr = attr; row = 0; spot = x }; place = place; indirect = false }) r.machine (spot_of live serial) place
         ∙ ap (option_map (λ (x : ℕ). record { at = record { attr = attr; row = 0; spot = x }; place = place; indirect = false }))
-        (find-none _ (length r.machine.now.spots) (λ x less. attr_before r p g (record { at = record { attr = attr; row = 0; spot = x }; place = place; indirect = false }) (is_child r.machine.now (spot_of live serial) place x) lt))
+        (find-none _ (length r.machine.spots) (λ x less. attr_before r p g (record { at = record { attr = attr; row = 0; spot = x }; place = place; indirect = false }) (is_child r.machine (spot_of live serial) place x) lt))
     cases true =
-        pairs_none (takes r p g) (λ row x. record { at = record { attr = attr; row = row; spot = x }; place = place; indirect = true }) r.machine.now (spot_of live serial) place (length r.tables.now.rows)
-        (λ row x. attr_before r p g (record { at = record { attr = attr; row = row; spot = x }; place = place; indirect = true }) (is_child r.machine.now (spot_of live serial) place x) lt)
+        pairs_none (takes r p g) (λ row x. record { at = record { attr = attr; row = row; spot = x }; place = place; indirect = true }) r.machine (spot_of live serial) place (length r.tables.rows)
+        (λ row x. attr_before r p g (record { at = record { attr = attr; row = row; spot = x }; place = place; indirect = true }) (is_child r.machine (spot_of live serial) place x) lt)
 
 -- the places from one on
 places_from : (attrs : List ℕ) (i : ℕ) → i < length attrs → enumerate_from i (map At (drop i attrs)) ≡ (i, At (get_or attrs i 0)) ∷ enumerate_from (i + 1) (map At (drop (i + 1) attrs))

@@ -19,7 +19,6 @@ use Rattle.run_rules.proofs.Below.{and_both, find_below}
 use Rattle.run_sound.proofs.Members.{all_flat, all_map, found_of}
 use Rattle.plain_world.specs.declared.rules.Rules.{Rules}
 use Rattle.plain_world.specs.declared.world.Plain.{Plain}
-use Rattle.plain_world.specs.Rules.{setup_by}
 use Rattle.plain_search.specs.declared.turns.Bus.{Bus}
 use Rattle.plain_search.specs.declared.turns.Going.{Going}
 use Rattle.plain_search.specs.Buses.{IsOnlyAt, IsTurnAt, takes, takes_below, turn_on}
@@ -28,10 +27,10 @@ use Rattle.plain_search.specs.Open.{hangs_at}
 -- ---- the row that takes a spot
 
 abbrev open_at : Rules → Plain → Going → ℕ → Bool
-open_at r p g x = is_open r.machine.now p.live.devices p.absent p.hidden g.filter.now x
+open_at r p g x = is_open r.machine p.live.devices p.absent p.hidden g.filter.now x
 
 abbrev winner_of : Rules → Plain → Going → Bus → ℕ → Option ℕ
-winner_of r p g b x = winner_at (setup_by r) p.live.devices g.serial b.place x
+winner_of r p g b x = winner_at r p.live.devices g.serial b.place x
 
 takes_is : (r : Rules) (p : Plain) (g : Going) (b : Bus) (x q : ℕ) → b.indirect ≡ true
     → takes r p g (turn_on b q x) ≡ (not (is_before (turn_on b q x).at g.from) && (open_at r p g x && is_number (winner_of r p g b x) q))
@@ -79,7 +78,7 @@ pub spot_only : (r : Rules) (p : Plain) (g : Going) (b : Bus) (x row : ℕ) → 
 unfolding winner
 spot_only r p g b x row on wins after seen = record {
   is = refl;
-  within = find_below _ (length r.tables.now.rows) row wins;
+  within = find_below _ (length r.tables.rows) row wins;
   taken =
       takes_is r p g b x row on ∙ ap (λ (o : Option ℕ). not (is_before (turn_on b row x).at g.from) && (open_at r p g x && is_number o row)) wins
       ∙ all_true (is_before (turn_on b row x).at g.from) (open_at r p g x) (row == row) after seen (eq-eqb row row refl);
@@ -136,8 +135,8 @@ due_hangs s live absent hidden p only wanted from t e =
 
 -- ---- below a parent at the place of the bus
 
-pub only_below : (r : Rules) (p : Plain) (g : Going) (parent : Option ℕ) (b : Bus) (x : ℕ) (o : Option Turn) → is_child r.machine.now parent b.place x ≡ true
-    → MatchOption o ((q : ℕ) → takes r p g (turn_on b q x) ≡ false) (IsTurnAt r p g b x) → IsOnlyAt (takes_below r p g parent b) (turn_on b) (length r.tables.now.rows) x o
+pub only_below : (r : Rules) (p : Plain) (g : Going) (parent : Option ℕ) (b : Bus) (x : ℕ) (o : Option Turn) → is_child r.machine parent b.place x ≡ true
+    → MatchOption o ((q : ℕ) → takes r p g (turn_on b q x) ≡ false) (IsTurnAt r p g b x) → IsOnlyAt (takes_below r p g parent b) (turn_on b) (length r.tables.rows) x o
 only_below r p g parent b x None child none = λ q. ap (λ (c : Bool). c && takes r p g (turn_on b q x)) child ∙ none q
 only_below r p g parent b x (Some t) child at = record {
   is = at.is;

@@ -10,24 +10,22 @@ use Rattle.plain_world.specs.declared.rules.Rules.{Rules}
 use Rattle.plain_search.specs.declared.turns.Bus.{Bus}
 use Rattle.plain_search.specs.declared.turns.Going.{Going}
 use Rattle.plain_world.specs.declared.world.Plain.{Plain}
-use Rattle.plain_world.specs.Rules.{AreFit, setup_by}
 use Rattle.plain_search.specs.declared.seeker.Seeker.{Seeker}
 use Rattle.plain_search.specs.Open.{Follows}
 
 -- a seeker that has counted the live devices may search for a scan, which has the live device of its serial and what rows call it
 pub record MaySearch (k : Seeker) (p : Plain) (g : Going) : Type 0 where
-  pub fit : AreFit k.rules.now
   pub follows : Follows k p.live.devices
   pub device : g.device ≡ device_at p.live.devices g.serial
-  pub parent : g.parent ≡ parent_ref (setup_by k.rules.now) p.live.devices g.serial
+  pub parent : g.parent ≡ parent_ref k.rules.now p.live.devices g.serial
 
 -- a bus says whether the device offers its place
 abbrev pub IsOffered : Rules → Going → Bus → Type 0
-IsOffered r g b = b.offered ≡ parent_offers r.tables.now g.parent b.place
+IsOffered r g b = b.offered ≡ parent_offers r.tables g.parent b.place
 
 -- a scan takes a turn that is due and not before its position
 abbrev pub takes : Rules → Plain → Going → Turn → Bool
-takes r p g t = not (is_before t.at g.from) && is_due (setup_by r) p.live.devices p.absent p.hidden g.serial g.filter.now t
+takes r p g t = not (is_before t.at g.from) && is_due r p.live.devices p.absent p.hidden g.serial g.filter.now t
 
 -- the turn of a bus at a row and a spot
 abbrev pub turn_on : Bus → ℕ → ℕ → Turn
@@ -36,13 +34,13 @@ turn_on b r x = record { at = record { attr = b.attr; row = r; spot = x }; place
 -- of all turns of a bus at a spot a scan takes this one alone
 pub record IsTurnAt (r : Rules) (p : Plain) (g : Going) (b : Bus) (x : ℕ) (t : Turn) : Type 0 where
   pub is : t ≡ turn_on b t.at.row x
-  pub within : t.at.row < length r.tables.now.rows
+  pub within : t.at.row < length r.tables.rows
   pub taken : takes r p g (turn_on b t.at.row x) ≡ true
   pub others : (q : ℕ) → takes r p g (turn_on b q x) ≡ true → q ≡ t.at.row
 
 -- a scan takes the turn at a row and a spot, and the spot hangs below a parent at the place of the bus
 abbrev pub takes_below : Rules → Plain → Going → Option ℕ → Bus → ℕ → ℕ → Bool
-takes_below r p g parent b row x = is_child r.machine.now parent b.place x && takes r p g (turn_on b row x)
+takes_below r p g parent b row x = is_child r.machine parent b.place x && takes r p g (turn_on b row x)
 
 -- of the pairs of a row and a spot that pass a test this is the turn of the only one with the spot; it is of one of so many rows
 pub record IsOnly (T : ℕ → ℕ → Bool) (turn : ℕ → ℕ → Turn) (rows x : ℕ) (t : Turn) : Type 0 where
@@ -64,12 +62,12 @@ better (Some b) (Some t) = if nat_lt t.at.row b.at.row then Some t else Some b
 
 -- the turns of an indirect bus
 abbrev pub row_turns : Rules → Option ℕ → Bus → List Turn
-row_turns r parent b = flat_map (λ row. map (turn_on b row) (child_spots r.machine.now parent b.place)) (below (length r.tables.now.rows))
+row_turns r parent b = flat_map (λ row. map (turn_on b row) (child_spots r.machine parent b.place)) (below (length r.tables.rows))
 
 -- and of any bus
 abbrev pub turns_on : Rules → Option ℕ → Bus → List Turn
-turns_on r parent b = bus_turns r.machine.now (length r.tables.now.rows) b.indirect parent (b.attr, b.place)
+turns_on r parent b = bus_turns r.machine (length r.tables.rows) b.indirect parent (b.attr, b.place)
 
 -- those of these attributes, of which the first has this number
 abbrev pub turns_among : Rules → Plain → ℕ → ℕ → List ℕ → List Turn
-turns_among r p serial n attrs = flat_map (turns_at (setup_by r) p.live.devices serial) (enumerate_from n (map At attrs))
+turns_among r p serial n attrs = flat_map (turns_at r p.live.devices serial) (enumerate_from n (map At attrs))

@@ -9,7 +9,6 @@ use Rattle.run_rules.specs.declared.world.ParentRef.{ParentRef}
 use Rattle.run_rules.specs.declared.world.Setup.{Setup}
 use Rattle.run_rules.specs.Search.{is_live_row, names_parent}
 use Rattle.run_rules.specs.World.{row_at, same_place}
-use Rattle.plain_world.specs.Rules.{setup_by}
 use Rattle.plain_rows.specs.Taken.{AreTakers}
 use Rattle.plain_search.specs.declared.seeker.Seeker.{Seeker}
 
@@ -27,4 +26,4 @@ is_open_to s live p r = option_map_or (λ row. is_live_row s live row && names_p
 
 -- a seeker has counted these devices
 abbrev pub Follows : Seeker → List Dev → Type 0
-Follows k live = AreTakers (setup_by k.rules.now) live k.taken
+Follows k live = AreTakers k.rules.now live k.taken

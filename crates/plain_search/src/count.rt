@@ -6,7 +6,6 @@ ghost use Rattle.run_rules.specs.World.{World};
 ghost use Rattle.plain_rows.specs.Taken.{AreTakers, is_row_of, one_if};
 ghost use Rattle.plain_search.specs.Open.{Follows};
 ghost use Rattle.plain_search.specs.Deeds.{coming, going};
-ghost use Rattle.plain_world.specs.Rules.{AreFit, setup_by};
 
 use crate::seeker::Seeker;
 use cf_types::Memory;
@@ -38,9 +37,9 @@ fn going(deed: &Deed) -> Option<u64>
 
 /// One more device has the driver of a row and a unit.
 fn enter(taken: &mut Taken, rules: &Rules, row: u32, unit: u32)
-    requires rows { length taken.old ≡ length rules.now.tables.now.rows }
+    requires rows { length taken.old ≡ length rules.now.tables.rows }
     requires low { (r : ℕ) → slice_index_or taken.old r 0 < 2 ^ 32 - 1 }
-    ensures numbers { (r : ℕ) → slice_index_or taken.new r 0 ≡ slice_index_or taken.old r 0 + one_if (is_row_of (setup_by rules.now) row unit r) }
+    ensures numbers { (r : ℕ) → slice_index_or taken.new r 0 ≡ slice_index_or taken.old r 0 + one_if (is_row_of rules.now row unit r) }
     ensures rows { length taken.new ≡ length taken.old }
 {
     let driver = driver_of(rules, row);
@@ -49,8 +48,8 @@ fn enter(taken: &mut Taken, rules: &Rules, row: u32, unit: u32)
 
 /// One device fewer has the driver of a row and a unit.
 fn leave(taken: &mut Taken, rules: &Rules, row: u32, unit: u32)
-    requires rows { length taken.old ≡ length rules.now.tables.now.rows }
-    ensures numbers { (r : ℕ) → slice_index_or taken.new r 0 ≡ slice_index_or taken.old r 0 - one_if (is_row_of (setup_by rules.now) row unit r) }
+    requires rows { length taken.old ≡ length rules.now.tables.rows }
+    ensures numbers { (r : ℕ) → slice_index_or taken.new r 0 ≡ slice_index_or taken.old r 0 - one_if (is_row_of rules.now row unit r) }
     ensures rows { length taken.new ≡ length taken.old }
 {
     let driver = driver_of(rules, row);
@@ -59,11 +58,11 @@ fn leave(taken: &mut Taken, rules: &Rules, row: u32, unit: u32)
 
 /// Counts the live devices as they are after a deed, from those that are live before it.
 fn count_deed(taken: &mut Taken, rules: &Rules, live: &Live, deed: &Deed)
-    requires rows { length taken.old ≡ length rules.now.tables.now.rows }
+    requires rows { length taken.old ≡ length rules.now.tables.rows }
     requires few { length live.now.devices ≤ 1024 }
-    requires counted { AreTakers (setup_by rules.now) live.now.devices taken.old }
+    requires counted { AreTakers rules.now live.now.devices taken.old }
     ensures rows { length taken.new ≡ length taken.old }
-    ensures counted { (w : World) (k : ℕ) → w.live ≡ live.now.devices → AreTakers (setup_by rules.now) (after w k deed.now).live taken.new }
+    ensures counted { (w : World) (k : ℕ) → w.live ≡ live.now.devices → AreTakers rules.now (after w k deed.now).live taken.new }
 {
     live.stands();
     match coming(deed) {
@@ -81,8 +80,8 @@ fn count_deed(taken: &mut Taken, rules: &Rules, live: &Live, deed: &Deed)
 /// Counts devices anew.
 fn count_all(alloc: Global, rules: &Rules, devices: &[Dev]) -> Result<Taken, Memory>
     requires few { length devices.now ≤ 1024 }
-    ensures rows { IfOk result (λ taken. length taken ≡ length rules.now.tables.now.rows) }
-    ensures counted { IfOk result (AreTakers (setup_by rules.now) devices.now) }
+    ensures rows { IfOk result (λ taken. length taken ≡ length rules.now.tables.rows) }
+    ensures counted { IfOk result (AreTakers rules.now devices.now) }
 {
     let mut taken = Taken::make(alloc, rules.tables.rows.items())?;
     for device in devices {
@@ -94,7 +93,6 @@ fn count_all(alloc: Global, rules: &Rules, devices: &[Dev]) -> Result<Taken, Mem
 impl<'a> Seeker<'a> {
     /// By these rules, before any device.
     pub fn make(alloc: Global, rules: &'a Rules<'a>) -> Result<Seeker<'a>, Memory>
-        requires { AreFit rules.now }
         ensures rules { IfOk result (λ seeker. seeker.rules.now ≡ rules.now) }
         ensures follows { IfOk result (λ seeker. Follows seeker []) }
     {
@@ -121,7 +119,7 @@ impl<'a> Seeker<'a> {
 
     /// Goes by other numbers from now on, as those of a world that is gone back to.
     pub fn put(&mut self, taken: Taken)
-        requires { length taken ≡ length self.old.rules.now.tables.now.rows }
+        requires { length taken ≡ length self.old.rules.now.tables.rows }
         ensures rules { self.new.rules.now ≡ self.old.rules.now }
         ensures taken { self.new.taken ≡ taken }
     {

@@ -8,7 +8,6 @@ ghost use Rattle.run_rules.specs.World as world;
 ghost use Rattle.run_rules.specs.declared.world.Dev.{Dev};
 ghost use Rattle.run_rules.specs.declared.world.ParentRef.TheVariants as under;
 ghost use Rattle.plain_search.specs.Open.{Follows, hangs_at, open_by};
-ghost use Rattle.plain_world.specs.Rules.{AreFit, setup_by};
 
 use crate::seeker::Seeker;
 use crate::units::free_from;
@@ -19,7 +18,7 @@ use run_rules::{Arrival, Dev, ParentRef};
 /// How rows name the device that a search is below; the root, if there is none.
 #[inline(always)]
 pub fn named_by(rules: &Rules, device: Option<Dev>) -> ParentRef
-    ensures { result ≡ option_map_or (λ d. under.Dev (world.driver_of (setup_by rules.now) d.row) d.unit) device under.Root }
+    ensures { result ≡ option_map_or (λ d. under.Dev (world.driver_of rules.now d.row) d.unit) device under.Root }
 {
     match device {
         Some(device) => ParentRef::Dev {
@@ -32,7 +31,7 @@ pub fn named_by(rules: &Rules, device: Option<Dev>) -> ParentRef
 
 /// The parent of a search.
 fn parent_ref(rules: &Rules, live: &Live, serial: u64) -> ParentRef
-    ensures { result ≡ rule.parent_ref (setup_by rules.now) live.now.devices serial }
+    ensures { result ≡ rule.parent_ref rules.now live.now.devices serial }
 {
     named_by(rules, device_at(live, serial))
 }
@@ -52,16 +51,14 @@ fn names_parent(spec: Option<ParentSpec>, parent: ParentRef) -> bool
 /// Whether a driver offers an attribute.
 #[tactic(auto, unfolding(cf_types::specs::Offers::offers))]
 fn offers(rules: &Rules, driver: u32, attr: u32) -> bool
-    requires { AreFit rules.now }
-    ensures { result ≡ offer.offers rules.now.tables.now.attrs rules.now.tables.now.devices driver attr }
+    ensures { result ≡ offer.offers rules.now.tables.attrs rules.now.tables.devices driver attr }
 {
     has(offered(rules, driver), attr)
 }
 
 /// Whether a parent offers a place.
 pub fn parent_offers(rules: &Rules, parent: ParentRef, place: Place) -> bool
-    requires { AreFit rules.now }
-    ensures { result ≡ rule.parent_offers rules.now.tables.now parent place }
+    ensures { result ≡ rule.parent_offers rules.now.tables parent place }
 {
     match (parent, place) {
         (ParentRef::Root, Place::Root) => true,
@@ -74,7 +71,7 @@ pub fn parent_offers(rules: &Rules, parent: ParentRef, place: Place) -> bool
 /// Whether a row may still give a device, and names this parent or none.
 #[inline(always)]
 fn is_open(seeker: &Seeker, parent: ParentRef, row: u32) -> bool
-    ensures { result ≡ open_by (setup_by seeker.now.rules.now) seeker.now.taken parent row }
+    ensures { result ≡ open_by seeker.now.rules.now seeker.now.taken parent row }
 {
     match row_at(seeker.rules, row) {
         Some(found) => (found.star || !seeker.taken.has(row)) && names_parent(found.parent, parent),
@@ -84,7 +81,7 @@ fn is_open(seeker: &Seeker, parent: ParentRef, row: u32) -> bool
 
 /// The first of these rows that may still give a device and names this parent or none.
 fn first_open(seeker: &Seeker, parent: ParentRef, rows: &[u32]) -> Option<u32>
-    ensures { result ≡ find (open_by (setup_by seeker.now.rules.now) seeker.now.taken parent) rows.now }
+    ensures { result ≡ find (open_by seeker.now.rules.now seeker.now.taken parent) rows.now }
 {
     rows.iter()
         .copied()
@@ -101,9 +98,9 @@ pub fn winner(
     place: Place,
     spot: u16,
 ) -> Option<u32>
-    requires offers { offers ≡ rule.parent_offers seeker.now.rules.now.tables.now parent place }
-    requires at { hangs_at seeker.now.rules.now.machine.now spot place ≡ true }
-    ensures { (live : List Dev) → Follows seeker.now live → rule.winner (setup_by seeker.now.rules.now) live parent place spot ≡ result }
+    requires offers { offers ≡ rule.parent_offers seeker.now.rules.now.tables parent place }
+    requires at { hangs_at seeker.now.rules.now.machine spot place ≡ true }
+    ensures { (live : List Dev) → Follows seeker.now live → rule.winner seeker.now.rules.now live parent place spot ≡ result }
 {
     if offers {
         first_open(seeker, parent, seeker.suited.rows(spot))
@@ -114,10 +111,9 @@ pub fn winner(
 
 /// The row that takes a spot below the device of a serial, or below the root.
 fn winner_at(seeker: &Seeker, live: &Live, parent: u64, place: Place, spot: u16) -> Option<u32>
-    requires fit { AreFit seeker.now.rules.now }
     requires follows { Follows seeker.now live.now.devices }
-    requires at { hangs_at seeker.now.rules.now.machine.now spot place ≡ true }
-    ensures { rule.winner_at (setup_by seeker.now.rules.now) live.now.devices parent place spot ≡ result }
+    requires at { hangs_at seeker.now.rules.now.machine spot place ≡ true }
+    ensures { rule.winner_at seeker.now.rules.now live.now.devices parent place spot ≡ result }
 {
     let above = parent_ref(seeker.rules, live, parent);
     let offers = parent_offers(seeker.rules, above, place);
@@ -127,10 +123,10 @@ fn winner_at(seeker: &Seeker, live: &Live, parent: u64, place: Place, spot: u16)
 /// The unit that a row gives: its own, or, if it is starred, the least free one from its first unit on.
 #[tactic(auto, unfolding(run_rules::specs::Search::unit_of))]
 fn unit_of(rules: &Rules, live: &Live, row: u32) -> u32
-    requires fit { AreFit rules.now }
     requires few { length live.now.devices ≤ 1024 }
-    ensures { result ≡ rule.unit_of (setup_by rules.now) live.now.devices row }
+    ensures { result ≡ rule.unit_of rules.now live.now.devices row }
 {
+    rules.stands();
     match row_at(rules, row) {
         Some(row) => {
             if row.star {
@@ -152,11 +148,10 @@ pub fn arrival(
     place: Place,
     spot: u16,
 ) -> Option<Arrival>
-    requires fit { AreFit seeker.now.rules.now }
     requires few { length live.now.devices ≤ 1024 }
     requires follows { Follows seeker.now live.now.devices }
-    requires at { hangs_at seeker.now.rules.now.machine.now spot place ≡ true }
-    ensures { next.arrival (setup_by seeker.now.rules.now) live.now.devices parent place spot ≡ result }
+    requires at { hangs_at seeker.now.rules.now.machine spot place ≡ true }
+    ensures { next.arrival seeker.now.rules.now live.now.devices parent place spot ≡ result }
 {
     match winner_at(seeker, live, parent, place, spot) {
         Some(row) => Some(Arrival {

@@ -14,7 +14,7 @@ pub struct Seeker<'a> {
     pub suited: Suited,
     pub taken: Taken,
     pub styles: Styles,
-    pub ghost listed: { AreSuited rules.now.tables.now rules.now.machine.now suited },
-    pub ghost styled: { AreStyles rules.now.machine.now.styles styles },
-    pub ghost counted: { length taken ≡ length rules.now.tables.now.rows },
+    pub ghost listed: { AreSuited rules.now.tables rules.now.machine suited },
+    pub ghost styled: { AreStyles rules.now.machine.styles styles },
+    pub ghost counted: { length taken ≡ length rules.now.tables.rows },
 }

@@ -7,7 +7,6 @@ ghost use Rattle.std.specs.Ordering.{int_eq};
 ghost use Rattle.run_rules.specs.Next as next;
 ghost use Rattle.run_rules.specs.Search as rule;
 ghost use Rattle.run_rules.specs.World as world;
-ghost use Rattle.plain_world.specs.Rules.{AreFit, setup_by};
 ghost use Rattle.plain_search.specs.Buses.{IsOffered, IsOnlyAt, IsTurnAt, MaySearch, better, row_turns, takes, takes_below, turn_on, turns_among, turns_on};
 ghost use Rattle.plain_search.specs.Open.{Follows, hangs_at};
 
@@ -32,7 +31,7 @@ fn has_value(found: &[i64], wanted: Wanted) -> bool
 
 /// Whether a spot has all locator values that are wanted. If none is wanted, the spot is not looked at.
 fn passes_filter(rules: &Rules, spot: u16, filter: &[Wanted]) -> bool
-    ensures { result ≡ rule.passes_filter (rule.found_at rules.now.machine.now spot) filter.now }
+    ensures { result ≡ rule.passes_filter (rule.found_at rules.now.machine spot) filter.now }
 {
     filter
         .iter()
@@ -43,7 +42,7 @@ fn passes_filter(rules: &Rules, spot: u16, filter: &[Wanted]) -> bool
 #[inline(always)]
 #[tactic(auto, unfolding(run_rules::specs::Search::is_open))]
 pub fn is_open(rules: &Rules, plain: &Plain, filter: &[Wanted], spot: u16) -> bool
-    ensures { result ≡ rule.is_open rules.now.machine.now plain.now.live.devices plain.now.absent plain.now.hidden filter.now spot }
+    ensures { result ≡ rule.is_open rules.now.machine plain.now.live.devices plain.now.absent plain.now.hidden filter.now spot }
 {
     !plain.absent.has(spot)
         && !plain.hidden.has(spot)
@@ -72,7 +71,7 @@ struct Going<'a> {
 
 /// Whether a spot is below another one, or below the root, at a place.
 fn is_child(rules: &Rules, parent: Option<u16>, place: Place, spot: u16) -> bool
-    ensures { result ≡ rule.is_child rules.now.machine.now parent place spot }
+    ensures { result ≡ rule.is_child rules.now.machine parent place spot }
 {
     match rules.machine.spots.items().get(spot as usize) {
         Some(spot) => spot.parent == parent && same_place(spot.place, place),
@@ -139,9 +138,8 @@ fn direct_turn(
     parent: Option<u16>,
     bus: Bus,
 ) -> Option<Turn>
-    requires fit { AreFit rules.now }
     requires direct { bus.indirect ≡ false }
-    ensures { find (takes rules.now plain.now scan.now) (map (turn_on bus 0) (rule.child_spots rules.now.machine.now parent bus.place)) ≡ result }
+    ensures { find (takes rules.now plain.now scan.now) (map (turn_on bus 0) (rule.child_spots rules.now.machine parent bus.place)) ≡ result }
 {
     let below = stretch_at(rules.stretches, parent);
     let end = below.end.min(rules.machine.spots.len() as u16);
@@ -173,7 +171,7 @@ fn spot_turn(seeker: &Seeker, plain: &Plain, scan: &Going, bus: Bus, spot: u16) 
     requires may { MaySearch seeker.now plain.now scan.now }
     requires offered { IsOffered seeker.now.rules.now scan.now bus }
     requires indirect { bus.indirect ≡ true }
-    requires at { hangs_at seeker.now.rules.now.machine.now spot bus.place ≡ true }
+    requires at { hangs_at seeker.now.rules.now.machine spot bus.place ≡ true }
     ensures { MatchOption result ((r : ℕ) → takes seeker.now.rules.now plain.now scan.now (turn_on bus r spot) ≡ false) (IsTurnAt seeker.now.rules.now plain.now scan.now bus spot) }
 {
     if !is_open(seeker.rules, plain, scan.filter, spot) {
@@ -202,7 +200,7 @@ fn child_turn(
     requires may { MaySearch seeker.now plain.now scan.now }
     requires offered { IsOffered seeker.now.rules.now scan.now bus }
     requires indirect { bus.indirect ≡ true }
-    ensures { IsOnlyAt (takes_below seeker.now.rules.now plain.now scan.now parent bus) (turn_on bus) (length seeker.now.rules.now.tables.now.rows) spot result }
+    ensures { IsOnlyAt (takes_below seeker.now.rules.now plain.now scan.now parent bus) (turn_on bus) (length seeker.now.rules.now.tables.rows) spot result }
 {
     if !is_child(seeker.rules, parent, bus.place, spot) {
         return None;
@@ -282,7 +280,7 @@ fn bus_turn(
 
 /// The last style line for an attachment and an attribute; direct without one.
 fn is_indirect_by(seeker: &Seeker, attach: u32, attr: u32) -> bool
-    ensures { result ≡ option_map_or (λ line. line.indirect) (find (λ line. line.attach == attach && line.attr == attr) (reverse seeker.now.rules.now.machine.now.styles)) false }
+    ensures { result ≡ option_map_or (λ line. line.indirect) (find (λ line. line.attach == attach && line.attr == attr) (reverse seeker.now.rules.now.machine.styles)) false }
 {
     seeker.styles.is_indirect(attach, attr)
 }
@@ -290,7 +288,7 @@ fn is_indirect_by(seeker: &Seeker, attach: u32, attr: u32) -> bool
 /// Whether a device of this attachment searches a place row by row. See autoconf(9).
 #[tactic(auto, unfolding(run_rules::specs::Search::is_bus_indirect))]
 pub fn is_indirect(seeker: &Seeker, attach: Option<u32>, place: Place) -> bool
-    ensures { result ≡ rule.is_bus_indirect seeker.now.rules.now.machine.now attach place }
+    ensures { result ≡ rule.is_bus_indirect seeker.now.rules.now.machine attach place }
 {
     match (attach, place) {
         (_, Place::Root) => false,
@@ -301,7 +299,7 @@ pub fn is_indirect(seeker: &Seeker, attach: Option<u32>, place: Place) -> bool
 
 /// The attachment of a device; none for the root.
 fn attach_of_device(rules: &Rules, device: Option<Dev>) -> Option<u32>
-    ensures { result ≡ option_map (λ d. world.attach_of (setup_by rules.now) d.row) device }
+    ensures { result ≡ option_map (λ d. world.attach_of rules.now d.row) device }
 {
     match device {
         Some(device) => Some(attach_of(rules, device.row)),
@@ -323,7 +321,7 @@ fn spot_of_device(device: Option<Dev>) -> Option<u16>
 #[inline(always)]
 fn place_turn(seeker: &Seeker, plain: &Plain, scan: &Going, attr: u16, place: Place) -> Option<Turn>
     requires { MaySearch seeker.now plain.now scan.now }
-    ensures { find (takes seeker.now.rules.now plain.now scan.now) (rule.turns_at (setup_by seeker.now.rules.now) plain.now.live.devices scan.now.serial (attr, place)) ≡ result }
+    ensures { find (takes seeker.now.rules.now plain.now scan.now) (rule.turns_at seeker.now.rules.now plain.now.live.devices scan.now.serial (attr, place)) ≡ result }
 {
     if attr < scan.from.attr {
         return None;
@@ -359,8 +357,9 @@ fn turn_among(seeker: &Seeker, plain: &Plain, scan: &Going, attrs: &[u32]) -> Op
 #[inline(always)]
 fn turn_of_all(seeker: &Seeker, plain: &Plain, scan: &Going) -> Option<Turn>
     requires may { MaySearch seeker.now plain.now scan.now }
-    ensures { find (takes seeker.now.rules.now plain.now scan.now) (rule.turns (setup_by seeker.now.rules.now) plain.now.live.devices scan.now.serial None) ≡ result }
+    ensures { find (takes seeker.now.rules.now plain.now scan.now) (rule.turns seeker.now.rules.now plain.now.live.devices scan.now.serial None) ≡ result }
 {
+    seeker.rules.stands();
     match scan.device {
         Some(device) => {
             let offered = offered(seeker.rules, driver_of(seeker.rules, device.row));
@@ -375,7 +374,7 @@ fn turn_of_all(seeker: &Seeker, plain: &Plain, scan: &Going) -> Option<Turn>
 #[tactic(auto, unfolding(run_rules::specs::Search::due))]
 fn due_turn(seeker: &Seeker, plain: &Plain, scan: &Going, only: Option<u32>) -> Option<Turn>
     requires may { MaySearch seeker.now plain.now scan.now }
-    ensures { rule.due (setup_by seeker.now.rules.now) plain.now.live.devices plain.now.absent plain.now.hidden scan.now.serial only scan.now.filter.now scan.now.from ≡ result }
+    ensures { rule.due seeker.now.rules.now plain.now.live.devices plain.now.absent plain.now.hidden scan.now.serial only scan.now.filter.now scan.now.from ≡ result }
 {
     match only {
         Some(attr) => turn_among(seeker, plain, scan, &[attr]),
@@ -415,11 +414,11 @@ pub fn next_scan(
     filter: &[Wanted],
     from: Position,
 ) -> Deed
-    requires fit { AreFit seeker.now.rules.now }
     requires few { length plain.now.live.devices ≤ 1024 }
     requires follows { Follows seeker.now plain.now.live.devices }
-    ensures { next.next_scan (setup_by seeker.now.rules.now) plain.now.live.devices plain.now.absent plain.now.hidden serial only filter.now from ≡ result }
+    ensures { next.next_scan seeker.now.rules.now plain.now.live.devices plain.now.absent plain.now.hidden serial only filter.now from ≡ result }
 {
+    seeker.rules.stands();
     let device = device_at(&plain.live, serial);
     let scan = Going {
         serial,

@@ -2,7 +2,6 @@
 ghost use Rattle.std.specs.Prelude.{◌≡◌, ◌≤◌, ◌<◌, ◌+◌, ◌==◌, ◌&&◌, ◌||◌, ℕ, false, length, MatchOption};
 ghost use Rattle.std.specs.List.{slice_index_or};
 ghost use Rattle.run_rules.specs.Search as rule;
-ghost use Rattle.plain_world.specs.Rules.{setup_by};
 
 use plain_world::{Live, Rules, driver_of};
 use run_rules::Dev;
@@ -33,7 +32,7 @@ fn mark(marks: &mut [bool], meant: bool, unit: u32, first: u32)
 /// Marks which of the units from the first one on devices of a driver have.
 fn mark_taken(rules: &Rules, devices: &[Dev], driver: u32, first: u32, marks: &mut [bool])
     requires { (k : ℕ) → k < length marks.old → slice_index_or marks.old k false ≡ false }
-    ensures { (k : ℕ) → k < length marks.new → slice_index_or marks.new k false ≡ rule.is_taken (setup_by rules.now) devices.now driver (first + k) }
+    ensures { (k : ℕ) → k < length marks.new → slice_index_or marks.new k false ≡ rule.is_taken rules.now devices.now driver (first + k) }
 {
     for device in devices {
         let meant = driver_of(rules, device.row) == driver;
@@ -45,7 +44,7 @@ fn mark_taken(rules: &Rules, devices: &[Dev], driver: u32, first: u32, marks: &m
 fn free_among(rules: &Rules, devices: &[Dev], driver: u32, first: u32) -> u32
     requires first { first ≤ 65536 }
     requires few { length devices.now ≤ 1024 }
-    ensures { result ≡ first + rule.free_after (setup_by rules.now) devices.now driver first }
+    ensures { result ≡ first + rule.free_after rules.now devices.now driver first }
 {
     let mut marks = [false; 1025];
     mark_taken(rules, devices, driver, first, &mut marks);
@@ -61,7 +60,7 @@ fn free_among(rules: &Rules, devices: &[Dev], driver: u32, first: u32) -> u32
 pub fn free_from(rules: &Rules, live: &Live, driver: u32, first: u32) -> u32
     requires first { first ≤ 65536 }
     requires few { length live.now.devices ≤ 1024 }
-    ensures { result ≡ first + rule.free_after (setup_by rules.now) live.now.devices driver first }
+    ensures { result ≡ first + rule.free_after rules.now live.now.devices driver first }
 {
     free_among(rules, live.devices(), driver, first)
 }

@@ -5,7 +5,6 @@ ghost use Rattle.run_rules.specs.declared.world.Setup.{Setup};
 ghost use Rattle.run_rules.specs.Search as rule;
 ghost use Rattle.run_rules.specs.World as world;
 ghost use Rattle.plain_world.specs.Plain.{world_of};
-ghost use Rattle.plain_world.specs.Rules.{setup_by};
 
 use crate::caller::Caller;
 use crate::live::Live;
@@ -79,7 +78,7 @@ pub fn is_pinned(plain: &Plain, serial: u64) -> bool
 
 /// The driver of the live device of a serial; none for the root.
 pub fn driver_at(rules: &Rules, live: &Live, serial: u64) -> Option<u32>
-    ensures { result ≡ rule.driver_at (setup_by rules.now) live.now.devices serial }
+    ensures { result ≡ rule.driver_at rules.now live.now.devices serial }
 {
     match device_at(live, serial) {
         Some(device) => Some(driver_of(rules, device.row)),
@@ -89,7 +88,7 @@ pub fn driver_at(rules: &Rules, live: &Live, serial: u64) -> Option<u32>
 
 /// The attachment of the live device of a serial; none for the root.
 pub fn attach_at(rules: &Rules, live: &Live, serial: u64) -> Option<u32>
-    ensures { result ≡ rule.attach_at (setup_by rules.now) live.now.devices serial }
+    ensures { result ≡ rule.attach_at rules.now live.now.devices serial }
 {
     match device_at(live, serial) {
         Some(device) => Some(attach_of(rules, device.row)),

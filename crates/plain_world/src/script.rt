@@ -3,7 +3,6 @@ ghost use Rattle.std.specs.Prelude.{◌≡◌, ◌-◌, [], option_copied, slice
 ghost use Rattle.run_rules.specs.Next as next;
 ghost use Rattle.run_rules.specs.World as world;
 ghost use Rattle.plain_world.specs.Plain.{state_at, world_of};
-ghost use Rattle.plain_world.specs.Rules.{setup_by};
 
 use crate::caller::Caller;
 use crate::rules::Rules;
@@ -12,7 +11,7 @@ use cf_types::Command;
 
 /// The command that is next for a caller with so many commands over.
 pub fn command_at<'a>(rules: &'a Rules, caller: u8, over: u32) -> Option<&'a Command>
-    ensures { slice_get (slice_index_or rules.now.scripts.now (caller - 1) []) over ≡ option_copied result }
+    ensures { slice_get (slice_index_or rules.now.scripts (caller - 1) []) over ≡ option_copied result }
 {
     match rules.scripts.get(caller.saturating_sub(1) as usize) {
         Some(script) => script.items().get(over as usize),
@@ -42,7 +41,7 @@ pub fn over_of(callers: &[Caller], caller: u8) -> u32
 
 /// The command that a caller is at, if its script has one left.
 pub fn command_of<'a>(rules: &'a Rules, plain: &Plain, caller: u8) -> Option<&'a Command>
-    ensures { next.command_of (world_of (setup_by rules.now) plain.now) caller ≡ option_copied result }
+    ensures { next.command_of (world_of rules.now plain.now) caller ≡ option_copied result }
 {
     command_at(rules, caller, over_of(&plain.callers, caller))
 }

@@ -4,7 +4,6 @@ ghost use Rattle.std.specs.List.{list_any};
 ghost use Rattle.run_rules.specs.After as after;
 ghost use Rattle.run_rules.specs.Next as next;
 ghost use Rattle.plain_world.specs.Wanted.{names_of, wants};
-ghost use Rattle.plain_world.specs.Rules.{AreFit, setup_by};
 
 use crate::rules::Rules;
 use cf_types::{Given, List, Locator, Memory, Place};
@@ -87,8 +86,7 @@ pub fn wanted_by(
     given: &[Given],
     only: Option<u32>,
 ) -> Result<List<Wanted>, Memory>
-    requires fit { AreFit rules.now }
-    ensures { IfOk result (λ list. after.wanted_by (setup_by rules.now) given.now only ≡ list) }
+    ensures { IfOk result (λ list. after.wanted_by rules.now given.now only ≡ list) }
 {
     let Some(attr) = only else {
         return Ok(List::make(alloc));

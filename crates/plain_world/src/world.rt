@@ -4,7 +4,6 @@ ghost use Rattle.std.specs.Option.{option_map_or};
 ghost use Rattle.run_rules.specs.World as world;
 ghost use Rattle.run_rules.specs.declared.world.Setup.{Setup};
 ghost use Rattle.plain_world.specs.Plain.{world_of};
-ghost use Rattle.plain_world.specs.Rules.{setup_by, AreFit};
 
 use crate::caller::Caller;
 use crate::live::Live;
@@ -42,7 +41,7 @@ pub struct Plain {
 
 /// Whether the machine marks a spot late.
 fn is_late(rules: &Rules, spot: u16) -> bool
-    ensures { result ≡ option_map_or (λ spot. spot.late) (slice_get rules.now.machine.now.spots spot) false }
+    ensures { result ≡ option_map_or (λ spot. spot.late) (slice_get rules.now.machine.spots spot) false }
 {
     match rules.machine.spots.items().get(spot as usize) {
         Some(spot) => spot.late,
@@ -52,7 +51,7 @@ fn is_late(rules: &Rules, spot: u16) -> bool
 
 /// Whether the machine marks a spot absent.
 fn is_absent(rules: &Rules, spot: u16) -> bool
-    ensures { result ≡ option_map_or (λ spot. spot.absent) (slice_get rules.now.machine.now.spots spot) false }
+    ensures { result ≡ option_map_or (λ spot. spot.absent) (slice_get rules.now.machine.spots spot) false }
 {
     match rules.machine.spots.items().get(spot as usize) {
         Some(spot) => spot.absent,
@@ -62,8 +61,7 @@ fn is_absent(rules: &Rules, spot: u16) -> bool
 
 /// The late spots.
 fn late_spots(alloc: Global, rules: &Rules) -> Result<SpotList, Memory>
-    requires { AreFit rules.now }
-    ensures { IfOk result (λ spots. spots ≡ world.late_spots (setup_by rules.now)) }
+    ensures { IfOk result (λ spots. spots ≡ world.late_spots rules.now) }
 {
     let mut spots = SpotList::make(alloc);
     for spot in 0..rules.machine.spots.len() as u16 {
@@ -76,8 +74,7 @@ fn late_spots(alloc: Global, rules: &Rules) -> Result<SpotList, Memory>
 
 /// The spots without hardware.
 fn absent_spots(alloc: Global, rules: &Rules) -> Result<SpotList, Memory>
-    requires { AreFit rules.now }
-    ensures { IfOk result (λ spots. spots ≡ world.absent_spots (setup_by rules.now)) }
+    ensures { IfOk result (λ spots. spots ≡ world.absent_spots rules.now) }
 {
     let mut spots = SpotList::make(alloc);
     for spot in 0..rules.machine.spots.len() as u16 {
@@ -91,7 +88,7 @@ fn absent_spots(alloc: Global, rules: &Rules) -> Result<SpotList, Memory>
 /// The callers before any event: the one that boots has the scan of the root as its frame.
 #[tactic(auto, unfolding(run_rules::specs::World::opening))]
 fn beginning(alloc: Global, rules: &Rules) -> Result<Vec<Caller>, Memory>
-    ensures { IfOk result (λ callers. callers.items ≡ (world.opening (setup_by rules.now)).callers) }
+    ensures { IfOk result (λ callers. callers.items ≡ (world.opening rules.now).callers) }
 {
     let mut callers = Vec::new(alloc);
     callers.push(Caller::booting(alloc)?)?;
@@ -104,8 +101,7 @@ fn beginning(alloc: Global, rules: &Rules) -> Result<Vec<Caller>, Memory>
 /// The world before any event.
 #[tactic(auto, unfolding(run_rules::specs::World::opening))]
 pub fn opening(alloc: Global, rules: &Rules) -> Result<Plain, Memory>
-    requires { AreFit rules.now }
-    ensures { IfOk result (λ plain. world_of (setup_by rules.now) plain ≡ world.opening (setup_by rules.now)) }
+    ensures { IfOk result (λ plain. world_of rules.now plain ≡ world.opening rules.now) }
 {
     let absent = absent_spots(alloc, rules)?;
     let hidden = late_spots(alloc, rules)?;

@@ -1,7 +1,6 @@
 -- The last looks at the spots of a boot, with the search of each.
 use Rattle.std.specs.Prelude.{◌≡◌, ◌<◌, ℕ, nat_le, if◌then◌else◌, length, slice_index_or, Option, Some, None, ⊤}
 use Rattle.run_rules.specs.declared.world.Setup.{Setup}
-use Rattle.plain_world.specs.Rules.{setup_by}
 use Rattle.match_reasons.specs.declared.told.Search.{Search}
 use Rattle.match_reasons.specs.Searches.{IsSearchAt}
 use Rattle.boot_looks.specs.declared.visit.Look.{Look}
@@ -20,7 +19,7 @@ IsSearchIn s x (Some look) None = ⊥
 -- of each spot the search at its look
 pub record AreSearched (seen : Searched) : Type 0 where
   pub spots : length seen.searches ≡ length seen.looks.now
-  pub searches : (x : ℕ) → x < length seen.looks.now → IsSearchIn (setup_by seen.rules.now) x (look_at seen.looks.now x) (slice_index_or seen.searches x None)
+  pub searches : (x : ℕ) → x < length seen.looks.now → IsSearchIn seen.rules.now x (look_at seen.looks.now x) (slice_index_or seen.searches x None)
 
 -- the sight of a spot at a look, or there is no look
 abbrev pub IsSightAt : Setup → ℕ → Option Look → Option Sight → Type 0

@@ -1,7 +1,6 @@
 //! The first line: where a spot was searched, and what came there.
 ghost use Rattle.std.specs.Prelude.{◌≡◌, ◌++◌, codes, option_copied, IfOk, OnOk};
 ghost use Rattle.plain_world.specs.Plain.{world_of};
-ghost use Rattle.plain_world.specs.Rules.{AreFit, setup_by};
 ghost use Rattle.why_answers.specs.Answers.{came_text, head_text, never_text, passing_text, reason_text, searched_text, unsearched_text};
 
 use crate::unsearched::{Unsearched, put_unsearched, why_never};
@@ -14,8 +13,7 @@ use why_text::spot_name;
 
 /// The device on a spot and its row, or that none is there.
 fn put_came(out: &mut Vec<u8>, rules: &Rules, live: &Live, spot: u16) -> Result<(), Memory>
-    requires { AreFit rules.now }
-    ensures { OnOk result (out.new.items ≡ out.old.items ++ came_text (setup_by rules.now) live.now.devices spot) }
+    ensures { OnOk result (out.new.items ≡ out.old.items ++ came_text rules.now live.now.devices spot) }
 {
     let Some(device) = device_on(live, spot) else {
         return put_bytes(out, b"not configured");
@@ -39,8 +37,7 @@ fn put_passing(out: &mut Vec<u8>, passed: bool) -> Result<(), Memory>
 
 /// Below which device a search came to the spot, and whether it passed row by row.
 fn put_searched(out: &mut Vec<u8>, rules: &Rules, look: &Look) -> Result<(), Memory>
-    requires { AreFit rules.now }
-    ensures { OnOk result (out.new.items ≡ out.old.items ++ searched_text (setup_by rules.now) look.now) }
+    ensures { OnOk result (out.new.items ≡ out.old.items ++ searched_text rules.now look.now) }
 {
     let name = parent_name(*out.allocator(), rules, &look.live, look.visit.parent)?;
     put_bytes(out, b" below ")?;
@@ -56,8 +53,7 @@ fn put_reason(
     why: Unsearched,
     spot: u16,
 ) -> Result<(), Memory>
-    requires { AreFit rules.now }
-    ensures { OnOk result (out.new.items ≡ out.old.items ++ (codes ": " ++ unsearched_text (setup_by rules.now) live.now.devices spot why)) }
+    ensures { OnOk result (out.new.items ≡ out.old.items ++ (codes ": " ++ unsearched_text rules.now live.now.devices spot why)) }
 {
     put_bytes(out, b": ")?;
     put_unsearched(out, rules, live, why, spot)
@@ -65,8 +61,7 @@ fn put_reason(
 
 /// The same, if there is one.
 fn put_reason_of(out: &mut Vec<u8>, rules: &Rules, end: &Plain, spot: u16) -> Result<(), Memory>
-    requires { AreFit rules.now }
-    ensures { OnOk result (out.new.items ≡ out.old.items ++ reason_text (world_of (setup_by rules.now) end.now) spot) }
+    ensures { OnOk result (out.new.items ≡ out.old.items ++ reason_text (world_of rules.now end.now) spot) }
 {
     match why_never(rules, end, spot) {
         Some(why) => put_reason(out, rules, &end.live, why, spot),
@@ -76,8 +71,7 @@ fn put_reason_of(out: &mut Vec<u8>, rules: &Rules, end: &Plain, spot: u16) -> Re
 
 /// That no search came to the spot, and why.
 fn put_never(out: &mut Vec<u8>, rules: &Rules, end: &Plain, spot: u16) -> Result<(), Memory>
-    requires { AreFit rules.now }
-    ensures { OnOk result (out.new.items ≡ out.old.items ++ never_text (world_of (setup_by rules.now) end.now) spot) }
+    ensures { OnOk result (out.new.items ≡ out.old.items ++ never_text (world_of rules.now end.now) spot) }
 {
     put_bytes(out, b": never searched")?;
     put_reason_of(out, rules, end, spot)
@@ -91,8 +85,7 @@ pub fn head_line(
     look: Option<&Look>,
     spot: u16,
 ) -> Result<Text, Memory>
-    requires { AreFit rules.now }
-    ensures { IfOk result (λ line. line ≡ head_text (setup_by rules.now) spot (world_of (setup_by rules.now) end.now) (option_copied look.entry)) }
+    ensures { IfOk result (λ line. line ≡ head_text rules.now spot (world_of rules.now end.now) (option_copied look.entry)) }
 {
     let mut line = Vec::new(alloc);
     put_bytes(&mut line, b"spot ")?;

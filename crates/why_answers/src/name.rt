@@ -4,7 +4,6 @@ ghost use Rattle.config_rules.specs.Formed.{FittingMachine, FormedTables};
 ghost use Rattle.run_rules.specs.World.{setup_of};
 ghost use Rattle.gone_rows.specs.Gone.{stated_by};
 ghost use Rattle.plain_world.specs.Plain.{world_of};
-ghost use Rattle.plain_world.specs.Rules.{AreFit, setup_by};
 ghost use Rattle.boot_looks.specs.Looks.{AreBootLooks};
 ghost use Rattle.why_answers.specs.Answers.{IsAnswer, answer_by, spot_by};
 
@@ -20,8 +19,7 @@ use std::alloc::Global;
 
 /// The spot that has a name, or the device of the name is on it when the boot has ended.
 fn spot_by(alloc: Global, rules: &Rules, end: &Plain, name: &[u8]) -> Result<Option<u16>, Memory>
-    requires { AreFit rules.now }
-    ensures { IfOk result (λ spot. spot ≡ spot_by (setup_by rules.now) (world_of (setup_by rules.now) end.now) name.now) }
+    ensures { IfOk result (λ spot. spot ≡ spot_by rules.now (world_of rules.now end.now) name.now) }
 {
     if let Some(spot) = spot_named(rules, name) {
         return Ok(Some(spot));
@@ -40,9 +38,8 @@ fn answer_by(
     stated: &Statements,
     name: &[u8],
 ) -> Result<Option<List<Text>>, Memory>
-    requires fit { AreFit rules.now }
-    requires boot { AreBootLooks (setup_by rules.now) boot.now }
-    ensures { IfOk result (λ answer. answer ≡ answer_by (setup_by rules.now) boot.now.looks (world_of (setup_by rules.now) boot.now.end) (stated_by stated.now) name.now) }
+    requires boot { AreBootLooks rules.now boot.now }
+    ensures { IfOk result (λ answer. answer ≡ answer_by rules.now boot.now.looks (world_of rules.now boot.now.end) (stated_by stated.now) name.now) }
 {
     match spot_by(alloc, rules, &boot.end, name)? {
         Some(spot) => {
@@ -60,8 +57,7 @@ fn lines_under(
     stated: &Statements,
     name: &[u8],
 ) -> Result<Option<List<Text>>, Memory>
-    requires { AreFit rules.now }
-    ensures { IfOk result (IsAnswer (setup_by rules.now) (stated_by stated.now) name.now) }
+    ensures { IfOk result (IsAnswer rules.now (stated_by stated.now) name.now) }
 {
     let boot = boot_looks(alloc, rules)?;
     let lines = answer_by(alloc, rules, &boot, stated, name)?;

@@ -1,7 +1,6 @@
 //! To which spot of a boot a row came nearest.
 ghost use Rattle.std.specs.Prelude.{◌≡◌, ◌≤◌, length, IfOk};
 ghost use Rattle.boot_looks.specs.Looks as boots;
-ghost use Rattle.plain_world.specs.Rules.{AreFit, setup_by};
 ghost use Rattle.why_answers.specs.Near as near;
 ghost use Rattle.why_answers.specs.Near.{is_near, met, nearest, rank};
 ghost use Rattle.why_answers.specs.Seen.{AreSearched, IsSearchIn, IsSightAt, nearer};
@@ -36,8 +35,7 @@ struct Near {
 
 /// The search of a spot at its last look.
 fn search_at(rules: &Rules, looks: &[Option<Look>], spot: u16) -> Option<Search>
-    requires { AreFit rules.now }
-    ensures { IsSearchIn (setup_by rules.now) spot (boots.look_at looks.now spot) result }
+    ensures { IsSearchIn rules.now spot (boots.look_at looks.now spot) result }
 {
     match look_at(looks, spot) {
         Some(look) => Some(search_of(rules, &look.live, look.visit.parent, spot)),
@@ -51,7 +49,6 @@ pub fn all_searches<'a>(
     rules: &'a Rules<'a>,
     looks: &'a [Option<Look>],
 ) -> Result<Searched<'a>, Memory>
-    requires fit { AreFit rules.now }
     requires few { length looks.now ≤ 1024 }
     ensures searched { IfOk result AreSearched }
     ensures rules { IfOk result (λ seen. seen.rules.now ≡ rules.now) }
@@ -72,7 +69,7 @@ pub fn all_searches<'a>(
 /// The last look at a spot with its search, if there is one.
 pub fn sight_at<'a>(seen: &'a Searched<'a>, spot: u16) -> Option<Sight<'a>>
     requires { AreSearched seen.now }
-    ensures { IsSightAt (setup_by seen.now.rules.now) spot (boots.look_at seen.now.looks.now spot) result }
+    ensures { IsSightAt seen.now.rules.now spot (boots.look_at seen.now.looks.now spot) result }
 {
     match (
         look_at(seen.looks, spot),
@@ -103,9 +100,8 @@ fn met(passed: bool, reason: Option<Reason>) -> u32
 
 /// How many conditions a row meets at the last look at a spot.
 fn rank(seen: &Searched, row: u32, spot: u16) -> u32
-    requires fit { AreFit seen.now.rules.now }
     requires searched { AreSearched seen.now }
-    ensures { result ≡ rank (setup_by seen.now.rules.now) seen.now.looks.now row spot }
+    ensures { result ≡ rank seen.now.rules.now seen.now.looks.now row spot }
 {
     match sight_at(seen, spot) {
         Some(sight) => {
@@ -118,7 +114,7 @@ fn rank(seen: &Searched, row: u32, spot: u16) -> u32
 
 /// The place at which a row attaches.
 pub fn place_of_row(rules: &Rules, row: u32) -> Place
-    ensures { result ≡ near.place_of (setup_by rules.now) row }
+    ensures { result ≡ near.place_of rules.now row }
 {
     match row_at(rules, row) {
         Some(row) => row.place,
@@ -128,7 +124,7 @@ pub fn place_of_row(rules: &Rules, row: u32) -> Place
 
 /// Whether a search came to a spot that has the place of a row.
 fn is_near(seen: &Searched, row: u32, spot: u16) -> bool
-    ensures { result ≡ is_near (setup_by seen.now.rules.now) seen.now.looks.now row spot }
+    ensures { result ≡ is_near seen.now.rules.now seen.now.looks.now row spot }
 {
     same_place(place_of_row(seen.rules, row), place_of(seen.rules, spot))
         && look_at(seen.looks, spot).is_some()
@@ -146,13 +142,13 @@ fn nearer(best: Option<Near>, near: Near) -> Near
 
 /// The spot at which a row meets the most conditions, of those to which a search of the boot came; of equals the first.
 pub fn nearest(seen: &Searched, row: u32) -> Option<u16>
-    requires fit { AreFit seen.now.rules.now }
     requires searched { AreSearched seen.now }
-    requires spots { length seen.now.looks.now ≡ length seen.now.rules.now.machine.now.spots }
-    ensures { nearest (setup_by seen.now.rules.now) seen.now.looks.now row ≡ result }
+    requires spots { length seen.now.looks.now ≡ length seen.now.rules.now.machine.spots }
+    ensures { nearest seen.now.rules.now seen.now.looks.now row ≡ result }
 {
+    let rules = seen.rules;
     let mut best = None;
-    for spot in 0..seen.rules.machine.spots.len() as u16 {
+    for spot in 0..rules.machine.spots.len() as u16 {
         if is_near(seen, row, spot) {
             let met = rank(seen, row, spot);
             best = Some(nearer(best, Near { spot, met }));

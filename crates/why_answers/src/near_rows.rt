@@ -1,6 +1,5 @@
 //! The rows that a word names, each at the spot of a boot to which it came nearest.
 ghost use Rattle.std.specs.Prelude.{◌≡◌, ◌++◌, ◌≤◌, ◌^◌, length, IfOk, OnOk};
-ghost use Rattle.plain_world.specs.Rules.{AreFit, setup_by};
 ghost use Rattle.match_reasons.specs.Searches.{IsSearchAt};
 ghost use Rattle.gone_rows.specs.Gone.{stated_by};
 ghost use Rattle.why_answers.specs.Near.{at_text, look_text, near_answer, near_lines, near_text, nowhere_text};
@@ -25,9 +24,8 @@ fn put_sight(
     row: u32,
     spot: u16,
 ) -> Result<(), Memory>
-    requires fit { AreFit rules.now }
-    requires search { IsSearchAt (setup_by rules.now) sight.now.look.now.live.devices sight.now.look.now.visit.parent spot sight.now.search }
-    ensures { OnOk result (out.new.items ≡ out.old.items ++ look_text (setup_by rules.now) row spot sight.now.look.now) }
+    requires search { IsSearchAt rules.now sight.now.look.now.live.devices sight.now.look.now.visit.parent spot sight.now.search }
+    ensures { OnOk result (out.new.items ≡ out.old.items ++ look_text rules.now row spot sight.now.look.now) }
 {
     let look = sight.look;
     let reason = reason_at(rules, &look.live, sight.search, row);
@@ -47,22 +45,22 @@ fn put_sight(
 
 /// The spot, and why a row does not take it.
 fn put_at(out: &mut Vec<u8>, seen: &Searched, row: u32, spot: u16) -> Result<(), Memory>
-    requires fit { AreFit seen.now.rules.now }
     requires searched { AreSearched seen.now }
-    ensures { OnOk result (out.new.items ≡ out.old.items ++ at_text (setup_by seen.now.rules.now) seen.now.looks.now row spot) }
+    ensures { OnOk result (out.new.items ≡ out.old.items ++ at_text seen.now.rules.now seen.now.looks.now row spot) }
 {
+    let rules = seen.rules;
     put_bytes(out, b"spot ")?;
-    put_bytes(out, spot_name(seen.rules.machine, spot))?;
+    put_bytes(out, spot_name(rules.machine, spot))?;
     put_bytes(out, b": ")?;
     match sight_at(seen, spot) {
-        Some(sight) => put_sight(out, seen.rules, &sight, row, spot),
+        Some(sight) => put_sight(out, rules, &sight, row, spot),
         None => Ok(()),
     }
 }
 
 /// That no search came to a spot at the place of a row.
 fn put_nowhere(out: &mut Vec<u8>, rules: &Rules, row: u32) -> Result<(), Memory>
-    ensures { OnOk result (out.new.items ≡ out.old.items ++ nowhere_text (setup_by rules.now) row) }
+    ensures { OnOk result (out.new.items ≡ out.old.items ++ nowhere_text rules.now row) }
 {
     put_bytes(out, b"no search came to a spot at ")?;
     put_bytes(out, place_name(rules.tables, place_of_row(rules, row)))
@@ -70,15 +68,15 @@ fn put_nowhere(out: &mut Vec<u8>, rules: &Rules, row: u32) -> Result<(), Memory>
 
 /// The line of a row: the spot to which it came nearest, and why it does not take that.
 fn near_line(alloc: Global, seen: &Searched, width: usize, row: u32) -> Result<Text, Memory>
-    requires fit { AreFit seen.now.rules.now }
     requires searched { AreSearched seen.now }
-    requires spots { length seen.now.looks.now ≡ length seen.now.rules.now.machine.now.spots }
-    ensures { IfOk result (λ line. line ≡ near_text width (setup_by seen.now.rules.now) seen.now.looks.now row) }
+    requires spots { length seen.now.looks.now ≡ length seen.now.rules.now.machine.spots }
+    ensures { IfOk result (λ line. line ≡ near_text width seen.now.rules.now seen.now.looks.now row) }
 {
-    let mut line = row_front(alloc, seen.rules.tables, width, row)?;
+    let rules = seen.rules;
+    let mut line = row_front(alloc, rules.tables, width, row)?;
     match nearest(seen, row) {
         Some(spot) => put_at(&mut line, seen, row, spot)?,
-        None => put_nowhere(&mut line, seen.rules, row)?,
+        None => put_nowhere(&mut line, rules, row)?,
     }
     Ok(List::from_vec(line))
 }
@@ -90,13 +88,13 @@ fn near_lines(
     word: &[u8],
     rows: &[u32],
 ) -> Result<Vec<Text>, Memory>
-    requires fit { AreFit seen.now.rules.now }
     requires searched { AreSearched seen.now }
-    requires spots { length seen.now.looks.now ≡ length seen.now.rules.now.machine.now.spots }
+    requires spots { length seen.now.looks.now ≡ length seen.now.rules.now.machine.spots }
     requires few { length rows.now ≤ 2 ^ 32 }
-    ensures { IfOk result (λ lines. lines.items ≡ near_lines (setup_by seen.now.rules.now) seen.now.looks.now word.now rows.now) }
+    ensures { IfOk result (λ lines. lines.items ≡ near_lines seen.now.rules.now seen.now.looks.now word.now rows.now) }
 {
-    let width = column(alloc, seen.rules.tables, rows)?;
+    let rules = seen.rules;
+    let width = column(alloc, rules.tables, rows)?;
     let mut lines = Vec::new(alloc);
     lines.push(count_line(alloc, word, rows.len())?)?;
     for row in rows {
@@ -115,10 +113,10 @@ pub fn near_answer(
     stated: &Statements,
     word: &[u8],
 ) -> Result<Option<List<Text>>, Memory>
-    requires fit { AreFit rules.now }
-    requires spots { length looks.now ≡ length rules.now.machine.now.spots }
-    ensures { IfOk result (λ lines. lines ≡ near_answer (setup_by rules.now) looks.now (stated_by stated.now) word.now) }
+    requires spots { length looks.now ≡ length rules.now.machine.spots }
+    ensures { IfOk result (λ lines. lines ≡ near_answer rules.now looks.now (stated_by stated.now) word.now) }
 {
+    rules.stands();
     let rows = rows_named(alloc, rules.tables, word)?;
     let seen = all_searches(alloc, rules, looks)?;
     let mut lines = near_lines(alloc, &seen, word, &rows)?;

@@ -1,7 +1,6 @@
 //! All that is said of a spot.
 ghost use Rattle.std.specs.Prelude.{◌≡◌, IfOk};
 ghost use Rattle.plain_world.specs.Plain.{world_of};
-ghost use Rattle.plain_world.specs.Rules.{AreFit, setup_by};
 ghost use Rattle.boot_looks.specs.Looks as looks;
 ghost use Rattle.why_answers.specs.Answers.{look_lines, spot_answer};
 ghost use Rattle.why_answers.specs.Takes.{takes_text};
@@ -26,8 +25,7 @@ pub fn takes(passed: bool) -> &'static [u8]
 
 /// The lines of the rows at the last search that came to a spot.
 fn look_lines(alloc: Global, rules: &Rules, look: &Look, spot: u16) -> Result<Vec<Text>, Memory>
-    requires { AreFit rules.now }
-    ensures { IfOk result (λ lines. lines.items ≡ look_lines (setup_by rules.now) spot look.now) }
+    ensures { IfOk result (λ lines. lines.items ≡ look_lines rules.now spot look.now) }
 {
     let told = why_text::Look {
         rules,
@@ -46,8 +44,7 @@ pub fn spot_lines(
     boot: &BootLooks,
     spot: u16,
 ) -> Result<Vec<Text>, Memory>
-    requires { AreFit rules.now }
-    ensures { IfOk result (λ lines. lines.items ≡ spot_answer (setup_by rules.now) spot (world_of (setup_by rules.now) boot.now.end) (looks.look_at boot.now.looks spot)) }
+    ensures { IfOk result (λ lines. lines.items ≡ spot_answer rules.now spot (world_of rules.now boot.now.end) (looks.look_at boot.now.looks spot)) }
 {
     let look = look_at(boot.looks.items(), spot);
     let head = head_line(alloc, rules, &boot.end, look, spot)?;

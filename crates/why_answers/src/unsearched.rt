@@ -1,7 +1,6 @@
 //! Why no search of a boot came to a spot.
 ghost use Rattle.std.specs.Prelude.{◌≡◌, ◌++◌, OnOk};
 ghost use Rattle.plain_world.specs.Plain.{world_of};
-ghost use Rattle.plain_world.specs.Rules.{AreFit, setup_by};
 ghost use Rattle.why_answers.specs.Answers.{below_spot, device_text, no_device_text, not_offered_text, unsearched, unsearched_text, without_bus};
 
 use cf_types::{Memory, put_bytes};
@@ -25,8 +24,7 @@ pub enum Unsearched {
 
 /// Why no device on another spot offers the attribute of a spot.
 fn below_spot(rules: &Rules, live: &Live, above: u16, spot: u16) -> Option<Unsearched>
-    requires { AreFit rules.now }
-    ensures { result ≡ below_spot (setup_by rules.now) live.now.devices spot above }
+    ensures { result ≡ below_spot rules.now live.now.devices spot above }
 {
     let Some(device) = device_on(live, above) else {
         return Some(Unsearched::NoDevice(above));
@@ -40,8 +38,7 @@ fn below_spot(rules: &Rules, live: &Live, above: u16, spot: u16) -> Option<Unsea
 
 /// The same of the spot below which it is; of a spot below the root there is no such reason.
 fn without_bus(rules: &Rules, live: &Live, spot: u16) -> Option<Unsearched>
-    requires { AreFit rules.now }
-    ensures { result ≡ without_bus (setup_by rules.now) live.now.devices spot }
+    ensures { result ≡ without_bus rules.now live.now.devices spot }
 {
     match rules.machine.spots.items().get(spot as usize) {
         Some(hardware) => match hardware.parent {
@@ -54,8 +51,7 @@ fn without_bus(rules: &Rules, live: &Live, spot: u16) -> Option<Unsearched>
 
 /// Why no search came to a spot, by the world in which the boot ends: the first reason that applies.
 pub fn why_never(rules: &Rules, end: &Plain, spot: u16) -> Option<Unsearched>
-    requires { AreFit rules.now }
-    ensures { result ≡ unsearched (world_of (setup_by rules.now) end.now) spot }
+    ensures { result ≡ unsearched (world_of rules.now end.now) spot }
 {
     if let Some(why) = without_bus(rules, &end.live, spot) {
         return Some(why);
@@ -71,8 +67,7 @@ pub fn why_never(rules: &Rules, end: &Plain, spot: u16) -> Option<Unsearched>
 
 /// The name of a live device; nothing if there is none of this serial.
 fn put_device(out: &mut Vec<u8>, rules: &Rules, live: &Live, serial: u64) -> Result<(), Memory>
-    requires { AreFit rules.now }
-    ensures { OnOk result (out.new.items ≡ out.old.items ++ device_text (setup_by rules.now) live.now.devices serial) }
+    ensures { OnOk result (out.new.items ≡ out.old.items ++ device_text rules.now live.now.devices serial) }
 {
     match device_at(live, serial) {
         Some(device) => {
@@ -91,8 +86,7 @@ fn put_not_offered(
     serial: u64,
     spot: u16,
 ) -> Result<(), Memory>
-    requires { AreFit rules.now }
-    ensures { OnOk result (out.new.items ≡ out.old.items ++ not_offered_text (setup_by rules.now) live.now.devices serial spot) }
+    ensures { OnOk result (out.new.items ≡ out.old.items ++ not_offered_text rules.now live.now.devices serial spot) }
 {
     put_device(out, rules, live, serial)?;
     put_bytes(out, b" does not offer ")?;
@@ -101,7 +95,7 @@ fn put_not_offered(
 
 /// No device is on the spot above.
 fn put_no_device(out: &mut Vec<u8>, rules: &Rules, above: u16) -> Result<(), Memory>
-    ensures { OnOk result (out.new.items ≡ out.old.items ++ no_device_text (setup_by rules.now) above) }
+    ensures { OnOk result (out.new.items ≡ out.old.items ++ no_device_text rules.now above) }
 {
     put_bytes(out, b"no device is on its parent spot ")?;
     put_bytes(out, spot_name(rules.machine, above))
@@ -115,8 +109,7 @@ pub fn put_unsearched(
     why: Unsearched,
     spot: u16,
 ) -> Result<(), Memory>
-    requires { AreFit rules.now }
-    ensures { OnOk result (out.new.items ≡ out.old.items ++ unsearched_text (setup_by rules.now) live.now.devices spot why) }
+    ensures { OnOk result (out.new.items ≡ out.old.items ++ unsearched_text rules.now live.now.devices spot why) }
 {
     match why {
         Unsearched::NoDevice(above) => put_no_device(out, rules, above),

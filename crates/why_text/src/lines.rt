@@ -2,7 +2,6 @@
 ghost use Rattle.std.specs.Prelude.{◌≡◌, IfOk, length, map, max};
 ghost use Rattle.why_text.specs.WhyText.{column, head_text, others_text, reason_lines, row_text, told_lines};
 ghost use Rattle.why_text.specs.Looks.{place_in, setup_in};
-ghost use Rattle.plain_world.specs.Rules.{AreFit};
 
 use crate::head::put_head;
 use crate::look::Look;
@@ -64,13 +63,14 @@ fn row_lines(
 
 /// The line that counts the rows that are not told.
 fn others_line(alloc: Global, look: &Look, others: u32) -> Result<Text, Memory>
-    ensures { IfOk result (λ line. line ≡ others_text look.now.rules.now.tables.now (place_in look.now) others) }
+    ensures { IfOk result (λ line. line ≡ others_text look.now.rules.now.tables (place_in look.now) others) }
 {
+    let rules = look.rules;
     let mut line = Vec::new(alloc);
     put_bytes(&mut line, b"rows of drivers that do not attach at ")?;
     put_bytes(
         &mut line,
-        place_name(look.rules.tables, place_of(look.rules, look.spot)),
+        place_name(rules.tables, place_of(rules, look.spot)),
     )?;
     put_bytes(&mut line, b": ")?;
     put_decimal(&mut line, i64::from(others))?;
@@ -81,9 +81,10 @@ fn others_line(alloc: Global, look: &Look, others: u32) -> Result<Text, Memory>
 fn told_lines(alloc: Global, look: &Look, takes: &[u8], told: &Told) -> Result<Vec<Text>, Memory>
     ensures { IfOk result (λ lines. lines.items ≡ told_lines takes.now (setup_in look.now) look.now.live.now.devices look.now.parent look.now.spot told.now) }
 {
+    let rules = look.rules;
     let rows = told.rows.items();
     let numbers = numbers_of(alloc, rows)?;
-    let width = column(alloc, look.rules.tables, &numbers)?;
+    let width = column(alloc, rules.tables, &numbers)?;
     let mut lines = row_lines(alloc, look, takes, width, rows)?;
     let last = others_line(alloc, look, told.others)?;
     lines.push(last)?;
@@ -93,7 +94,6 @@ fn told_lines(alloc: Global, look: &Look, takes: &[u8], told: &Told) -> Result<V
 /// A line for each row whose device has an attachment at the place of the spot, with the reason why the row does not take
 /// the spot, or with these words if it has none; then a line with the count of the other rows.
 pub fn reason_lines(alloc: Global, look: &Look, takes: &[u8]) -> Result<Vec<Text>, Memory>
-    requires { AreFit look.now.rules.now }
     ensures { IfOk result (λ lines. lines.items ≡ reason_lines takes.now (setup_in look.now) look.now.live.now.devices look.now.parent look.now.spot) }
 {
     let told = told_of(alloc, look.rules, look.live, look.parent, look.spot)?;

@@ -75,7 +75,8 @@ pub fn row_line(
 ) -> Result<Text, Memory>
     ensures { IfOk result (λ line. line ≡ row_text takes.now width (setup_in look.now) look.now.live.now.devices look.now.parent look.now.spot told) }
 {
-    let mut line = row_front(alloc, look.rules.tables, width, told.row)?;
+    let rules = look.rules;
+    let mut line = row_front(alloc, rules.tables, width, told.row)?;
     put_why(&mut line, look, takes, told)?;
     Ok(List::from_vec(line))
 }

@@ -1,12 +1,12 @@
 //! A reason in words.
 ghost use Rattle.std.specs.Prelude.{◌≡◌, ◌++◌, OnOk, decimal, pos};
 ghost use Rattle.std.specs.List.{slice_index_or};
+ghost use Rattle.cf_types.specs.Locators.{locators_at};
 ghost use Rattle.config_rules.specs.Listing as listing;
 ghost use Rattle.run_rules.specs.Search as rule;
 ghost use Rattle.why_text.specs.WhyText.{beaten_text, below_text, equal_text, locator_text, match_text, parent_text, reason_text, taken_text, unmatched_text};
 ghost use Rattle.run_rules.specs.World.{name_of, parent_name};
 ghost use Rattle.why_text.specs.Looks.{place_in, setup_in};
-ghost use Rattle.plain_world.specs.Rules.{AreFit, setup_by};
 
 use crate::head::put_at;
 use crate::look::Look;
@@ -22,10 +22,8 @@ use run_rules::Dev;
 fn put_device(out: &mut Vec<u8>, look: &Look, device: Dev) -> Result<(), Memory>
     ensures { OnOk result (out.new.items ≡ out.old.items ++ name_of (setup_in look.now) device) }
 {
-    put_bytes(
-        out,
-        device_name(look.rules.tables, driver_of(look.rules, device.row)),
-    )?;
+    let rules = look.rules;
+    put_bytes(out, device_name(rules.tables, driver_of(rules, device.row)))?;
     put_decimal(out, i64::from(device.unit))
 }
 
@@ -44,8 +42,9 @@ pub fn put_parent(out: &mut Vec<u8>, look: &Look) -> Result<(), Memory>
 fn put_other_parent(out: &mut Vec<u8>, look: &Look, row: &Row) -> Result<(), Memory>
     ensures { OnOk result (out.new.items ≡ out.old.items ++ parent_text (setup_in look.now) look.now.live.now.devices look.now.parent row.now) }
 {
+    let rules = look.rules;
     put_bytes(out, b"wants ")?;
-    put_at(out, look.rules.tables, row)?;
+    put_at(out, rules.tables, row)?;
     put_bytes(out, b", found ")?;
     put_parent(out, look)
 }
@@ -69,11 +68,19 @@ fn put_value(out: &mut Vec<u8>, locators: &[Locator], place: u32, value: i64) ->
     put_decimal(out, value)
 }
 
+/// The locators of the place of the spot.
+fn locators_of<'a>(look: &'a Look) -> &'a [Locator]
+    ensures { result.now ≡ locators_at (setup_in look.now).tables.attrs (place_in look.now) }
+{
+    let rules = look.rules;
+    locators_at(rules.tables, place_of(rules, look.spot))
+}
+
 /// The row wants another value of a locator.
 fn put_locator(out: &mut Vec<u8>, look: &Look, row: &Row, place: u32) -> Result<(), Memory>
     ensures { OnOk result (out.new.items ≡ out.old.items ++ locator_text (setup_in look.now) (place_in look.now) look.now.spot row.now place) }
 {
-    let locators = locators_at(look.rules.tables, place_of(look.rules, look.spot));
+    let locators = locators_of(look);
     put_bytes(out, b"wants ")?;
     put_value(out, locators, place, value_at(row.locs.items(), place))?;
     put_bytes(out, b", found ")?;
@@ -107,7 +114,8 @@ fn put_match(
 fn put_unmatched(out: &mut Vec<u8>, look: &Look, row: &Row) -> Result<(), Memory>
     ensures { OnOk result (out.new.items ≡ out.old.items ++ unmatched_text (setup_in look.now) look.now.spot row.now) }
 {
-    let (tables, machine) = (look.rules.tables, look.rules.machine);
+    let rules = look.rules;
+    let (tables, machine) = (rules.tables, rules.machine);
     put_bytes(out, attach_name(tables, row.attach))?;
     put_bytes(out, b" does not match: ")?;
     put_match(
@@ -127,18 +135,20 @@ fn put_taken(out: &mut Vec<u8>, look: &Look, serial: u64) -> Result<(), Memory>
     };
     put_device(out, look, device)?;
     put_bytes(out, b" lives on ")?;
-    put_bytes(out, spot_name(look.rules.machine, device.spot))
+    let rules = look.rules;
+    put_bytes(out, spot_name(rules.machine, device.spot))
 }
 
 /// The match value of the row of a number at the spot.
 fn value_of(look: &Look, number: u32) -> u32
     ensures { result ≡ rule.value_of (setup_in look.now) number look.now.spot }
 {
-    let attach = match look.rules.tables.rows.items().get(number as usize) {
+    let rules = look.rules;
+    let attach = match rules.tables.rows.items().get(number as usize) {
         Some(row) => row.attach,
         None => 0,
     };
-    match_value(look.rules.machine, attach, look.spot)
+    match_value(rules.machine, attach, look.spot)
 }
 
 /// Another row has a greater match value.

@@ -1,6 +1,5 @@
 use Rattle.std.proofs.Common.{◌≡◌}
 use Rattle.plain_search.specs.Open.{Follows}
-use Rattle.plain_world.specs.Rules.{setup_by}
 use Rattle.boot_looks.proofs.Looking.{AreLooking}
 use Rattle.boot_looks.proofs.boot.looks_from.Given as goal
 
@@ -8,5 +7,5 @@ abbrev pub invariant-loop-turn : goal.invariant-loop-turn
 invariant-loop-turn l = record {
   rules : l.seeker.rules.now ≡ l.fn.seeker.rules.now;
   follows : Follows l.seeker l.plain.live.devices;
-  looking : AreLooking (setup_by l.fn.seeker.rules.now) l.plain l.looks.items l._turn;
+  looking : AreLooking l.fn.seeker.rules.now l.plain l.looks.items l._turn;
 }

@@ -1,6 +1,5 @@
 use Rattle.std.proofs.Common.{◌≡◌, ◌<◌, ◌+◌, ◌∙◌, List, Option, length, sym, ap, subst, arith}
 use Rattle.plain_world.specs.Plain.{world_of}
-use Rattle.plain_world.specs.Rules.{setup_by}
 use Rattle.plain_world.specs.Standing.{Standing}
 use Rattle.boot_looks.specs.declared.see.Span.{Span}
 use Rattle.boot_looks.specs.declared.visit.Look.{Look}
@@ -11,7 +10,7 @@ use Rattle.boot_looks.proofs.see.see.Goals.{in-Some+in_ok-live, in_default}
 
 pub loop-spot-preserved : goal.loop-spot-preserved
 loop-spot-preserved c =
-    let world = world_of (setup_by c.args.seeker.now.rules.now) c.args.plain.now in
+    let world = world_of c.args.seeker.now.rules.now c.args.plain.now in
     let live = c.args.plain.now.live in
     let d = c.args.deed.now in
     let old = c.args.looks.now.items in

@@ -1,6 +1,5 @@
 use Rattle.std.proofs.Common.{◌≡◌}
 use Rattle.plain_search.specs.Open.{Follows}
-use Rattle.plain_world.specs.Rules.{setup_by}
 use Rattle.every_order.proofs.Booting.{IsBooting}
 use Rattle.every_order.proofs.boot.booted.Given as goal
 
@@ -8,5 +7,5 @@ abbrev pub invariant-loop-event : goal.invariant-loop-event
 invariant-loop-event l = record {
   rules : l.seeker.rules.now ≡ l.fn.seeker.rules.now;
   follows : Follows l.seeker l.plain.live.devices;
-  booting : IsBooting (setup_by l.fn.seeker.rules.now) l.plain l._event;
+  booting : IsBooting l.fn.seeker.rules.now l.plain l._event;
 }

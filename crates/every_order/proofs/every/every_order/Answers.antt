@@ -3,8 +3,8 @@ use Rattle.plain_world.specs.Stretches.{AreStretchesOf}
 use Rattle.every_order.proofs.May.{may_run}
 use Rattle.every_order.proofs.every.every_order.Goals as goal
 
-pub every_under-requires : goal.every_under-requires
-every_under-requires c = rw c.tables.ensures (record {
+pub invariant_of-rules : goal.invariant_of-rules
+invariant_of-rules c = rw c.tables.ensures (record {
   graph = c.graph.ensures;
   stretches = subst (AreStretchesOf c.args.machine.now) (sym c.deref.ensures.value) c.in_ok-stretches.ensures;
   may = may_run c.args.tables.now c.args.machine.now c.args.scripts.now c.requires.tables c.requires.machine c.requires.few_scripts c.requires.scripts;

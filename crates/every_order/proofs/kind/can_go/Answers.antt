@@ -1,6 +1,5 @@
-use Rattle.plain_world.specs.Rules.{setup_by}
 use Rattle.plain_world.proofs.Ready.{ready}
 use Rattle.every_order.proofs.kind.can_go.Goals as goal
 
 pub next-requires : goal.next-requires
-next-requires c = record { fit = c.requires.fit; ready = ready (setup_by c.args.seeker.now.rules.now) c.args.plain.now c.requires.fit.may c.requires.kept; follows = c.requires.follows }
+next-requires c = record { ready = ready c.args.seeker.now.rules.now c.args.plain.now c.stands.ensures c.requires.kept; follows = c.requires.follows }

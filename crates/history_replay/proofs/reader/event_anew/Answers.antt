@@ -8,9 +8,8 @@ pub event_of-requires : goal.event_of-requires
 event_of-requires c =
     let s = setup_in c.args.reader.now in
     record {
-      fit = c.requires.fit;
-      few = few_devices s c.args.plain.now c.requires.fit.may c.requires.going.kept;
-      caller = has_caller s c.args.plain.now c.args.caller c.args.deed.now c.requires.fit.may c.requires.going.kept c.requires.due.chosen;
+      few = few_devices s c.args.plain.now c.stands.ensures c.requires.going.kept;
+      caller = has_caller s c.args.plain.now c.args.caller c.args.deed.now c.stands.ensures c.requires.going.kept c.requires.due.chosen;
       may = may_be_told (world_in c.args.reader.now c.args.plain.now) c.args.caller c.args.deed.now c.requires.going.kept c.requires.going.calls c.requires.due.chosen;
     }
 

@@ -5,7 +5,7 @@ use Rattle.history_replay.proofs.reader.event_by_text.Goals as goal
 
 pub event_again-requires : goal.event_again-requires
 event_again-requires c =
-    has_caller (setup_in c.args.reader.now) c.args.plain.now c.args.caller c.args.deed.now c.requires.fit.may c.requires.going.kept c.requires.due.chosen
+    has_caller (setup_in c.args.reader.now) c.args.plain.now c.args.caller c.args.deed.now c.stands.ensures c.requires.going.kept c.requires.due.chosen
 
 pub returns-in-Some-clause-told : goal.returns-in-Some-clause-told
 returns-in-Some-clause-told c =

@@ -12,14 +12,13 @@ use Rattle.history_replay.proofs.Goes.{few_called, goes_on}
 use Rattle.history_replay.proofs.reader.perform.Goals as goal
 
 pub heed-requires-clause-few : goal.heed-requires-clause-few
-heed-requires-clause-few c = few_devices (setup_in c.args.reader.now) c.args.plain.now c.requires.fit.may c.requires.going.kept
+heed-requires-clause-few c = few_devices (setup_in c.args.reader.now) c.args.plain.now c.stands.ensures c.requires.going.kept
 
 pub apply-requires : goal.apply-requires
 apply-requires c =
     let s = setup_in c.args.reader.now in
     record {
-      fit = c.requires.fit;
-      caller = has_caller s c.args.plain.now c.args.caller c.args.deed.now c.requires.fit.may c.requires.going.kept c.requires.due.chosen;
+      caller = has_caller s c.args.plain.now c.args.caller c.args.deed.now c.stands.ensures c.requires.going.kept c.requires.due.chosen;
       next = c.requires.next;
       place = has_place (world_of s c.args.plain.now) c.args.caller c.args.deed.now (few_called c.args.plain.now) c.requires.due.chosen;
     }
@@ -27,7 +26,7 @@ apply-requires c =
 pub returns-clause-goes : goal.returns-clause-goes
 returns-clause-goes c =
     ok_more c.apply.result c.apply.ensures
-    (goes_on (setup_in c.args.reader.now) c.args.plain.now c.args.caller c.args.deed.now c.apply.new.plain c.requires.fit.may c.requires.going c.requires.due)
+    (goes_on (setup_in c.args.reader.now) c.args.plain.now c.args.caller c.args.deed.now c.apply.new.plain c.stands.ensures c.requires.going c.requires.due)
 
 pub returns-clause-follows : goal.returns-clause-follows
 returns-clause-follows c =

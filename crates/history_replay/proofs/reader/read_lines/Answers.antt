@@ -1,7 +1,7 @@
 use Rattle.std.proofs.Common.{rules, ◌≡◌, ◌∙◌, List, ◌∷◌, ◌++◌, [], subst, sym}
 use Rattle.run_rules.specs.declared.event.Event.{Event}
 use Rattle.history_replay.specs.Readers.{setup_in, world_in}
-use Rattle.history_replay.proofs.Readers.{fit_still, going_still, same_first, same_later, step_still}
+use Rattle.history_replay.proofs.Readers.{going_still, same_first, same_later, step_still}
 use Rattle.history_replay.proofs.Readings.{HasRead, line_bad, lines_gone, none_read, none_taken, one_more, some_taken, tree_met}
 use Rattle.history_replay.proofs.reader.read_lines.Goals as goal
 
@@ -17,9 +17,6 @@ loop-line-init c =
       same = same_first c.args.reader.now;
       follows = c.requires.follows;
     }
-
-pub step-requires-clause-fit : goal.step-requires-clause-fit
-step-requires-clause-fit c = fit_still c.args.reader.now c.loop-line.reader c.loop-line.invariant.same c.requires.fit
 
 pub step-requires-clause-going : goal.step-requires-clause-going
 step-requires-clause-going c = going_still c.args.reader.now c.loop-line.reader c.loop-line.plain c.loop-line.invariant.same c.loop-line.invariant.read.going

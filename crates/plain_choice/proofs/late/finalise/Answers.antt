@@ -10,7 +10,6 @@ use Rattle.run_rules.specs.World.{World, device_at, same_place}
 use Rattle.run_rules.proofs.Below.{find_below}
 use Rattle.plain_search.specs.Open.{hangs_at}
 use Rattle.plain_world.specs.Plain.{world_of}
-use Rattle.plain_world.specs.Rules.{setup_by}
 use Rattle.plain_choice.proofs.late.finalise.Goals as goal
 
 same_itself : (p : Place) → same_place p p ≡ true
@@ -31,6 +30,6 @@ shown_there w (Some d) x e = find_below _ (length w.setup.machine.spots) x e
 
 pub arrival-requires-clause-at : goal.arrival-requires-clause-at
 arrival-requires-clause-at c =
-    let w = world_of (setup_by c.args.seeker.now.rules.now) c.args.plain.now in
+    let w = world_of c.args.seeker.now.rules.now c.args.plain.now in
     ap (hangs_at w.setup.machine c.in-Some.spot) c.place_of.ensures
     ∙ own_place w.setup.machine.spots c.in-Some.spot (shown_there w (device_at w.live c.args.serial) c.in-Some.spot c.in-Some.ensures)

@@ -11,11 +11,11 @@ use Rattle.cf_types.specs.Lookups.{attr_number}
 use Rattle.run_rules.specs.declared.deed.Deed.TheVariants.{Refuse, Rescan}
 use Rattle.run_rules.specs.declared.deed.Refusal.TheVariants as refusal
 use Rattle.run_rules.specs.declared.world.Dev.{Dev}
+use Rattle.run_rules.specs.declared.world.Setup.{Setup}
 use Rattle.run_rules.specs.declared.world.Wanted.{Wanted}
 use Rattle.run_rules.specs.Next.{rescan_of, wanted_of}
 use Rattle.run_rules.specs.World.{World, has, offered_by}
 use Rattle.plain_world.specs.Plain.{world_of}
-use Rattle.plain_world.specs.Rules.{setup_by}
 use Rattle.plain_world.proofs.WantedLaws.{few_at}
 use Rattle.plain_choice.proofs.rescan.rescan_of.Goals as goal
 use Rattle.plain_choice.proofs.rescan.rescan_of.Goals.{in-Some-2, in-None}
@@ -40,32 +40,33 @@ on_attr w d attr given name a o is at on wanted = rw (is, at, on, wanted) refl
 
 pub returns-in_default-attr_named : goal.returns-in_default-attr_named
 returns-in_default-attr_named c =
-    no_attr (world_of (setup_by c.args.rules.now) c.args.plain.now) c.args.device c.args.limits.now.attr.now c.args.limits.now.given.now c.in-Some.name c.in-Some.is
-    (ap (λ (x : List ℕ). position (λ a. bytes_eq a.name x) c.args.rules.now.tables.now.attrs) (sym c.bytes.ensures.bytes) ∙ c.attr_named.ensures ∙ c.in_default-attr_named.is)
+    no_attr (world_of c.args.rules.now c.args.plain.now) c.args.device c.args.limits.now.attr.now c.args.limits.now.given.now c.in-Some.name c.in-Some.is
+    (ap (λ (x : List ℕ). position (λ a. bytes_eq a.name x) c.args.rules.now.tables.attrs) (sym c.bytes.ensures.bytes) ∙ c.attr_named.ensures ∙ c.in_default-attr_named.is)
 
 pub returns-then-not-has : goal.returns-then-not-has
 returns-then-not-has c =
-    not_offered (world_of (setup_by c.args.rules.now) c.args.plain.now) c.args.device c.args.limits.now.attr.now c.args.limits.now.given.now c.in-Some.name c.in-Some-attr_named.attr c.in-Some.is
-    (ap (λ (x : List ℕ). position (λ a. bytes_eq a.name x) c.args.rules.now.tables.now.attrs) (sym c.bytes.ensures.bytes) ∙ c.attr_named.ensures ∙ c.in-Some-attr_named.is)
-    (ap (λ (driver : ℕ). has (interfaces c.args.rules.now.tables.now.attrs c.args.rules.now.tables.now.devices driver) c.in-Some-attr_named.attr) (sym c.driver_of.ensures)
+    not_offered (world_of c.args.rules.now c.args.plain.now) c.args.device c.args.limits.now.attr.now c.args.limits.now.given.now c.in-Some.name c.in-Some-attr_named.attr c.in-Some.is
+    (ap (λ (x : List ℕ). position (λ a. bytes_eq a.name x) c.args.rules.now.tables.attrs) (sym c.bytes.ensures.bytes) ∙ c.attr_named.ensures ∙ c.in-Some-attr_named.is)
+    (ap (λ (driver : ℕ). has (interfaces c.args.rules.now.tables.attrs c.args.rules.now.tables.devices driver) c.in-Some-attr_named.attr) (sym c.driver_of.ensures)
     ∙ ap (λ (xs : List ℕ). has xs c.in-Some-attr_named.attr) (sym c.offered.ensures) ∙ sym c.has.ensures ∙ c.if-not-has.true)
 
 pub wanted_of-requires : goal.wanted_of-requires
 wanted_of-requires c = record {
-  few = omega (arith, ap length c.locators_at.ensures, few_at c.args.rules.now.tables.now.attrs (At c.in-Some-attr_named.attr) c.requires.fit.may.tables.counted.locators);
+  few = omega (arith, ap length c.locators_at.ensures, few_at c.rules.inside.tables.now.attrs (At c.in-Some-attr_named.attr) c.rules.invariant.may.tables.counted.locators);
 }
 
 pub returns : goal.returns
 returns c =
     let all =
-    λ (o : Option (List Wanted)) (wanted : wanted_of (map (λ l. l.name) (locators_at c.args.rules.now.tables.now.attrs (At c.in-Some-attr_named.attr))) c.args.limits.now.given.now ≡ o).
-    on_attr (world_of (setup_by c.args.rules.now) c.args.plain.now) c.args.device c.args.limits.now.attr.now c.args.limits.now.given.now c.in-Some.name c.in-Some-attr_named.attr o c.in-Some.is
-    (ap (λ (x : List ℕ). position (λ a. bytes_eq a.name x) c.args.rules.now.tables.now.attrs) (sym c.bytes.ensures.bytes) ∙ c.attr_named.ensures ∙ c.in-Some-attr_named.is)
-    (ap (λ (driver : ℕ). has (interfaces c.args.rules.now.tables.now.attrs c.args.rules.now.tables.now.devices driver) c.in-Some-attr_named.attr) (sym c.driver_of.ensures)
+    λ (o : Option (List Wanted)) (wanted : wanted_of (map (λ l. l.name) (locators_at c.args.rules.now.tables.attrs (At c.in-Some-attr_named.attr))) c.args.limits.now.given.now ≡ o).
+    on_attr (world_of c.args.rules.now c.args.plain.now) c.args.device c.args.limits.now.attr.now c.args.limits.now.given.now c.in-Some.name c.in-Some-attr_named.attr o c.in-Some.is
+    (ap (λ (x : List ℕ). position (λ a. bytes_eq a.name x) c.args.rules.now.tables.attrs) (sym c.bytes.ensures.bytes) ∙ c.attr_named.ensures ∙ c.in-Some-attr_named.is)
+    (ap (λ (driver : ℕ). has (interfaces c.args.rules.now.tables.attrs c.args.rules.now.tables.devices driver) c.in-Some-attr_named.attr) (sym c.driver_of.ensures)
     ∙ ap (λ (xs : List ℕ). has xs c.in-Some-attr_named.attr) (sym c.offered.ensures) ∙ sym c.has.ensures ∙ c.if-not-has.false)
     wanted in
+    let listed = c.locators_at.ensures ∙ ap (λ (s : Setup). locators_at s.tables.attrs (At c.in-Some-attr_named.attr)) c.rules.view_is in
     let named =
-    ap (λ (ls : List Locator). wanted_of (map (λ l. l.name) ls) c.args.limits.now.given.now) (sym c.locators_at.ensures) ∙ c.in_ok-wanted_of.ensures in
+    ap (λ (ls : List Locator). wanted_of (map (λ l. l.name) ls) c.args.limits.now.given.now) (sym listed) ∙ c.in_ok-wanted_of.ensures in
     elim c.match-branch-2.branch [
       | in-Some-2 w ↦ rw w.result-is (all (Some w.in-Some-2.field-0.items) (named ∙ ap items_of w.in-Some-2.is))
       | in-None w ↦ rw w.result-is (all None (named ∙ ap items_of w.in-None.is))

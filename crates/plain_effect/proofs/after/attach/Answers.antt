@@ -3,7 +3,6 @@ use Rattle.cf_types.specs.declared.machine.Policy.{Policy}
 use Rattle.run_rules.specs.World.{World, offered_by, policy_of}
 use Rattle.run_rules.specs.After.{attached, finaliser_placed, listed, scan_placed}
 use Rattle.plain_world.specs.Plain.{world_of}
-use Rattle.plain_world.specs.Rules.{setup_by}
 use Rattle.plain_effect.proofs.CallerLaws.{has_too, ok_more}
 use Rattle.plain_effect.proofs.after.attach.Goals as goal
 
@@ -13,7 +12,7 @@ place_finaliser-requires c = has_too _ _ _ 501 _ c.in_ok-list.ensures.callers (o
 pub returns-clause-world : goal.returns-clause-world
 unfolding attached
 returns-clause-world c =
-    let s = setup_by c.args.rules.now in
+    let s = c.args.rules.now in
     let k = c.args.by.caller in
     let a = c.args.arrival in
     let w : World = world_of s c.args.plain.now in

@@ -2,7 +2,6 @@ use Rattle.std.proofs.Common.{◌∙◌, ap, arith, Bool, false}
 use Rattle.run_rules.specs.World.{World}
 use Rattle.run_rules.specs.After.{after, arrived, finaliser_done, list_moved, show_spot}
 use Rattle.plain_world.specs.Plain.{world_of}
-use Rattle.plain_world.specs.Rules.{setup_by}
 use Rattle.plain_effect.proofs.CallerLaws.{has_too}
 use Rattle.plain_effect.proofs.after.finalise.Goals as goal
 
@@ -15,7 +14,7 @@ end_call-requires c = has_too _ _ _ 503 _ c.move_list.ensures.callers (omega ari
 pub returns : goal.returns
 unfolding after
 returns c = λ of.
-    let s = setup_by c.args.rules.now in
+    let s = c.args.rules.now in
     let k = c.args.caller in
     let shown = c.args.call.shown in
     let listed = c.args.call.listed in

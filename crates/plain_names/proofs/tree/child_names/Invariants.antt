@@ -1,7 +1,6 @@
 use Rattle.std.proofs.Common.{◌≡◌, map, take}
 use Rattle.run_rules.specs.World.{children, name_of}
-use Rattle.plain_world.specs.Rules.{setup_by}
 use Rattle.plain_names.proofs.tree.child_names.Given as goal
 
 abbrev pub invariant-loop-device : goal.invariant-loop-device
-invariant-loop-device l = l.names ≡ map (name_of (setup_by l.rules)) (children (take l.device-index l.live) l.serial)
+invariant-loop-device l = l.names ≡ map (name_of l.rules) (children (take l.device-index l.live) l.serial)

@@ -1,8 +1,7 @@
 use Rattle.std.proofs.Common.{◌≡◌, map, take}
 use Rattle.run_rules.specs.Tree.{dev_line}
 use Rattle.plain_world.specs.Plain.{world_of}
-use Rattle.plain_world.specs.Rules.{setup_by}
 use Rattle.plain_names.proofs.tree.tree_lines.Given as goal
 
 abbrev pub invariant-loop-depth : goal.invariant-loop-depth
-invariant-loop-depth l = l.lines ≡ map (dev_line (world_of (setup_by l.rules) l.plain)) (take l.depth-index l.depth-items)
+invariant-loop-depth l = l.lines ≡ map (dev_line (world_of l.rules l.plain)) (take l.depth-index l.depth-items)

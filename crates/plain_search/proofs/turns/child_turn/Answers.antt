@@ -8,7 +8,7 @@ returns-then-not-is_child c = λ r.
     ap (λ (b : Bool). b && takes c.args.seeker.now.rules.now c.args.plain.now c.args.scan.now (turn_on c.args.bus r c.args.spot)) (sym c.is_child.ensures ∙ c.if-not-is_child.true)
 
 pub spot_turn-requires-clause-at : goal.spot_turn-requires-clause-at
-spot_turn-requires-clause-at c = child_hangs c.args.seeker.now.rules.now.machine.now c.args.parent c.args.bus.place c.args.spot (sym c.is_child.ensures ∙ c.if-not-is_child.false)
+spot_turn-requires-clause-at c = child_hangs c.args.seeker.now.rules.now.machine c.args.parent c.args.bus.place c.args.spot (sym c.is_child.ensures ∙ c.if-not-is_child.false)
 
 pub returns : goal.returns
 returns c =

@@ -5,4 +5,4 @@ use Rattle.plain_search.proofs.turns.direct_turn.Given as goal
 
 -- no earlier spot has the turn
 abbrev pub invariant-loop-spot : goal.invariant-loop-spot
-invariant-loop-spot l = (x : ℕ) → x < l.spot → (is_child l.rules.machine.now l.parent l.bus.place x && takes l.rules l.plain l.scan (turn_on l.bus 0 x)) ≡ false
+invariant-loop-spot l = (x : ℕ) → x < l.spot → (is_child l.rules.machine l.parent l.bus.place x && takes l.rules l.plain l.scan (turn_on l.bus 0 x)) ≡ false

@@ -10,4 +10,4 @@ said (Some l) = refl
 pub returns : goal.returns
 returns c =
     c.is_indirect.ensures ∙ ap (λ (o : Option Bool). option_map_or (λ (b : Bool). b) o false) (c.args.seeker.now.styled c.args.attach c.args.attr)
-    ∙ said (find (λ line. line.attach == c.args.attach && line.attr == c.args.attr) (reverse c.args.seeker.now.rules.now.machine.now.styles))
+    ∙ said (find (λ line. line.attach == c.args.attach && line.attr == c.args.attr) (reverse c.args.seeker.now.rules.now.machine.styles))

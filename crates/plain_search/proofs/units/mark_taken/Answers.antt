@@ -2,7 +2,6 @@ use Rattle.std.proofs.Common.{◌∙◌, ◌+◌, ◌&&◌, ◌||◌, ◌==◌, 
 use Rattle.std.proofs.lemmas.List.Folds.{list_any_more}
 use Rattle.run_rules.specs.declared.world.Dev.{Dev}
 use Rattle.run_rules.specs.World.{driver_of}
-use Rattle.plain_world.specs.Rules.{setup_by}
 use Rattle.plain_search.proofs.units.mark_taken.Goals as goal
 
 -- what stands past the end
@@ -14,7 +13,7 @@ loop-device-preserved c = λ k lt.
     let devices = c.args.devices.now in
     let i = c.loop-device.device-index in
     let d : Dev = get_or devices i blank in
-    let p : Dev → Bool = λ e. driver_of (setup_by c.args.rules.now) e.row == c.args.driver && e.unit == c.args.first + k in
+    let p : Dev → Bool = λ e. driver_of c.args.rules.now e.row == c.args.driver && e.unit == c.args.first + k in
     c.mark.ensures k lt
     ∙ ap (λ (n : ℕ). get_or c.loop-device.marks k false || (n == c.args.driver && d.unit == c.args.first + k)) c.driver_of.ensures
     ∙ ap (λ (b : Bool). b || p d) (c.loop-device.invariant k (omega (arith, lt, c.mark.auto.marks)))

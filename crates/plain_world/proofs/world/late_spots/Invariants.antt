@@ -5,4 +5,4 @@ use Rattle.cf_types.specs.Numbers.{below}
 use Rattle.plain_world.proofs.world.late_spots.Given as goal
 
 abbrev pub invariant-loop-spot : goal.invariant-loop-spot
-invariant-loop-spot l = l.spots ≡ filter (λ x. option_map_or (λ spot. spot.late) (slice_get l.rules.machine.now.spots x) false) (below l.spot)
+invariant-loop-spot l = l.spots ≡ filter (λ x. option_map_or (λ spot. spot.late) (slice_get l.rules.machine.spots x) false) (below l.spot)
