@@ -1,5 +1,6 @@
 ghost use Rattle.std.specs.Prelude.{◌≡◌, ◌||◌, ◌&&◌, ◌==◌, IfOk, codes, is_some, length, map, true};
-ghost use Rattle.config_rules.specs.Form.{alone, are_chunks, are_values, checked, each, form_by, free_form, is_config, is_word, name_of, name_row, path_of, pseudo_stmt, spelling_of, value_of};
+ghost use Rattle.config_rules.specs.Form.{alone, are_chunks, are_values, checked, each, form_by, free_form, is_config};
+ghost use Rattle.config_rules.specs.Form.{is_word, name_of, name_row, path_of, pseudo_stmt, spelling_of, value_of};
 ghost use Rattle.cf_words.specs.Words.{piece_of};
 
 use crate::keyword::spelling;

@@ -2,7 +2,8 @@ ghost use Rattle.std.specs.Prelude.{◌≡◌, ◌||◌, ◌&&◌, drop, map};
 ghost use Rattle.config_rules.specs.Form.{braced, has_named_text, has_text_or_size, is_left_out, is_word, may_name_locator};
 ghost use Rattle.cf_words.specs.Words.{piece_of};
 ghost use Rattle.cf_grammar.specs.Keywords.{defines, first_keyword, keyword_in};
-ghost use Rattle.cf_grammar.specs.LeftOut.{begins_named_text, begins_size_or_text, begins_text, begins_text_or_size, gives_text, is_left_out_statement, is_left_out_word, left_out_spelling};
+ghost use Rattle.cf_grammar.specs.LeftOut.{begins_named_text, begins_size_or_text, begins_text, begins_text_or_size};
+ghost use Rattle.cf_grammar.specs.LeftOut.{gives_text, is_left_out_statement, is_left_out_word, left_out_spelling};
 
 use cf_text::is_name;
 use cf_types::Keyword;

@@ -3,7 +3,7 @@ ghost use Rattle.config_rules.specs.Form.{given, given_value, inst_stmt, pair_of
 ghost use Rattle.cf_words.specs.Words.{piece_of};
 ghost use Rattle.cf_grammar.specs.Pairs.{parts_of};
 
-use cf_types::{AtSpec, GivenLoc, List, Memory, Name, Stmt, UnitMark};
+use cf_types::{AtSpec, GivenLoc, List, Memory, Stmt};
 use cf_words::{Known, MarkedUnit, Word, known_name, place_of, unit_chunk, value_of};
 
 /// What an instance gives after its place: the locators in written order, and the flags.
@@ -88,13 +88,13 @@ fn pairs_of(known: &mut Known, sized: bool, words: &[Word]) -> Result<Option<Pai
 fn with_pairs(
     known: &mut Known,
     sized: bool,
-    base: Name,
-    mark: UnitMark,
+    unit: MarkedUnit,
     at: AtSpec,
     words: &[Word],
 ) -> Result<Option<Stmt>, Memory>
-    ensures { IfOk result (λ s. s ≡ option_map (λ rest. Stmt.Inst base mark at rest.0 rest.1) (pairs_of sized (map piece_of words.now))) }
+    ensures { IfOk result (λ s. s ≡ option_map (λ rest. Stmt.Inst unit.base unit.mark at rest.0 rest.1) (pairs_of sized (map piece_of words.now))) }
 {
+    let MarkedUnit { base, mark } = unit;
     match pairs_of(known, sized, words)? {
         Some(Pairs { pairs, flags }) => Ok(Some(Stmt::Inst {
             base,
@@ -107,28 +107,35 @@ fn with_pairs(
     }
 }
 
+/// The words with which an instance begins: its unit, `at`, and what it attaches to.
+#[derive(Clone, Copy)]
+struct Opening<'a> {
+    unit: Word<'a>,
+    at: Word<'a>,
+    place: Word<'a>,
+}
+
 /// The instance of three words and its pairs.
 #[inline(always)]
 fn instance_of(
     known: &mut Known,
     sized: bool,
-    unit: Word,
-    at: Word,
-    place: Word,
+    opening: Opening<'_>,
     words: &[Word],
 ) -> Result<Option<Stmt>, Memory>
-    ensures { IfOk result (λ s. s ≡ inst_stmt sized (piece_of unit.entry ∷ piece_of at.entry ∷ piece_of place.entry ∷ map piece_of words.now)) }
+    ensures { IfOk result (λ s. s ≡ inst_stmt sized (piece_of opening.entry.unit ∷ piece_of opening.entry.at ∷ piece_of opening.entry.place ∷ map piece_of words.now)) }
 {
+    let Opening { unit, at, place } = opening;
     if !at.is_word(b"at") {
         return Ok(None);
     }
-    let Some(MarkedUnit { base, mark }) = unit_chunk(known, sized, unit)? else {
+    let Some(unit) = unit_chunk(known, sized, unit)? else {
         return Ok(None);
     };
     let Some(at) = place_of(known, sized, place)? else {
         return Ok(None);
     };
-    with_pairs(known, sized, base, mark, at, words)
+    with_pairs(known, sized, unit, at, words)
 }
 
 /// A device instance: a unit, `at`, what it attaches to, and values of locators.
@@ -137,7 +144,14 @@ pub fn instance(known: &mut Known, sized: bool, words: &[Word]) -> Result<Option
     ensures { IfOk result (λ s. s ≡ inst_stmt sized (map piece_of words.now)) }
 {
     match words {
-        [unit, at, place, rest @ ..] => instance_of(known, sized, *unit, *at, *place, rest),
+        [unit, at, place, rest @ ..] => {
+            let opening = Opening {
+                unit: *unit,
+                at: *at,
+                place: *place,
+            };
+            instance_of(known, sized, opening, rest)
+        }
         _ => Ok(None),
     }
 }

@@ -21,18 +21,29 @@ fn locator_name(known: &mut Known, word: Word) -> Result<Option<Name>, Memory>
     known_name(known, word)
 }
 
+/// The words of a locator with a default: its name, `=` and the number.
+#[derive(Clone, Copy)]
+struct Defaulted<'a> {
+    name: Word<'a>,
+    equals: Word<'a>,
+    value: Word<'a>,
+}
+
 /// A locator with a default: a name, `=` and a number.
 #[inline(always)]
 fn with_default(
     known: &mut Known,
     sized: bool,
     optional: bool,
-    name: Word,
-    equals: Word,
-    value: Word,
+    words: Defaulted<'_>,
 ) -> Result<Option<Locator>, Memory>
-    ensures { IfOk result (λ l. l ≡ with_default sized optional (piece_of name.entry) (piece_of equals.entry) (piece_of value.entry)) }
+    ensures { IfOk result (λ l. l ≡ with_default sized optional (piece_of words.entry.name) (piece_of words.entry.equals) (piece_of words.entry.value)) }
 {
+    let Defaulted {
+        name,
+        equals,
+        value,
+    } = words;
     if !equals.is_mark(b"=") {
         return Ok(None);
     }
@@ -68,12 +79,24 @@ fn locator_of(known: &mut Known, sized: bool, words: &[Word]) -> Result<Option<L
             })),
             None => Ok(None),
         },
-        [name, equals, value] => with_default(known, sized, false, *name, *equals, *value),
+        [name, equals, value] => {
+            let words = Defaulted {
+                name: *name,
+                equals: *equals,
+                value: *value,
+            };
+            with_default(known, sized, false, words)
+        }
         [open_bracket, name, equals, value, close_bracket] => {
             if !is_bracketed(*open_bracket, *close_bracket) {
                 return Ok(None);
             }
-            with_default(known, sized, true, *name, *equals, *value)
+            let words = Defaulted {
+                name: *name,
+                equals: *equals,
+                value: *value,
+            };
+            with_default(known, sized, true, words)
         }
         _ => Ok(None),
     }
