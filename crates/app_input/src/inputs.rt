@@ -246,7 +246,8 @@ fn read_scripted<F: Files>(
     ensures told { F.told files.new ≡ F.told files.old }
     ensures reads { Reads (Some (scripted task config.now name.now course.now (map string_bytes scripts.now))) (F.told files.old) result }
     ensures asked { IfSome (F.told files.old)
-        (λ named. AsksForm (scripted task config.now name.now course.now (map string_bytes scripts.now)) named (status_of result) (F.asked files.old) (F.asked files.new)) }
+        (λ named. AsksForm (scripted task config.now name.now course.now (map string_bytes scripts.now))
+        named (status_of result) (F.asked files.old) (F.asked files.new)) }
     ensures counted { Counts (F.faults files.old) (F.faults files.new) result }
     ensures formed { IfOk result FormedInputs }
 {
@@ -284,7 +285,8 @@ fn read_side_by_side<F: Files>(
     ensures told { F.told files.new ≡ F.told files.old }
     ensures reads { Reads (Some (side_by_side config.now name.now (map string_bytes scripts.now))) (F.told files.old) result }
     ensures asked { IfSome (F.told files.old)
-        (λ named. AsksForm (side_by_side config.now name.now (map string_bytes scripts.now)) named (status_of result) (F.asked files.old) (F.asked files.new)) }
+        (λ named. AsksForm (side_by_side config.now name.now (map string_bytes scripts.now))
+        named (status_of result) (F.asked files.old) (F.asked files.new)) }
     ensures counted { Counts (F.faults files.old) (F.faults files.new) result }
     ensures formed { IfOk result FormedInputs }
 {

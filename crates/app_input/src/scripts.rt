@@ -195,7 +195,8 @@ pub fn load_scripted<F: Files>(
     ensures reads { IsCalledFor (F.told files.old) (λ files. scripted_of task files (map string_bytes names.now) course.now) result }
     ensures of { IfErr result (IsOfScripted (map string_bytes names.now) course.now) }
     ensures asked { IfSome (F.told files.old)
-        (λ named. IsAskedFor (up_to_refused (scripted_files task named (map string_bytes names.now) course.now)) (status_of result) (F.asked files.old) (F.asked files.new)) }
+        (λ named. IsAskedFor (up_to_refused (scripted_files task named (map string_bytes names.now) course.now))
+        (status_of result) (F.asked files.old) (F.asked files.new)) }
     ensures counted { Counts (F.faults files.old) (F.faults files.new) result }
     ensures task { IfOk result (λ run. task_of run.course ≡ task) }
     ensures formed { IfOk result FormedRun }

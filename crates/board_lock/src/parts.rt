@@ -31,9 +31,18 @@ pub struct RunParts {
 impl Model for RunParts {
     ghost Value = { Parts };
 
-    ghost view = { λ p. record { closings = p.closings.name; dids = p.dids.name; stops = p.stops.name; seats = p.closings.parts; table = p.keeper.table; states = states_in p.keeper.view; callers = p.callers } };
+    ghost view = { λ p. record {
+      closings = p.closings.name;
+      dids = p.dids.name;
+      stops = p.stops.name;
+      seats = p.closings.parts;
+      table = p.keeper.table;
+      states = states_in p.keeper.view;
+      callers = p.callers;
+    } };
 
-    ghost invariant = { λ p. (p.dids.parts ≡ p.closings.parts) × (p.stops.parts ≡ p.closings.parts) × (arc_value p.outside ≡ p.keeper.table) × (arc_value p.behind ≡ p.keeper.table) };
+    ghost invariant = { λ p. (p.dids.parts ≡ p.closings.parts) × (p.stops.parts ≡ p.closings.parts)
+        × (arc_value p.outside ≡ p.keeper.table) × (arc_value p.behind ≡ p.keeper.table) };
 }
 
 // Publishes the slot of a spot if a device is on it.

@@ -28,7 +28,14 @@ pub struct Seat<N: Naming> {
 impl<N: Naming> Model for Seat<N> {
     ghost Value = { SeatShown };
 
-    ghost view = { λ s. record { caller = s.caller; closings = s.shares.closings; dids = s.shares.dids; stops = 1 - s.shares.rights; looked = s.looked; leases = s.leases.view } };
+    ghost view = { λ s. record {
+      caller = s.caller;
+      closings = s.shares.closings;
+      dids = s.shares.dids;
+      stops = 1 - s.shares.rights;
+      looked = s.looked;
+      leases = s.leases.view;
+    } };
 
     ghost invariant = { λ s. SeatKept (scripts_of N.opening) N.table s.caller s.ends s.halted s.shares s.leases };
 }

@@ -93,7 +93,8 @@ fn judge_any(
     requires devices { length standing.old.declarations.devices < 65536 }
     ensures code { IfOk result (λ code. code ≡ code_of standing.old.declarations count stmt.now) }
     ensures declared { IfOk result (λ code. code ≡ None → standing.new.declarations ≡ declare standing.old.declarations stmt.now) }
-    ensures kept { IfOk result (λ code. code ≡ None → standing.new.instances ≡ standing.old.instances ++ (if is_kept then option_to_list (instance_at standing.old.declarations place stmt.now) else [])) }
+    ensures kept { IfOk result (λ code. code ≡ None → standing.new.instances ≡ standing.old.instances
+        ++ (if is_kept then option_to_list (instance_at standing.old.declarations place stmt.now) else [])) }
 {
     let Stmt::Inst {
         base,
@@ -141,7 +142,8 @@ fn judge_statement(
     requires devices { length standing.old.declarations.devices < 65536 }
     ensures code { IfOk result (λ code. code ≡ code_of standing.old.declarations count stmt.now) }
     ensures declared { IfOk result (λ code. code ≡ None → standing.new.declarations ≡ declare standing.old.declarations stmt.now) }
-    ensures kept { IfOk result (λ code. code ≡ None → standing.new.instances ≡ standing.old.instances ++ (if is_kept then option_to_list (instance_at standing.old.declarations place stmt.now) else [])) }
+    ensures kept { IfOk result (λ code. code ≡ None → standing.new.instances ≡ standing.old.instances
+        ++ (if is_kept then option_to_list (instance_at standing.old.declarations place stmt.now) else [])) }
 {
     if is_judged(stmt) {
         return judge_any(alloc, standing, count, place, stmt, is_kept);

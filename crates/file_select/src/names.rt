@@ -61,7 +61,8 @@ fn insert_attrs(
     marks: &[bool],
 ) -> Result<(), Memory>
     requires { length marks.now ≡ length attrs.now }
-    ensures names { OnOk result (names.new ≡ with_texts names.old (map (attr_name attrs.now) (filter (λ a. slice_index_or marks.now a false) (below (length attrs.now))))) }
+    ensures names { OnOk result (names.new ≡ with_texts names.old
+        (map (attr_name attrs.now) (filter (λ a. slice_index_or marks.now a false) (below (length attrs.now))))) }
     ensures short { OnOk result (All IsShort names.old → All IsShort names.new) }
 {
     for (place, attr) in attrs.iter().enumerate() {
