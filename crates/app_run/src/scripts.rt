@@ -6,7 +6,8 @@ ghost use Rattle.run_rules.specs.World.{setup_of};
 ghost use Rattle.app_run.specs.Ran.{HasRunOut};
 
 use board_lock::Finished;
-use cf_types::{List, Machine, Memory, Script, Tables};
+use cf_tables::Compiled;
+use cf_types::{List, Machine, Memory, Script};
 use dev_board::booted_board;
 use drv_workers::{Medium, run_scripts};
 use std::alloc::Global;
@@ -18,7 +19,7 @@ use std::thread::Threads;
 pub fn side_by_side<M: Medium + Sync, R: Threads + Wait + Sync>(
     rt: &R,
     alloc: Global,
-    tables: Tables,
+    tables: Compiled,
     machine: Machine,
     scripts: List<Script>,
     medium: &M,
