@@ -1,5 +1,5 @@
 -- What was found for the words and the files, and the status that is due.
-use Rattle.std.proofs.Common.{inl, inr, ◌≡◌, ℕ, List, [], Option, Some, None, refl, sym, subst}
+use Rattle.std.proofs.Common.{inl, inr, ◌≡◌, ℕ, List, [], Option, Some, sym, subst}
 use Rattle.std.specs.Prelude.{◌⊎◌, IfOk, IfSome, Result}
 use Rattle.std.specs.Prelude as std
 use Rattle.cf_io.specs.Faults.{Rose}
