@@ -24,7 +24,7 @@ fn replayed(alloc: Global, inputs: Inputs, text: &[u8]) -> Option<Result<usize, 
             tables,
             machine,
             scripts,
-        } => match replay(alloc, &tables, &machine, scripts.items(), text) {
+        } => match replay(alloc, tables.tables(), &machine, scripts.items(), text) {
             Ok(tree) => Some(Ok(tree.len())),
             Err(ReplayStop::Bad { line }) => Some(Err(line)),
             Err(ReplayStop::Memory) => None,

@@ -23,7 +23,12 @@ fn has_history(case: &Case) -> bool {
 /// How far plain looks follow a text by the tables and the machine of a run.
 fn followed_by(alloc: Global, inputs: &Inputs, text: &[u8]) -> Result<Option<Followed>, Memory> {
     match inputs {
-        Inputs::Boot { tables, machine } => Ok(Some(follow(alloc, tables, machine, text)?)),
+        Inputs::Boot { tables, machine } => Ok(Some(follow(
+            alloc,
+            tables.tables(),
+            machine,
+            text,
+        )?)),
         Inputs::Play {
             tables,
             machine,
@@ -33,7 +38,7 @@ fn followed_by(alloc: Global, inputs: &Inputs, text: &[u8]) -> Result<Option<Fol
             tables,
             machine,
             ..
-        } => Ok(Some(follow(alloc, tables, machine, text)?)),
+        } => Ok(Some(follow(alloc, tables.tables(), machine, text)?)),
         _ => Ok(None),
     }
 }
