@@ -5,7 +5,7 @@ use cf_compile::{Compiled, compile};
 use cf_io::{MemFile, MemFiles};
 use cf_types::{List, Memory, Name, Text};
 use file_select::chosen;
-use ioconf_text::put_line;
+use ioconf_text::{put_line, put_line_with};
 use std::alloc::Global;
 use std::test::*;
 
@@ -61,6 +61,19 @@ fn listed_by(alloc: Global, text: &[u8], n: u32) -> Option<Vec<u8>> {
     }
 }
 
+// The same of its tables alone, with their graph made anew.
+fn listed_anew(alloc: Global, text: &[u8], n: u32) -> Option<Vec<u8>> {
+    let found = compiled(alloc, text)?;
+    let Ok(anew) = Compiled::of(alloc, found.into_tables()) else {
+        return None;
+    };
+    let mut line = Vec::new(alloc);
+    match put_line_with(anew.tables(), anew.graph(), n, &mut line) {
+        Ok(true) => Some(line),
+        _ => None,
+    }
+}
+
 #[test]
 fn names_are_chosen_in_the_order_of_their_bytes(rt: HostRuntime) -> Result<(), Fail> {
     let names = chosen_by(rt.alloc(), CONF);
@@ -77,5 +90,14 @@ fn a_listing_is_put_by_its_lines(rt: HostRuntime) -> Result<(), Fail> {
     );
     let behind = listed_by(rt.alloc(), CONF, 5);
     assert_eq!(rt; behind.as_deref(), None);
+    Ok(())
+}
+
+#[test]
+fn tables_are_listed_by_a_graph_made_anew(rt: HostRuntime) -> Result<(), Fail> {
+    let first = listed_by(rt.alloc(), CONF, 1);
+    let anew = listed_anew(rt.alloc(), CONF, 1);
+    assert!(rt; first.is_some());
+    assert_eq!(rt; anew.as_deref(), first.as_deref());
     Ok(())
 }

@@ -90,6 +90,7 @@ fn front_count(places: &[u32], place: usize) -> usize
 }
 
 /// Appends a warning for each time that the place of a statement is at the beginning, and returns the places after that.
+#[inline(always)]
 fn push_front<'a>(
     out: &mut List<Warning>,
     source: &Source,
