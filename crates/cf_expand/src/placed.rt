@@ -85,13 +85,17 @@ fn discard(placed: Placed) {
     drop(placed);
 }
 
-/// The placed statements, which keep the limits of the language, with a set of the names that the statements before the
-/// last condition declare. Contracts see only the list.
+/// After how many conditions names are noted: until then, each condition looks through the statements. A kernel has few.
+const CONDITIONS_A_NOTE: u32 = 16;
+
+/// The placed statements, which keep the limits of the language, with a set of the names that the first so many of them
+/// declare, and how many conditions came since these were noted. Contracts see only the list.
 #[derive(Drop)]
 pub struct PlacedList {
     items: Vec<Placed>,
     noted: usize,
     names: BTreeSet<Vec<u8>>,
+    conditions: u32,
 }
 
 impl Model for PlacedList {
@@ -116,6 +120,7 @@ impl PlacedList {
             items: Vec::new(alloc),
             noted: 0,
             names: BTreeSet::new(alloc),
+            conditions: 0,
         }
     }
 
@@ -138,6 +143,18 @@ impl PlacedList {
         Ok(())
     }
 
+    /// Counts a condition, and notes names once there were many.
+    fn count_condition(&mut self) -> Result<(), Memory>
+        ensures { self.new ≡ self.old }
+    {
+        if self.conditions < CONDITIONS_A_NOTE {
+            self.conditions += 1;
+            return Ok(());
+        }
+        self.conditions = 0;
+        self.note_all()
+    }
+
     /// Appends a statement.
     #[inline(always)]
     pub fn push(&mut self, placed: Placed) -> Result<(), Memory>
@@ -154,7 +171,7 @@ impl PlacedList {
         }
         self.items.push_reserved(placed);
         if is_condition {
-            self.note_all()?;
+            self.count_condition()?;
         }
         Ok(())
     }
