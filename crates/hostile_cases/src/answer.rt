@@ -4,11 +4,12 @@ use crate::row::Row;
 use app_config::devconf_top;
 use app_every::drvall_top;
 use app_run::drvrun_top;
-use app_words::Program;
+use app_words::{Program, Status};
 use cf_io::{Files, MemSink};
 use cf_types::{List, Memory};
 use drv_workers::SoftMedium;
 use std::alloc::Global;
+use std::mem::forget;
 use std::sync::Wait;
 use std::thread::Threads;
 
@@ -34,6 +35,67 @@ impl Answer {
     }
 }
 
+/// What a call writes to.
+#[derive(Drop)]
+struct Written {
+    out: MemSink,
+    err: MemSink,
+}
+
+/// Calls `devconf` with the words of a row, and returns how it ended. What it found is not freed, as in the
+/// program itself: to free it, all that it may be would have to be proved once more here.
+fn devconf_status<F: Files>(
+    alloc: Global,
+    row: &Row,
+    files: &mut F,
+    written: &mut Written,
+) -> Status {
+    let ended = devconf_top(alloc, &row.words, files, &mut written.out, &mut written.err);
+    forget(ended.found);
+    ended.status
+}
+
+/// Calls `drvrun` so.
+fn drvrun_status<R: Threads + Wait + Sync, F: Files>(
+    threads: &R,
+    alloc: Global,
+    row: &Row,
+    files: &mut F,
+    written: &mut Written,
+) -> Status {
+    let Written { out, err } = written;
+    let ended = drvrun_top(threads, alloc, &row.words, files, out, err, &SoftMedium);
+    forget(ended.found);
+    ended.status
+}
+
+/// Calls `drvall` so.
+fn drvall_status<F: Files>(
+    alloc: Global,
+    row: &Row,
+    files: &mut F,
+    written: &mut Written,
+) -> Status {
+    let ended = drvall_top(alloc, &row.words, files, &mut written.out, &mut written.err);
+    forget(ended.found);
+    ended.status
+}
+
+/// Calls the program of a row with its words, and returns how it ended.
+fn status_of<R: Threads + Wait + Sync, F: Files>(
+    threads: &R,
+    alloc: Global,
+    row: &Row,
+    files: &mut F,
+    written: &mut Written,
+) -> Status {
+    match row.program {
+        Program::Devconf | Program::Devwhy => devconf_status(alloc, row, files, written),
+        Program::Drvrun => drvrun_status(threads, alloc, row, files, written),
+        Program::Drvall => drvall_status(alloc, row, files, written),
+    }
+}
+
 /// Calls the program of a row with its words, over these files.
 pub fn answer_over<R: Threads + Wait + Sync, F: Files>(
     threads: &R,
@@ -41,27 +103,14 @@ pub fn answer_over<R: Threads + Wait + Sync, F: Files>(
     row: &Row,
     files: &mut F,
 ) -> Result<Answer, Memory> {
-    let mut out = MemSink::make(alloc, List::make(alloc), ROOM)?;
-    let mut err = MemSink::make(alloc, List::make(alloc), ROOM)?;
-    let status = match row.program {
-        Program::Devconf | Program::Devwhy => devconf_top(
-            alloc, &row.words, files, &mut out, &mut err,
-        ).status,
-        Program::Drvrun => drvrun_top(
-            threads,
-            alloc,
-            &row.words,
-            files,
-            &mut out,
-            &mut err,
-            &SoftMedium,
-        )
-        .status,
-        Program::Drvall => drvall_top(alloc, &row.words, files, &mut out, &mut err).status,
+    let mut written = Written {
+        out: MemSink::make(alloc, List::make(alloc), ROOM)?,
+        err: MemSink::make(alloc, List::make(alloc), ROOM)?,
     };
+    let status = status_of(threads, alloc, row, files, &mut written);
     Ok(Answer {
         status: status.number(),
-        output: Vec::from_slice(alloc, out.bytes())?,
-        errors: Vec::from_slice(alloc, err.bytes())?,
+        output: Vec::from_slice(alloc, written.out.bytes())?,
+        errors: Vec::from_slice(alloc, written.err.bytes())?,
     })
 }
