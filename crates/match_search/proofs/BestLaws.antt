@@ -13,7 +13,8 @@ use Rattle.run_rules.specs.declared.world.ParentRef.{ParentRef}
 use Rattle.run_rules.specs.declared.world.Setup.{Setup}
 use Rattle.run_rules.specs.Search.{is_live_row, fits, found_at, match_value, is_candidate, value_of, winner}
 use Rattle.run_rules.proofs.Winner.{IsBest, best_alike, best_is, has_best, winner_is}
-use Rattle.match_search.specs.Best.{best_row, live_rows, may_take, worth}
+use Rattle.run_rules.specs.Suits.{worth}
+use Rattle.match_search.specs.Best.{best_row, live_rows, may_take}
 
 -- ---- the first of greatest worth
 

@@ -1,5 +1,5 @@
 -- The rows without a star by device and unit: one row more, and the rows that are set.
-use Rattle.std.proofs.Common.{◌≡◌, ◌≢◌, ◌⊎◌, ℕ, zero, suc, ◌+◌, ◌<◌, Bool, true, false, not, ◌&&◌, ◌||◌, ◌==◌, cond, List, [], ◌∷◌, ◌++◌, map, zip, length, Some, get_or, slice_get, slice_set, refl, sym, subst, ◌∙◌, ap, inl, inr, add-one, eq-eqb, arith}
+use Rattle.std.proofs.Common.{◌≡◌, ℕ, zero, suc, ◌+◌, ◌<◌, Bool, true, false, not, ◌&&◌, ◌||◌, ◌==◌, cond, List, [], ◌∷◌, ◌++◌, length, get_or, slice_set, refl, sym, ◌∙◌, ap, inl, inr, eq-eqb, arith}
 use Rattle.std.specs.Global.{Global}
 use Rattle.std.specs.Prelude.{Vec}
 use Rattle.std.specs.Option.{option_map_or}
@@ -9,7 +9,7 @@ use Rattle.cf_types.proofs.OfferLemmas.{is_in-append}
 use Rattle.cf_types.specs.declared.tables.Row.{Row}
 use Rattle.cf_types.specs.Gather.{is_in}
 use Rattle.match_search.specs.Fixed.{AreFixed, HasToo, fixed_in, hits, hits_at, lists_of, place_in, rows_set}
-use Rattle.match_search.proofs.CandidateLaws.{got}
+use Rattle.std.proofs.lemmas.Option.{slice_get_read}
 use Rattle.match_search.proofs.PlacedLaws.{in_left, in_right}
 
 -- ---- one row more
@@ -97,7 +97,7 @@ one_in rows n row old new lt at before too = record {
     | inl under ↦ too.kept r device unit (before.all r device unit under h)
     | inr above ↦
         let here : r ≡ n = omega arith in
-        let this : hits row device unit ≡ true = sym (ap (λ o. option_map_or (λ x. hits x device unit) o false) (got rows n row lt at)) ∙ ap (λ i. hits_at rows i device unit) (sym here) ∙ h in
+        let this : hits row device unit ≡ true = sym (ap (λ o. option_map_or (λ x. hits x device unit) o false) (slice_get_read rows (length rows) n row refl lt at)) ∙ ap (λ i. hits_at rows i device unit) (sym here) ∙ h in
         ap (λ i. is_in i (fixed_in new device unit)) here ∙ too.more device unit this
   ];
 }

@@ -1,8 +1,7 @@
 pub mod BestLaws
 pub mod CandidateLaws
 pub mod PlacedLaws
-pub mod IndexLaws
 pub mod ListedLaws
-pub mod OwnLaws
+pub mod UnnamedLaws
 pub mod LeaderLaws
 pub mod FixedLaws

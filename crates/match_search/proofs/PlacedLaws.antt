@@ -1,9 +1,10 @@
 -- The rows of each place, with one more; and which of them may suit a spot.
-use Rattle.std.proofs.Common.{◌≡◌, ◌⊎◌, ℕ, zero, suc, ◌+◌, ◌<◌, ℤ, Bool, true, false, ◌&&◌, ◌||◌, ◌==◌, nat_lt, List, [], ◌∷◌, ◌++◌, length, Option, Some, None, get_or, slice_get, cond, refl, sym, subst, ◌∙◌, ap, inl, inr, add-one, eq-eqb, arith}
+use Rattle.std.proofs.Common.{◌≡◌, ℕ, zero, suc, ◌+◌, ◌<◌, ℤ, Bool, true, false, ◌&&◌, ◌||◌, ◌==◌, nat_lt, List, [], ◌∷◌, ◌++◌, length, Option, Some, None, get_or, slice_get, cond, refl, subst, ◌∙◌, ap, inl, inr, add-one, eq-eqb, arith}
 use Rattle.std.specs.Option.{option_map_or}
 use Rattle.std.specs.Ordering.{int_eq}
-use Rattle.std.proofs.lemmas.Bool.{cases_lt}
+use Rattle.std.proofs.lemmas.Bool.{or_cases, or_left, or_right}
 use Rattle.std.proofs.lemmas.List.Elements.{filter-append}
+use Rattle.std.proofs.lemmas.Option.{same_Some, slice_get_read, slice_get_within}
 use Rattle.cf_types.proofs.OfferLemmas.{is_in-append}
 use Rattle.cf_types.specs.declared.tables.Locator.{Locator}
 use Rattle.cf_types.specs.declared.tables.Row.{Row}
@@ -17,58 +18,29 @@ use Rattle.match_search.specs.declared.index.Sought.{Sought}
 use Rattle.match_search.specs.declared.placed.PlaceKey.{PlaceKey}
 use Rattle.match_search.specs.Placed.{is_under, rows_under}
 use Rattle.match_search.specs.Sought.{HaveAll, first_locator, suits_at}
-use Rattle.match_search.proofs.CandidateLaws.{in_kept}
+use Rattle.run_rules.proofs.BestFirst.{in_below}
+use Rattle.run_rules.proofs.FirstPassing.{in_kept}
 
 -- ---- one row more
 
 abbrev pub if_is : Bool → ℕ → List ℕ
 if_is b n = cond b (n ∷ []) []
 
-got : {X : Type 0} (xs : List X) (i : ℕ) (x : X) → i < length xs → x ≡ get_or xs i x → slice_get xs i ≡ Some x
-got [] i x lt e = absurd (omega arith)
-got (y ∷ ys) zero x lt e = ap Some (sym e)
-got (y ∷ ys) (suc i) x lt e = got ys i x (omega arith) e
-
 -- the rows under a key among one row more
 pub under_more : (rows : List Row) (key : PlaceKey) (i : ℕ) (row : Row) → i < length rows → row ≡ get_or rows i row
     → rows_under rows key (i + 1) ≡ rows_under rows key i ++ if_is (is_under key row) i
 under_more rows key i row lt at =
     rw add-one (filter-append (λ r. option_map_or (is_under key) (slice_get rows r) false) (below i) (i ∷ []))
-    ∙ ap (λ (o : Option Row). rows_under rows key i ++ if_is (option_map_or (is_under key) o false) i) (got rows i row lt at)
+    ∙ ap (λ (o : Option Row). rows_under rows key i ++ if_is (option_map_or (is_under key) o false) i) (slice_get_read rows (length rows) i row refl lt at)
 
 -- ---- which rows may suit a spot
-
-or_split : (a b : Bool) → (a || b) ≡ true → (a ≡ true) ⊎ (b ≡ true)
-or_split true b h = inl refl
-or_split false b h = inr h
-
-or_left : (a b : Bool) → a ≡ true → (a || b) ≡ true
-or_left a b h = rw h refl
-
-or_right : (a b : Bool) → b ≡ true → (a || b) ≡ true
-or_right true b h = refl
-or_right false b h = h
-
-in_below : (n r : ℕ) → r < n → is_in r (below n) ≡ true
-in_below zero r lt = absurd (omega arith)
-in_below (suc n) r lt = is_in-append r (below n) (n ∷ []) ∙ elim (cases_lt r n) [
-  | inl less ↦ or_left (is_in r (below n)) ((n == r) || false) (in_below n r less)
-  | inr past ↦
-      let same : n ≡ r = omega arith in
-      or_right (is_in r (below n)) ((n == r) || false) (or_left (n == r) false (eq-eqb n r same))
-]
-
-within : (rows : List Row) (r : ℕ) (row : Row) → slice_get rows r ≡ Some row → r < length rows
-within [] r row e = absurd cc
-within (x ∷ rows) zero row e = omega arith
-within (x ∷ rows) (suc r) row e = let lt = within rows r row e in omega (arith, lt)
 
 -- a row that is under a key is among those of the key
 in_under : (rows : List Row) (key : PlaceKey) (r : ℕ) (row : Row) → slice_get rows r ≡ Some row → is_under key row ≡ true → is_in r (rows_under rows key (length rows)) ≡ true
 in_under rows key r row at under =
     let here : option_map_or (is_under key) (slice_get rows r) false ≡ true = rw at under in
     in_kept (λ q. option_map_or (is_under key) (slice_get rows q) false) (below (length rows)) r
-    ∙ rw here (in_below (length rows) r (within rows r row at))
+    ∙ rw here (in_below (length rows) r (slice_get_within rows r row at))
 
 abbrev locators : Sought → List Locator
 locators s = locators_at s.tables.now.attrs s.place
@@ -114,11 +86,8 @@ fits_first [] values at first e h = absurd cc
 fits_first (l ∷ locs) values [] first e h = absurd cc
 fits_first (l ∷ locs) [] (f ∷ at) first e h = absurd cc
 fits_first (l ∷ locs) (v ∷ values) (f ∷ at) first e h =
-    let is : record { default = l.default; found = f } ≡ first = some_same (record { default = l.default; found = f }) first e in
+    let is : record { default = l.default; found = f } ≡ first = same_Some (record { default = l.default; found = f }) first e in
     record { v = v; rest = values; is = refl; fits = subst (λ (g : FirstLocator). fits_locator g.default v g.found ≡ true) is (and_first (fits_locator l.default v f) (submatch locs values at) h) }
-  where
-    some_same : (x y : FirstLocator) → Some x ≡ Some y → x ≡ y
-    some_same x y e = cc
 
 -- the rows at the place of what is sought, and of these the rows with a first value
 abbrev pub under : Sought → Option ℤ → List ℕ
@@ -150,7 +119,7 @@ have_found s first e same = λ r h.
   where
     by_default : (o : Option ℤ) → first.default ≡ o → (v : ℤ) → fits_locator first.default v first.found ≡ true → int_eq v first.found ≡ true
     by_default None at v fits = rw at at fits
-    by_default (Some d) at v fits = elim (or_split (int_eq v d) (int_eq v first.found) (rw at at fits)) [
+    by_default (Some d) at v fits = elim (or_cases (int_eq v d) (int_eq v first.found) (rw at at fits)) [
       | inl wild ↦ rw (same d at) at wild
       | inr there ↦ there
     ]
@@ -167,7 +136,7 @@ pub have_both : (s : Sought) (first : FirstLocator) (d : ℤ) → first_locator 
 have_both s first d e at = λ r h.
     let it = suits_row s r h in
     let has = fits_first (locators s) it.row.locs (found s) first e it.passes in
-    elim (or_split (int_eq has.v d) (int_eq has.v first.found) (wild_or first.default d has.v first.found at has.fits)) [
+    elim (or_cases (int_eq has.v d) (int_eq has.v first.found) (wild_or first.default d has.v first.found at has.fits)) [
       | inl wild ↦ in_right r (under s (Some first.found)) (under s (Some d)) (with_value s r it has.v d has.rest has.is wild)
       | inr there ↦ in_left r (under s (Some first.found)) (under s (Some d)) (with_value s r it has.v first.found has.rest has.is there)
     ]
@@ -176,7 +145,7 @@ have_both s first d e at = λ r h.
 pub have_each : (s : Sought) (all : List ℕ) → ((r : ℕ) → r < length s.tables.now.rows → is_in r all ≡ true) → HaveAll s (all ++ [])
 have_each s all each = λ r h.
     let it = suits_row s r h in
-    in_left r all [] (each r (within s.tables.now.rows r it.row it.at))
+    in_left r all [] (each r (slice_get_within s.tables.now.rows r it.row it.at))
 
 -- ---- a list of all numbers
 

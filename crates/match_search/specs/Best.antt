@@ -9,6 +9,7 @@ use Rattle.cf_types.specs.Locators.{locators_at, submatch}
 use Rattle.run_rules.specs.declared.world.Dev.{Dev}
 use Rattle.run_rules.specs.declared.world.ParentRef.{ParentRef}
 use Rattle.run_rules.specs.declared.world.Setup.{Setup}
+use Rattle.run_rules.specs.Suits.{worth}
 use Rattle.run_rules.specs.Search.{first_best, is_live_row, fits, found_at, match_value}
 
 -- of each row whether it is live
@@ -23,10 +24,6 @@ may_take t m live p place x r =
     && submatch (locators_at t.attrs place) row.locs (found_at m x)
     && nat_lt 0 (match_value m row.attach x))
     (slice_get t.rows r) false
-
--- the match value of a row's attachment at a spot
-abbrev pub worth : Tables → Machine → ℕ → ℕ → ℕ
-worth t m r x = match_value m (option_map_or (λ row. row.attach) (slice_get t.rows r) 0) x
 
 -- of the rows that may take the spot the first of the greatest worth
 unfoldable pub best_row : Tables → Machine → List Bool → ParentRef → Place → ℕ → Option ℕ

@@ -1,7 +1,8 @@
 pub mod Best
 pub mod Index
+pub use Rattle.run_rules.specs.MatchLines
 pub use Rattle.run_rules.specs.Search
-pub mod Own
+pub use Rattle.run_rules.specs.Suits
 pub mod Found
 pub mod Placed
 pub mod Sought

@@ -5,7 +5,8 @@ use Rattle.cf_types.specs.Gather.{is_in}
 use Rattle.match_search.specs.declared.index.Candidate.{Candidate}
 use Rattle.match_search.specs.declared.index.FirstLocator.{FirstLocator}
 use Rattle.match_search.specs.declared.index.Sought.{Sought}
-use Rattle.match_search.specs.Index.{candidate, suits}
+use Rattle.run_rules.specs.Suits.{suits}
+use Rattle.match_search.specs.Index.{candidate}
 
 -- the row suits the spot
 abbrev pub suits_at : Sought → ℕ → Bool

@@ -5,7 +5,8 @@ ghost use Rattle.run_rules.specs.declared.world.Dev.{Dev};
 ghost use Rattle.run_rules.specs.declared.world.Setup.{Setup};
 ghost use Rattle.run_rules.specs.Search as rule;
 ghost use Rattle.attr_graph.specs.Graphs.{IsGraphOf, declared_by};
-ghost use Rattle.match_search.specs.Best.{best_row, live_rows, may_take, worth};
+ghost use Rattle.match_search.specs.Best.{best_row, live_rows, may_take};
+ghost use Rattle.run_rules.specs.Suits.{hangs_at, worth};
 ghost use Rattle.match_search.specs.Index as listed;
 ghost use Rattle.match_search.specs.Index.{IsIndexOf};
 ghost use Rattle.match_search.specs.Leaders.{AreLeadersOf};
@@ -96,7 +97,7 @@ fn best_of_all(among: &Rows<'_>, at: Sought) -> Option<u32>
 /// Whether a spot is at a place.
 #[inline(always)]
 fn hangs_at(machine: &Machine, spot: u16, place: Place) -> bool
-    ensures { result ≡ listed.hangs_at machine.now spot place }
+    ensures { result ≡ hangs_at machine.now spot place }
 {
     match machine.spots.items().get(spot as usize) {
         Some(found) => same_place(found.place, place),

@@ -1,7 +1,9 @@
 //! The rows that suit each spot, the best first.
 ghost use Rattle.std.specs.Prelude.{◌≡◌, ◌≤◌, ◌++◌, [], length, map, IfOk, OnOk};
 ghost use Rattle.std.specs.List.{slice_index_or};
-ghost use Rattle.match_search.specs.Index.{AreBestFirst, AreValuesAt, IsIndexOf};
+ghost use Rattle.match_search.specs.Index.{IsIndexOf};
+ghost use Rattle.run_rules.specs.MatchLines.{AreValuesAt};
+ghost use Rattle.run_rules.specs.Suits.{AreBestFirst};
 ghost use Rattle.cf_types.specs.Locators.{locators_at};
 ghost use Rattle.match_search.specs.Found.{locators_in};
 ghost use Rattle.match_search.specs.Placed.{AreLooked, ArePlaced};

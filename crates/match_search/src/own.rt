@@ -1,7 +1,6 @@
 //! The match lines of each spot.
-ghost use Rattle.std.specs.Prelude.{◌≡◌, ℕ, List, [], ◌∷◌, ◌++◌, IfOk, OnOk, length};
-ghost use Rattle.match_search.specs.Own.{AreOwnLines, lines_in};
-ghost use Rattle.cf_types.specs.declared.machine.MatchLine.{MatchLine as Line};
+ghost use Rattle.std.specs.Prelude.{[], IfOk, OnOk, length};
+ghost use Rattle.run_rules.specs.MatchLines.{AreOwnLines, HaveLineMore, lines_in};
 
 use cf_types::{MatchLine, Memory, Spot};
 use std::alloc::Global;
@@ -19,8 +18,7 @@ fn no_lines(alloc: Global, spots: &[Spot]) -> Result<Vec<Vec<MatchLine>>, Memory
 
 /// Adds a line to those of its spot, if it names a spot that exists.
 fn add_line(lists: &mut Vec<Vec<MatchLine>>, line: &MatchLine) -> Result<(), Memory>
-    ensures { OnOk result ((n : ℕ) (lines : List Line) → AreOwnLines n lines (lines_in lists.old.items)
-        → AreOwnLines n (lines ++ line.now ∷ []) (lines_in lists.new.items)) }
+    ensures { OnOk result (HaveLineMore line.now (lines_in lists.old.items) (lines_in lists.new.items)) }
 {
     if let Some(spot) = line.spot {
         let place = spot as usize;

@@ -67,7 +67,7 @@ impl PlacedRows {
         requires { length rows.now ≤ 65536 }
         ensures { IfOk result (ArePlaced rows.now) }
     {
-        let mut lists = HashMap::with_capacity(alloc, rows.len())?;
+        let mut lists = HashMap::with_capacity(alloc, rows.len() / 2)?;
         for (number, row) in rows.iter().enumerate() {
             add_row(&mut lists, number as u16, row, alloc)?;
         }

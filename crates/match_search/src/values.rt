@@ -1,7 +1,7 @@
 //! The match values of all attachments at one spot.
 ghost use Rattle.std.specs.Prelude.{◌≡◌, ◌==◌, ℕ, false, if◌then◌else◌, OnOk, None, Some, filter};
 ghost use Rattle.std.specs.List.{list_any, slice_index_or};
-ghost use Rattle.match_search.specs.Index.{AreEverywhere, AreValuesAt, is_for, last_value};
+ghost use Rattle.run_rules.specs.MatchLines.{AreEverywhere, AreValuesAt, is_for, last_value};
 
 use cf_types::{Machine, MatchLine, Memory};
 

@@ -1,2 +1,2 @@
 pub mod LateLaws
-pub mod UnderLaws
+pub mod Unmarked

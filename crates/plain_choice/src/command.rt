@@ -5,7 +5,7 @@ ghost use Rattle.cf_types.specs.Lookups.{spot_number};
 ghost use Rattle.run_rules.specs.Next as next;
 ghost use Rattle.run_rules.specs.World as world;
 ghost use Rattle.run_rules.specs.declared.deed.Deed.TheVariants as deeds;
-ghost use Rattle.run_rules.specs.declared.deed.Refusal.TheVariants as refusal;
+ghost use Rattle.run_rules.specs.declared.deed.CommandRefusal.TheVariants as refusal;
 ghost use Rattle.plain_choice.specs.Commands.{begun, closed, detached, granted, granted_alone, if_held, started};
 ghost use Rattle.plain_world.specs.Plain.{world_of};
 
@@ -15,7 +15,7 @@ use plain_names::device_named;
 use plain_world::{
     Plain, Rules, device_on, is_bad, is_pinned, is_sole, is_under, policy_of, spot_named,
 };
-use run_rules::{Deed, Dev, PowerKind, Refusal};
+use run_rules::{CommandRefusal, Deed, Dev, PowerKind};
 use std::alloc::Global;
 
 /// A command of a caller: who gives it, and its number.
@@ -51,19 +51,19 @@ fn open(
     ensures { let w = world_of rules.now plain.now in IfOk result (λ does. next.on_device w name.now (granted w caller) ≡ does) }
 {
     let Some(device) = named(alloc, rules, plain, name)? else {
-        return Ok(Deed::Refuse(Refusal::NoDevice));
+        return Ok(Deed::Refuse(CommandRefusal::NoDevice));
     };
     if device.condemned.is_some() {
-        Ok(Deed::Refuse(Refusal::Gone))
+        Ok(Deed::Refuse(CommandRefusal::Gone))
     } else if is_sole(&plain.sole, device.serial) {
-        Ok(Deed::Refuse(Refusal::Exclusive))
+        Ok(Deed::Refuse(CommandRefusal::Exclusive))
     } else if plain.refs.count(caller, device.serial) < 15 {
         Ok(Deed::Open {
             of: device.serial,
             sole: false,
         })
     } else {
-        Ok(Deed::Refuse(Refusal::TooMany))
+        Ok(Deed::Refuse(CommandRefusal::TooMany))
     }
 }
 
@@ -72,12 +72,12 @@ fn open_sole(alloc: Global, rules: &Rules, plain: &Plain, name: &Name) -> Result
     ensures { let w = world_of rules.now plain.now in IfOk result (λ does. next.on_device w name.now (granted_alone w) ≡ does) }
 {
     let Some(device) = named(alloc, rules, plain, name)? else {
-        return Ok(Deed::Refuse(Refusal::NoDevice));
+        return Ok(Deed::Refuse(CommandRefusal::NoDevice));
     };
     if device.condemned.is_some() {
-        Ok(Deed::Refuse(Refusal::Gone))
+        Ok(Deed::Refuse(CommandRefusal::Gone))
     } else if plain.refs.refers(device.serial) {
-        Ok(Deed::Refuse(Refusal::Shared))
+        Ok(Deed::Refuse(CommandRefusal::Shared))
     } else {
         Ok(Deed::Open {
             of: device.serial,
@@ -97,12 +97,12 @@ fn close(
     ensures { IfOk result (λ does. next.on_held (world_of rules.now plain.now) caller name.now closed ≡ does) }
 {
     let Some(device) = named(alloc, rules, plain, name)? else {
-        return Ok(Deed::Refuse(Refusal::NotHeld));
+        return Ok(Deed::Refuse(CommandRefusal::NotHeld));
     };
     if plain.refs.holds(caller, device.serial) {
         Ok(Deed::Close { of: device.serial })
     } else {
-        Ok(Deed::Refuse(Refusal::NotHeld))
+        Ok(Deed::Refuse(CommandRefusal::NotHeld))
     }
 }
 
@@ -126,12 +126,12 @@ fn io(rules: &Rules, plain: &Plain, asker: Asker, found: Option<Dev>, value: u32
         if_held w asker.caller found (started w asker.caller asker.number value) ≡ result }
 {
     let Some(device) = found else {
-        return Deed::Refuse(Refusal::NotHeld);
+        return Deed::Refuse(CommandRefusal::NotHeld);
     };
     if !plain.refs.holds(asker.caller, device.serial) {
-        Deed::Refuse(Refusal::NotHeld)
+        Deed::Refuse(CommandRefusal::NotHeld)
     } else if device.asleep {
-        Deed::Refuse(Refusal::Asleep)
+        Deed::Refuse(CommandRefusal::Asleep)
     } else {
         Deed::Start(ticket_of(rules, plain, asker, device, value))
     }
@@ -166,7 +166,7 @@ fn unless_hindered(rules: &Rules, plain: &Plain, going: Detachment, deed: Deed) 
     ensures { next.unless_hindered (world_of rules.now plain.now) going.caller going.target going.forced deed ≡ result }
 {
     match hindered(rules, plain, going) {
-        Some(device) => Deed::Refuse(Refusal::Busy(device.serial)),
+        Some(device) => Deed::Refuse(CommandRefusal::Busy(device.serial)),
         None => deed,
     }
 }
@@ -182,10 +182,10 @@ fn detach(
     ensures { let w = world_of rules.now plain.now in IfOk result (λ does. next.on_device w name.now (detached w caller) ≡ does) }
 {
     let Some(device) = named(alloc, rules, plain, name)? else {
-        return Ok(Deed::Refuse(Refusal::NoDevice));
+        return Ok(Deed::Refuse(CommandRefusal::NoDevice));
     };
     if device.condemned.is_some() {
-        return Ok(Deed::Refuse(Refusal::Gone));
+        return Ok(Deed::Refuse(CommandRefusal::Gone));
     }
     let deed = Deed::Detach { of: device.serial };
     let going = Detachment {
@@ -208,10 +208,10 @@ fn rescan(
         IfOk result (λ does. next.on_device w name.now (λ d. next.rescanning w d limits.now.attr.now limits.now.given.now) ≡ does) }
 {
     let Some(device) = named(alloc, rules, plain, name)? else {
-        return Ok(Deed::Refuse(Refusal::NoDevice));
+        return Ok(Deed::Refuse(CommandRefusal::NoDevice));
     };
     if device.condemned.is_some() {
-        return Ok(Deed::Refuse(Refusal::Gone));
+        return Ok(Deed::Refuse(CommandRefusal::Gone));
     }
     rescanning(alloc, rules, plain, device, limits)
 }
@@ -225,7 +225,7 @@ fn tell(alloc: Global, rules: &Rules, plain: &Plain, of: &Option<Name>) -> Resul
     };
     match named(alloc, rules, plain, name)? {
         Some(_) => Ok(Deed::Tell),
-        None => Ok(Deed::Refuse(Refusal::NoDevice)),
+        None => Ok(Deed::Refuse(CommandRefusal::NoDevice)),
     }
 }
 
@@ -240,10 +240,10 @@ fn begin_power(
     ensures { IfOk result (λ does. next.on_device (world_of rules.now plain.now) name.now (begun kind) ≡ does) }
 {
     let Some(device) = named(alloc, rules, plain, name)? else {
-        return Ok(Deed::Refuse(Refusal::NoDevice));
+        return Ok(Deed::Refuse(CommandRefusal::NoDevice));
     };
     if device.condemned.is_some() {
-        Ok(Deed::Refuse(Refusal::Gone))
+        Ok(Deed::Refuse(CommandRefusal::Gone))
     } else {
         Ok(Deed::BeginPower {
             kind,
@@ -259,7 +259,7 @@ fn plug(rules: &Rules, plain: &Plain, name: &Name) -> Deed
 {
     match spot_named(rules, name.bytes()) {
         Some(spot) => Deed::Plug { spot },
-        None => Deed::Refuse(Refusal::NoSpot),
+        None => Deed::Refuse(CommandRefusal::NoSpot),
     }
 }
 
@@ -289,7 +289,7 @@ fn unplug(rules: &Rules, plain: &Plain, caller: u8, name: &Name) -> Deed
 {
     match spot_named(rules, name.bytes()) {
         Some(spot) => unplugging(rules, plain, caller, spot),
-        None => Deed::Refuse(Refusal::NoSpot),
+        None => Deed::Refuse(CommandRefusal::NoSpot),
     }
 }
 

@@ -6,7 +6,7 @@ ghost use Rattle.run_rules.specs.declared.world.Activity.TheVariants as activity
 ghost use Rattle.run_rules.specs.declared.world.Setup.{Setup};
 ghost use Rattle.plain_world.specs.Plain.{world_of};
 ghost use Rattle.plain_choice.specs.Power.{has_to_sleep, has_to_wake, sleeping};
-ghost use Rattle.plain_choice.specs.Under.{AllMiss};
+ghost use Rattle.run_rules.specs.Chains.{AllMiss};
 ghost use Rattle.plain_choice.specs.Waking.{AreMarked};
 
 use crate::under::{Aside, is_below};

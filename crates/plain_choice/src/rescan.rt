@@ -8,7 +8,7 @@ use locator_rules::locators_at;
 use plain_world::{
     Plain, Rules, attr_named, driver_of, has, is_nothing, is_pinned, offered, policy_of, wanted_of,
 };
-use run_rules::{Deed, Dev, Refusal};
+use run_rules::{CommandRefusal, Deed, Dev};
 use std::alloc::Global;
 
 /// What a rescan is limited to: an attribute, if one is named, and values of its locators.
@@ -36,10 +36,10 @@ fn rescan_of(
         });
     };
     let Some(attr) = attr_named(rules, name.bytes()) else {
-        return Ok(Deed::Refuse(Refusal::BadAttribute));
+        return Ok(Deed::Refuse(CommandRefusal::BadAttribute));
     };
     if !has(offered(rules, driver_of(rules, device.row)), attr) {
-        return Ok(Deed::Refuse(Refusal::BadAttribute));
+        return Ok(Deed::Refuse(CommandRefusal::BadAttribute));
     }
     match wanted_of(
         alloc,
@@ -50,7 +50,7 @@ fn rescan_of(
             of: device.serial,
             only: Some(attr),
         }),
-        None => Ok(Deed::Refuse(Refusal::BadLocator)),
+        None => Ok(Deed::Refuse(CommandRefusal::BadLocator)),
     }
 }
 
@@ -65,14 +65,14 @@ pub fn rescanning(
     ensures { IfOk result (λ does. next.rescanning (world_of rules.now plain.now) device limits.now.attr.now limits.now.given.now ≡ does) }
 {
     if is_pinned(plain, device.serial) {
-        return Ok(Deed::Refuse(Refusal::Busy(device.serial)));
+        return Ok(Deed::Refuse(CommandRefusal::Busy(device.serial)));
     }
     if device.asleep {
-        return Ok(Deed::Refuse(Refusal::Asleep));
+        return Ok(Deed::Refuse(CommandRefusal::Asleep));
     }
     let offers = offered(rules, driver_of(rules, device.row));
     if policy_of(rules, device.row).norescan || is_nothing(offers) {
-        return Ok(Deed::Refuse(Refusal::NoRescan));
+        return Ok(Deed::Refuse(CommandRefusal::NoRescan));
     }
     rescan_of(alloc, rules, plain, device, limits)
 }

@@ -3,7 +3,8 @@ ghost use Rattle.std.specs.Prelude.{◌≡◌, ◌%◌, ◌==◌, ℕ, List};
 ghost use Rattle.std.specs.List.{slice_index_or, slice_set};
 ghost use Rattle.run_rules.specs.World as world;
 ghost use Rattle.run_rules.specs.declared.world.Dev.{Dev};
-ghost use Rattle.plain_choice.specs.Under.{AllMiss, Shows};
+ghost use Rattle.run_rules.specs.Chains.{AllMiss};
+ghost use Rattle.plain_choice.specs.Under.{Shows};
 
 use plain_world::{Live, device_at};
 

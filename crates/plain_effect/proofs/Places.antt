@@ -16,24 +16,5 @@ place_low w k s (Some place) false few called = omega (arith, called.3, called.4
 place_low w k s (Some place) true few called = omega (arith, called.3, few)
 
 pub has_place : (w : World) (k : ℕ) (d : Deed) → length w.finalisers < 2 ^ 64 - 1 → next w k ≡ Does d → HasPlace d
-has_place w k (Search p spot to got) few chosen = tt
-has_place w k (EndScan p) few chosen = tt
-has_place w k BeginInterrupts few chosen = tt
 has_place w k (Finalise s shown got listed anew) few chosen = place_low w k s listed anew few (has_reason w k (Finalise s shown got listed anew) chosen).called
-has_place w k EndCaller few chosen = tt
-has_place w k (Drop s) few chosen = tt
-has_place w k (Refuse why) few chosen = tt
-has_place w k (Open s sole) few chosen = tt
-has_place w k (Close s) few chosen = tt
-has_place w k (Start ticket) few chosen = tt
-has_place w k (Done ticket) few chosen = tt
-has_place w k (Detach s) few chosen = tt
-has_place w k (Free s) few chosen = tt
-has_place w k (Rescan s only) few chosen = tt
-has_place w k (BeginPower kind s) few chosen = tt
-has_place w k (Sleep s) few chosen = tt
-has_place w k (Wake s) few chosen = tt
-has_place w k (EndPower end) few chosen = tt
-has_place w k (Plug x) few chosen = tt
-has_place w k (Unplug x of) few chosen = tt
-has_place w k Tell few chosen = tt
+has_place w k _ few chosen = tt

@@ -1,3 +1,3 @@
-pub mod Kept
+pub mod KnownAct
 pub mod Told
 pub mod Tellers

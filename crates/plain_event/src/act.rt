@@ -16,7 +16,7 @@ pub enum Again {
 /// Which act it is: what it says, the row and the unit of the device that it names, and the spot that was searched, or
 /// on which the device is.
 #[derive(Clone, Copy, PartialEq, Eq)]
-pub struct Key {
+pub struct ActKey {
     pub again: Again,
     pub row: u32,
     pub unit: u32,
@@ -25,8 +25,8 @@ pub struct Key {
 
 /// An act that came before, with its text.
 #[derive(Drop)]
-pub struct Kept {
-    pub key: Key,
+pub struct KnownAct {
+    pub key: ActKey,
     pub act: SharedAct,
     pub text: Vec<u8>,
     pub ghost spelled: { text.items ≡ act_text act },

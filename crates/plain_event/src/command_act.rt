@@ -7,7 +7,7 @@ ghost use Rattle.run_rules.specs.Next as next;
 ghost use Rattle.run_rules.specs.Run as run;
 ghost use Rattle.run_rules.specs.World.{World};
 ghost use Rattle.plain_event.specs.Tellers.{KeepsRules, world_in};
-ghost use Rattle.plain_event.specs.Told.{AnswersLive, EndsLive, RefusesLive, answer_by, name_given};
+ghost use Rattle.run_rules.specs.Said.{AnswersLive, EndsLive, RefusesLive, answer_by, name_given, power_end_act};
 ghost use Rattle.plain_world.specs.Plain.{state_at};
 
 use crate::teller::Teller;
@@ -15,36 +15,30 @@ use crate::telling::live_name;
 use cf_types::{Command, Memory, Name};
 use plain_names::{list_names, tree_names};
 use plain_world::{Plain, command_at};
-use run_rules::{Act, PowerEnd, PowerKind, Refusal, Reply};
+use run_rules::{Act, CommandRefusal, PowerEnd, Reply, name_given, power_name};
 
 /// The reply of a refusal.
-fn reply_of(teller: &mut Teller, plain: &Plain, why: Refusal) -> Result<Reply, Memory>
-    requires live { RefusesLive (world_in teller.old plain.now) why }
+fn reply_of(teller: &mut Teller, plain: &Plain, why: CommandRefusal) -> Result<Reply, Memory>
+    requires live { RefusesLive plain.now.live.devices why }
     ensures reply { IfOk result (λ r. r ≡ run.reply_of (world_in teller.old plain.now) why) }
     ensures rules { KeepsRules teller.old teller.new }
 {
     match why {
-        Refusal::NoDevice => Ok(Reply::NoDevice),
-        Refusal::Gone => Ok(Reply::Gone),
-        Refusal::Exclusive => Ok(Reply::Exclusive),
-        Refusal::TooMany => Ok(Reply::TooMany),
-        Refusal::Shared => Ok(Reply::Shared),
-        Refusal::NotHeld => Ok(Reply::NotHeld),
-        Refusal::Asleep => Ok(Reply::Asleep),
-        Refusal::Busy(serial) => {
+        CommandRefusal::Busy(serial) => {
             let name = live_name(teller, &plain.live, serial)?;
             Ok(Reply::Busy(name))
         }
-        Refusal::NoRescan => Ok(Reply::NoRescan),
-        Refusal::BadAttribute => Ok(Reply::BadAttribute),
-        Refusal::BadLocator => Ok(Reply::BadLocator),
-        Refusal::NoSpot => Ok(Reply::NoSpot),
+        _ => Ok(Reply::of_refusal(why)),
     }
 }
 
 /// The reply of a command that was refused, or had its effect.
-fn answer_by(teller: &mut Teller, plain: &Plain, refused: Option<Refusal>) -> Result<Reply, Memory>
-    requires live { AnswersLive (world_in teller.old plain.now) refused }
+fn answer_by(
+    teller: &mut Teller,
+    plain: &Plain,
+    refused: Option<CommandRefusal>,
+) -> Result<Reply, Memory>
+    requires live { AnswersLive plain.now.live.devices refused }
     ensures reply { IfOk result (λ r. r ≡ answer_by (world_in teller.old plain.now) refused) }
     ensures rules { KeepsRules teller.old teller.new }
 {
@@ -56,7 +50,7 @@ fn answer_by(teller: &mut Teller, plain: &Plain, refused: Option<Refusal>) -> Re
 
 /// The reply with which a power command ends.
 fn end_of(teller: &mut Teller, plain: &Plain, end: PowerEnd) -> Result<Reply, Memory>
-    requires live { EndsLive (world_in teller.old plain.now) end }
+    requires live { EndsLive plain.now.live.devices end }
     ensures reply { IfOk result (λ r. r ≡ run.end_of (world_in teller.old plain.now) end) }
     ensures rules { KeepsRules teller.old teller.new }
 {
@@ -79,9 +73,9 @@ fn answered(
     teller: &mut Teller,
     plain: &Plain,
     name: &Name,
-    refused: Option<Refusal>,
+    refused: Option<CommandRefusal>,
 ) -> Result<(Name, Reply), Memory>
-    requires live { AnswersLive (world_in teller.old plain.now) refused }
+    requires live { AnswersLive plain.now.live.devices refused }
     ensures told { IfOk result (λ told. told ≡ (name.now, answer_by (world_in teller.old plain.now) refused)) }
     ensures rules { KeepsRules teller.old teller.new }
 {
@@ -135,93 +129,21 @@ fn listing_act(teller: &Teller, plain: &Plain, said: &Command) -> Result<Act, Me
     }
 }
 
-/// The name that a command gives; none if it is a list or a tree.
-fn name_given(said: &Command) -> Option<&Name>
-    ensures { name_given said.now ≡ option_map (λ name. name.now) result }
-{
-    match said {
-        Command::OpenDev(name) => Some(name),
-        Command::OpenSole(name) => Some(name),
-        Command::CloseDev(name) => Some(name),
-        Command::Io(name, _) => Some(name),
-        Command::Detach(name) => Some(name),
-        Command::Rescan { device, .. } => Some(device),
-        Command::ListDev(_) => None,
-        Command::TreeDev(_) => None,
-        Command::Suspend(name) => Some(name),
-        Command::Resume(name) => Some(name),
-        Command::ResumeTree(name) => Some(name),
-        Command::Plug(name) => Some(name),
-        Command::Unplug(name) => Some(name),
-    }
-}
-
-/// A transfer that begins, or does not.
-fn transfer_act(device: Name, value: u32, reply: Reply) -> Act
-    ensures { result ≡ act.IoStart device value reply }
-{
-    Act::IoStart {
-        device,
-        value,
-        reply,
-    }
-}
-
-/// A power command that begins, or does not.
-fn power_act(kind: PowerKind, device: Name, reply: Reply) -> Act
-    ensures { result ≡ act.Power kind device reply }
-{
-    Act::Power {
-        kind,
-        device,
-        reply,
-    }
-}
-
-/// The line of a command with the name that it gives, and its reply.
-fn named_act(said: &Command, name: Name, reply: Reply) -> Act
-    requires { name_given said.now ≡ Some name }
-    ensures { (w : World) → run.told w said.now reply ≡ result }
-{
-    let device = name;
-    match said {
-        Command::OpenDev(_) => Act::OpenDev { device, reply },
-        Command::OpenSole(_) => Act::OpenSole { device, reply },
-        Command::CloseDev(_) => Act::CloseDev { device, reply },
-        Command::Io(_, value) => transfer_act(device, *value, reply),
-        Command::Detach(_) => Act::Detach { device, reply },
-        Command::Rescan { .. } => Act::Rescan { device, reply },
-        Command::Suspend(_) => power_act(PowerKind::Suspend, device, reply),
-        Command::Resume(_) => power_act(PowerKind::Resume, device, reply),
-        Command::ResumeTree(_) => power_act(PowerKind::ResumeTree, device, reply),
-        Command::Plug(_) => Act::Plug {
-            spot: device,
-            reply,
-        },
-        Command::Unplug(_) => Act::Unplug {
-            spot: device,
-            reply,
-        },
-        Command::ListDev(_) => unreachable!(),
-        Command::TreeDev(_) => unreachable!(),
-    }
-}
-
 /// A command that was refused, or had its effect.
 fn command_act(
     teller: &mut Teller,
     plain: &Plain,
     said: &Command,
-    refused: Option<Refusal>,
+    refused: Option<CommandRefusal>,
 ) -> Result<Act, Memory>
     requires few { length plain.now.live.devices ≤ 1024 }
-    requires live { AnswersLive (world_in teller.old plain.now) refused }
+    requires live { AnswersLive plain.now.live.devices refused }
     ensures act { IfOk result (λ a. a ≡ run.told (world_in teller.old plain.now) said.now (answer_by (world_in teller.old plain.now) refused)) }
     ensures rules { KeepsRules teller.old teller.new }
 {
     match name_given(said) {
         Some(name) => match answered(teller, plain, name, refused) {
-            Ok((name, reply)) => Ok(named_act(said, name, reply)),
+            Ok((name, reply)) => Ok(Act::of_command(said, name, reply)),
             Err(_) => Err(Memory),
         },
         None => listing_act(teller, plain, said),
@@ -242,11 +164,11 @@ pub fn answered_act(
     teller: &mut Teller,
     plain: &Plain,
     caller: u8,
-    refused: Option<Refusal>,
+    refused: Option<CommandRefusal>,
 ) -> Result<Act, Memory>
     requires few { length plain.now.live.devices ≤ 1024 }
     requires there { caller < length plain.now.callers.items }
-    requires live { AnswersLive (world_in teller.old plain.now) refused }
+    requires live { AnswersLive plain.now.live.devices refused }
     ensures act { IfOk result (λ a. a ≡ run.answered (world_in teller.old plain.now) caller (answer_by (world_in teller.old plain.now) refused)) }
     ensures rules { KeepsRules teller.old teller.new }
 {
@@ -254,19 +176,6 @@ pub fn answered_act(
     match command_at(rules, caller, over_of(plain, caller)) {
         Some(said) => command_act(teller, plain, said, refused),
         None => Ok(Act::End),
-    }
-}
-
-/// The name that a power command gave.
-fn power_name(said: &Command) -> &Name
-    requires { next.is_power said.now ≡ true }
-    ensures { result.now ≡ run.power_name (Some said.now) }
-{
-    match said {
-        Command::Suspend(name) => name,
-        Command::Resume(name) => name,
-        Command::ResumeTree(name) => name,
-        _ => unreachable!(),
     }
 }
 
@@ -279,9 +188,9 @@ pub fn power_end_act(
     end: PowerEnd,
 ) -> Result<Act, Memory>
     requires there { caller < length plain.now.callers.items }
-    requires live { EndsLive (world_in teller.old plain.now) end }
+    requires live { EndsLive plain.now.live.devices end }
     requires power { option_map_or next.is_power (next.command_of (world_in teller.old plain.now) caller) false ≡ true }
-    ensures act { IfOk result (λ a. a ≡ act.PowerEnd (run.power_name (next.command_of (world_in teller.old plain.now) caller)) (run.end_of (world_in teller.old plain.now) end)) }
+    ensures act { IfOk result (λ a. a ≡ power_end_act (world_in teller.old plain.now) caller end) }
     ensures rules { KeepsRules teller.old teller.new }
 {
     let rules = teller.rules;

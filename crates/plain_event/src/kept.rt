@@ -5,11 +5,11 @@ ghost use Rattle.run_rules.specs.Run as run;
 ghost use Rattle.run_rules.specs.World as world;
 ghost use Rattle.run_rules.specs.declared.event.Act.TheVariants as act;
 ghost use Rattle.run_rules.specs.declared.world.Setup.{Setup};
-ghost use Rattle.plain_event.specs.Kept.{act_by};
+ghost use Rattle.plain_event.specs.KnownAct.{act_by};
 ghost use Rattle.plain_names.specs.Names.{name_live};
 ghost use Rattle.plain_world.specs.Plain.{world_of};
 
-use crate::act::{Again, Kept, Key};
+use crate::act::{ActKey, Again, KnownAct};
 use cf_types::Memory;
 use dev_event::put_act;
 use plain_world::{Live, Plain, device_at};
@@ -30,7 +30,7 @@ pub fn places(spots: usize) -> usize {
 /// Where the act of a key is kept, among those of this many spots. Acts of a kind are side by side, because spots are
 /// searched one after the other.
 #[inline(always)]
-pub fn place_of(key: Key, spots: usize) -> usize {
+pub fn place_of(key: ActKey, spots: usize) -> usize {
     let kind = match key.again {
         Again::Nothing => 0,
         Again::Asleep => 1,
@@ -41,7 +41,7 @@ pub fn place_of(key: Key, spots: usize) -> usize {
 
 /// What is kept at a place.
 #[inline(always)]
-pub fn kept_at(kept: &[Option<Kept>], place: usize) -> Option<&Kept>
+pub fn kept_at(kept: &[Option<KnownAct>], place: usize) -> Option<&KnownAct>
     ensures { IfSome result (λ k. slice_index_or kept.now place None ≡ Some k.now) }
 {
     match kept.get(place) {
@@ -51,12 +51,12 @@ pub fn kept_at(kept: &[Option<Kept>], place: usize) -> Option<&Kept>
 }
 
 /// An act with its text.
-pub fn with_text(alloc: Global, key: Key, act: &SharedAct) -> Result<Kept, Memory>
+pub fn with_text(alloc: Global, key: ActKey, act: &SharedAct) -> Result<KnownAct, Memory>
     ensures { IfOk result (λ k. (k.key ≡ key) × (k.act ≡ act.now)) }
 {
     let mut text = Vec::with_capacity(alloc, USUAL)?;
     put_act(&mut text, act.get())?;
-    Ok(Kept {
+    Ok(KnownAct {
         key,
         act: act.clone()?,
         text,
@@ -66,11 +66,11 @@ pub fn with_text(alloc: Global, key: Key, act: &SharedAct) -> Result<Kept, Memor
 /// The key of a search below a parent that finds nothing.
 #[inline(always)]
 #[tactic(auto, unfolding(run_rules::specs::World::parent_name))]
-fn search_key(live: &Live, parent: u64, spot: u16) -> Option<Key>
+fn search_key(live: &Live, parent: u64, spot: u16) -> Option<ActKey>
     ensures { IfSome result (λ key. (s : Setup) → act.Found (world.parent_name s live.now.devices parent) (run.spot_name s spot) None ≡ act_by s key) }
 {
     match device_at(live, parent) {
-        Some(device) => Some(Key {
+        Some(device) => Some(ActKey {
             again: Again::Nothing,
             row: device.row,
             unit: device.unit,
@@ -82,12 +82,12 @@ fn search_key(live: &Live, parent: u64, spot: u16) -> Option<Key>
 
 /// The key of a device that falls asleep or wakes.
 #[inline(always)]
-fn power_key(live: &Live, of: u64, again: Again) -> Option<Key>
+fn power_key(live: &Live, of: u64, again: Again) -> Option<ActKey>
     ensures again { IfSome result (λ key. key.again ≡ again) }
     ensures name { IfSome result (λ key. (s : Setup) → world.unit_name s key.row key.unit ≡ name_live s live.now.devices of) }
 {
     match device_at(live, of) {
-        Some(device) => Some(Key {
+        Some(device) => Some(ActKey {
             again,
             row: device.row,
             unit: device.unit,
@@ -100,7 +100,7 @@ fn power_key(live: &Live, of: u64, again: Again) -> Option<Key>
 /// The key of the act of a deed, if it comes again and again.
 #[inline(always)]
 #[tactic(auto, unfolding(run_rules::specs::Run::printed))]
-pub fn key_of(plain: &Plain, deed: &Deed) -> Option<Key>
+pub fn key_of(plain: &Plain, deed: &Deed) -> Option<ActKey>
     ensures { IfSome result (λ key. (s : Setup) (k : ℕ) → run.printed (world_of s plain.now) k deed.now ≡ act_by s key) }
 {
     match *deed {

@@ -9,7 +9,7 @@ mod teller;
 mod telling;
 mod told;
 
-pub use act::{Again, Kept, Key};
+pub use act::{ActKey, Again, KnownAct};
 pub use teller::Teller;
 pub use telling::told_before;
 pub use told::{event_of, number_of};

@@ -1,9 +1,9 @@
 //! The maker of events, and what it keeps of earlier ones.
 ghost use Rattle.std.specs.Prelude.{◌≡◌, IfOk, IfSome};
 ghost use Rattle.run_rules.specs.declared.world.Setup.{Setup};
-ghost use Rattle.plain_event.specs.Kept.{AreKept, IsKept, act_by};
+ghost use Rattle.plain_event.specs.KnownAct.{AreKept, IsKept, act_by};
 
-use crate::act::{Kept, Key};
+use crate::act::{ActKey, KnownAct};
 use crate::kept::{kept_at, place_of, places};
 use crate::names::Names;
 use cf_types::Memory;
@@ -16,12 +16,12 @@ pub struct Teller<'a> {
     pub alloc: Global,
     pub rules: &'a Rules<'a>,
     pub(crate) names: Names,
-    kept: Vec<Option<Kept>>,
+    kept: Vec<Option<KnownAct>>,
     ghost kept_so: { AreKept rules.now kept.items },
 }
 
 /// Room for this many acts.
-fn room_for(alloc: Global, places: usize) -> Result<Vec<Option<Kept>>, Memory>
+fn room_for(alloc: Global, places: usize) -> Result<Vec<Option<KnownAct>>, Memory>
     ensures { (s : Setup) → IfOk result (λ kept. AreKept s kept.items) }
 {
     let mut kept = Vec::with_capacity(alloc, places)?;
@@ -48,7 +48,7 @@ impl<'a> Teller<'a> {
 
     /// What is kept by a key.
     #[inline(always)]
-    pub fn kept_by(&self, key: Key) -> Option<&Kept>
+    pub fn kept_by(&self, key: ActKey) -> Option<&KnownAct>
         ensures { IfSome result (λ k. k.now.act ≡ act_by self.now.rules.now key) }
     {
         let rules = self.rules;
@@ -59,7 +59,7 @@ impl<'a> Teller<'a> {
     }
 
     /// Keeps an act, replacing the one that was kept at its place.
-    pub fn put(&mut self, kept: Kept)
+    pub fn put(&mut self, kept: KnownAct)
         requires { IsKept self.old.rules.now kept }
         ensures { self.new.rules.now ≡ self.old.rules.now }
     {

@@ -5,7 +5,7 @@ ghost use Rattle.run_rules.specs.World as world;
 ghost use Rattle.plain_event.specs.Tellers.{KeepsRules, setup_in, world_in};
 ghost use Rattle.plain_names.specs.Names.{name_live};
 
-use crate::act::Kept;
+use crate::act::KnownAct;
 use crate::kept::{key_of, with_text};
 use crate::teller::Teller;
 use cf_types::{Memory, Name};
@@ -30,7 +30,7 @@ fn driver_at<'a>(rules: &'a Rules, row: u32) -> Option<&'a Name>
 
 /// The earlier act of such a deed, if it is kept.
 #[inline(always)]
-pub fn told_before<'a>(teller: &'a Teller, plain: &Plain, deed: &Deed) -> Option<&'a Kept>
+pub fn told_before<'a>(teller: &'a Teller, plain: &Plain, deed: &Deed) -> Option<&'a KnownAct>
     ensures { (k : ℕ) → IfSome result (λ kept. kept.now.act ≡ run.printed (world_in teller.now plain.now) k deed.now) }
 {
     match key_of(plain, deed) {

@@ -7,30 +7,19 @@ ghost use Rattle.run_rules.specs.World as world;
 ghost use Rattle.run_rules.specs.World.{World};
 ghost use Rattle.run_rules.specs.declared.world.Setup.{Setup};
 ghost use Rattle.plain_event.specs.Tellers.{KeepsRules, setup_in, world_in};
-ghost use Rattle.plain_event.specs.Told.{MayBeTold, device_told, event_with};
+ghost use Rattle.run_rules.specs.Said.{MayBeTold, found_act};
+ghost use Rattle.plain_event.specs.Told.{device_told, event_with};
 ghost use Rattle.plain_names.specs.Names.{name_live};
 ghost use Rattle.plain_world.specs.Plain.{HasCaller, world_of};
 
-use crate::act::Kept;
+use crate::act::KnownAct;
 use crate::command_act::{answered_act, over_of, power_end_act};
 use crate::teller::Teller;
 use crate::telling::{keep, live_name, parent_name, told_before};
-use cf_types::{Memory, Name, Ticket};
+use cf_types::{Memory, Name};
 use plain_names::{got_of, shown_of, spot_name};
 use plain_world::{Live, Plain};
 use run_rules::{Act, Arrival, Deed, Event, IoAnswer, SharedAct};
-
-/// What a transfer brings.
-#[tactic(auto, unfolding(run_rules::specs::Run::answer_of))]
-fn answer_of(ticket: Ticket) -> IoAnswer
-    ensures { result ≡ run.answer_of ticket }
-{
-    if ticket.bad {
-        IoAnswer::DeviceError
-    } else {
-        IoAnswer::Number((ticket.slot as u32).wrapping_add(ticket.value))
-    }
-}
 
 /// A search of a spot, with what came there.
 fn found_act(
@@ -41,7 +30,7 @@ fn found_act(
     got: Option<Arrival>,
 ) -> Result<Act, Memory>
     requires spot { spot < length teller.old.rules.now.machine.spots }
-    ensures act { IfOk result (λ a. a ≡ act.Found (world.parent_name (setup_in teller.old) live.now.devices parent) (run.spot_name (setup_in teller.old) spot) (run.got_of (setup_in teller.old) got)) }
+    ensures act { IfOk result (λ a. a ≡ found_act (setup_in teller.old) live.now.devices parent spot got) }
     ensures rules { KeepsRules teller.old teller.new }
 {
     let alloc = teller.alloc;
@@ -92,7 +81,7 @@ fn line_with(deed: &Deed, of: u64, device: Name) -> Act
         Deed::Drop { .. } => Act::DropRef { device },
         Deed::Done(ticket) => Act::IoDone {
             device,
-            answer: answer_of(ticket),
+            answer: IoAnswer::of(ticket),
         },
         Deed::Free { .. } => Act::Free { device },
         Deed::Sleep { .. } => Act::Sleep { device },
@@ -178,7 +167,7 @@ fn act_anew(
 }
 
 /// The event of a deed whose act was kept.
-fn event_again(plain: &Plain, caller: u8, kept: &Kept) -> Result<Event, Memory>
+fn event_again(plain: &Plain, caller: u8, kept: &KnownAct) -> Result<Event, Memory>
     requires caller { HasCaller plain.now caller 500 }
     ensures { (s : Setup) → IfOk result (λ e. e ≡ event_with (world_of s plain.now) caller kept.now.act) }
 {

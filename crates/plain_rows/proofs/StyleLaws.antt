@@ -1,8 +1,8 @@
 -- Style lines by attachment, one line more.
-use Rattle.std.proofs.Common.{◌≡◌, ℕ, zero, suc, ◌+◌, ◌<◌, Bool, true, false, not, cond, ◌&&◌, ◌==◌, List, [], ◌∷◌, ◌++◌, length, map, take, find, reverse, Option, Some, None, option_map, slice_index_or, slice_set, refl, sym, ◌∙◌, ap, arith, eq-eqb}
+use Rattle.std.proofs.Common.{◌≡◌, ℕ, zero, suc, ◌<◌, Bool, true, false, not, cond, ◌&&◌, ◌==◌, List, [], ◌∷◌, ◌++◌, length, find, reverse, Option, Some, option_map, slice_index_or, slice_set, refl, sym, ◌∙◌, ap, arith, eq-eqb}
 use Rattle.std.specs.Global.{Global}
 use Rattle.std.specs.Prelude.{Vec, filter, if◌then◌else◌}
-use Rattle.std.proofs.lemmas.Bool.{eqb-true, false≢true, ne_eqb}
+use Rattle.std.proofs.lemmas.Bool.{eqb-true, false≢true}
 use Rattle.std.proofs.lemmas.List.{get_or-set_other, get_or-set_same, length-map, map-append, reverse-append}
 use Rattle.cf_types.specs.declared.machine.StyleLine.{StyleLine}
 use Rattle.plain_rows.specs.Styles.{lists_of, style_at, style_in, style_of_lines}

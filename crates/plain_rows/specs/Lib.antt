@@ -1,5 +1,7 @@
-pub mod Values
-pub mod Own
+pub mod Lists
+pub mod Placed
+pub mod Drivers
 pub mod Suited
+pub mod Sought
 pub mod Taken
 pub mod Styles

@@ -1,5 +1,5 @@
 -- The styles of attachments and attributes.
-use Rattle.std.specs.Prelude.{◌≡◌, ℕ, Bool, ◌&&◌, ◌==◌, List, [], find, map, reverse, Option, option_map, Vec}
+use Rattle.std.specs.Prelude.{◌≡◌, ℕ, Bool, ◌&&◌, ◌==◌, if◌then◌else◌, List, [], find, map, reverse, Option, Some, option_map, Vec}
 use Rattle.std.specs.Global.{Global}
 use Rattle.std.specs.List.{slice_index_or}
 use Rattle.cf_types.specs.declared.machine.StyleLine.{StyleLine}
@@ -23,3 +23,7 @@ style_of_lines lines k a = option_map (λ line. line.indirect) (find (λ line. l
 -- the lists say what the lines do
 abbrev pub AreStyles : List StyleLine → Styles → Type 0
 AreStyles lines styles = (k a : ℕ) → style_at (lists_of styles.lists.items) k a ≡ style_of_lines lines k a
+
+-- what this line says is said of its attachment and its attribute, and of all others the same as before
+abbrev pub HaveStyle : StyleLine → List (List StyleLine) → List (List StyleLine) → Type 0
+HaveStyle line old new = (k a : ℕ) → style_at new k a ≡ (if line.attach == k && line.attr == a then Some line.indirect else style_at old k a)

@@ -11,6 +11,13 @@ use Rattle.run_rules.specs.World.{driver_of}
 abbrev pub is_of : List Row → ℕ → ℕ → ℕ → Bool
 is_of rows driver unit r = option_map_or (λ row. driver == row.device && unit == row.unit) (slice_get rows r) false
 
+-- how often a row is in a list, where it has this unit
+abbrev pub has_unit : List Row → ℕ → ℕ → Bool
+has_unit rows unit r = option_map_or (λ row. unit == row.unit) (slice_get rows r) false
+
+abbrev pub times : List Row → ℕ → List ℕ → ℕ → ℕ
+times rows unit list r = count_by (λ q. q == r && has_unit rows unit q) list
+
 -- whether a row is of the driver of another one and of this unit
 abbrev pub is_row_of : Setup → ℕ → ℕ → ℕ → Bool
 is_row_of s row unit r = is_of s.tables.rows (driver_of s row) unit r

@@ -1,7 +1,7 @@
 //! Which attributes the devices of an attachment search row by row.
 ghost use Rattle.std.specs.Prelude.{◌≡◌, ◌<◌, ◌==◌, ◌&&◌, ◌∷◌, ℕ, [], false, not, if◌then◌else◌, filter, length, option_map, IfOk, OnOk, Some};
 ghost use Rattle.std.specs.Option.{option_map_or};
-ghost use Rattle.plain_rows.specs.Styles.{AreStyles, lists_of, style_at, style_in, style_of_lines};
+ghost use Rattle.plain_rows.specs.Styles.{AreStyles, HaveStyle, lists_of, style_at, style_in, style_of_lines};
 
 use cf_types::{Memory, StyleLine};
 use std::alloc::Global;
@@ -42,7 +42,7 @@ fn reach(alloc: Global, lists: &mut Vec<Vec<StyleLine>>, attach: u32) -> Result<
 
 /// Adds a line to those of its attachment.
 fn add(alloc: Global, lists: &mut Vec<Vec<StyleLine>>, line: &StyleLine) -> Result<(), Memory>
-    ensures { OnOk result ((k a : ℕ) → style_at (lists_of lists.new.items) k a ≡ (if line.now.attach == k && line.now.attr == a then Some line.now.indirect else style_at (lists_of lists.old.items) k a)) }
+    ensures { OnOk result (HaveStyle line.now (lists_of lists.old.items) (lists_of lists.new.items)) }
 {
     reach(alloc, lists, line.attach)?;
     put(&mut lists[line.attach as usize], line)

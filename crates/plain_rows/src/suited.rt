@@ -4,12 +4,14 @@ ghost use Rattle.std.specs.List.{slice_index_or};
 ghost use Rattle.cf_types.specs.Locators.{locators_at, submatch};
 ghost use Rattle.run_rules.specs.Search.{found_at};
 ghost use Rattle.run_rules.specs.World as world;
-ghost use Rattle.plain_rows.specs.Suited.{AreSuited, FindsAlike, FindsBest, candidates, key_of};
+ghost use Rattle.plain_rows.specs.Suited.{AreSuited, FindsAlike, FindsBest, RepeatsAt, key_of, suits_by};
+ghost use Rattle.plain_rows.specs.Sought.{HaveAll, candidate_at, candidates_in};
 ghost use Rattle.plain_rows.specs.declared.suited.Candidate.{Candidate as Given};
-ghost use Rattle.plain_rows.specs.Values.{AreValuesAt};
+ghost use Rattle.run_rules.specs.MatchLines.{AreValuesAt};
 
 use crate::lines::own_lines;
-use crate::values::{set_values, value_of, values_at};
+use crate::placed::PlacedRows;
+use crate::values::{set_own, set_values, unset_own, value_of};
 use cf_types::{Locs, Machine, Memory, ParentSpec, Place, Row, Tables};
 use locator_rules::submatch;
 use std::alloc::Global;
@@ -37,6 +39,17 @@ impl Model for Suited {
 struct Candidate {
     value: Reverse<u32>,
     row: u32,
+}
+
+/// What is sought: the rows of these tables that suit a spot of the machine at its place, with the match values of
+/// attachments there.
+#[derive(Clone, Copy)]
+struct Sought<'a> {
+    tables: &'a Tables,
+    machine: &'a Machine,
+    values: &'a Vec<u32>,
+    place: Place,
+    spot: u16,
 }
 
 /// Whether two places are the same.
@@ -67,40 +80,42 @@ pub fn passes(tables: &Tables, machine: &Machine, place: Place, row: &Row, spot:
     }
 }
 
-/// Whether a row of this match value suits a spot at a place.
-fn is_suited(
-    tables: &Tables,
-    machine: &Machine,
-    place: Place,
-    row: &Row,
-    spot: u16,
-    value: u32,
-) -> bool
-    ensures { result ≡ (world.same_place row.now.place place && nat_lt 0 value && submatch (locators_at tables.now.attrs place) row.now.locs (found_at machine.now spot)) }
+/// Whether a row of this match value suits the spot that is sought for.
+fn is_suited(sought: &Sought, row: &Row, value: u32) -> bool
+    ensures { result ≡ suits_by sought.now.tables.now sought.now.machine.now sought.now.place sought.now.spot row.now value }
 {
-    is_at(row.place, place) && value > 0 && passes(tables, machine, place, row, spot)
+    let place = sought.place;
+    is_at(row.place, place)
+        && value > 0
+        && passes(sought.tables, sought.machine, place, row, sought.spot)
 }
 
-/// The rows that suit a spot at a place, in their order.
-fn suiting_rows(
-    tables: &Tables,
-    machine: &Machine,
-    values: &Vec<u32>,
-    place: Place,
-    spot: u16,
-) -> Result<Vec<Candidate>, Memory>
-    requires few { length tables.now.rows ≤ 8192 }
-    requires values { AreValuesAt machine.now spot values.now.items }
-    ensures { IfOk result (λ list. list.items ≡ candidates tables.now machine.now place spot (length tables.now.rows)) }
+/// The candidate that a row is, if it suits the spot.
+fn candidate_of(sought: &Sought, number: u32) -> Option<Candidate>
+    requires { AreValuesAt sought.now.machine.now sought.now.spot sought.now.values.now.items }
+    ensures { result ≡ candidate_at sought.now number }
 {
-    let mut list = Vec::new(*values.allocator());
-    for (number, row) in tables.rows.items().iter().enumerate() {
-        let value = value_of(values, row.attach);
-        if is_suited(tables, machine, place, row, spot, value) {
-            list.push(Candidate {
-                value: Reverse(value),
-                row: number as u32,
-            })?;
+    let row = sought.tables.rows.items().get(number as usize)?;
+    let value = value_of(sought.values, row.attach);
+    if is_suited(sought, row, value) {
+        Some(Candidate {
+            value: Reverse(value),
+            row: number,
+        })
+    } else {
+        None
+    }
+}
+
+/// Those of some rows that suit the spot, in their order.
+fn suiting_rows(sought: &Sought, rows: &[u32]) -> Result<Vec<Candidate>, Memory>
+    requires { AreValuesAt sought.now.machine.now sought.now.spot sought.now.values.now.items }
+    ensures { IfOk result (λ list. list.items ≡ candidates_in sought.now rows.now) }
+{
+    let mut list = Vec::new(*sought.values.allocator());
+    for row in rows {
+        if let Some(candidate) = candidate_of(sought, *row) {
+            list.push(candidate)?;
         }
     }
     Ok(list)
@@ -136,7 +151,7 @@ fn is_alike(tables: &Tables, first: u32, second: u32) -> bool
 /// Whether the candidate at a place is alike to the one before it.
 fn repeats(tables: &Tables, list: &[Candidate], place: usize) -> bool
     requires { place < length list.now }
-    ensures { IsTrue result → (0 < place) × ((c d : Given) → key_of tables.now (slice_index_or list.now (place - 1) c).row ≡ key_of tables.now (slice_index_or list.now place d).row) }
+    ensures { IsTrue result → RepeatsAt tables.now list.now place }
 {
     place > 0 && is_alike(tables, list[place - 1].row, list[place].row)
 }
@@ -154,21 +169,15 @@ fn rows_of(tables: &Tables, list: &Vec<Candidate>) -> Result<Vec<u32>, Memory>
     Ok(rows)
 }
 
-/// The rows that suit a spot at a place, the best first.
-fn best_first(
-    tables: &Tables,
-    machine: &Machine,
-    values: &Vec<u32>,
-    place: Place,
-    spot: u16,
-) -> Result<Vec<u32>, Memory>
-    requires few { length tables.now.rows ≤ 8192 }
-    requires values { AreValuesAt machine.now spot values.now.items }
-    ensures { IfOk result (λ rows. FindsBest tables.now machine.now place spot rows.items) }
+/// The rows that suit the spot, the best first. All that suit it are among those that are given.
+fn best_first(sought: &Sought, rows: &[u32]) -> Result<Vec<u32>, Memory>
+    requires all { HaveAll sought.now rows.now }
+    requires values { AreValuesAt sought.now.machine.now sought.now.spot sought.now.values.now.items }
+    ensures { IfOk result (λ list. FindsBest sought.now.tables.now sought.now.machine.now sought.now.place sought.now.spot list.items) }
 {
-    let mut list = suiting_rows(tables, machine, values, place, spot)?;
+    let mut list = suiting_rows(sought, rows)?;
     list.sort()?;
-    rows_of(tables, &list)
+    rows_of(sought.tables, &list)
 }
 
 impl Suited {
@@ -181,10 +190,21 @@ impl Suited {
         let mut everywhere = Vec::new(alloc);
         set_values(&mut everywhere, machine.matches.items(), None)?;
         let own = own_lines(alloc, machine.spots.items(), machine.matches.items())?;
+        let placed = PlacedRows::make(alloc, tables.rows.items())?;
+        let mut values = Vec::from_slice(alloc, &everywhere)?;
         let mut lists = Vec::with_capacity(alloc, machine.spots.len())?;
         for (number, spot) in machine.spots.items().iter().enumerate() {
-            let values = values_at(&everywhere, machine, &own[number], number as u16)?;
-            let rows = best_first(tables, machine, &values, spot.place, number as u16)?;
+            let own_here = own[number].as_slice();
+            set_own(&mut values, machine, own_here, number as u16)?;
+            let sought = Sought {
+                tables,
+                machine,
+                values: &values,
+                place: spot.place,
+                spot: number as u16,
+            };
+            let rows = best_first(&sought, placed.rows(spot.place))?;
+            unset_own(&mut values, &everywhere, own_here)?;
             lists.push(rows)?;
         }
         Ok(Suited { lists })

@@ -1,7 +1,7 @@
 //! How many live devices have the driver and the unit of each row.
-ghost use Rattle.std.specs.Prelude.{◌≡◌, ◌<◌, ◌+◌, ◌-◌, ◌^◌, ◌==◌, ◌&&◌, ℕ, length, map, nat_lt, IfOk};
+ghost use Rattle.std.specs.Prelude.{◌≡◌, ◌<◌, ◌+◌, ◌-◌, ◌^◌, ℕ, length, map, nat_lt, IfOk};
 ghost use Rattle.std.specs.List.{slice_index_or};
-ghost use Rattle.plain_rows.specs.Taken.{is_of, one_if};
+ghost use Rattle.plain_rows.specs.Taken.{has_unit, times};
 
 use cf_types::{Memory, Row};
 use std::alloc::Global;
@@ -21,34 +21,38 @@ impl Model for Taken {
     ghost view = { λ taken. taken.counts.items };
 }
 
-/// Whether a row is of this driver and unit.
+/// Whether a row has this unit.
 #[inline(always)]
-fn is_named(row: &Row, driver: u32, unit: u32) -> bool
-    ensures { result ≡ (driver == row.now.device && unit == row.now.unit) }
+fn is_of_unit(rows: &[Row], row: u32, unit: u32) -> bool
+    ensures { result ≡ has_unit rows.now unit row }
 {
-    driver == row.device && unit == row.unit
+    match rows.get(row as usize) {
+        Some(row) => unit == row.unit,
+        None => false,
+    }
 }
 
-/// One more for each row of a driver and a unit.
-fn raise(counts: &mut [u32], rows: &[Row], driver: u32, unit: u32)
+/// One more for each of some rows that has a unit.
+fn raise(counts: &mut [u32], rows: &[Row], listed: &[u32], unit: u32)
     requires rows { length counts.old ≡ length rows.now }
-    requires low { (r : ℕ) → slice_index_or counts.old r 0 < 2 ^ 32 - 1 }
-    ensures { (r : ℕ) → slice_index_or counts.new r 0 ≡ slice_index_or counts.old r 0 + one_if (is_of rows.now driver unit r) }
+    requires low { (r : ℕ) → slice_index_or counts.old r 0 + times rows.now unit listed.now r < 2 ^ 32 }
+    ensures { (r : ℕ) → slice_index_or counts.new r 0 ≡ slice_index_or counts.old r 0 + times rows.now unit listed.now r }
 {
-    for (number, row) in rows.iter().enumerate() {
-        if is_named(row, driver, unit) {
-            counts[number] += 1;
+    for row in listed {
+        if is_of_unit(rows, *row, unit) {
+            counts[*row as usize] += 1;
         }
     }
 }
 
-/// One less for each row of a driver and a unit.
-fn lower(counts: &mut [u32], rows: &[Row], driver: u32, unit: u32)
+/// One less for each of some rows that has a unit.
+fn lower(counts: &mut [u32], rows: &[Row], listed: &[u32], unit: u32)
     requires rows { length counts.old ≡ length rows.now }
-    ensures { (r : ℕ) → slice_index_or counts.new r 0 ≡ slice_index_or counts.old r 0 - one_if (is_of rows.now driver unit r) }
+    ensures { (r : ℕ) → slice_index_or counts.new r 0 ≡ slice_index_or counts.old r 0 - times rows.now unit listed.now r }
 {
-    for (number, row) in rows.iter().enumerate() {
-        if is_named(row, driver, unit) {
+    for row in listed {
+        if is_of_unit(rows, *row, unit) {
+            let number = *row as usize;
             counts[number] = counts[number].saturating_sub(1);
         }
     }
@@ -74,23 +78,23 @@ impl Taken {
         Ok(Taken { counts })
     }
 
-    /// One more device has this driver and unit.
-    pub fn enter(&mut self, rows: &[Row], driver: u32, unit: u32)
+    /// One more device has this unit and the driver of the listed rows.
+    pub fn enter(&mut self, rows: &[Row], listed: &[u32], unit: u32)
         requires rows { length self.old ≡ length rows.now }
-        requires low { (r : ℕ) → slice_index_or self.old r 0 < 2 ^ 32 - 1 }
-        ensures numbers { (r : ℕ) → slice_index_or self.new r 0 ≡ slice_index_or self.old r 0 + one_if (is_of rows.now driver unit r) }
+        requires low { (r : ℕ) → slice_index_or self.old r 0 + times rows.now unit listed.now r < 2 ^ 32 }
+        ensures numbers { (r : ℕ) → slice_index_or self.new r 0 ≡ slice_index_or self.old r 0 + times rows.now unit listed.now r }
         ensures rows { length self.new ≡ length self.old }
     {
-        raise(&mut self.counts, rows, driver, unit);
+        raise(&mut self.counts, rows, listed, unit);
     }
 
-    /// One device fewer has this driver and unit.
-    pub fn leave(&mut self, rows: &[Row], driver: u32, unit: u32)
+    /// One device fewer has this unit and the driver of the listed rows.
+    pub fn leave(&mut self, rows: &[Row], listed: &[u32], unit: u32)
         requires rows { length self.old ≡ length rows.now }
-        ensures numbers { (r : ℕ) → slice_index_or self.new r 0 ≡ slice_index_or self.old r 0 - one_if (is_of rows.now driver unit r) }
+        ensures numbers { (r : ℕ) → slice_index_or self.new r 0 ≡ slice_index_or self.old r 0 - times rows.now unit listed.now r }
         ensures rows { length self.new ≡ length self.old }
     {
-        lower(&mut self.counts, rows, driver, unit);
+        lower(&mut self.counts, rows, listed, unit);
     }
 
     /// Whether any device has the driver and the unit of a row.

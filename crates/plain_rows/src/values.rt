@@ -1,7 +1,7 @@
 //! The match values of all attachments at one spot.
-ghost use Rattle.std.specs.Prelude.{◌≡◌, ◌==◌, ℕ, if◌then◌else◌, OnOk, IfOk, None, Some, filter};
-ghost use Rattle.std.specs.List.{slice_index_or};
-ghost use Rattle.plain_rows.specs.Values.{AreValuesAt, is_for, last_value};
+ghost use Rattle.std.specs.Prelude.{◌≡◌, ◌==◌, ℕ, false, if◌then◌else◌, OnOk, None, Some, filter};
+ghost use Rattle.std.specs.List.{list_any, slice_index_or};
+ghost use Rattle.run_rules.specs.MatchLines.{AreEverywhere, AreValuesAt, is_for, last_value};
 
 use cf_types::{Machine, MatchLine, Memory};
 
@@ -18,8 +18,8 @@ fn set_value(values: &mut Vec<u32>, attach: u32, value: u32) -> Result<(), Memor
 }
 
 /// The value of an attachment; values beyond the end are 0.
-pub fn value_of(values: &[u32], attach: u32) -> u32
-    ensures { result ≡ slice_index_or values.now attach 0 }
+pub fn value_of(values: &Vec<u32>, attach: u32) -> u32
+    ensures { result ≡ slice_index_or values.now.items attach 0 }
 {
     match values.get(attach as usize) {
         Some(value) => *value,
@@ -54,19 +54,35 @@ pub fn set_values(
     Ok(())
 }
 
-/// The match values of attachments at a spot: those of the lines for all spots, changed by its own lines.
+/// Sets the match values of attachments at a spot, where those of the lines for all spots are set.
 #[tactic(auto, unfolding(run_rules::specs::Search::match_value))]
-pub fn values_at(
-    everywhere: &Vec<u32>,
+pub fn set_own(
+    values: &mut Vec<u32>,
     machine: &Machine,
     own: &[MatchLine],
     spot: u16,
-) -> Result<Vec<u32>, Memory>
-    requires everywhere { (a : ℕ) → slice_index_or everywhere.now.items a 0 ≡ last_value None machine.now.matches a 0 }
+) -> Result<(), Memory>
+    requires everywhere { AreEverywhere machine.now values.old.items }
     requires own { own.now ≡ filter (is_for (Some spot)) machine.now.matches }
-    ensures { IfOk result (λ values. AreValuesAt machine.now spot values.items) }
+    ensures values { OnOk result (AreValuesAt machine.now spot values.new.items) }
+    ensures kept { OnOk result ((a : ℕ) → list_any (λ line. line.attach == a) own.now ≡ false
+        → slice_index_or values.new.items a 0 ≡ slice_index_or values.old.items a 0) }
 {
-    let mut values = Vec::from_slice(*everywhere.allocator(), everywhere)?;
-    set_values(&mut values, own, Some(spot))?;
-    Ok(values)
+    set_values(values, own, Some(spot))?;
+    Ok(())
+}
+
+/// Sets the values of the attachments of these lines to those of the lines for all spots.
+pub fn unset_own(
+    values: &mut Vec<u32>,
+    everywhere: &Vec<u32>,
+    own: &[MatchLine],
+) -> Result<(), Memory>
+    ensures { OnOk result ((a : ℕ) → slice_index_or values.new.items a 0
+        ≡ (if list_any (λ line. line.attach == a) own.now then slice_index_or everywhere.now.items a 0 else slice_index_or values.old.items a 0)) }
+{
+    for line in own {
+        set_value(values, line.attach, value_of(everywhere, line.attach))?;
+    }
+    Ok(())
 }

@@ -1,80 +1,39 @@
 -- The first open one of the rows that suit a spot, the best first, is the winner.
-use Rattle.std.proofs.Common.{◌≡◌, ℕ, ◌+◌, ◌<◌, ◌≤◌, Bool, true, false, not, ◌&&◌, ◌||◌, ◌==◌, nat_lt, cond, List, [], ◌∷◌, length, find, Option, Some, None, slice_get, slice_index_or, refl, sym, ◌∙◌, ap, subst, inl, inr, arith}
+use Rattle.std.proofs.Common.{◌≡◌, ℕ, ◌+◌, Bool, true, false, not, ◌&&◌, ◌||◌, ◌==◌, nat_lt, cond, List, [], ◌∷◌, length, find, Option, Some, None, slice_get, slice_index_or, refl, sym, ◌∙◌, ap, arith}
 use Rattle.std.specs.List.{count_by, list_any}
 use Rattle.std.specs.Option.{option_map_or}
 use Rattle.std.specs.Prelude.{option_map}
-use Rattle.std.proofs.lemmas.Bool.{cases_lt, eqb-true}
+use Rattle.cf_types.proofs.TestLemmas.{clash}
 use Rattle.std.proofs.lemmas.Bool.Decides.{nat_tests}
 use Rattle.std.proofs.lemmas.List.Sums.{sum_by-append}
-use Rattle.std.proofs.lemmas.Option.{slice_get_past}
-use Rattle.cf_types.specs.declared.machine.Spot.{Spot}
 use Rattle.cf_types.specs.declared.tables.ParentSpec.{ParentSpec}
 use Rattle.cf_types.specs.declared.tables.Place.{Place}
-use Rattle.cf_types.specs.declared.tables.Place.TheVariants.{Root, At}
 use Rattle.cf_types.specs.declared.tables.Row.{Row}
-use Rattle.cf_types.specs.Locators.{locators_at, submatch}
 use Rattle.run_rules.specs.declared.world.Dev.{Dev}
 use Rattle.run_rules.specs.declared.world.ParentRef.{ParentRef}
 use Rattle.run_rules.specs.declared.world.Setup.{Setup}
-use Rattle.run_rules.specs.Search.{found_at, is_candidate, is_live_row, is_taken, match_value, names_parent, parent_offers, value_of, winner}
-use Rattle.run_rules.specs.World.{driver_of, same_place}
+use Rattle.run_rules.specs.Search.{is_candidate, is_live_row, is_taken, names_parent, parent_offers, value_of, winner}
+use Rattle.run_rules.specs.World.{driver_of}
 use Rattle.run_rules.proofs.Below.{and_both}
+use Rattle.run_rules.proofs.SpotLists.{listed}
+use Rattle.run_rules.proofs.Suits.{below_earlier, none_takes, not_above, suits_within, taken_is}
 use Rattle.run_rules.proofs.Turns.{find_same}
 use Rattle.run_rules.proofs.Winner.{IsBest, winner_is}
-use Rattle.plain_rows.specs.Suited.{AreSuited, FindsBest, TellsAlike, key_of, suits}
+use Rattle.run_rules.specs.Suits.{hangs_at, suits}
+use Rattle.plain_rows.specs.Suited.{AreSuited, FindsBest, TellsAlike, key_of}
 use Rattle.plain_rows.specs.Taken.{AreTakers, one_if, takers}
-use Rattle.plain_search.specs.Open.{hangs_at, is_open_to, open_by}
-
-clash : (b : Bool) → b ≡ true → b ≡ false → ⊥
-clash b h k = absurd cc
+use Rattle.plain_search.specs.Open.{is_open_to, open_by}
 
 -- ---- which rows are candidates
-
-shuffle : (l s n m v : Bool) → (l && (s && true && n) && m && v) ≡ ((l && n) && (s && v && m))
-shuffle false s n m v = refl
-shuffle true false true m v = refl
-shuffle true false false m v = refl
-shuffle true true false m v = refl
-shuffle true true true true true = refl
-shuffle true true true true false = refl
-shuffle true true true false true = refl
-shuffle true true true false false = refl
 
 candidate_is : (s : Setup) (live : List Dev) (p : ParentRef) (place : Place) (x r : ℕ) → parent_offers s.tables p place ≡ true
     → is_candidate s live p place x r ≡ (is_open_to s live p r && suits s.tables s.machine place x r)
 unfolding is_candidate
-candidate_is s live p place x r offered = cases (slice_get s.tables.rows r)
-  where
-    cases : (o : Option Row)
-        → option_map_or (λ row. is_live_row s live row && (same_place row.place place && parent_offers s.tables p place && names_parent row.parent p)
-        && submatch (locators_at s.tables.attrs place) row.locs (found_at s.machine x) && nat_lt 0 (match_value s.machine row.attach x)) o false
-        ≡ (option_map_or (λ row. is_live_row s live row && names_parent row.parent p) o false
-        && option_map_or (λ row. same_place row.place place && nat_lt 0 (match_value s.machine row.attach x) && submatch (locators_at s.tables.attrs place) row.locs (found_at s.machine x)) o false)
-    cases None = refl
-    cases (Some row) = rw offered (shuffle (is_live_row s live row) (same_place row.place place) (names_parent row.parent p)
-        (submatch (locators_at s.tables.attrs place) row.locs (found_at s.machine x)) (nat_lt 0 (match_value s.machine row.attach x)))
+candidate_is s live p place x r offered = taken_is (is_live_row s live) s.tables s.machine p place x r offered
 
 none_is : (s : Setup) (live : List Dev) (p : ParentRef) (place : Place) (x r : ℕ) → parent_offers s.tables p place ≡ false → is_candidate s live p place x r ≡ false
 unfolding is_candidate
-none_is s live p place x r offered = cases (slice_get s.tables.rows r)
-  where
-    fails : (l s n m v : Bool) → (l && (s && false && n) && m && v) ≡ false
-    fails false s n m v = refl
-    fails true true n m v = refl
-    fails true false n m v = refl
-
-    cases : (o : Option Row)
-        → option_map_or (λ row. is_live_row s live row && (same_place row.place place && parent_offers s.tables p place && names_parent row.parent p)
-        && submatch (locators_at s.tables.attrs place) row.locs (found_at s.machine x) && nat_lt 0 (match_value s.machine row.attach x)) o false ≡ false
-    cases None = refl
-    cases (Some row) = rw offered (fails (is_live_row s live row) (same_place row.place place) (names_parent row.parent p)
-        (submatch (locators_at s.tables.attrs place) row.locs (found_at s.machine x)) (nat_lt 0 (match_value s.machine row.attach x)))
-
-suits_within : (s : Setup) (place : Place) (x r : ℕ) → suits s.tables s.machine place x r ≡ true → r < length s.tables.rows
-suits_within s place x r h = elim (cases_lt r (length s.tables.rows)) [
-  | inl less ↦ less
-  | inr past ↦ let no_row : false ≡ true = rw (slice_get_past s.tables.rows r past) at h in absurd cc
-]
+none_is s live p place x r offered = none_takes (is_live_row s live) s.tables s.machine p place x r offered
 
 -- whether a row is open depends on its driver, its unit, its star and its parent alone
 abbrev open_of : Setup → List Dev → ParentRef → Option (ℕ × ℕ × Bool × Option ParentSpec) → Bool
@@ -92,12 +51,6 @@ open_alike s live p q r same = open_by_key s live p q ∙ ap (open_of s live p) 
 
 -- ---- the first open one is the best
 
-not_above : (v w q b : ℕ) → (nat_lt w v || (v == w && nat_lt q b)) ≡ false → v ≤ w
-not_above v w q b h = grind (arith, nat_tests)
-
-below_earlier : (v w q b : ℕ) → (nat_lt w v || (v == w && nat_lt q b)) ≡ false → q < b → v < w
-below_earlier v w q b h lt = grind (arith, nat_tests)
-
 listed_best : (s : Setup) (live : List Dev) (p : ParentRef) (place : Place) (x : ℕ) (rows : List ℕ) → parent_offers s.tables p place ≡ true → FindsBest s.tables s.machine place x rows
     → IsBest (is_candidate s live p place x) (λ q. value_of s q x) (length s.tables.rows) (find (is_open_to s live p) rows)
 listed_best s live p place x rows offered h = cases (find (is_open_to s live p) rows) refl
@@ -111,7 +64,7 @@ listed_best s live p place x rows offered h = cases (find (is_open_to s live p) 
 
     fails : (q : ℕ) (b : Bool) → is_candidate s live p place x q ≡ b → (suits s.tables s.machine place x q ≡ true → is_open_to s live p q ≡ false) → b ≡ false
     fails q false e shut = refl
-    fails q true e shut = let parts = both q e in absurd (clash (is_open_to s live p q) parts.0 (shut parts.1))
+    fails q true e shut = let parts = both q e in clash (is_open_to s live p q) parts.0 (shut parts.1)
 
     cases : (o : Option ℕ) → find (is_open_to s live p) rows ≡ o → IsBest (is_candidate s live p place x) (λ q. value_of s q x) (length s.tables.rows) o
     cases None e = λ q lt. fails q (is_candidate s live p place x q) refl (h.none (is_open_to s live p) tells e q)
@@ -119,27 +72,11 @@ listed_best s live p place x rows offered h = cases (find (is_open_to s live p) 
         let suited = h.suited (is_open_to s live p) tells b e in
         let passes = h.passes (is_open_to s live p) tells b e in
         record {
-          in_range = suits_within s place x b suited;
+          in_range = suits_within s.tables s.machine place x b suited;
           candidate = candidate_is s live p place x b offered ∙ rw (passes, suited) refl;
           no_greater = λ q lt may. let parts = both q may in not_above (value_of s q x) (value_of s b x) q b (h.best (is_open_to s live p) tells b e q parts.1 parts.0);
           no_earlier = λ q lt may. let parts = both q may in below_earlier (value_of s q x) (value_of s b x) q b (h.best (is_open_to s live p) tells b e q parts.1 parts.0) lt;
         }
-
--- ---- of the list of a spot
-
-place_is : (a b : Place) → same_place a b ≡ true → a ≡ b
-place_is Root Root h = refl
-place_is (At a) (At b) h = ap At (eqb-true a b h)
-place_is Root (At b) h = absurd cc
-place_is (At a) Root h = absurd cc
-
-listed : (s : Setup) (place : Place) (x : ℕ) (lists : List (List ℕ)) → AreSuited s.tables s.machine lists → hangs_at s.machine x place ≡ true
-    → FindsBest s.tables s.machine place x (slice_index_or lists x [])
-listed s place x lists h at = cases (slice_get s.machine.spots x) refl at
-  where
-    cases : (o : Option Spot) → slice_get s.machine.spots x ≡ o → option_map_or (λ spot. same_place spot.place place) o false ≡ true → FindsBest s.tables s.machine place x (slice_index_or lists x [])
-    cases None e k = absurd cc
-    cases (Some spot) e k = subst (λ u. FindsBest s.tables s.machine u x (slice_index_or lists x [])) (place_is spot.place place k) (h.rows x spot e)
 
 -- ---- by how many devices have the driver and the unit of a row
 
@@ -154,8 +91,8 @@ counted_any p (d ∷ ds) = ap (nat_lt 0) first ∙ cases (p d) (count_by p ds) (
     cases true n c more = grind (arith, nat_tests)
     cases false n c more = let z : 0 + n ≡ n = omega arith in ap (nat_lt 0) z ∙ more
 
-taken_is : (s : Setup) (live : List Dev) (r : ℕ) (row : Row) → slice_get s.tables.rows r ≡ Some row → nat_lt 0 (takers s live r) ≡ is_taken s live row.device row.unit
-taken_is s live r row at =
+pub taken_by : (s : Setup) (live : List Dev) (r : ℕ) (row : Row) → slice_get s.tables.rows r ≡ Some row → nat_lt 0 (takers s live r) ≡ is_taken s live row.device row.unit
+taken_by s live r row at =
     ap (λ (o : Option Row). nat_lt 0 (count_by (λ d. option_map_or (λ row. driver_of s d.row == row.device && d.unit == row.unit) o false) live)) at
     ∙ counted_any (λ d. driver_of s d.row == row.device && d.unit == row.unit) live
 
@@ -166,13 +103,13 @@ open_same s live counts p follows r = cases (slice_get s.tables.rows r) refl
         → option_map_or (λ row. (row.star || not (nat_lt 0 (slice_index_or counts r 0))) && names_parent row.parent p) o false ≡ option_map_or (λ row. is_live_row s live row && names_parent row.parent p) o false
     cases None e = refl
     cases (Some row) e =
-        ap (λ (b : Bool). (row.star || not b) && names_parent row.parent p) (ap (nat_lt 0) (follows r) ∙ taken_is s live r row e)
+        ap (λ (b : Bool). (row.star || not b) && names_parent row.parent p) (ap (nat_lt 0) (follows r) ∙ taken_by s live r row e)
 
 -- the first open one wins
 pub open_wins : (s : Setup) (live : List Dev) (counts : List ℕ) (p : ParentRef) (place : Place) (x : ℕ) (lists : List (List ℕ)) → AreSuited s.tables s.machine lists → AreTakers s live counts
     → hangs_at s.machine x place ≡ true → parent_offers s.tables p place ≡ true → winner s live p place x ≡ find (open_by s counts p) (slice_index_or lists x [])
 open_wins s live counts p place x lists suited follows at offered =
-    winner_is s live p place x (find (is_open_to s live p) (slice_index_or lists x [])) (listed_best s live p place x (slice_index_or lists x []) offered (listed s place x lists suited at))
+    winner_is s live p place x (find (is_open_to s live p) (slice_index_or lists x [])) (listed_best s live p place x (slice_index_or lists x []) offered (listed (FindsBest s.tables s.machine) s.machine place x lists suited.rows at))
     ∙ find_same (is_open_to s live p) (open_by s counts p) (slice_index_or lists x []) (λ r. sym (open_same s live counts p follows r))
 
 -- where the parent does not offer the place none wins

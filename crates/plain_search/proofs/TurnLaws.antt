@@ -22,7 +22,7 @@ use Rattle.plain_world.specs.declared.world.Plain.{Plain}
 use Rattle.plain_search.specs.declared.turns.Bus.{Bus}
 use Rattle.plain_search.specs.declared.turns.Going.{Going}
 use Rattle.plain_search.specs.Buses.{IsOnlyAt, IsTurnAt, takes, takes_below, turn_on}
-use Rattle.plain_search.specs.Open.{hangs_at}
+use Rattle.run_rules.specs.Suits.{hangs_at}
 
 -- ---- the row that takes a spot
 

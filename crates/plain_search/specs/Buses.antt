@@ -1,11 +1,14 @@
 -- The turns of a scan, place by place.
-use Rattle.std.specs.Prelude.{◌≡◌, ◌<◌, ℕ, Bool, true, false, not, ◌&&◌, nat_lt, if◌then◌else◌, List, Option, Some, None, flat_map, length, map}
+use Rattle.std.specs.Prelude.{◌≡◌, ◌<◌, ℕ, Bool, true, false, not, ◌&&◌, ◌==◌, nat_lt, if◌then◌else◌, List, Option, Some, None, find, flat_map, length, map, reverse, MatchOption}
 use Rattle.std.specs.List.{enumerate_from}
+use Rattle.std.specs.Option.{option_map_or}
+use Rattle.cf_types.specs.declared.machine.Machine.{Machine}
+use Rattle.cf_types.specs.declared.tables.Place.{Place}
 use Rattle.cf_types.specs.Numbers.{below}
 use Rattle.cf_types.specs.declared.tables.Place.TheVariants.{At}
 use Rattle.run_rules.specs.declared.world.Turn.{Turn}
 use Rattle.run_rules.specs.World.{device_at}
-use Rattle.run_rules.specs.Search.{bus_turns, child_spots, is_before, is_child, is_due, parent_offers, parent_ref, turns_at}
+use Rattle.run_rules.specs.Search.{bus_turns, child_spots, due, is_before, is_child, is_due, parent_offers, parent_ref, turns_at}
 use Rattle.plain_world.specs.declared.rules.Rules.{Rules}
 use Rattle.plain_search.specs.declared.turns.Bus.{Bus}
 use Rattle.plain_search.specs.declared.turns.Going.{Going}
@@ -37,6 +40,22 @@ pub record IsTurnAt (r : Rules) (p : Plain) (g : Going) (b : Bus) (x : ℕ) (t :
   pub within : t.at.row < length r.tables.rows
   pub taken : takes r p g (turn_on b t.at.row x) ≡ true
   pub others : (q : ℕ) → takes r p g (turn_on b q x) ≡ true → q ≡ t.at.row
+
+-- the turn that a scan takes at a spot of a bus, if it takes one there
+abbrev pub IsTurnOf : Rules → Plain → Going → Bus → ℕ → Option Turn → Type 0
+IsTurnOf r p g b x turn = MatchOption turn ((row : ℕ) → takes r p g (turn_on b row x) ≡ false) (IsTurnAt r p g b x)
+
+-- the first turn that a scan takes of those at a place of this number
+abbrev pub taken_at : Rules → Plain → Going → ℕ → Place → Option Turn
+taken_at r p g attr place = find (takes r p g) (turns_at r p.live.devices g.serial (attr, place))
+
+-- the first due turn of a scan from its position on: of one attribute alone or of all
+abbrev pub due_for : Rules → Plain → Going → Option ℕ → Option Turn
+due_for r p g only = due r p.live.devices p.absent p.hidden g.serial only g.filter.now g.from
+
+-- what the last style line for an attachment and an attribute says; direct without one
+abbrev pub is_indirect_by : Machine → ℕ → ℕ → Bool
+is_indirect_by m attach attr = option_map_or (λ line. line.indirect) (find (λ line. line.attach == attach && line.attr == attr) (reverse m.styles)) false
 
 -- a scan takes the turn at a row and a spot, and the spot hangs below a parent at the place of the bus
 abbrev pub takes_below : Rules → Plain → Going → Option ℕ → Bus → ℕ → ℕ → Bool

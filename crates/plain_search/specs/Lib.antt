@@ -1,3 +1,4 @@
 pub mod Open
 pub mod Deeds
 pub mod Buses
+pub mod Units

@@ -1,20 +1,14 @@
 -- Which rows are open to a parent, by how many devices have the driver and the unit of each row.
-use Rattle.std.specs.Prelude.{ℕ, Bool, false, not, ◌&&◌, ◌||◌, nat_lt, List, slice_get}
+use Rattle.std.specs.Prelude.{ℕ, Bool, false, not, ◌&&◌, ◌||◌, nat_lt, List}
 use Rattle.std.specs.List.{slice_index_or}
 use Rattle.std.specs.Option.{option_map_or}
-use Rattle.cf_types.specs.declared.machine.Machine.{Machine}
-use Rattle.cf_types.specs.declared.tables.Place.{Place}
 use Rattle.run_rules.specs.declared.world.Dev.{Dev}
 use Rattle.run_rules.specs.declared.world.ParentRef.{ParentRef}
 use Rattle.run_rules.specs.declared.world.Setup.{Setup}
 use Rattle.run_rules.specs.Search.{is_live_row, names_parent}
-use Rattle.run_rules.specs.World.{row_at, same_place}
+use Rattle.run_rules.specs.World.{row_at}
 use Rattle.plain_rows.specs.Taken.{AreTakers}
 use Rattle.plain_search.specs.declared.seeker.Seeker.{Seeker}
-
--- whether a spot hangs at a place
-abbrev pub hangs_at : Machine → ℕ → Place → Bool
-hangs_at m x place = option_map_or (λ spot. same_place spot.place place) (slice_get m.spots x) false
 
 -- the row is starred or no device has its driver and unit, and it names this parent or none
 abbrev pub open_by : Setup → List ℕ → ParentRef → ℕ → Bool

@@ -7,7 +7,8 @@ ghost use Rattle.run_rules.specs.Search as rule;
 ghost use Rattle.run_rules.specs.World as world;
 ghost use Rattle.run_rules.specs.declared.world.Dev.{Dev};
 ghost use Rattle.run_rules.specs.declared.world.ParentRef.TheVariants as under;
-ghost use Rattle.plain_search.specs.Open.{Follows, hangs_at, open_by};
+ghost use Rattle.run_rules.specs.Suits.{hangs_at};
+ghost use Rattle.plain_search.specs.Open.{Follows, open_by};
 
 use crate::seeker::Seeker;
 use crate::units::free_from;
@@ -120,19 +121,21 @@ fn winner_at(seeker: &Seeker, live: &Live, parent: u64, place: Place, spot: u16)
     winner(seeker, offers, above, place, spot)
 }
 
-/// The unit that a row gives: its own, or, if it is starred, the least free one from its first unit on.
+/// The unit that a row gives: its own, or, if it is starred, the least free one from its first unit on. That is its first unit if
+/// no device has it.
 #[tactic(auto, unfolding(run_rules::specs::Search::unit_of))]
-fn unit_of(rules: &Rules, live: &Live, row: u32) -> u32
+fn unit_of(seeker: &Seeker, live: &Live, row: u32) -> u32
     requires few { length live.now.devices ≤ 1024 }
-    ensures { result ≡ rule.unit_of rules.now live.now.devices row }
+    requires follows { Follows seeker.now live.now.devices }
+    ensures { result ≡ rule.unit_of seeker.now.rules.now live.now.devices row }
 {
-    rules.stands();
-    match row_at(rules, row) {
-        Some(row) => {
-            if row.star {
-                free_from(rules, live, row.device, row.unit)
+    seeker.rules.stands();
+    match row_at(seeker.rules, row) {
+        Some(found) => {
+            if found.star && seeker.taken.has(row) {
+                free_from(seeker.rules, live, found.device, found.unit)
             } else {
-                row.unit
+                found.unit
             }
         }
         None => 0,
@@ -156,7 +159,7 @@ pub fn arrival(
     match winner_at(seeker, live, parent, place, spot) {
         Some(row) => Some(Arrival {
             row,
-            unit: unit_of(seeker.rules, live, row),
+            unit: unit_of(seeker, live, row),
             parent,
             spot,
         }),

@@ -1,14 +1,15 @@
 //! The due turn of a scan: on a direct bus by a look at each spot, on an indirect one by the row that takes each spot. See
 //! autoconf(9).
-ghost use Rattle.std.specs.Prelude.{◌≡◌, ◌≤◌, ◌<◌, ◌==◌, ◌&&◌, ℕ, false, true, find, map, option_map, reverse, length, slice_get, MatchOption, nat_le};
+ghost use Rattle.std.specs.Prelude.{◌≡◌, ◌≤◌, ◌<◌, ℕ, false, true, find, map, option_map, length, slice_get, nat_le};
 ghost use Rattle.cf_types.specs.declared.tables.Place.TheVariants.{At};
 ghost use Rattle.std.specs.Option.{option_map_or};
 ghost use Rattle.std.specs.Ordering.{int_eq};
 ghost use Rattle.run_rules.specs.Next as next;
 ghost use Rattle.run_rules.specs.Search as rule;
 ghost use Rattle.run_rules.specs.World as world;
-ghost use Rattle.plain_search.specs.Buses.{IsOffered, IsOnlyAt, IsTurnAt, MaySearch, better, row_turns, takes, takes_below, turn_on, turns_among, turns_on};
-ghost use Rattle.plain_search.specs.Open.{Follows, hangs_at};
+ghost use Rattle.plain_search.specs.Buses.{IsOffered, IsOnlyAt, IsTurnOf, MaySearch, better, due_for, is_indirect_by, row_turns, taken_at, takes, takes_below, turn_on, turns_among, turns_on};
+ghost use Rattle.run_rules.specs.Suits.{hangs_at};
+ghost use Rattle.plain_search.specs.Open.{Follows};
 
 use crate::matches::{arrival, named_by, parent_offers, winner};
 use crate::seeker::Seeker;
@@ -172,7 +173,7 @@ fn spot_turn(seeker: &Seeker, plain: &Plain, scan: &Going, bus: Bus, spot: u16) 
     requires offered { IsOffered seeker.now.rules.now scan.now bus }
     requires indirect { bus.indirect ≡ true }
     requires at { hangs_at seeker.now.rules.now.machine spot bus.place ≡ true }
-    ensures { MatchOption result ((r : ℕ) → takes seeker.now.rules.now plain.now scan.now (turn_on bus r spot) ≡ false) (IsTurnAt seeker.now.rules.now plain.now scan.now bus spot) }
+    ensures { IsTurnOf seeker.now.rules.now plain.now scan.now bus spot result }
 {
     if !is_open(seeker.rules, plain, scan.filter, spot) {
         return None;
@@ -280,7 +281,7 @@ fn bus_turn(
 
 /// The last style line for an attachment and an attribute; direct without one.
 fn is_indirect_by(seeker: &Seeker, attach: u32, attr: u32) -> bool
-    ensures { result ≡ option_map_or (λ line. line.indirect) (find (λ line. line.attach == attach && line.attr == attr) (reverse seeker.now.rules.now.machine.styles)) false }
+    ensures { result ≡ is_indirect_by seeker.now.rules.now.machine attach attr }
 {
     seeker.styles.is_indirect(attach, attr)
 }
@@ -321,7 +322,7 @@ fn spot_of_device(device: Option<Dev>) -> Option<u16>
 #[inline(always)]
 fn place_turn(seeker: &Seeker, plain: &Plain, scan: &Going, attr: u16, place: Place) -> Option<Turn>
     requires { MaySearch seeker.now plain.now scan.now }
-    ensures { find (takes seeker.now.rules.now plain.now scan.now) (rule.turns_at seeker.now.rules.now plain.now.live.devices scan.now.serial (attr, place)) ≡ result }
+    ensures { taken_at seeker.now.rules.now plain.now scan.now attr place ≡ result }
 {
     if attr < scan.from.attr {
         return None;
@@ -374,7 +375,7 @@ fn turn_of_all(seeker: &Seeker, plain: &Plain, scan: &Going) -> Option<Turn>
 #[tactic(auto, unfolding(run_rules::specs::Search::due))]
 fn due_turn(seeker: &Seeker, plain: &Plain, scan: &Going, only: Option<u32>) -> Option<Turn>
     requires may { MaySearch seeker.now plain.now scan.now }
-    ensures { rule.due seeker.now.rules.now plain.now.live.devices plain.now.absent plain.now.hidden scan.now.serial only scan.now.filter.now scan.now.from ≡ result }
+    ensures { due_for seeker.now.rules.now plain.now scan.now only ≡ result }
 {
     match only {
         Some(attr) => turn_among(seeker, plain, scan, &[attr]),

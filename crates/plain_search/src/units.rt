@@ -1,14 +1,15 @@
 //! The least free unit of a driver, by one look at each live device.
-ghost use Rattle.std.specs.Prelude.{◌≡◌, ◌≤◌, ◌<◌, ◌+◌, ◌==◌, ◌&&◌, ◌||◌, ℕ, false, length, MatchOption};
+ghost use Rattle.std.specs.Prelude.{◌≡◌, ◌≤◌, ◌<◌, ◌+◌, ◌==◌, ◌&&◌, ◌||◌, ℕ, false, length};
 ghost use Rattle.std.specs.List.{slice_index_or};
 ghost use Rattle.run_rules.specs.Search as rule;
+ghost use Rattle.plain_search.specs.Units.{IsDistance};
 
 use plain_world::{Live, Rules, driver_of};
 use run_rules::Dev;
 
 /// How far a unit is from the first one, if it is meant and among `count` units from there on.
 fn distance(meant: bool, unit: u32, first: u32, count: usize) -> Option<usize>
-    ensures { MatchOption result ((k : ℕ) → k < count → (meant && unit == first + k) ≡ false) (λ j. (j < count) × ((k : ℕ) → (meant && unit == first + k) ≡ (j == k))) }
+    ensures { IsDistance meant unit first count result }
 {
     if meant && first <= unit {
         let far = (unit - first) as usize;

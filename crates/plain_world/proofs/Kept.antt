@@ -9,7 +9,7 @@ use Rattle.run_rules.specs.World.{is_under}
 use Rattle.run_rules.specs.Sound.{EachLater}
 use Rattle.run_rules.proofs.Devices.{all_imp, all_snoc, later_snoc}
 use Rattle.run_rules.proofs.Each.{all_filter, later_filter}
-use Rattle.plain_world.specs.Standing.{AreInOrder, device_of}
+use Rattle.plain_world.specs.LiveDevices.{AreInOrder, device_of}
 
 pub none_yet : AreInOrder [] 1
 none_yet = record { from_one = omega arith; above = tt; below = tt; later = tt }

@@ -3,6 +3,6 @@ pub mod Ready
 pub mod Kept
 pub mod Stands
 pub mod RulesLaws
-pub mod StretchLaws
 pub mod MarkLaws
 pub mod TallyLaws
+pub mod Going

@@ -3,10 +3,10 @@ use Rattle.std.proofs.Common.{◌≡◌, ap, length, subst}
 use Rattle.run_rules.specs.declared.world.Setup.{Setup}
 use Rattle.plain_world.specs.declared.rules.Rules.TheInside.{Inside}
 use Rattle.plain_world.specs.Rules.{AreFit, setup_by}
-use Rattle.plain_world.specs.Stretches.{AreStretchesOf}
+use Rattle.run_rules.specs.Spans.{AreSpansOf}
 
-pub stretches_fit : (r : Inside) (s : Setup) → AreFit r → setup_by r ≡ s → AreStretchesOf s.machine r.stretches.now
-stretches_fit r s fit is = subst (λ (t : Setup). AreStretchesOf t.machine r.stretches.now) is fit.stretches
+pub stretches_fit : (r : Inside) (s : Setup) → AreFit r → setup_by r ≡ s → AreSpansOf s.machine r.stretches.now
+stretches_fit r s fit is = subst (λ (t : Setup). AreSpansOf t.machine r.stretches.now) is fit.stretches
 
 pub spots_are : (r : Inside) (s : Setup) → setup_by r ≡ s → length r.machine.now.spots ≡ length s.machine.spots
 spots_are r s is = ap (λ (t : Setup). length t.machine.spots) is

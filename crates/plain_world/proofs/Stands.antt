@@ -5,7 +5,7 @@ use Rattle.std.proofs.lemmas.List.Sums.{sum_by-append}
 use Rattle.run_rules.specs.declared.world.Dev.{Dev}
 use Rattle.run_rules.specs.After.{with_condemner, with_sleep}
 use Rattle.run_rules.specs.World.{is_under}
-use Rattle.plain_world.specs.Standing.{standing_on}
+use Rattle.plain_world.specs.LiveDevices.{standing_on}
 
 abbrev pub one_if : Bool → ℕ
 one_if b = if b then 1 else 0

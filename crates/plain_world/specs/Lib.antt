@@ -1,8 +1,7 @@
 pub mod Rules
 pub mod Plain
-pub mod Standing
+pub mod LiveDevices
 pub mod Noted
 pub mod Wanted
-pub mod Stretches
 pub mod Marks
 pub mod Tallies

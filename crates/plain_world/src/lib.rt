@@ -28,6 +28,6 @@ pub use rules::{
 };
 pub use script::{command_at, command_of, has_ended, over_of};
 pub use spot_list::SpotList;
-pub use stretch::{Stretch, stretch_at, stretches_of};
+pub use stretch::{stretch_at, stretches_of};
 pub use wanted::{wanted_by, wanted_of};
 pub use world::{Plain, copied, opening};

@@ -6,7 +6,7 @@ ghost use Rattle.run_rules.specs.Search.{is_occupied};
 ghost use Rattle.run_rules.specs.Sound.{EachLater};
 ghost use Rattle.run_rules.specs.World as world;
 ghost use Rattle.run_rules.specs.declared.world.Dev.{Dev};
-ghost use Rattle.plain_world.specs.Standing.{AreInOrder, IsLeft, with_device};
+ghost use Rattle.plain_world.specs.LiveDevices.{AreInOrder, IsLeft, with_device};
 
 use crate::look::is_under;
 use crate::tally::Tally;
@@ -26,9 +26,9 @@ pub struct Live {
 }
 
 impl Model for Live {
-    ghost use Rattle.plain_world.specs.Standing.{AreCounted, AreInOrder, Standing};
+    ghost use Rattle.plain_world.specs.LiveDevices.{AreCounted, AreInOrder, LiveDevices};
 
-    ghost Value = { Standing };
+    ghost Value = { LiveDevices };
 
     ghost view = { λ live. record { devices = live.devices.items; next = live.next } };
 

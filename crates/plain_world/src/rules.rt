@@ -8,9 +8,9 @@ ghost use Rattle.run_rules.specs.Next as next;
 ghost use Rattle.run_rules.specs.Search as rule;
 ghost use Rattle.run_sound.specs.Kept.{MayRun};
 
-use crate::stretch::Stretch;
 use attr_graph::Graph;
 use cf_types::{Machine, Place, Policy, Row, Script, Tables};
+use run_rules::Span;
 use std::marker::Model;
 
 /// What a run goes by: the tables with the graph of their attributes, the machine with the stretches of its spots, and the
@@ -21,7 +21,7 @@ pub struct Rules<'a> {
     pub tables: &'a Tables,
     pub graph: &'a Graph,
     pub machine: &'a Machine,
-    pub stretches: &'a [Stretch],
+    pub stretches: &'a [Span],
     pub scripts: &'a [Script],
 }
 

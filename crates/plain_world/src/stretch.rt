@@ -1,20 +1,14 @@
 //! The numbers between which the spots below a spot are, so that a scan looks at no others.
 ghost use Rattle.std.specs.Prelude.{◌≡◌, ◌<◌, ◌≤◌, ℕ, Option, IfOk, length};
-ghost use Rattle.plain_world.specs.Stretches.{AreStretchesOf, IsIn, place_in, stretch_at};
+ghost use Rattle.run_rules.specs.Spans.{AreSpansOf, Covers, seat_of, span_at};
 
 use cf_types::{Machine, Memory};
+use run_rules::Span;
 use std::alloc::Global;
-
-/// Numbers of spots: from the first one to before the end.
-#[derive(Clone, Copy)]
-pub struct Stretch {
-    pub first: u16,
-    pub end: u16,
-}
 
 /// The place of a parent's stretch in a list of them: that of the root is the first one.
 fn place_in(parent: Option<u16>) -> usize
-    ensures { result ≡ place_in parent }
+    ensures { result ≡ seat_of parent }
 {
     match parent {
         None => 0,
@@ -23,22 +17,22 @@ fn place_in(parent: Option<u16>) -> usize
 }
 
 /// A stretch that now also contains this number.
-fn reaching(stretch: Stretch, spot: u16) -> Stretch
+fn reaching(stretch: Span, spot: u16) -> Span
     requires { spot < 1024 }
-    ensures here { IsIn result spot }
-    ensures rest { (x : ℕ) → x < spot → IsIn stretch x → IsIn result x }
+    ensures here { Covers result spot }
+    ensures rest { (x : ℕ) → x < spot → Covers stretch x → Covers result x }
 {
-    Stretch {
+    Span {
         first: stretch.first.min(spot),
         end: spot + 1,
     }
 }
 
 /// Takes the next spot into the stretch of its parent.
-fn reach(stretches: &mut Vec<Stretch>, parent: Option<u16>, spot: u16)
+fn reach(stretches: &mut Vec<Span>, parent: Option<u16>, spot: u16)
     requires { spot < 1024 }
-    ensures here { IsIn (stretch_at stretches.new.items parent) spot }
-    ensures rest { (p : Option ℕ) (x : ℕ) → x < spot → IsIn (stretch_at stretches.old.items p) x → IsIn (stretch_at stretches.new.items p) x }
+    ensures here { Covers (span_at stretches.new.items parent) spot }
+    ensures rest { (p : Option ℕ) (x : ℕ) → x < spot → Covers (span_at stretches.old.items p) x → Covers (span_at stretches.new.items p) x }
 {
     let place = place_in(parent);
     if place < stretches.len() {
@@ -47,11 +41,11 @@ fn reach(stretches: &mut Vec<Stretch>, parent: Option<u16>, spot: u16)
 }
 
 /// The stretches of the spots below the root and below each spot.
-pub fn stretches_of(alloc: Global, machine: &Machine) -> Result<Vec<Stretch>, Memory>
+pub fn stretches_of(alloc: Global, machine: &Machine) -> Result<Vec<Span>, Memory>
     requires { length machine.now.spots ≤ 1024 }
-    ensures { IfOk result (λ stretches. AreStretchesOf machine.now stretches.items) }
+    ensures { IfOk result (λ stretches. AreSpansOf machine.now stretches.items) }
 {
-    let none = Stretch {
+    let none = Span {
         first: 1024,
         end: 0,
     };
@@ -63,12 +57,12 @@ pub fn stretches_of(alloc: Global, machine: &Machine) -> Result<Vec<Stretch>, Me
 }
 
 /// The numbers between which the spots below a spot, or below the root, are.
-pub fn stretch_at(stretches: &[Stretch], parent: Option<u16>) -> Stretch
-    ensures { result ≡ stretch_at stretches.now parent }
+pub fn stretch_at(stretches: &[Span], parent: Option<u16>) -> Span
+    ensures { result ≡ span_at stretches.now parent }
 {
     match stretches.get(place_in(parent)) {
         Some(stretch) => *stretch,
-        None => Stretch {
+        None => Span {
             first: 0,
             end: 1024,
         },

@@ -1,5 +1,6 @@
 use Rattle.run_rules.proofs.Winner.{IsBest}
-use Rattle.match_search.specs.Best.{may_take, worth}
+use Rattle.run_rules.specs.Suits.{worth}
+use Rattle.match_search.specs.Best.{may_take}
 use Rattle.match_search.proofs.choice.best_of_all.Given as goal
 
 abbrev pub invariant-loop-row : goal.invariant-loop-row

@@ -1,6 +1,6 @@
 use Rattle.std.proofs.Common.{◌≡◌, length, [], subst, arith}
-use Rattle.match_search.specs.Own.{AreOwnLines, lines_in}
-use Rattle.match_search.proofs.OwnLaws.{spot_more}
+use Rattle.run_rules.specs.MatchLines.{AreOwnLines, lines_in}
+use Rattle.run_rules.proofs.MatchLines.{spot_more}
 use Rattle.match_search.proofs.own.no_lines.Goals as goal
 
 pub loop-spot-preserved : goal.loop-spot-preserved

@@ -1,6 +1,6 @@
 use Rattle.std.proofs.Common.{length, subst, sym, take}
 use Rattle.std.proofs.lemmas.List.{take_more}
-use Rattle.match_search.specs.Own.{AreOwnLines, lines_in}
+use Rattle.run_rules.specs.MatchLines.{AreOwnLines, lines_in}
 use Rattle.match_search.proofs.own.own_lines.Goals as goal
 
 pub loop-line-preserved : goal.loop-line-preserved

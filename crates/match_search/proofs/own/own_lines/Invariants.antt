@@ -1,5 +1,5 @@
 use Rattle.std.proofs.Common.{take, length}
-use Rattle.match_search.specs.Own.{AreOwnLines, lines_in}
+use Rattle.run_rules.specs.MatchLines.{AreOwnLines, lines_in}
 use Rattle.match_search.proofs.own.own_lines.Given as goal
 
 abbrev pub invariant-loop-line : goal.invariant-loop-line

@@ -1,8 +1,9 @@
 use Rattle.std.proofs.Common.{◌∙◌, ap, slice_index_or}
 use Rattle.std.specs.Prelude.{Some}
 use Rattle.run_rules.specs.Search.{match_value}
-use Rattle.match_search.specs.Index.{last_value}
-use Rattle.match_search.proofs.OwnLaws.{none_named, own_value}
+use Rattle.run_rules.specs.MatchLines.{last_value}
+use Rattle.run_rules.proofs.MatchLines.{own_value}
+use Rattle.match_search.proofs.UnnamedLaws.{none_named}
 use Rattle.match_search.proofs.values.set_own.Goals as goal
 
 pub returns-clause-values : goal.returns-clause-values

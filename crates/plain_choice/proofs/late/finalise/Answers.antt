@@ -8,7 +8,7 @@ use Rattle.run_rules.specs.declared.world.Dev.{Dev}
 use Rattle.run_rules.specs.Next.{late_spot}
 use Rattle.run_rules.specs.World.{World, device_at, same_place}
 use Rattle.run_rules.proofs.Below.{find_below}
-use Rattle.plain_search.specs.Open.{hangs_at}
+use Rattle.run_rules.specs.Suits.{hangs_at}
 use Rattle.plain_world.specs.Plain.{world_of}
 use Rattle.plain_choice.proofs.late.finalise.Goals as goal
 

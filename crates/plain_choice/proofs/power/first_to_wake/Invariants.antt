@@ -1,7 +1,7 @@
 use Rattle.std.proofs.Common.{◌≡◌, drop}
 use Rattle.std.specs.Prelude.{find}
 use Rattle.plain_choice.specs.Power.{has_to_wake}
-use Rattle.plain_choice.specs.Under.{AllMiss}
+use Rattle.run_rules.specs.Chains.{AllMiss}
 use Rattle.plain_choice.proofs.power.first_to_wake.Given as goal
 
 -- the device to find is among those that are left, and none that is kept aside is below the target

@@ -9,7 +9,7 @@ use Rattle.cf_types.specs.declared.tables.Locator.{Locator}
 use Rattle.cf_types.specs.declared.tables.Place.TheVariants.{At}
 use Rattle.cf_types.specs.Lookups.{attr_number}
 use Rattle.run_rules.specs.declared.deed.Deed.TheVariants.{Refuse, Rescan}
-use Rattle.run_rules.specs.declared.deed.Refusal.TheVariants as refusal
+use Rattle.run_rules.specs.declared.deed.CommandRefusal.TheVariants as refusal
 use Rattle.run_rules.specs.declared.world.Dev.{Dev}
 use Rattle.run_rules.specs.declared.world.Setup.{Setup}
 use Rattle.run_rules.specs.declared.world.Wanted.{Wanted}

@@ -1,55 +1,26 @@
-use Rattle.std.proofs.Common.{◌≡◌, ◌≢◌, ◌%◌, suc, ◌-◌, ◌+◌, get_or, length, sym, ap, subst, ◌∙◌, arith}
-use Rattle.std.proofs.lemmas.Bool.{eqb-true}
-use Rattle.run_rules.specs.World.{has, is_under, lineage}
-use Rattle.run_rules.proofs.Chains.{chain_ends, chain_found, chain_more, chain_nothing}
-use Rattle.plain_choice.specs.Under.{NeverMeets}
-use Rattle.plain_choice.proofs.UnderLaws.{below_misses}
+use Rattle.std.proofs.Common.{◌%◌, sym, ◌∙◌, arith}
+use Rattle.run_rules.proofs.Climbs.{climb_ends, climb_first, climb_meets, climb_more, climb_root, kept_misses}
 use Rattle.plain_choice.proofs.under.follow.Goals as goal
 
 pub loop-level-init : goal.loop-level-init
-loop-level-init c = record {
-  rest = ap (λ k. has (lineage k c.args.live.now.devices c.args.serial) c.args.target) (omega arith);
-  never = λ h. h;
-}
+loop-level-init c = climb_first c.args.live.now.devices c.args.target c.args.serial
 
 pub loop-level-preserved : goal.loop-level-preserved
 loop-level-preserved c =
-    let live = c.args.live.now.devices in
-    let target = c.args.target in
-    let current = c.loop-level.current in
-    let more : suc (length live - (c.loop-level._level + 1)) ≡ length live - c.loop-level._level = omega arith in
     rw c.parent_of-current.ensures
-    (record {
-      rest = sym (chain_more live (length live - (c.loop-level._level + 1)) current target c.if-current-target.false)
-          ∙ ap (λ k. has (lineage k live current) target) more ∙ c.loop-level.invariant.rest;
-      never = λ h. c.loop-level.invariant.never (below_misses live target current c.if-current-target.false h);
-    })
+    (climb_more c.args.live.now.devices c.args.target c.args.serial c.loop-level._level c.loop-level.current (omega arith) c.if-current-target.false c.loop-level.invariant)
 
 pub returns-then-current-target : goal.returns-then-current-target
-unfolding is_under
-returns-then-current-target c =
-    let live = c.args.live.now.devices in
-    sym c.loop-level.invariant.rest
-    ∙ chain_found live (length live - c.loop-level._level) c.loop-level.current c.args.target (omega arith) c.if-current-target.true
+returns-then-current-target c = climb_meets c.args.live.now.devices c.args.target c.args.serial c.loop-level._level c.loop-level.current (omega arith) c.if-current-target.true c.loop-level.invariant
 
 pub returns-then-current-eq0 : goal.returns-then-current-eq0
 returns-then-current-eq0 c =
-    let live = c.args.live.now.devices in
-    let ne : 0 ≢ c.args.target = λ e. c.if-current-target.false (c.if-current-eq0.true ∙ e) in
-    let root : NeverMeets live c.args.target 0 = λ k. chain_ends live k c.args.target c.stands.ensures.above ne in
-    c.loop-level.invariant.never (subst (NeverMeets live c.args.target) (sym c.if-current-eq0.true) root)
+    climb_root c.args.live.now.devices c.args.target c.args.serial c.loop-level._level c.loop-level.current c.stands.ensures.above c.if-current-target.false c.if-current-eq0.true c.loop-level.invariant
 
 pub returns-then-keeps : goal.returns-then-keeps
 returns-then-keeps c =
-    let live = c.args.live.now.devices in
-    let there : get_or c.args.aside.now.kept (c.loop-level.current % 64) 0 ≡ c.loop-level.current
-    = eqb-true (get_or c.args.aside.now.kept (c.loop-level.current % 64) 0) c.loop-level.current (sym c.keeps.ensures ∙ c.if-keeps.true) in
     c.loop-level.invariant.never
-    (subst (NeverMeets live c.args.target) there (c.requires (c.loop-level.current % 64) (rw there (omega arith))))
+    (kept_misses c.args.live.now.devices c.args.target c.args.aside.now.kept (c.loop-level.current % 64) c.loop-level.current c.requires c.if-current-eq0.false (sym c.keeps.ensures ∙ c.if-keeps.true))
 
 pub returns : goal.returns
-unfolding is_under
-returns c =
-    let live = c.args.live.now.devices in
-    sym c.loop-level.invariant.rest
-    ∙ chain_nothing live (length live - c.loop-level._level) c.loop-level.current c.args.target (omega arith)
+returns c = climb_ends c.args.live.now.devices c.args.target c.args.serial c.loop-level._level c.loop-level.current (omega arith) c.loop-level.invariant

@@ -1,7 +1,7 @@
 use Rattle.std.proofs.Common.{◌≡◌, ◌≢◌, suc, ◌-◌, ◌+◌, length, sym, ap, ◌∙◌, arith}
 use Rattle.run_rules.specs.World.{has, is_under, lineage}
 use Rattle.run_rules.proofs.Chains.{chain_ends, chain_more, chain_nothing}
-use Rattle.plain_choice.proofs.UnderLaws.{unmarked}
+use Rattle.plain_choice.proofs.Unmarked.{unmarked}
 use Rattle.plain_choice.proofs.waking.mark_up.Goals as goal
 
 pub loop-level-init : goal.loop-level-init

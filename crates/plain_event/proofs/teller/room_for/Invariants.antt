@@ -1,5 +1,5 @@
 use Rattle.run_rules.specs.declared.world.Setup.{Setup}
-use Rattle.plain_event.specs.Kept.{AreKept}
+use Rattle.plain_event.specs.KnownAct.{AreKept}
 use Rattle.plain_event.proofs.teller.room_for.Given as goal
 
 abbrev pub invariant-loop-place : goal.invariant-loop-place

@@ -3,7 +3,7 @@ use Rattle.std.specs.Global.{Global}
 use Rattle.std.specs.Prelude.{Vec}
 use Rattle.std.proofs.lemmas.List.{get_or-map}
 use Rattle.cf_types.specs.declared.machine.MatchLine.{MatchLine}
-use Rattle.plain_rows.proofs.OwnLaws.{line_there}
+use Rattle.run_rules.proofs.MatchLines.{line_there}
 use Rattle.plain_rows.proofs.lines.add_line.Goals as goal
 
 pub returns-in_ok-push : goal.returns-in_ok-push

@@ -1,6 +1,6 @@
 use Rattle.std.proofs.Common.{◌≡◌, length, [], subst, arith}
-use Rattle.plain_rows.specs.Own.{AreOwnLines, lines_in}
-use Rattle.plain_rows.proofs.OwnLaws.{spot_more}
+use Rattle.run_rules.specs.MatchLines.{AreOwnLines, lines_in}
+use Rattle.run_rules.proofs.MatchLines.{spot_more}
 use Rattle.plain_rows.proofs.lines.no_lines.Goals as goal
 
 pub loop-spot-preserved : goal.loop-spot-preserved

@@ -1,6 +1,6 @@
-use Rattle.std.proofs.Common.{◌≡◌}
-use Rattle.plain_rows.specs.Suited.{candidates}
+use Rattle.std.proofs.Common.{◌≡◌, take}
+use Rattle.plain_rows.specs.Sought.{candidates_in}
 use Rattle.plain_rows.proofs.suited.suiting_rows.Given as goal
 
-abbrev pub invariant-loop-number : goal.invariant-loop-number
-invariant-loop-number l = l.list.items ≡ candidates l.tables l.machine l.place l.spot l.number
+abbrev pub invariant-loop-row : goal.invariant-loop-row
+invariant-loop-row l = l.list.items ≡ candidates_in l.sought (take l.row-index l.rows)

@@ -1,6 +1,6 @@
-use Rattle.std.proofs.Common.{◌≡◌, ℕ, ◌+◌, ◌&&◌, nat_lt, slice_index_or}
-use Rattle.plain_rows.specs.Taken.{is_of, one_if}
+use Rattle.std.proofs.Common.{◌≡◌, ℕ, ◌+◌, drop, slice_index_or}
+use Rattle.plain_rows.specs.Taken.{times}
 use Rattle.plain_rows.proofs.taken.raise.Given as goal
 
-abbrev pub invariant-loop-number : goal.invariant-loop-number
-invariant-loop-number l = (r : ℕ) → slice_index_or l.counts r 0 ≡ slice_index_or l.initial.counts r 0 + one_if (nat_lt r l.number && is_of l.rows l.driver l.unit r)
+abbrev pub invariant-loop-row : goal.invariant-loop-row
+invariant-loop-row l = (r : ℕ) → slice_index_or l.counts r 0 + times l.rows l.unit (drop l.row-index l.listed) r ≡ slice_index_or l.initial.counts r 0 + times l.rows l.unit l.listed r

@@ -1,5 +1,5 @@
 use Rattle.std.proofs.Common.{◌≡◌, ℕ, take, slice_index_or}
-use Rattle.plain_rows.specs.Values.{last_value}
+use Rattle.run_rules.specs.MatchLines.{last_value}
 use Rattle.plain_rows.proofs.values.set_values.Given as goal
 
 abbrev pub invariant-loop-line : goal.invariant-loop-line

@@ -1,6 +1,6 @@
 use Rattle.std.proofs.Common.{◌∙◌, ◌-◌, ◌==◌, List, refl, ap, sym}
 use Rattle.run_rules.specs.declared.world.Dev.{Dev}
-use Rattle.plain_world.specs.Standing.{standing_on}
+use Rattle.plain_world.specs.LiveDevices.{standing_on}
 use Rattle.run_rules.proofs.Order.{live_gone, none_goes}
 use Rattle.plain_world.proofs.Stands.{counted_less, one_if}
 use Rattle.plain_world.proofs.live.remove_at.Goals as goal

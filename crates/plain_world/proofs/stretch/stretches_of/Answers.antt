@@ -1,6 +1,6 @@
 use Rattle.std.proofs.Common.{◌≡◌, ◌∙◌, length, get_or, ap, arith}
 use Rattle.std.proofs.lemmas.Option.{slice_get_read}
-use Rattle.plain_world.proofs.StretchLaws.{reached_all, reached_more}
+use Rattle.run_rules.proofs.Spans.{spans_all, spans_more}
 use Rattle.plain_world.proofs.stretch.stretches_of.Goals as goal
 
 pub loop-number-preserved : goal.loop-number-preserved
@@ -8,9 +8,9 @@ loop-number-preserved c =
     let spots : c.items-spot-items.result.now ≡ c.args.machine.now.spots = c.items-spot-items.ensures in
     let at = slice_get_read c.args.machine.now.spots _ c.loop-number.number c.spot-item.result (ap length spots) c.loop-number-test.true
     (c.spot-item.is ∙ ap (λ xs. get_or xs c.loop-number.number c.spot-item.result) spots) in
-    reached_more c.args.machine.now c.loop-number.number c.spot-item.result c.loop-number.stretches.items c.reach.new.stretches.items at c.reach.ensures.here c.reach.ensures.rest c.loop-number.invariant
+    spans_more c.args.machine.now c.loop-number.number c.spot-item.result c.loop-number.stretches.items c.reach.new.stretches.items at c.reach.ensures.here c.reach.ensures.rest c.loop-number.invariant
 
 pub returns : goal.returns
 returns c =
     let spots : c.items-spot-items.result.now ≡ c.args.machine.now.spots = c.items-spot-items.ensures in
-    reached_all c.args.machine.now c.loop-number.number c.loop-number.stretches.items (omega (arith, ap length spots, c.loop-number-test.false, c.loop-number.auto.number-end)) c.loop-number.invariant
+    spans_all c.args.machine.now c.loop-number.number c.loop-number.stretches.items (omega (arith, ap length spots, c.loop-number-test.false, c.loop-number.auto.number-end)) c.loop-number.invariant

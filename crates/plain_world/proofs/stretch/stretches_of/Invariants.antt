@@ -1,5 +1,5 @@
-use Rattle.plain_world.proofs.StretchLaws.{AreStretchesTo}
+use Rattle.run_rules.proofs.Spans.{AreSpansTo}
 use Rattle.plain_world.proofs.stretch.stretches_of.Given as goal
 
 abbrev pub invariant-loop-number : goal.invariant-loop-number
-invariant-loop-number l = AreStretchesTo l.machine l.number l.stretches.items
+invariant-loop-number l = AreSpansTo l.machine l.number l.stretches.items

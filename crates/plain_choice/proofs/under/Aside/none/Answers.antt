@@ -1,4 +1,4 @@
-use Rattle.plain_choice.proofs.UnderLaws.{none_kept}
+use Rattle.run_rules.proofs.Climbs.{none_kept}
 use Rattle.plain_choice.proofs.under.Aside.none.Goals as goal
 
 pub returns : goal.returns

@@ -1,7 +1,7 @@
 use Rattle.std.proofs.Common.{◌∙◌, ◌+◌, ◌==◌, ℕ, ap, sym, arith}
 use Rattle.std.proofs.lemmas.List.Sums.{count_by-le-length}
 use Rattle.run_rules.specs.declared.world.Dev.{Dev}
-use Rattle.plain_world.specs.Standing.{device_of}
+use Rattle.plain_world.specs.LiveDevices.{device_of}
 use Rattle.plain_world.proofs.Kept.{one_more}
 use Rattle.plain_world.proofs.Stands.{counted_more, one_if}
 use Rattle.plain_world.proofs.live.Live.push.Goals as goal

@@ -1,0 +1,23 @@
+-- What is sought at a spot, and found among some rows.
+use Rattle.std.specs.Prelude.{◌≡◌, ℕ, Bool, true, if◌then◌else◌, List, filter, map, Option, Some, None}
+use Rattle.cf_types.specs.Gather.{is_in}
+use Rattle.run_rules.specs.Suits.{suits}
+use Rattle.plain_rows.specs.declared.suited.Candidate.{Candidate}
+use Rattle.plain_rows.specs.declared.suited.Sought.{Sought}
+use Rattle.plain_rows.specs.Suited.{candidate}
+
+-- the row suits the spot
+abbrev pub suits_at : Sought → ℕ → Bool
+suits_at s r = suits s.tables.now s.machine.now s.place s.spot r
+
+-- a row with its match value, if it suits the spot
+abbrev pub candidate_at : Sought → ℕ → Option Candidate
+candidate_at s r = if suits_at s r then Some (candidate s.tables.now s.machine.now s.spot r) else None
+
+-- those of some rows that suit the spot, with their match values
+abbrev pub candidates_in : Sought → List ℕ → List Candidate
+candidates_in s rows = map (candidate s.tables.now s.machine.now s.spot) (filter (suits_at s) rows)
+
+-- all rows that suit the spot are among these
+abbrev pub HaveAll : Sought → List ℕ → Type 0
+HaveAll s rows = (r : ℕ) → suits_at s r ≡ true → is_in r rows ≡ true
