@@ -1,5 +1,4 @@
 pub mod Turns
-pub mod Going
 pub mod Looking
 pub mod Winners
 pub mod Spans

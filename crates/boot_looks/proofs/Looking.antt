@@ -15,7 +15,7 @@ use Rattle.plain_world.specs.Plain.{world_of}
 use Rattle.boot_looks.specs.declared.visit.Look.{Look}
 use Rattle.boot_looks.specs.declared.visit.Visit.{Visit}
 use Rattle.boot_looks.specs.Looks.{AreBootLooks, AreSeen, IsLastLook, behind, look_at, seen, visit_at, visit_by, visit_next, world_at}
-use Rattle.boot_looks.proofs.Going.{kept_first, kept_then, next_first, next_grows}
+use Rattle.plain_world.proofs.Going.{kept_first, kept_then, next_first, next_grows}
 use Rattle.boot_looks.proofs.Turns.{none_behind, turned_is, turned_more}
 
 -- the last of the first n turns that comes to a spot
@@ -102,8 +102,8 @@ pub looking_more : (s : Setup) (n : ℕ) (p q : Plain) (d : Deed) (old new : Lis
     → world_of s q ≡ after (world_of s p) 0 d → AreSeen (world_of s p) p.live d old new → AreLooking s q new (n + 1)
 looking_more s n p q d old new may so chosen same are = record {
   at = turned_more (opening s) n ∙ turned_is (world_at s n) d (ap (λ (w : World). next w 0) so.at ∙ chosen) ∙ ap (λ (w : World). after w 0 d) so.at ∙ sym same;
-  kept = kept_then s p q d may so.kept chosen same;
-  low = omega (arith, so.low, next_grows s p q d same);
+  kept = kept_then s p q 0 d may so.kept chosen same;
+  low = omega (arith, so.low, next_grows s p q 0 d same);
   last = all_more s n p d old new so.at chosen are so.last;
 }
 

@@ -41,7 +41,7 @@ use Rattle.boot_looks.specs.Laws.{is_below_bus}
 use Rattle.boot_looks.specs.Looks.{AreBootLooks, IsEnd, IsLastLook, behind, is_on_bus, is_passed, look_at, turned, visit_at, visit_next, world_at}
 use Rattle.plain_world.specs.Plain.{world_of}
 use Rattle.boot_looks.proofs.Awaited.{IsAwaited, IsScanned, passed}
-use Rattle.boot_looks.proofs.Going.{goes_on}
+use Rattle.progress_laws.proofs.Boots.{goes_on}
 use Rattle.boot_looks.proofs.Turns.{stays, turned_is}
 use Rattle.boot_looks.proofs.Unvisited.{awaited_after}
 

@@ -7,7 +7,7 @@ use Rattle.std.proofs.lemmas.Bool.Decides.{nat_tests}
 use Rattle.run_rules.specs.declared.deed.Deed.{Deed}
 use Rattle.run_rules.specs.declared.deed.Deed.TheVariants.{Search, EndScan, BeginInterrupts, Finalise, EndCaller, Drop, Refuse, Open, Close, Start, Done, Detach, Free, Rescan, BeginPower, Sleep, Wake, EndPower, Plug, Unplug, Tell}
 use Rattle.run_rules.specs.World.{World}
-use Rattle.plain_world.specs.Standing.{Standing}
+use Rattle.plain_world.specs.LiveDevices.{LiveDevices}
 use Rattle.boot_looks.specs.declared.see.Span.{Span}
 use Rattle.boot_looks.specs.declared.visit.Look.{Look}
 use Rattle.boot_looks.specs.declared.visit.Visit.{Visit}
@@ -82,20 +82,20 @@ span_low Tell n = omega arith
 -- ---- one spot more
 
 -- the spots of the span up to k are looked at
-pub record SeesTo (w : World) (live : Standing) (d : Deed) (span : Span) (k : ℕ) (old new : List (Option Look)) : Type 0 where
+pub record SeesTo (w : World) (live : LiveDevices) (d : Deed) (span : Span) (k : ℕ) (old new : List (Option Look)) : Type 0 where
   pub spots : length new ≡ length old
   pub begun : span.first ≤ k
   pub done : (x : ℕ) → x < length old → span.first ≤ x → x < k → look_at new x ≡ seen live (visit_by w d x) (look_at old x)
   pub left : (x : ℕ) → x < length old → (x < span.first) ⊎ (k ≤ x) → look_at new x ≡ look_at old x
 
-pub sees_none : (w : World) (live : Standing) (d : Deed) (span : Span) (looks : List (Option Look)) → SeesTo w live d span span.first looks looks
+pub sees_none : (w : World) (live : LiveDevices) (d : Deed) (span : Span) (looks : List (Option Look)) → SeesTo w live d span span.first looks looks
 sees_none w live d span looks = record { spots = refl; begun = omega arith; done = λ x lt from to. absurd (omega (arith, from, to)); left = λ x lt out. refl }
 
 later : (first k x : ℕ) → (x < first) ⊎ (k + 1 ≤ x) → (x < first) ⊎ (k ≤ x)
 later first k x (inl less) = inl less
 later first k x (inr past) = inr (omega arith)
 
-pub sees_same : (w : World) (live : Standing) (d : Deed) (span : Span) (k : ℕ) (old new : List (Option Look)) → visit_by w d k ≡ None
+pub sees_same : (w : World) (live : LiveDevices) (d : Deed) (span : Span) (k : ℕ) (old new : List (Option Look)) → visit_by w d k ≡ None
     → SeesTo w live d span k old new → SeesTo w live d span (k + 1) old new
 sees_same w live d span k old new none so = record {
   spots = so.spots;
@@ -110,7 +110,7 @@ sees_same w live d span k old new none so = record {
   left = λ x lt out. so.left x lt (later span.first k x out);
 }
 
-pub sees_one : (w : World) (live : Standing) (d : Deed) (span : Span) (k : ℕ) (old new more : List (Option Look)) (visit : Visit) (look : Look) → k < length old
+pub sees_one : (w : World) (live : LiveDevices) (d : Deed) (span : Span) (k : ℕ) (old new more : List (Option Look)) (visit : Visit) (look : Look) → k < length old
     → visit_by w d k ≡ Some visit → look ≡ record { live = live; visit = visit } → more ≡ slice_set new k (Some look) → SeesTo w live d span k old new → SeesTo w live d span (k + 1) old more
 sees_one w live d span k old new more visit look low comes is set so = record {
   spots = ap length set ∙ length-set new k (Some look) ∙ so.spots;
@@ -138,7 +138,7 @@ sees_one w live d span k old new more visit look low comes is set so = record {
     apart x (inr past) same = absurd (omega (arith, past, same))
 
 -- all spots are looked at
-pub sees_all : (w : World) (live : Standing) (d : Deed) (span : Span) (k n : ℕ) (old new : List (Option Look)) → n ≡ length old → span ≡ span_of d n → span.end ≤ k
+pub sees_all : (w : World) (live : LiveDevices) (d : Deed) (span : Span) (k n : ℕ) (old new : List (Option Look)) → n ≡ length old → span ≡ span_of d n → span.end ≤ k
     → SeesTo w live d span k old new → AreSeen w live d old new
 sees_all w live d span k n old new count same over so = record {
   spots = so.spots;

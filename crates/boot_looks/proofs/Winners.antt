@@ -20,7 +20,7 @@ use Rattle.run_sound.proofs.Callers.{clash}
 use Rattle.run_sound.proofs.Coming.{IsCall, IsTurn}
 use Rattle.run_sound.proofs.Reasons.{has_reason}
 use Rattle.plain_search.specs.Deeds.{coming}
-use Rattle.plain_search.specs.Open.{hangs_at}
+use Rattle.run_rules.specs.Suits.{hangs_at}
 use Rattle.plain_search.proofs.TurnLaws.{due_hangs}
 use Rattle.boot_looks.specs.declared.visit.Visit.{Visit}
 use Rattle.boot_looks.specs.Looks.{is_passed, place_at, visit_by, visit_if}

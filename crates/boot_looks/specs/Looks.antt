@@ -14,7 +14,7 @@ use Rattle.run_rules.specs.Run.{taken}
 use Rattle.run_rules.specs.Search.{is_bus_indirect, is_open}
 use Rattle.run_rules.specs.World.{World, attach_of, device_at, has_ended, is_number, opening}
 use Rattle.plain_world.specs.Plain.{world_of}
-use Rattle.plain_world.specs.Standing.{Standing}
+use Rattle.plain_world.specs.LiveDevices.{LiveDevices}
 use Rattle.boot_looks.specs.declared.boot.BootLooks.{BootLooks}
 use Rattle.boot_looks.specs.declared.see.Span.{Span}
 use Rattle.boot_looks.specs.declared.visit.Look.{Look}
@@ -104,7 +104,7 @@ pub record AreBootLooks (s : Setup) (b : BootLooks) : Type 0 where
 -- ---- step by step
 
 -- a visit with the devices that are live, or if there is none the last look
-abbrev pub seen : Standing → Option Visit → Option Look → Option Look
+abbrev pub seen : LiveDevices → Option Visit → Option Look → Option Look
 seen live None last = last
 seen live (Some visit) last = Some (record { live = live; visit = visit })
 
@@ -116,6 +116,6 @@ span_of (EndScan p) count = record { first = 0; end = count }
 span_of _ count = record { first = 0; end = 0 }
 
 -- of each spot the look behind a deed
-pub record AreSeen (w : World) (live : Standing) (d : Deed) (old new : List (Option Look)) : Type 0 where
+pub record AreSeen (w : World) (live : LiveDevices) (d : Deed) (old new : List (Option Look)) : Type 0 where
   pub spots : length new ≡ length old
   pub looks : (x : ℕ) → x < length old → look_at new x ≡ seen live (visit_by w d x) (look_at old x)

@@ -20,7 +20,7 @@ use run_rules::{Choice, Deed};
 use std::alloc::Global;
 
 /// No boot has more events than can be counted so far.
-const MOST_EVENTS: u64 = 4_611_686_018_427_387_904;
+pub const MOST_EVENTS: u64 = 4_611_686_018_427_387_904;
 
 /// For each spot the last search of a boot that came to it, if one did; and the world in which the boot ends.
 #[derive(Drop)]
@@ -30,7 +30,7 @@ pub struct BootLooks {
 }
 
 /// What caller 0 does next, while it has not ended.
-fn boot_deed(alloc: Global, seeker: &Seeker, plain: &Plain) -> Result<Deed, Memory>
+pub fn boot_deed(alloc: Global, seeker: &Seeker, plain: &Plain) -> Result<Deed, Memory>
     requires kept { Kept (world_of seeker.now.rules.now plain.now) }
     requires follows { Follows seeker.now plain.now.live.devices }
     requires goes_on { world.has_ended (world_of seeker.now.rules.now plain.now) 0 ≡ false }
@@ -45,7 +45,7 @@ fn boot_deed(alloc: Global, seeker: &Seeker, plain: &Plain) -> Result<Deed, Memo
 }
 
 /// Does what caller 0 does next.
-fn boot_on(alloc: Global, rules: &Rules, plain: &mut Plain, deed: &Deed) -> Result<(), Memory>
+pub fn boot_on(alloc: Global, rules: &Rules, plain: &mut Plain, deed: &Deed) -> Result<(), Memory>
     requires kept { Kept (world_of rules.now plain.old) }
     requires next { plain.old.live.next < 2 ^ 64 - 1 }
     requires due { choices.next (world_of rules.now plain.old) 0 ≡ Does deed.now }

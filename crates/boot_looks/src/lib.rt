@@ -7,7 +7,7 @@ mod laws;
 mod see;
 mod visit;
 
-pub use boot::{BootLooks, boot_looks};
+pub use boot::{BootLooks, MOST_EVENTS, boot_deed, boot_looks, boot_on};
 pub use laws::{boots_are_turns, boots_miss_none, visits_take_winners};
 pub use see::look_at;
 pub use visit::{Look, Visit};

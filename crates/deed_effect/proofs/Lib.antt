@@ -10,3 +10,4 @@ pub mod ArriveLaws
 pub mod AttachLaws
 pub mod EffectLaws
 pub mod CommitLaws
+pub mod GoesLaws

@@ -8,7 +8,7 @@ ghost use Rattle.run_world.specs.View.{Books};
 ghost use Rattle.run_world.specs.Sites.{world_at};
 
 use cf_types::{Memory, Policy};
-use defer_queue::Deferred;
+use defer_queue::DeferQueue;
 use match_search::DriverUnit;
 use run_rules::{Arrival, Key, Placing};
 use run_world::{Core, Site, append, driver_of, is_ended, policy_of};
@@ -51,7 +51,7 @@ fn scan_placing(policy: Policy, offered: &[u32], interrupts_on: bool, may_defer:
 
 /// Puts the scan of a new device off, if that is its place.
 fn put_off(
-    deferred: &mut Deferred,
+    deferred: &mut DeferQueue,
     placing: Placing,
     parent: u64,
     serial: u64,
@@ -68,7 +68,7 @@ fn put_off(
 }
 
 /// Takes back the scan that was put off last.
-fn take_back(deferred: &mut Deferred, placing: Placing, parent: u64)
+fn take_back(deferred: &mut DeferQueue, placing: Placing, parent: u64)
     ensures { (es : List entry.Deferred) (serial : ℕ) → deferred.old ≡ put_off_too placing es parent serial → deferred.new ≡ es }
 {
     match placing {

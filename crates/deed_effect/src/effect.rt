@@ -42,6 +42,7 @@ fn open(core: &mut Core, caller: u8, of: u64, sole: bool) -> Result<(), Memory>
 }
 
 /// The caller gives one reference to a device back.
+#[inline(always)]
 fn close(core: &mut Core, caller: u8, of: u64)
     requires caller { caller < length core.old.callers.items }
     requires low { (state_at core.old.callers.items caller).over < 2 ^ 32 - 1 }
@@ -55,6 +56,7 @@ fn close(core: &mut Core, caller: u8, of: u64)
 
 /// After its last command the caller returns a reference.
 #[tactic(auto, unfolding(run_rules::specs::After::after))]
+#[inline(always)]
 fn give_back(core: &mut Core, caller: u8, of: u64)
     requires held { world.holds_in core.old.refs.refs caller of ≡ true }
     ensures world { (s : from.Setup) → world_of s core.new ≡ rule.after (world_of s core.old) caller (deeds.Drop of) }
@@ -75,6 +77,7 @@ pub fn finish_transfer(core: &mut Core, caller: u8)
 }
 
 /// A power command begins: the caller has the power turn.
+#[inline(always)]
 fn begin_power(core: &mut Core, caller: u8, kind: PowerKind, of: u64)
     requires caller { caller < length core.old.callers.items }
     ensures world { (s : from.Setup) → world_of s core.new ≡ rule.after (world_of s core.old) caller (deeds.BeginPower kind of) }
@@ -85,6 +88,7 @@ fn begin_power(core: &mut Core, caller: u8, kind: PowerKind, of: u64)
 }
 
 /// A power command is over, and the power turn is given up.
+#[inline(always)]
 fn end_power(core: &mut Core, caller: u8)
     requires caller { caller < length core.old.callers.items }
     requires low { (state_at core.old.callers.items caller).over < 2 ^ 32 - 1 }
@@ -96,6 +100,7 @@ fn end_power(core: &mut Core, caller: u8)
 }
 
 /// Hardware comes to a spot.
+#[inline(always)]
 fn plug(core: &mut Core, caller: u8, spot: u16)
     requires caller { caller < length core.old.callers.items }
     requires low { (state_at core.old.callers.items caller).over < 2 ^ 32 - 1 }
@@ -107,6 +112,7 @@ fn plug(core: &mut Core, caller: u8, spot: u16)
 }
 
 /// A device and all that is below it are condemned: the caller frees them from now on.
+#[inline(always)]
 fn detach(core: &mut Core, caller: u8, of: u64)
     requires caller { caller < length core.old.callers.items }
     requires live { IsTrue (world.is_live core.old.tree.live of) }

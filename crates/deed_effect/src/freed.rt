@@ -42,6 +42,7 @@ fn free_device(site: &Site, core: &mut Core, of: u64)
 }
 
 /// Whether a caller has freed all that it frees, once this device is gone.
+#[inline(always)]
 fn is_target(doing: Activity, serial: u64) -> bool
     ensures { result ≡ rule.freeing_target doing serial }
 {

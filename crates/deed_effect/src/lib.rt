@@ -5,7 +5,10 @@ mod attach;
 mod commit;
 mod effect;
 mod freed;
+mod room;
+mod run;
 mod slots;
 
-pub use effect::finish_transfer;
-pub use slots::{Halt, run_deed};
+pub use room::make_room;
+pub use run::{finish_transfer, run_deed};
+pub use slots::Halt;

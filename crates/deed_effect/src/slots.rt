@@ -31,6 +31,7 @@ pub enum Halt {
 }
 
 /// Whether a spot's device is in the subtree of another.
+#[inline(always)]
 fn stands_below(tree: &DevTree, spot: u16, target: u64) -> bool
     ensures { option_map_or (λ d. world.is_under tree.now.live target d.serial) (world.device_on tree.now.live spot) false ≡ result }
 {
@@ -89,7 +90,7 @@ fn bury_slot<S: Slots>(slots: &mut S, slot: u16) -> Result<(), u16>
 }
 
 /// A condemned device is freed, its slot first; or callers hold the slot, and nothing changes except the denials.
-pub fn free_with<S: Slots>(
+fn free_with<S: Slots>(
     site: &Site,
     core: &mut Core,
     caller: u8,
@@ -212,10 +213,10 @@ fn do_with<S: Slots>(
     }
 }
 
-/// Does a deed that the caller chose, with its slots; or memory runs out, or callers hold the slot of the device that
-/// is to be freed, and nothing changes except the denials.
+/// Does a deed that the caller chose, with its slots, where there is room for it; or memory runs out, or callers hold the
+/// slot of the device that is to be freed, and nothing changes except the denials.
 #[inline(always)]
-pub fn run_deed<S: Slots>(
+pub fn deed_in_room<S: Slots>(
     site: &Site,
     core: &mut Core,
     caller: u8,

@@ -1,9 +1,8 @@
--- Each event that a caller does next is formed, and the devices that it names are live.
-use Rattle.std.proofs.Common.{◌≡◌, ◌<◌, ◌≤◌, ◌^◌, ◌%◌, nat_lt, ℕ, zero, suc, ◌+◌, ◌-◌, ◌==◌, Bool, true, false, ◌&&◌, ◌||◌, cond, List, [], ◌∷◌, length, map, find, option_map, slice_get, Option, Some, None, refl, sym, ◌∙◌, subst, inl, inr, arith, eqb-true}
-use Rattle.std.specs.Prelude.{⊤, All, IfSome, IsTrue}
+-- Each event that a caller does next is formed.
+use Rattle.std.proofs.Common.{◌≡◌, ◌<◌, ◌≤◌, ◌^◌, ◌%◌, nat_lt, ℕ, zero, suc, ◌+◌, ◌-◌, ◌==◌, Bool, true, false, ◌||◌, cond, List, [], ◌∷◌, length, map, find, option_map, slice_get, Option, Some, None, refl, sym, subst, inl, inr, arith}
+use Rattle.std.specs.Prelude.{⊤, All, IfSome}
 use Rattle.std.specs.List.{AllByRecursion, slice_index_or}
 use Rattle.std.specs.Option.{option_map_or}
-use Rattle.std.proofs.lemmas.Bool.{and_parts}
 use Rattle.std.proofs.lemmas.Bool.Decides.{nat_tests}
 use Rattle.std.proofs.lemmas.Option.{same_Some}
 use Rattle.cf_types.specs.declared.machine.Command.{Command}
@@ -20,51 +19,43 @@ use Rattle.run_rules.specs.declared.event.PowerKind.{PowerKind}
 use Rattle.run_rules.specs.declared.event.PowerKind.TheVariants as kind
 use Rattle.run_rules.specs.declared.event.Reply.{Reply}
 use Rattle.run_rules.specs.declared.event.Reply.TheVariants as reply
-use Rattle.run_rules.specs.declared.world.Activity.TheVariants as activity
 use Rattle.run_rules.specs.declared.world.Arrival.{Arrival}
 use Rattle.run_rules.specs.declared.world.Dev.{Dev}
 use Rattle.run_rules.specs.declared.world.Position.{Position}
-use Rattle.run_rules.specs.declared.world.Ref.{Ref}
 use Rattle.run_rules.specs.declared.world.Setup.{Setup}
-use Rattle.run_rules.specs.World.{World, caller_at, children, device_at, device_named, device_on, driver_name, driver_of, has, has_ended, holds_in, is_condemned, is_held, is_live, is_pinned, is_referred, name_of, offered_by, parent_name, policy_of, root_name, unit_name}
+use Rattle.run_rules.specs.World.{World, caller_at, children, device_at, device_named, device_on, driver_name, driver_of, has, is_condemned, is_held, is_pinned, is_referred, name_of, offered_by, parent_name, policy_of, root_name, unit_name}
 use Rattle.run_rules.specs.declared.deed.Deed.{Deed}
 use Rattle.run_rules.specs.declared.deed.Deed.TheVariants.{Search, EndScan, BeginInterrupts, Finalise, EndCaller, Drop, Refuse, Open, Close, Start, Done, Detach, Free, Rescan, BeginPower, Sleep, Wake, EndPower, Plug, Unplug, Tell}
 use Rattle.run_rules.specs.declared.deed.Choice.{Choice}
 use Rattle.run_rules.specs.declared.deed.Choice.TheVariants.{Does}
-use Rattle.run_rules.specs.Next.{command_deed, command_of, has_nothing, hindered, is_hindrance, is_power, name_at, next, next_sleep, next_wake, on_device, on_held, powering, rescan_of, suspending, telling, unless_hindered, waking, wanted_of}
+use Rattle.run_rules.specs.Next.{command_deed, command_of, has_nothing, hindered, is_hindrance, name_at, next, next_sleep, next_wake, on_device, on_held, powering, rescan_of, suspending, telling, unless_hindered, waking, wanted_of}
 use Rattle.run_rules.specs.References.{count_in}
 use Rattle.run_rules.specs.Run.{answer_of, answered, depth_name, end_of, event_of, got_of as named_of, list_names, number_of, power_name, printed, reply_of, shown_of, spot_name, told, tree_names}
 use Rattle.run_rules.specs.Tree.{tree_below}
 use Rattle.run_rules.specs.Lines.{IsDeviceName, IsFormed, IsFormedAct, IsFormedAnswer, IsFormedDepthName, IsFormedGot, IsFormedName, IsFormedShown, IsSpotName, MayClose, MayDetach, MayEndPower, MayOpen, MayOpenSole, MayPlug, MayPower, MayRescan, MayStart, MayTell, MayUnplug}
 use Rattle.run_rules.proofs.Devices.{all_both, all_imp}
 use Rattle.run_rules.proofs.FormedNames.{device_known, root_known, written_device}
-use Rattle.run_rules.proofs.Free.{find_true}
 use Rattle.run_sound.specs.Calls.{CallsDevices}
-use Rattle.run_sound.proofs.Coming.{IsCalled, IsTurn}
-use Rattle.run_sound.proofs.Commands.{Begins, EndsPower, SendsToSleep, Wakes}
+use Rattle.run_sound.proofs.Commands.{Begins, EndsPower}
 use Rattle.run_sound.specs.Kept.{Kept, MayRun}
-use Rattle.run_sound.specs.Scripts.{IsAmid, power_command}
-use Rattle.run_sound.proofs.Arrivals.{due_inside, finalise_comes, search_comes, shown_inside}
-use Rattle.run_sound.proofs.Callers.{all_filter, doing_so}
+use Rattle.run_sound.specs.Scripts.{power_command}
+use Rattle.run_sound.proofs.Arrivals.{finalise_comes, search_comes}
+use Rattle.run_sound.proofs.Callers.{all_filter}
 use Rattle.run_sound.proofs.Members.{all_flat_of, contained_live, each_mapped, found_contained, found_from_end, found_of}
 use Rattle.config_rules.proofs.Parts.{cond_both}
-use Rattle.run_sound.proofs.Reasons.{option_both, has_command_reason, has_reason}
-use Rattle.run_sound.proofs.References.{amid_later}
-use Rattle.run_sound.proofs.ScriptLaws.{amid_said, doer_low, over_low}
+use Rattle.run_sound.proofs.Reasons.{option_both, has_command_reason}
+use Rattle.run_sound.proofs.ScriptLaws.{doer_low, over_low}
 use Rattle.run_world.specs.Arrivals.{MayArrive}
 use Rattle.run_world.specs.Events.{IsLive}
 use Rattle.run_world.specs.Arrivals.{got_of}
-use Rattle.deed_event.specs.Sayings.{EndsLive, MayBeTold, RefusesLive}
 use Rattle.told_names.specs.Naming.{HasRow}
 use Rattle.run_world.specs.Scripted.{FormedScripts}
 use Rattle.run_rules.specs.declared.deed.PowerEnd.{PowerEnd}
-use Rattle.run_rules.specs.declared.deed.PowerEnd.TheVariants as ends
-use Rattle.run_rules.specs.declared.deed.Refusal.{Refusal}
-use Rattle.run_rules.specs.declared.deed.Refusal.TheVariants as refusal
 use Rattle.deed_event.proofs.FormedNames.{driver_written}
 use Rattle.run_world.proofs.InputLaws.{bounded}
 use Rattle.told_names.proofs.LateLaws.{any_found}
-use Rattle.run_world.proofs.StepLaws.{called_live, deed_arrives, framed_live}
+use Rattle.run_world.proofs.StepLaws.{deed_arrives}
+use Rattle.run_sound.proofs.Told.{may_be_told, power_end, searched_inside, shown_there}
 
 -- ---- names
 
@@ -89,15 +80,6 @@ live_named w s named live = cases (device_at w.live s) refl
     cases : (o : Option Dev) → device_at w.live s ≡ o → IsDeviceName (option_map_or (name_of w.setup) o [])
     cases None e = absurd (any_found (λ d. d.serial == s) w.live live e)
     cases (Some d) e = found_of (Named w) (λ d. d.serial == s) w.live d named e
-
--- whose name is that of a device is live
-named_live : (w : World) (s : ℕ) → IsDeviceName (name_at w s) → IsLive w.live s
-named_live w s named = cases (device_at w.live s) refl named
-  where
-    cases : (o : Option Dev) → device_at w.live s ≡ o → IsDeviceName (option_map_or (name_of w.setup) o []) → IsLive w.live s
-    cases None e h = absurd cc
-    cases (Some d) e h =
-        subst (λ x. IsLive w.live x) (eqb-true d.serial s (find_true (λ d. d.serial == s) w.live d e)) (contained_live w.live d (found_contained (λ d. d.serial == s) w.live d e))
 
 parent_known : (w : World) (p : ℕ) → AllNamed w → IsFormedName (parent_name w.setup w.live p)
 unfolding parent_name
@@ -346,63 +328,8 @@ power_known kind.Suspend name formed = formed.names 0 [] (omega arith)
 power_known kind.Resume name formed = formed.names 0 [] (omega arith)
 power_known kind.ResumeTree name formed = formed.names 0 [] (omega arith)
 
-power_is : (what : PowerKind) (name : List ℕ) → is_power (power_command what name) ≡ true
-power_is kind.Suspend name = refl
-power_is kind.Resume name = refl
-power_is kind.ResumeTree name = refl
-
--- the power command that ends is the one in force
-pub record IsPowerEnd (w : World) (k : ℕ) : Type 0 where
-  pub what : PowerKind
-  pub name : List ℕ
-  pub said : command_of w k ≡ Some (power_command what name)
-
-pub power_end : (w : World) (k : ℕ) (end : PowerEnd) → Kept w → EndsPower w k end → IsPowerEnd w k
-power_end w k end kept why =
-    let amid = amid_of (command_of w k) why.amid (amid_said w k kept (amid_later w k kept.ranges (λ e. busy (sym why.amid ∙ e)) (λ e. runs (sym why.amid ∙ e)))) in
-    record { what = why.kind; name = amid.0; said = amid.1 }
-  where
-    busy : activity.Power why.kind why.target ≡ activity.Idle → ⊥
-    busy e = cc
-
-    runs : activity.Power why.kind why.target ≡ activity.Ended → ⊥
-    runs e = cc
-
-    amid_of : (c : Option Command) → (caller_at w k).doing ≡ activity.Power why.kind why.target → IsAmid (caller_at w k).doing c → (name : List ℕ) × (c ≡ Some (power_command why.kind name))
-    amid_of c e h = subst (λ a. IsAmid a c) e h
-
--- ---- the devices that a deed names are live
-
-sleeper_live : (w : World) (k s : ℕ) → SendsToSleep w k s → IsLive w.live s
-unfolding next_sleep
-sleeper_live w k s why = subst (IsLive w.live) why.serial (contained_live w.live why.dev (found_from_end _ w.live why.dev why.last))
-
-waker_live : (w : World) (k s : ℕ) → Wakes w k s → IsLive w.live s
-unfolding next_wake
-waker_live w k s why = subst (IsLive w.live) why.serial (contained_live w.live why.dev (found_contained _ w.live why.dev why.first))
-
-held_in : (live : List Dev) (refs : List Ref) (k s : ℕ) → AllByRecursion (λ r. IsTrue (is_live live r.serial)) refs → holds_in refs k s ≡ true → IsLive live s
-held_in live [] k s all h = absurd cc
-held_in live (r ∷ rs) k s all h = cases (λ more. held_in live rs k s all.1 more) (r.serial == s && r.caller == k) refl h
-  where
-    cases : (holds_in rs k s ≡ true → IsLive live s) → (b : Bool) → (r.serial == s && r.caller == k) ≡ b → (b || holds_in rs k s) ≡ true → IsLive live s
-    cases more true e h = subst (IsLive live) (eqb-true r.serial s (and_parts (r.serial == s) (r.caller == k) e).0) all.0
-    cases more false e h = more h
-
--- the device of a transfer is live
-pub transfer_live : (w : World) (k : ℕ) (t : Ticket) → Kept w → next w k ≡ Does (Done t) → IsLive w.live t.serial
-transfer_live w k t kept chosen =
-    held_in w.live w.refs k t.serial kept.sound.refs.live_ones ((kept.sound.callers k).transfer t (has_command_reason w k (Done t) chosen))
-
-call_live : (w : World) (k s : ℕ) (listed : Option ℕ) (anew : Bool) → Kept w → CallsDevices w → has_ended w k ≡ false → IsCalled w k s listed anew → IsLive w.live s
-call_live w k s None anew kept calls goes called = framed_live w k s called.0 kept.sound calls called.1
-call_live w k s (Some place) false kept calls goes called =
-    called_live w s (Some place) false kept calls (subst (λ j. has_ended w j ≡ false) called.0 goes) (subst (λ j. IsCalled w j s (Some place) false) called.0 called)
-call_live w k s (Some place) true kept calls goes called =
-    called_live w s (Some place) true kept calls (subst (λ j. has_ended w j ≡ false) called.0 goes) (subst (λ j. IsCalled w j s (Some place) true) called.0 called)
-
 -- the row of what comes is there
-row_there : (w : World) (k : ℕ) (d : Deed) → MayRun w.setup → Kept w → next w k ≡ Does d → HasRow w.setup (got_of d)
+pub row_there : (w : World) (k : ℕ) (d : Deed) → MayRun w.setup → Kept w → next w k ≡ Does d → HasRow w.setup (got_of d)
 row_there w k d may kept chosen = cases (got_of d) (deed_arrives w k d may kept chosen)
   where
     cases : (got : Option Arrival) → IfSome got (MayArrive w.setup w.live) → HasRow w.setup got
@@ -428,17 +355,6 @@ searched_formed : (w : World) (k p spot : ℕ) (to : Position) (got : Option Arr
 searched_formed w k p spot to None may kept chosen = tt
 searched_formed w k p spot to (Some a) may kept chosen = let come = search_comes w k p spot to a may kept chosen in got_formed w a may come.row come.small
 
--- the spot of a search is of the machine
-searched_inside : (w : World) (k p spot : ℕ) (to : Position) (got : Option Arrival) → next w k ≡ Does (Search p spot to got) → spot < length w.setup.machine.spots
-searched_inside w k p spot to got chosen =
-    let t : IsTurn w k p spot to got = has_reason w k (Search p spot to got) chosen in
-    rw t.place (due_inside w.setup w.live w.absent w.hidden p t.only t.wanted t.from t.turn t.is_due)
-
--- and that which a finaliser shows
-shown_there : (w : World) (k s : ℕ) (shown : Option ℕ) (got : Option Arrival) (listed : Option ℕ) (anew : Bool) → next w k ≡ Does (Finalise s shown got listed anew) → IfSome shown (λ x. x < length w.setup.machine.spots)
-shown_there w k s None got listed anew chosen = tt
-shown_there w k s (Some x) got listed anew chosen = (shown_inside w k s x got listed anew (has_reason w k (Finalise s (Some x) got listed anew) chosen)).0
-
 final_formed : (w : World) (k s : ℕ) (shown : Option ℕ) (got : Option Arrival) (listed : Option ℕ) (anew : Bool) → MayRun w.setup → Kept w → next w k ≡ Does (Finalise s shown got listed anew)
     → IfSome (shown_of w.setup shown got) IsFormedShown
 final_formed w k s None got listed anew may kept chosen = tt
@@ -447,81 +363,8 @@ final_formed w k s (Some x) (Some a) listed anew may kept chosen =
     let come = finalise_comes w k s x a listed anew may kept chosen in
     (spot_known w.setup x may (shown_there w k s (Some x) (Some a) listed anew chosen), got_formed w a may come.row come.small)
 
--- ---- what a deed names
-
-busy_named : (said : Command) (n : List ℕ) → Fits said (reply.Busy n) → IsDeviceName n
-busy_named (command.OpenDev name) n h = absurd h
-busy_named (command.OpenSole name) n h = absurd h
-busy_named (command.CloseDev name) n h = absurd h
-busy_named (command.Io name value) n h = absurd h
-busy_named (command.Detach name) n h = h
-busy_named (command.Rescan name attr given) n h = h
-busy_named (command.ListDev name) n h = absurd h
-busy_named (command.TreeDev name) n h = absurd h
-busy_named (command.Suspend name) n h = absurd h
-busy_named (command.Resume name) n h = absurd h
-busy_named (command.ResumeTree name) n h = absurd h
-busy_named (command.Plug name) n h = absurd h
-busy_named (command.Unplug name) n h = h
-
-refusal_live : (w : World) (said : Command) (why : Refusal) → Fits said (reply_of w why) → RefusesLive w.live why
-refusal_live w said refusal.NoDevice fits = tt
-refusal_live w said refusal.Gone fits = tt
-refusal_live w said refusal.Exclusive fits = tt
-refusal_live w said refusal.TooMany fits = tt
-refusal_live w said refusal.Shared fits = tt
-refusal_live w said refusal.NotHeld fits = tt
-refusal_live w said refusal.Asleep fits = tt
-refusal_live w said (refusal.Busy s) fits = named_live w s (busy_named said (name_at w s) fits)
-refusal_live w said refusal.NoRescan fits = tt
-refusal_live w said refusal.BadAttribute fits = tt
-refusal_live w said refusal.BadLocator fits = tt
-refusal_live w said refusal.NoSpot fits = tt
-
-end_live : (w : World) (end : PowerEnd) → MayEndPower (end_of w end) → EndsLive w.live end
-end_live w ends.Done fits = tt
-end_live w ends.Gone fits = tt
-end_live w (ends.NotSupported s) fits = named_live w s fits
-end_live w (ends.Failed s) fits = named_live w s fits
-
--- what ends is a power command
-power_said : (w : World) (k : ℕ) (end : PowerEnd) → Kept w → EndsPower w k end → option_map_or is_power (command_of w k) false ≡ true
-power_said w k end kept why = let it = power_end w k end kept why in rw it.said (power_is it.what it.name)
-
 begun_fits : (w : World) (k : ℕ) (d : Deed) → AllNamed w → (b : Begins w k d) → FitsDeed w b.said d
 begun_fits w k d named b = subst (FitsDeed w b.said) b.deed (command_fits w k ((caller_at w k).over + 1) b.said named)
-
--- a deed that comes next may be told
-pub may_be_told : (w : World) (k : ℕ) (d : Deed) → MayRun w.setup → Kept w → CallsDevices w → next w k ≡ Does d → MayBeTold w k d
-may_be_told w k (Search p spot to got) may kept calls chosen = (searched_inside w k p spot to got chosen, row_there w k (Search p spot to got) may kept chosen)
-may_be_told w k (EndScan p) may kept calls chosen = tt
-may_be_told w k BeginInterrupts may kept calls chosen = tt
-may_be_told w k (Finalise s shown got listed anew) may kept calls chosen = (
-  call_live w k s listed anew kept calls (doing_so w k (Finalise s shown got listed anew) chosen).unended (has_reason w k (Finalise s shown got listed anew) chosen).called,
-  shown_there w k s shown got listed anew chosen,
-  row_there w k (Finalise s shown got listed anew) may kept chosen,
-)
-may_be_told w k EndCaller may kept calls chosen = tt
-may_be_told w k (Drop s) may kept calls chosen = (has_command_reason w k (Drop s) chosen).live
-may_be_told w k (Refuse why) may kept calls chosen =
-    let b : Begins w k (Refuse why) = has_command_reason w k (Refuse why) chosen in
-    refusal_live w b.said why (begun_fits w k (Refuse why) (all_named w may kept) b)
-may_be_told w k (Open s sole) may kept calls chosen = tt
-may_be_told w k (Close s) may kept calls chosen = tt
-may_be_told w k (Start ticket) may kept calls chosen = tt
-may_be_told w k (Done ticket) may kept calls chosen = transfer_live w k ticket kept chosen
-may_be_told w k (Detach s) may kept calls chosen = tt
-may_be_told w k (Free s) may kept calls chosen = (has_command_reason w k (Free s) chosen).live
-may_be_told w k (Rescan s only) may kept calls chosen = tt
-may_be_told w k (BeginPower kind s) may kept calls chosen = tt
-may_be_told w k (Sleep s) may kept calls chosen = sleeper_live w k s (has_command_reason w k (Sleep s) chosen)
-may_be_told w k (Wake s) may kept calls chosen = waker_live w k s (has_command_reason w k (Wake s) chosen)
-may_be_told w k (EndPower end) may kept calls chosen =
-    let why : EndsPower w k end = has_command_reason w k (EndPower end) chosen in
-    (end_live w end (end_fits w k end (all_named w may kept) why), power_said w k end kept why)
-may_be_told w k (Plug x) may kept calls chosen = tt
-may_be_told w k (Unplug x of) may kept calls chosen = tt
-may_be_told w k Tell may kept calls chosen = tt
 
 -- ---- what is printed is formed
 
@@ -554,9 +397,9 @@ deed_printed w k (Search p spot to got) may scripts kept calls chosen = (
 deed_printed w k (EndScan p) may scripts kept calls chosen = parent_known w p (all_named w may kept)
 deed_printed w k BeginInterrupts may scripts kept calls chosen = tt
 deed_printed w k (Finalise s shown got listed anew) may scripts kept calls chosen =
-    (live_known w s (all_named w may kept) (may_be_told w k (Finalise s shown got listed anew) may kept calls chosen).0, final_formed w k s shown got listed anew may kept chosen)
+    (live_known w s (all_named w may kept) (may_be_told w k (Finalise s shown got listed anew) kept calls chosen).0, final_formed w k s shown got listed anew may kept chosen)
 deed_printed w k EndCaller may scripts kept calls chosen = tt
-deed_printed w k (Drop s) may scripts kept calls chosen = live_known w s (all_named w may kept) (may_be_told w k (Drop s) may kept calls chosen)
+deed_printed w k (Drop s) may scripts kept calls chosen = live_known w s (all_named w may kept) (may_be_told w k (Drop s) kept calls chosen)
 deed_printed w k (Refuse why) may scripts kept calls chosen =
     let b : Begins w k (Refuse why) = (has_command_reason w k (Refuse why) chosen) in begun_formed w k (Refuse why) (reply_of w why) (all_named w may kept) (few_live w may kept) scripts b (begun_fits w k (Refuse why) (all_named w may kept) b)
 deed_printed w k (Open s sole) may scripts kept calls chosen =
@@ -565,16 +408,16 @@ deed_printed w k (Close s) may scripts kept calls chosen =
     let b = (has_command_reason w k (Close s) chosen).begins in begun_formed w k (Close s) reply.Ok (all_named w may kept) (few_live w may kept) scripts b (begun_fits w k (Close s) (all_named w may kept) b)
 deed_printed w k (Start ticket) may scripts kept calls chosen =
     let b = (has_command_reason w k (Start ticket) chosen).begins in begun_formed w k (Start ticket) reply.Ok (all_named w may kept) (few_live w may kept) scripts b (begun_fits w k (Start ticket) (all_named w may kept) b)
-deed_printed w k (Done ticket) may scripts kept calls chosen = (live_known w ticket.serial (all_named w may kept) (transfer_live w k ticket kept chosen), answer_formed ticket)
+deed_printed w k (Done ticket) may scripts kept calls chosen = (live_known w ticket.serial (all_named w may kept) (may_be_told w k (Done ticket) kept calls chosen), answer_formed ticket)
 deed_printed w k (Detach s) may scripts kept calls chosen =
     let b = (has_command_reason w k (Detach s) chosen).begins in begun_formed w k (Detach s) reply.Ok (all_named w may kept) (few_live w may kept) scripts b (begun_fits w k (Detach s) (all_named w may kept) b)
-deed_printed w k (Free s) may scripts kept calls chosen = live_known w s (all_named w may kept) (may_be_told w k (Free s) may kept calls chosen)
+deed_printed w k (Free s) may scripts kept calls chosen = live_known w s (all_named w may kept) (may_be_told w k (Free s) kept calls chosen)
 deed_printed w k (Rescan s only) may scripts kept calls chosen =
     let b = (has_command_reason w k (Rescan s only) chosen).begins in begun_formed w k (Rescan s only) reply.Ok (all_named w may kept) (few_live w may kept) scripts b (begun_fits w k (Rescan s only) (all_named w may kept) b)
 deed_printed w k (BeginPower kind s) may scripts kept calls chosen =
     let b = (has_command_reason w k (BeginPower kind s) chosen).begins in begun_formed w k (BeginPower kind s) reply.Ok (all_named w may kept) (few_live w may kept) scripts b (begun_fits w k (BeginPower kind s) (all_named w may kept) b)
-deed_printed w k (Sleep s) may scripts kept calls chosen = live_known w s (all_named w may kept) (may_be_told w k (Sleep s) may kept calls chosen)
-deed_printed w k (Wake s) may scripts kept calls chosen = live_known w s (all_named w may kept) (may_be_told w k (Wake s) may kept calls chosen)
+deed_printed w k (Sleep s) may scripts kept calls chosen = live_known w s (all_named w may kept) (may_be_told w k (Sleep s) kept calls chosen)
+deed_printed w k (Wake s) may scripts kept calls chosen = live_known w s (all_named w may kept) (may_be_told w k (Wake s) kept calls chosen)
 deed_printed w k (EndPower end) may scripts kept calls chosen = power_formed w k end (all_named w may kept) scripts kept (has_command_reason w k (EndPower end) chosen)
 deed_printed w k (Plug x) may scripts kept calls chosen =
     let b = (has_command_reason w k (Plug x) chosen).begins in begun_formed w k (Plug x) reply.Ok (all_named w may kept) (few_live w may kept) scripts b (begun_fits w k (Plug x) (all_named w may kept) b)

@@ -11,11 +11,11 @@ use std::marker::Model;
 /// The deferred scans. Contracts see the list of them in the order in which they were deferred. See config_defer(9) and
 /// config_interrupts(9).
 #[derive(Drop)]
-pub struct Deferred {
+pub struct DeferQueue {
     entries: Vec<Entry>,
 }
 
-impl Model for Deferred {
+impl Model for DeferQueue {
     ghost use Rattle.std.specs.Prelude.{List};
     ghost use Rattle.run_rules.specs.declared.world.Deferred.{Deferred as Entry};
 
@@ -47,12 +47,12 @@ fn last_place(entries: &[Entry], which: Key) -> Option<usize>
     entries.iter().rposition(|entry| same_key(entry.key, which))
 }
 
-impl Deferred {
+impl DeferQueue {
     /// Nothing is deferred. It takes no memory.
-    pub fn make(alloc: Global) -> Deferred
+    pub fn make(alloc: Global) -> DeferQueue
         ensures { result ≡ [] }
     {
-        Deferred {
+        DeferQueue {
             entries: Vec::new(alloc),
         }
     }

@@ -3,5 +3,5 @@
 
 mod deferred;
 
-pub use deferred::Deferred;
+pub use deferred::DeferQueue;
 pub use run_rules::Key;

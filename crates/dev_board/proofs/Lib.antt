@@ -6,6 +6,7 @@ pub mod Started
 pub mod OpenSlots
 pub mod Opening
 pub mod Kept
+pub mod Stays
 pub mod ScriptedLaws
 pub mod NextLaws
 pub mod TurnLaws

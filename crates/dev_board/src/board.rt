@@ -33,13 +33,13 @@ use crate::post::post_state;
 use crate::posted::Posted;
 use crate::step::step_state;
 use crate::stepped::Stepped;
-use crate::waiting::{Standing, how_it_stands, lines_of};
+use crate::waiting::{Outlook, how_it_stands, lines_of};
 use attr_graph::Graph;
 use cf_tables::Compiled;
 use cf_types::{DevLine, List, Machine, Memory, Script, Tables, Text};
 use ref_ledger::Slots;
 use run_rules::Event;
-use run_world::{Site, is_occupied, opening_core};
+use run_world::{Going, Held, Site, is_occupied, opening_core};
 use std::alloc::Global;
 use std::marker::Model;
 use std::mem::drop;
@@ -49,7 +49,6 @@ use told_names::tree_of;
 /// history is a run from the opening world to the world, and that this world is sound.
 #[derive(Drop)]
 pub struct Board {
-    site: Site,
     state: BoardState,
 }
 
@@ -95,15 +94,17 @@ impl Board {
         ensures events { IfOk result (λ b. b.events ≡ []) }
         ensures stops { IfOk result (λ b. (b.stops ≡ 0) × (b.stopped ≡ None)) }
     {
-        match opening_core(site.alloc, &site.setup) {
+        let alloc = site.alloc;
+        match opening_core(alloc, &site.setup) {
             Ok(core) => {
+                let held = Held { site, core };
                 let state = BoardState {
-                    core,
-                    events: Vec::new(site.alloc),
+                    going: Going { held },
+                    events: Vec::new(alloc),
                     stops: 0,
                     stopped: None,
                 };
-                Ok(Board { site, state })
+                Ok(Board { state })
             }
             Err(_) => {
                 drop(site);
@@ -126,7 +127,7 @@ impl Board {
         ensures lawful { Lawful self.new.events }
         ensures falls { IsDid result → caller ≡ 0 → boot_left self.new.world < boot_left self.old.world }
     {
-        let stepped = step_state(&self.site, &mut self.state, caller, slots);
+        let stepped = step_state(&mut self.state, caller, slots);
         self.stands();
         stepped
     }
@@ -139,8 +140,7 @@ impl Board {
         ensures began { began self.new ≡ began self.old }
         ensures lawful { Lawful self.new.events }
     {
-        let site = &self.site;
-        let posted = post_state(site.alloc, &site.setup, &mut self.state, done.spend());
+        let posted = post_state(&mut self.state, done.spend());
         self.stands();
         posted
     }
@@ -161,6 +161,7 @@ impl Board {
     }
 
     /// The facts that every board keeps. It does nothing.
+    #[inline(always)]
     pub fn stands(&self)
         ensures run { Run (began self.now) self.now.events self.now.world }
         ensures sound { Sound self.now.world }
@@ -173,7 +174,8 @@ impl Board {
         ensures scripts { length self.now.world.setup.scripts ≤ 16 }
         ensures may { MayRun self.now.world.setup }
     {
-        let _ = &self.state;
+        let state = &self.state;
+        state.going.stands();
     }
 
     /// Makes room for this many more events, if there is memory for them all, so that none of them asks for memory.
@@ -213,7 +215,7 @@ impl Board {
         requires { slot < length self.now.world.setup.machine.spots }
         ensures { result ≡ search.is_occupied self.now.world.live slot }
     {
-        is_occupied(&self.state.core.tree, slot)
+        is_occupied(self.state.going.tree(), slot)
     }
 
     /// The lines of the device tree, depth first, children by serial. See drvctl(8).
@@ -221,48 +223,60 @@ impl Board {
         ensures lines { IfOk result (λ lines. lines ≡ tree.tree_lines self.now.world) }
         ensures told { IfOk result (λ lines. TellsTree self.now.events lines) }
     {
-        tree_of(self.site.alloc, &self.site.setup, &self.state.core)
+        self.state.going.stands();
+        tree_of(&self.state.going)
     }
 
     /// Whether any caller goes on, or some wait for good, or all have ended.
-    pub fn standing(&self) -> Result<Standing, Memory>
+    #[inline(always)]
+    pub fn standing(&self) -> Result<Outlook, Memory>
         ensures { IfOk result (λ how. StandsSo how self.now.world) }
     {
-        how_it_stands(&self.site, &self.state)
+        how_it_stands(&self.state.going)
     }
 
     /// Who waits until nobody holds a device, and who holds it: a line for each such caller, in their order.
     pub fn wait_lines(&self) -> Result<List<Text>, Memory>
         ensures { IfOk result (λ lines. lines ≡ wait_lines self.now.world) }
     {
-        lines_of(&self.site, &self.state)
+        lines_of(&self.state.going)
     }
 
     /// The tables of the run.
+    #[inline(always)]
     pub fn tables(&self) -> &Tables
         ensures { result.now ≡ self.now.world.setup.tables }
     {
-        &self.site.setup.tables
+        &self.state.going.setup().tables
     }
 
     /// The graph of the tables of the run.
+    #[inline(always)]
     pub fn graph(&self) -> &Graph
         ensures { IsGraphOf (declared_by self.now.world.setup.tables) result.now }
     {
-        &self.site.graph
+        let going = &self.state.going;
+        let held = &going.held;
+        &held.site.graph
     }
 
     /// How many spots the machine has.
+    #[inline(always)]
     pub fn spots(&self) -> u16
         ensures { result ≡ length self.now.world.setup.machine.spots }
     {
-        self.site.setup.machine.spots.len() as u16
+        let going = &self.state.going;
+        going.stands();
+        going.setup().machine.spots.len() as u16
     }
 
     /// How many scripts there are; their callers are 1, 2 and so on.
+    #[inline(always)]
     pub fn callers(&self) -> u8
         ensures { result ≡ length self.now.world.setup.scripts }
     {
-        self.site.setup.scripts.len() as u8
+        let going = &self.state.going;
+        going.stands();
+        going.setup().scripts.len() as u8
     }
 }

@@ -30,4 +30,4 @@ pub use run_rules::Wait;
 pub use stepped::Stepped;
 pub use told::Told;
 pub use turns::run_turns;
-pub use waiting::Standing;
+pub use waiting::Outlook;

@@ -1,8 +1,8 @@
 //! The places between which the last device awake and the first one asleep are.
-ghost use Rattle.std.specs.Prelude.{◌≡◌, ◌≢◌, ◌<◌, ◌≤◌, ◌+◌, ◌^◌, ℕ, List, [], ◌∷◌, ◌++◌, Bool, false, true, find, length, map, remove, reverse};
+ghost use Rattle.std.specs.Prelude.{◌≢◌, ◌<◌, ◌≤◌, ◌+◌, ◌^◌, ℕ, List, [], length, map, remove};
 ghost use Rattle.run_rules.specs.After.{with_sleep};
 ghost use Rattle.run_rules.specs.declared.world.Dev.{Dev};
-ghost use Rattle.dev_tree.specs.Rest.{AreResting};
+ghost use Rattle.dev_tree.specs.Rest.{AreResting, CountsOneMore, HasFirstAsleep, HasLastAwake};
 ghost use Rattle.dev_tree.specs.Tree.{AreInOrder};
 
 use crate::lookup::place_of;
@@ -29,7 +29,7 @@ impl Resting {
 
     /// With one device more, awake and the last one.
     pub fn with_one(self, count: usize) -> Resting
-        ensures { (live : List Dev) (d : Dev) → length live + 1 ≡ count → d.asleep ≡ false → AreResting live self → AreResting (live ++ d ∷ []) result }
+        ensures { CountsOneMore count self result }
     {
         Resting {
             awake_before: self.awake_before,
@@ -105,7 +105,7 @@ impl Resting {
     #[inline(always)]
     pub fn front(self, live: &[Dev]) -> &[Dev]
         requires { AreResting live.now self }
-        ensures { (test : Dev → Bool) → ((d : Dev) → d.asleep ≡ true → test d ≡ false) → find test (reverse live.now) ≡ find test (reverse result.now) }
+        ensures { HasLastAwake live.now result.now }
     {
         &live[..self.asleep_from.min(live.len())]
     }
@@ -114,7 +114,7 @@ impl Resting {
     #[inline(always)]
     pub fn back(self, live: &[Dev]) -> &[Dev]
         requires { AreResting live.now self }
-        ensures { (test : Dev → Bool) → ((d : Dev) → d.asleep ≡ false → test d ≡ false) → find test live.now ≡ find test result.now }
+        ensures { HasFirstAsleep live.now result.now }
     {
         &live[self.awake_before.min(live.len())..]
     }

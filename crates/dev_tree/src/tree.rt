@@ -1,8 +1,9 @@
-ghost use Rattle.std.specs.Prelude.{◌≡◌, ◌<◌, ◌+◌, ◌-◌, ◌^◌, ◌||◌, ◌==◌, Bool, false, true, IsTrue, [], ◌∷◌, ◌++◌, vec_len, vec_capacity, find, reverse, map, length, slice_get, IfOk, OnOk, OnErr};
+ghost use Rattle.std.specs.Prelude.{◌≡◌, ◌<◌, ◌+◌, ◌-◌, ◌^◌, ◌||◌, ◌==◌, false, true, IsTrue, [], ◌∷◌, ◌++◌, vec_len, vec_capacity, find, map, length, IfOk, OnOk, OnErr};
 ghost use Rattle.run_rules.specs.After.{with_sleep, with_condemner};
 ghost use Rattle.run_rules.specs.Search.{is_occupied};
 ghost use Rattle.run_rules.specs.World as world;
 ghost use Rattle.dev_tree.specs.Tree.{AreSound, is_named, serial_named, with_device, without_device};
+ghost use Rattle.dev_tree.specs.Rest.{HasFirstAsleep, HasLastAwake};
 ghost use Rattle.run_rules.specs.declared.world.Dev.{Dev};
 
 use crate::bare::{is_marked, unmark};
@@ -181,7 +182,7 @@ impl DevTree {
     /// devices fail finds the same among them as among all.
     #[inline(always)]
     pub fn front(&self) -> &[Dev]
-        ensures { (test : Dev → Bool) → ((d : Dev) → d.asleep ≡ true → test d ≡ false) → find test (reverse self.now.live) ≡ find test (reverse result.now) }
+        ensures { HasLastAwake self.now.live result.now }
     {
         self.rest.front(&self.live)
     }
@@ -190,7 +191,7 @@ impl DevTree {
     /// as among all.
     #[inline(always)]
     pub fn back(&self) -> &[Dev]
-        ensures { (test : Dev → Bool) → ((d : Dev) → d.asleep ≡ false → test d ≡ false) → find test self.now.live ≡ find test result.now }
+        ensures { HasFirstAsleep self.now.live result.now }
     {
         self.rest.back(&self.live)
     }

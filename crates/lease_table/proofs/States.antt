@@ -4,9 +4,9 @@ use Rattle.std.specs.Prelude.{slice_get, slice_index_or, slice_set, Option, Some
 use Rattle.ref_ledger.specs.declared.state.SlotState.{SlotState}
 use Rattle.ref_ledger.specs.declared.state.SlotState.TheVariants.{Free}
 use Rattle.lease_table.specs.declared.view.SlotRecord.{SlotRecord}
-use Rattle.lease_table.specs.declared.view.Standing.{Standing}
+use Rattle.lease_table.specs.declared.view.SeatRecord.{SeatRecord}
 use Rattle.lease_table.specs.declared.view.View.{View}
-use Rattle.lease_table.specs.declared.view.Word.{Word}
+use Rattle.lease_table.specs.declared.view.SlotWord.{SlotWord}
 use Rattle.ref_ledger.specs.Slots.{Answers, Denies}
 use Rattle.ref_ledger.specs.declared.buried.Bury.{Bury}
 use Rattle.ref_ledger.specs.declared.buried.Bury.TheVariants as bury
@@ -31,7 +31,7 @@ pub known_state : (v : View) (x : ℕ) (s : SlotState) → slice_get (states_in 
 known_state v x s e = known v.standing.slots x s e
 
 -- a word without a holder's bit was not shown
-pub none_noticed : (mask : ℕ) (v : View) (x : ℕ) (word : Word) → mask ≡ 0 → noticed mask v x word ≡ v
+pub none_noticed : (mask : ℕ) (v : View) (x : ℕ) (word : SlotWord) → mask ≡ 0 → noticed mask v x word ≡ v
 none_noticed zero v x word e = refl
 none_noticed (suc mask) v x word e = absurd (omega arith)
 
@@ -41,10 +41,10 @@ knowing_state v x s = map-set (λ (k : SlotRecord). k.state) v.standing.slots x 
 pub freed_state : (v : View) (x : ℕ) → states_in (freed v x) ≡ slice_set (states_in v) x Free
 freed_state v x = map-set (λ (k : SlotRecord). k.state) v.standing.slots x (slot_at (freed_at v x) 0)
   where
-    freed_at : View → ℕ → Standing
+    freed_at : View → ℕ → SeatRecord
     freed_at v x = record { keeps = true; number = 0; claims = []; slots = record { state = Free; generation = next_generation (slot_at v.standing x).generation } ∷ []; drawn = 0 }
 
-one_more_denial : (n s : ℕ) (m : Word) → denial_of (n + 1) s m ≡ Some (record { slot = s; mask = m.holders })
+one_more_denial : (n s : ℕ) (m : SlotWord) → denial_of (n + 1) s m ≡ Some (record { slot = s; mask = m.holders })
 one_more_denial n s m = subst (λ (z : ℕ). denial_of z s m ≡ Some (record { slot = s; mask = m.holders })) (next n) refl
   where
     next : (n : ℕ) → suc n ≡ n + 1

@@ -7,18 +7,18 @@ use Rattle.lease_table.specs.declared.view.Claim.TheVariants.{Nothing, Trying, H
 use Rattle.ref_ledger.specs.declared.state.SlotState.{SlotState}
 use Rattle.ref_ledger.specs.declared.state.SlotState.TheVariants.{Free, Live, Condemned}
 use Rattle.lease_table.specs.declared.view.SlotRecord.{SlotRecord}
-use Rattle.lease_table.specs.declared.view.Standing.{Standing}
+use Rattle.lease_table.specs.declared.view.SeatRecord.{SeatRecord}
 use Rattle.lease_table.specs.declared.view.View.{View}
-use Rattle.lease_table.specs.declared.view.Word.{Word}
+use Rattle.lease_table.specs.declared.view.SlotWord.{SlotWord}
 use Rattle.lease_table.specs.Words.{blank, is_holder, said}
 
-abbrev pub claim_at : Standing → ℕ → Claim
+abbrev pub claim_at : SeatRecord → ℕ → Claim
 claim_at c x = slice_index_or c.claims x Nothing
 
 abbrev pub free_slot : SlotRecord
 free_slot = record { state = Free; generation = 0 }
 
-abbrev pub slot_at : Standing → ℕ → SlotRecord
+abbrev pub slot_at : SeatRecord → ℕ → SlotRecord
 slot_at c x = slice_index_or c.slots x free_slot
 
 -- whether the caller's bit is set
@@ -38,48 +38,48 @@ is_condemned Live = false
 is_condemned Condemned = true
 
 -- a word says of its slot what the keeper knows
-pub record Says (word : Word) (k : SlotRecord) : Type 0 where
+pub record Says (word : SlotWord) (k : SlotRecord) : Type 0 where
   pub live : word.live ≡ is_live k.state
   pub condemned : word.condemned ≡ is_condemned k.state
   pub generation : word.generation ≡ k.generation
 
-abbrev pub At : List Standing → ℕ → Standing → Type 0
+abbrev pub At : List SeatRecord → ℕ → SeatRecord → Type 0
 At standings j c = get_elem? standings j ≡ some c
 
 -- what the word of a slot says
-abbrev pub word_at : List ℕ → ℕ → Word
+abbrev pub word_at : List ℕ → ℕ → SlotWord
 word_at words x = said (slice_index words x)
 
 -- the rule, of n slots, the words and what each seat knows; one word more stands behind those of the slots, so that a table without slots has a word too
-pub record Ruled (n : ℕ) (words : List ℕ) (standings : List Standing) : Type 0 where
+pub record Ruled (n : ℕ) (words : List ℕ) (standings : List SeatRecord) : Type 0 where
   -- one seat is the keeper's, and it has no number
   pub keeper : ℕ
-  pub keeper_standing : Standing
+  pub keeper_standing : SeatRecord
   pub sits : At standings keeper keeper_standing
   pub none : keeper_standing.number ≡ 0
   pub few : keeper_standing.drawn ≤ 16
-  pub alone : (j : ℕ) (c : Standing) → At standings j c → c.keeps ≡ true → j ≡ keeper
+  pub alone : (j : ℕ) (c : SeatRecord) → At standings j c → c.keeps ≡ true → j ≡ keeper
   -- numbers are among those drawn, and differ
-  pub drawn : (j : ℕ) (c : Standing) → At standings j c → c.number ≤ keeper_standing.drawn
-  pub apart : (i j : ℕ) (c d : Standing) → At standings i c → At standings j d → 0 < c.number → c.number ≡ d.number
+  pub drawn : (j : ℕ) (c : SeatRecord) → At standings j c → c.number ≤ keeper_standing.drawn
+  pub apart : (i j : ℕ) (c d : SeatRecord) → At standings i c → At standings j d → 0 < c.number → c.number ≡ d.number
       → i ≡ j
   -- a caller is one of the holders where it tries or holds, and nobody is whose number was not drawn
-  pub own : (j : ℕ) (c : Standing) → At standings j c → 0 < c.number → (x : ℕ) → x < n
+  pub own : (j : ℕ) (c : SeatRecord) → At standings j c → 0 < c.number → (x : ℕ) → x < n
       → is_holder (word_at words x) c.number ≡ has_bit (claim_at c x)
   pub clear : (k : ℕ) → keeper_standing.drawn < k → k ≤ 16 → (x : ℕ) → x < n → is_holder (word_at words x) k ≡ false
   -- what is held is live, and has that generation
-  pub held : (j : ℕ) (c : Standing) → At standings j c → 0 < c.number → (x : ℕ) → x < n → (g : ℕ) → claim_at c x ≡ Held g
+  pub held : (j : ℕ) (c : SeatRecord) → At standings j c → 0 < c.number → (x : ℕ) → x < n → (g : ℕ) → claim_at c x ≡ Held g
       → ((word_at words x).live ≡ true) × ((word_at words x).generation ≡ g)
   -- state and generation are those that the keeper knows
   pub slots : (x : ℕ) → x < n → Says (word_at words x) (slot_at keeper_standing x)
-  pub sized : (j : ℕ) (c : Standing) → At standings j c → 0 < c.number → length c.claims ≡ n
+  pub sized : (j : ℕ) (c : SeatRecord) → At standings j c → 0 < c.number → length c.claims ≡ n
   pub wide : length words ≡ n + 1
 
-abbrev pub standing : View → Standing
+abbrev pub standing : View → SeatRecord
 standing v = v.standing
 
 -- the view to which a word was shown
-abbrev pub showing : View → Standing → ℕ → Word → View
+abbrev pub showing : View → SeatRecord → ℕ → SlotWord → View
 showing v c x word = record { standing = c; shown = v.shown + 1; slot = x; word = word }
 
 -- what the caller has after its bit was set, by the word found
@@ -88,19 +88,19 @@ gained false condemned g = Trying
 gained true true g = Trying
 gained true false g = Held g
 
-abbrev pub gained_from : Word → Claim
+abbrev pub gained_from : SlotWord → Claim
 gained_from word = gained word.live word.condemned word.generation
 
-abbrev pub with_claim : Standing → ℕ → Claim → Standing
+abbrev pub with_claim : SeatRecord → ℕ → Claim → SeatRecord
 with_claim c x h = record { keeps = c.keeps; number = c.number; claims = slice_set c.claims x h; slots = c.slots; drawn = c.drawn }
 
 -- a load shows the word; where the caller holds the slot, it says so
-pub record Looked (x : ℕ) (v : View) (word : Word) (w : View) : Type 0 where
+pub record Looked (x : ℕ) (v : View) (word : SlotWord) (w : View) : Type 0 where
   pub view : w ≡ showing v v.standing x word
   pub held : (g : ℕ) → claim_at v.standing x ≡ Held g → (word.live ≡ true) × (word.generation ≡ g) × (is_holder word v.standing.number ≡ true)
 
 -- the bit was set, and the word that was found decides
-abbrev pub Took : ℕ → View → Word → View → Type 0
+abbrev pub Took : ℕ → View → SlotWord → View → Type 0
 Took x v word w = w ≡ showing v (with_claim v.standing x (gained_from word)) x word
 
 -- the view that has nothing of a slot
@@ -131,7 +131,7 @@ dealt v = record { standing = record { keeps = v.standing.keeps; number = v.stan
 abbrev pub dealt_to : View → View
 dealt_to v = caller_view (length v.standing.slots) (v.standing.drawn + 1)
 
-abbrev pub with_slot : Standing → ℕ → SlotRecord → Standing
+abbrev pub with_slot : SeatRecord → ℕ → SlotRecord → SeatRecord
 with_slot c x k = record { keeps = c.keeps; number = c.number; claims = c.claims; slots = slice_set c.slots x k; drawn = c.drawn }
 
 -- the keeper's view where a slot has this state, and the generation that it had
@@ -147,12 +147,12 @@ abbrev pub freed : View → ℕ → View
 freed v x = record { standing = with_slot v.standing x record { state = Free; generation = next_generation (slot_at v.standing x).generation }; shown = v.shown; slot = v.slot; word = v.word }
 
 -- a word is shown to the keeper only where somebody holds the slot
-abbrev pub noticed : ℕ → View → ℕ → Word → View
+abbrev pub noticed : ℕ → View → ℕ → SlotWord → View
 noticed zero v x word = v
 noticed (suc mask) v x word = showing v v.standing x word
 
 -- the keeper's load: the word says what the keeper knows
-pub record Peeked (x : ℕ) (v : View) (word : Word) (w : View) : Type 0 where
+pub record Peeked (x : ℕ) (v : View) (word : SlotWord) (w : View) : Type 0 where
   pub view : w ≡ noticed word.holders v x word
   pub says : Says word (slot_at v.standing x)
 

@@ -7,7 +7,7 @@ use Rattle.ref_ledger.specs.declared.buried.Bury.TheVariants as bury
 use Rattle.lease_table.specs.Leases.{showing, freed, slot_at, caller_view}
 use Rattle.atomic_table.specs.Seated.{TableId}
 use Rattle.lease_table.specs.declared.view.View.{View}
-use Rattle.lease_table.specs.declared.view.Word.{Word}
+use Rattle.lease_table.specs.declared.view.SlotWord.{SlotWord}
 
 pub record SeatShown : Type 0 where
   pub table : TableId
@@ -36,7 +36,7 @@ abbrev pub states_in : View → List SlotState
 states_in v = map (λ k. k.state) v.standing.slots
 
 -- how often a burial was denied, and the last denial
-abbrev pub denial_of : ℕ → ℕ → Word → Option Denial
+abbrev pub denial_of : ℕ → ℕ → SlotWord → Option Denial
 denial_of zero slot word = None
 denial_of (suc n) slot word = Some (record { slot = slot; mask = word.holders })
 

@@ -7,7 +7,7 @@ ghost use Rattle.lease_table.specs.Holding.{HoldsNothing, LookIs, Takes, claim_o
 
 use crate::lease::Lease;
 use crate::table::{LeaseSeat, LeaseTable, Taken};
-use crate::view::Word;
+use crate::view::SlotWord;
 use cf_types::Memory;
 use std::alloc::Global;
 use std::marker::Model;
@@ -87,7 +87,7 @@ impl Leases {
     }
 
     /// One load for the lease on a slot, if there is one.
-    pub fn look(&mut self, table: &LeaseTable, slot: u16) -> Option<Word>
+    pub fn look(&mut self, table: &LeaseTable, slot: u16) -> Option<SlotWord>
         requires table { self.old.table ≡ table.now }
         ensures look { LookIs self.old.view self.old.caller slot result self.new.view }
         ensures same { (self.new.table ≡ self.old.table) × (self.new.caller ≡ self.old.caller) }

@@ -14,4 +14,4 @@ pub use holding::Leases;
 pub use lease::Lease;
 pub use rule::LeaseRule;
 pub use table::{LeaseKeeper, LeaseSeat, LeaseTable, Taken};
-pub use view::{Claim, SlotRecord, Standing, View, Word};
+pub use view::{Claim, SeatRecord, SlotRecord, SlotWord, View};

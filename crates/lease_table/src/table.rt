@@ -11,7 +11,7 @@ ghost use Rattle.lease_table.specs.Words.{is_holder, said};
 
 use crate::lease::Lease;
 use crate::rule::{Condemns, Deals, Frees, Gives, LeaseRule, Looks, Peeks, Publishes, Takes};
-use crate::view::{View, Word};
+use crate::view::{SlotWord, View};
 use atomic_table::{Seat, Table};
 use cf_types::{List, Memory};
 use ref_ledger::{Buried, Bury};
@@ -71,10 +71,10 @@ pub enum Taken {
     Free(u64),
 }
 
-fn word_of(word: u64) -> Word
+fn word_of(word: u64) -> SlotWord
     ensures { result ≡ said word }
 {
-    Word {
+    SlotWord {
         generation: word >> 18,
         live: (word >> 16) & 1 == 1,
         condemned: (word >> 17) & 1 == 1,
@@ -175,7 +175,7 @@ impl LeaseTable {
 
     /// Looks at the slot of a lease by one load. The answer is the word that the seat saw last: it has the lease's
     /// generation, is live, and has the caller's own bit, whatever other threads do.
-    pub fn look(&self, seat: &mut LeaseSeat, lease: &Lease) -> Word
+    pub fn look(&self, seat: &mut LeaseSeat, lease: &Lease) -> SlotWord
         requires table { seat.old.table ≡ self.now }
         requires slot { lease.now.slot + 1 < self.now.words }
         requires held { claim_at seat.old.view.standing lease.now.slot ≡ Held lease.now.generation }

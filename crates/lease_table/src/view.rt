@@ -4,7 +4,7 @@ use std::collections::LinkedList;
 
 /// What a slot's word says: its generation, below 2^46; whether it is live, and condemned; its holders, bit k-1 for caller k.
 #[derive(Clone, Copy, Debug, PartialEq, Eq)]
-pub struct Word {
+pub struct SlotWord {
     pub generation: u64,
     pub live: bool,
     pub condemned: bool,
@@ -29,7 +29,7 @@ pub struct SlotRecord {
 /// What the rule speaks of: whether the seat is the keeper's; the caller's number, or 0; what the caller has of each slot;
 /// and what the keeper knows, the record of each slot and how many callers' numbers were drawn.
 #[derive(Drop)]
-pub struct Standing {
+pub struct SeatRecord {
     pub keeps: bool,
     pub number: u64,
     pub claims: LinkedList<Claim>,
@@ -40,8 +40,8 @@ pub struct Standing {
 /// A seat's standing, with the number of words that were shown to the seat, and the last of them with its slot.
 #[derive(Drop)]
 pub struct View {
-    pub standing: Standing,
+    pub standing: SeatRecord,
     pub shown: u64,
     pub slot: u64,
-    pub word: Word,
+    pub word: SlotWord,
 }

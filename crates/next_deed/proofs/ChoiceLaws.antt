@@ -8,7 +8,7 @@ use Rattle.run_rules.specs.declared.world.Deferred.{Deferred}
 use Rattle.run_rules.specs.declared.world.Dev.{Dev}
 use Rattle.run_rules.specs.declared.world.Setup.{Setup}
 use Rattle.run_rules.specs.World.{World, device_at, device_on, frame_serial, has, holds_in, is_live, is_pinned, is_under, policy_of, serial_of}
-use Rattle.run_rules.specs.declared.deed.Refusal.TheVariants.{Busy}
+use Rattle.run_rules.specs.declared.deed.CommandRefusal.TheVariants.{Busy}
 use Rattle.run_rules.specs.declared.deed.Deed.{Deed}
 use Rattle.run_rules.specs.declared.deed.Deed.TheVariants.{Refuse, Drop, EndCaller, Unplug}
 use Rattle.run_rules.specs.declared.deed.Choice.TheVariants.{Does}

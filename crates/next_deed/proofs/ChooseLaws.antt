@@ -1,37 +1,32 @@
 -- What a caller does next, by its frames.
 use Rattle.std.proofs.Common.{◌≡◌, ◌≢◌, ◌<◌, ◌&&◌, ◌==◌, ℕ, Bool, true, false, not, List, [], ◌∷◌, length, None, Some, refl, sym, ap, ◌∙◌, ne_eqb}
-use Rattle.std.specs.List.{slice_index_or}
 use Rattle.run_rules.specs.declared.world.Activity.{Activity}
 use Rattle.run_rules.specs.declared.world.Frame.{Frame}
-use Rattle.run_rules.specs.World.{World, caller_at, has_ended, is_ended, nobody}
+use Rattle.run_rules.specs.World.{World, Caller, caller_at, has_ended, is_ended}
 use Rattle.run_rules.specs.declared.world.Wait.TheVariants as wait
 use Rattle.run_rules.specs.declared.deed.Choice.{Choice}
 use Rattle.run_rules.specs.declared.deed.Choice.TheVariants.{Ended, Waits}
 use Rattle.run_rules.specs.Next.{by_activity, next, next_boot, next_command, on_top}
 use Rattle.scan_engine.specs.Frames.{top_of}
 use Rattle.run_world.specs.declared.caller.CallerState.{CallerState}
-use Rattle.run_world.specs.View.{caller_of, callers_of}
-use Rattle.run_world.proofs.CallerLaws.{at_is}
+use Rattle.run_world.specs.View.{caller_of}
 
 on_frames : (w : World) (k : ℕ) (st : List Frame) (f : Frame) (c : Choice) → Some f ≡ top_of st → ((rest : List Frame) → on_top w k (f ∷ rest) ≡ c) → on_top w k st ≡ c
 on_frames w k [] f c top does = absurd cc
 on_frames w k (g ∷ rest) f c top does = let same : g ≡ f = cc in ap (λ (h : Frame). on_top w k (h ∷ rest)) same ∙ does rest
 
 -- the frame on top decides
-pub on_frame : (w : World) (cs : List CallerState) (k : ℕ) (x : CallerState) (f : Frame) (c : Choice) → w.callers ≡ callers_of cs → k < length cs → x ≡ slice_index_or cs k x → Some f ≡ top_of x.stack.frames
-    → ((rest : List Frame) → on_top w k (f ∷ rest) ≡ c) → on_top w k (caller_at w k).stack ≡ c
-on_frame w cs k x f c all lt is top does =
-    ap (λ callers. on_top w k (slice_index_or callers k nobody).stack) all ∙ ap (λ c. on_top w k c.stack) (sym (at_is caller_of cs k x nobody lt is)) ∙ on_frames w k x.stack.frames f c top does
+pub on_frame : (w : World) (k : ℕ) (x : CallerState) (f : Frame) (c : Choice) → caller_of x ≡ caller_at w k → Some f ≡ top_of x.stack.frames → ((rest : List Frame) → on_top w k (f ∷ rest) ≡ c)
+    → on_top w k (caller_at w k).stack ≡ c
+on_frame w k x f c is top does = ap (λ (c : Caller). on_top w k c.stack) (sym is) ∙ on_frames w k x.stack.frames f c top does
 
 no_frame : (w : World) (k : ℕ) (st : List Frame) → None ≡ top_of st → on_top w k st ≡ on_top w k []
 no_frame w k [] top = refl
 no_frame w k (g ∷ rest) top = absurd cc
 
 -- without a frame the caller goes on by itself
-pub on_own : (w : World) (cs : List CallerState) (k : ℕ) (x : CallerState) → w.callers ≡ callers_of cs → k < length cs → x ≡ slice_index_or cs k x → None ≡ top_of x.stack.frames
-    → on_top w k (caller_at w k).stack ≡ on_top w k []
-on_own w cs k x all lt is top =
-    ap (λ callers. on_top w k (slice_index_or callers k nobody).stack) all ∙ ap (λ c. on_top w k c.stack) (sym (at_is caller_of cs k x nobody lt is)) ∙ no_frame w k x.stack.frames top
+pub on_own : (w : World) (k : ℕ) (x : CallerState) → caller_of x ≡ caller_at w k → None ≡ top_of x.stack.frames → on_top w k (caller_at w k).stack ≡ on_top w k []
+on_own w k x is top = ap (λ (c : Caller). on_top w k c.stack) (sym is) ∙ no_frame w k x.stack.frames top
 
 pub boots : (w : World) (k : ℕ) → k ≡ 0 → on_top w k [] ≡ next_boot w
 boots w k is = rw is refl
@@ -43,12 +38,6 @@ goes_on w k later = rw (ne_eqb k 0 later) refl
 
 pub later_waits : (k : ℕ) (booted ended : Bool) → k ≢ 0 → booted ≡ ended → (not (k == 0) && not ended) ≡ not booted
 later_waits k booted ended later is = rw (ne_eqb k 0 later) (ap not (sym is))
-
-pub doing_is : (w : World) (cs : List CallerState) (k : ℕ) (x : CallerState) → w.callers ≡ callers_of cs → k < length cs → x ≡ slice_index_or cs k x → x.doing ≡ (caller_at w k).doing
-doing_is w cs k x all lt is = ap (λ c. c.doing) (at_is caller_of cs k x nobody lt is) ∙ ap (λ callers. (slice_index_or callers k nobody).doing) (sym all)
-
-pub over_is : (w : World) (cs : List CallerState) (k : ℕ) (x : CallerState) → w.callers ≡ callers_of cs → k < length cs → x ≡ slice_index_or cs k x → x.over ≡ (caller_at w k).over
-over_is w cs k x all lt is = ap (λ c. c.over) (at_is caller_of cs k x nobody lt is) ∙ ap (λ callers. (slice_index_or callers k nobody).over) (sym all)
 
 pub next_ended : (w : World) (k : ℕ) → has_ended w k ≡ true → next w k ≡ Ended
 unfolding next

@@ -8,7 +8,7 @@ use Rattle.run_rules.specs.declared.world.Setup.{Setup}
 use Rattle.run_rules.specs.Next.{hangs_below, offers_place}
 use Rattle.run_rules.specs.World.{has, is_number, offered_by}
 use Rattle.run_world.specs.Late.{late_test}
-use Rattle.scan_engine.specs.declared.spans.Span.{Span}
+use Rattle.run_rules.specs.declared.world.Span.{Span}
 use Rattle.scan_engine.specs.Spans.{AreSpansOf, Covers, span_at}
 
 and_false : (b : Bool) → (b && false) ≡ false

@@ -15,7 +15,7 @@ use Rattle.run_rules.specs.World.{World, has, is_number, offered_by}
 use Rattle.run_rules.specs.declared.deed.Deed.{Deed}
 use Rattle.run_rules.specs.declared.deed.Deed.TheVariants.{Refuse, Rescan}
 use Rattle.run_rules.specs.Next.{rescan_of, wanted_of}
-use Rattle.run_rules.specs.declared.deed.Refusal.TheVariants.{BadAttribute, BadLocator}
+use Rattle.run_rules.specs.declared.deed.CommandRefusal.TheVariants.{BadAttribute, BadLocator}
 
 pub place_is : (locators : List Locator) (name : List ℕ) → place_of_name (map (λ l. l.name) locators) name ≡ position (λ l. bytes_eq l.name name) locators
 place_is locators name = position-map (λ n. bytes_eq n name) (λ (l : Locator). l.name) locators

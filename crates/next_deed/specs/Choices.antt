@@ -4,13 +4,13 @@ use Rattle.std.specs.declared.result.Result.{Result}
 use Rattle.std.specs.declared.result.Result.TheVariants.{Ok, Err}
 use Rattle.run_rules.specs.declared.deed.Deed.{Deed}
 use Rattle.run_rules.specs.declared.deed.Deed.TheVariants.{Refuse}
-use Rattle.run_rules.specs.declared.deed.Refusal.{Refusal}
+use Rattle.run_rules.specs.declared.deed.CommandRefusal.{CommandRefusal}
 use Rattle.run_rules.specs.declared.world.Dev.{Dev}
 use Rattle.run_rules.specs.Next.{next, on_top}
 use Rattle.run_rules.specs.World.{World, caller_at, is_condemned, is_held, is_pinned, policy_of}
 
 -- the deed that follows from an answer, or the refusal
-abbrev pub or_refused : {A : Type 0} → (A → Deed) → Result A Refusal → Deed
+abbrev pub or_refused : {A : Type 0} → (A → Deed) → Result A CommandRefusal → Deed
 or_refused deed (Ok x) = deed x
 or_refused deed (Err why) = Refuse why
 

@@ -1,19 +1,18 @@
 //! The due turn of a scan.
-ghost use Rattle.std.specs.Prelude.{◌≡◌, ◌<◌, ◌&&◌, false, IfSome, length, slice_get};
+ghost use Rattle.std.specs.Prelude.{◌≡◌, ◌<◌, false, IfSome, length, slice_get};
 ghost use Rattle.std.specs.Option.{option_map_or};
 ghost use Rattle.std.specs.Ordering.{int_eq};
 ghost use Rattle.run_rules.specs.World as world;
 ghost use Rattle.run_rules.specs.Search as rule;
-ghost use Rattle.run_world.specs.View.{Books};
-ghost use Rattle.next_deed.specs.Turns.{due_at, is_due_at, searcher_of};
+ghost use Rattle.next_deed.specs.Turns.{due_at, is_due_at, is_open_at, searcher_of};
 
+use crate::looks::{is_absent, is_hidden};
 use crate::next_due::{Scan, next_position};
 use crate::search::winner_at;
 use cf_types::Machine;
-use dev_tree::DevTree;
 use match_search::found_at;
-use run_rules::{ParentRef, Position, Setup, Turn, Wanted};
-use run_world::{Core, Site, attach_of, driver_of, is_occupied};
+use run_rules::{ParentRef, Position, Turn, Wanted};
+use run_world::{Going, attach_of, driver_of, is_occupied};
 use scan_engine::{Children, Ground, Searched, next_turn};
 
 /// Who searches: the driver, the attachment and the spot of a device, none of them for the root; and how rows name it.
@@ -27,10 +26,11 @@ pub struct Searcher {
 
 /// The device of a serial as one that searches, or the root.
 #[inline(always)]
-pub fn who_searches(setup: &Setup, tree: &DevTree, serial: u64) -> Searcher
-    ensures { result ≡ searcher_of setup.now tree.now.live serial }
+pub fn who_searches(going: &Going, serial: u64) -> Searcher
+    ensures { result ≡ searcher_of going.now.setup going.now.live serial }
 {
-    match tree.get(serial) {
+    let setup = going.setup();
+    match going.device(serial) {
         Some(d) => Searcher {
             driver: Some(driver_of(setup, d.row)),
             attach: Some(attach_of(setup, d.row)),
@@ -73,13 +73,13 @@ fn passes_filter(machine: &Machine, spot: u16, filter: &[Wanted]) -> bool
 /// Whether a spot is open to search.
 #[tactic(auto, unfolding(run_rules::specs::Search::is_open))]
 #[inline(always)]
-pub fn is_open(setup: &Setup, core: &Core, filter: &[Wanted], spot: u16) -> bool
-    ensures { rule.is_open setup.now.machine core.now.tree.live core.now.absent core.now.hidden filter.now spot ≡ result }
+pub fn is_open(going: &Going, filter: &[Wanted], spot: u16) -> bool
+    ensures { is_open_at going.now filter.now spot ≡ result }
 {
-    let absent = core.absent.has(spot);
-    let hidden = core.hidden.has(spot);
-    let occupied = is_occupied(&core.tree, spot);
-    let passes = passes_filter(&setup.machine, spot, filter);
+    let absent = is_absent(going, spot);
+    let hidden = is_hidden(going, spot);
+    let occupied = is_occupied(going.tree(), spot);
+    let passes = passes_filter(&going.setup().machine, spot, filter);
     !absent && !hidden && !occupied && passes
 }
 
@@ -95,12 +95,11 @@ fn is_row(winner: Option<u32>, row: u32) -> bool
 
 /// Whether the turn's row is the winner at its spot.
 #[inline(always)]
-fn wins(site: &Site, core: &Core, serial: u64, turn: Turn) -> bool
-    requires { Books site.now.setup core.now }
-    ensures { world.is_number (rule.winner_at site.now.setup core.now.tree.live serial turn.place turn.at.spot) turn.at.row ≡ result }
+fn wins(going: &Going, serial: u64, turn: Turn) -> bool
+    ensures { world.is_number (rule.winner_at going.now.setup going.now.live serial turn.place turn.at.spot) turn.at.row ≡ result }
 {
     is_row(
-        winner_at(site, core, serial, turn.place, turn.at.spot),
+        winner_at(going, serial, turn.place, turn.at.spot),
         turn.at.row,
     )
 }
@@ -108,30 +107,28 @@ fn wins(site: &Site, core: &Core, serial: u64, turn: Turn) -> bool
 /// Whether a turn is due: its spot is open, and on an indirect bus its row is the winner there.
 #[tactic(auto, unfolding(run_rules::specs::Search::is_due))]
 #[inline(always)]
-fn is_due(site: &Site, core: &Core, serial: u64, filter: &[Wanted], turn: Turn) -> bool
-    requires { Books site.now.setup core.now }
-    ensures { is_due_at site.now core.now serial filter.now turn ≡ result }
+fn is_due(going: &Going, serial: u64, filter: &[Wanted], turn: Turn) -> bool
+    ensures { is_due_at going.now serial filter.now turn ≡ result }
 {
-    is_open(&site.setup, core, filter, turn.at.spot)
-        && (!turn.indirect || wins(site, core, serial, turn))
+    is_open(going, filter, turn.at.spot) && (!turn.indirect || wins(going, serial, turn))
 }
 
 /// The first due turn of a scan from a position on. See autoconf(9).
 #[inline(always)]
 pub fn due_turn(
-    site: &Site,
-    core: &Core,
+    going: &Going,
     serial: u64,
     by: &Searcher,
     only: Option<u32>,
     filter: &[Wanted],
     from: Position,
 ) -> Option<Turn>
-    requires books { Books site.now.setup core.now }
-    requires by { by.now ≡ searcher_of site.now.setup core.now.tree.live serial }
-    ensures due { due_at site.now core.now serial only filter.now from ≡ result }
-    ensures spot { IfSome result (λ t. t.at.spot < length site.now.setup.machine.spots) }
+    requires { by.now ≡ searcher_of going.now.setup going.now.live serial }
+    ensures due { due_at going.now serial only filter.now from ≡ result }
+    ensures spot { IfSome result (λ t. t.at.spot < length going.now.setup.machine.spots) }
 {
+    let held = &going.held;
+    let site = &held.site;
     let ground = Ground {
         tables: &site.setup.tables,
         graph: &site.graph,
@@ -149,7 +146,7 @@ pub fn due_turn(
     let mut position = from;
     loop {
         let turn = next_turn(&ground, searched, only, position)?;
-        if is_due(site, core, serial, filter, turn) {
+        if is_due(going, serial, filter, turn) {
             return Some(turn);
         }
         let scan = Scan {
@@ -157,6 +154,6 @@ pub fn due_turn(
             parent: by.spot,
             filter,
         };
-        position = next_position(site, core, &scan, turn);
+        position = next_position(going, &scan, turn);
     }
 }

@@ -4,20 +4,16 @@ ghost use Rattle.std.specs.List.{list_any};
 ghost use Rattle.run_rules.specs.Next as next;
 ghost use Rattle.run_rules.specs.World as world;
 ghost use Rattle.run_rules.specs.World.{frame_serial, has};
-ghost use Rattle.run_rules.specs.declared.world.Setup as from;
 ghost use Rattle.detach_engine.specs.Hindrance.{AreMarksOf};
-ghost use Rattle.run_sound.specs.Kept.{Kept};
 ghost use Rattle.next_deed.specs.Choices.{keeps, serials_where};
-ghost use Rattle.run_world.specs.View.{world_of};
-ghost use Rattle.run_world.specs.Sites.{world_at};
 
 use cf_types::Memory;
 use detach_engine::{Detachment, Marks, hindered};
-use run_rules::{Dev, Setup};
-use run_world::{CallerState, Core, Site, policy_of};
-use std::alloc::Global;
+use run_rules::Dev;
+use run_world::{CallerState, Going, policy_of};
 
 /// Whether a frame of a caller is for the device.
+#[inline(always)]
 fn is_framed(callers: &[CallerState], serial: u64) -> bool
     ensures { result ≡ list_any (λ c. list_any (λ f. frame_serial f == serial) c.stack.frames) callers.now }
 {
@@ -25,17 +21,21 @@ fn is_framed(callers: &[CallerState], serial: u64) -> bool
 }
 
 /// Whether a frame of a caller, or a deferred scan, is for the device.
-pub fn is_pinned(core: &Core, serial: u64) -> bool
-    ensures { (s : from.Setup) → result ≡ world.is_pinned (world_of s core.now) serial }
+pub fn is_pinned(going: &Going, serial: u64) -> bool
+    ensures { result ≡ world.is_pinned going.now serial }
 {
+    let held = &going.held;
+    let core = &held.core;
     is_framed(&core.callers, serial) || core.deferred.pinned(serial)
 }
 
 /// The devices that a frame or a deferred scan is for.
-fn pinned_of(alloc: Global, core: &Core) -> Result<Vec<u64>, Memory>
-    ensures { (s : from.Setup) (serial : ℕ) → IfOk result (λ pinned. has pinned.items serial ≡ world.is_pinned (world_of s core.now) serial) }
+fn pinned_of(going: &Going) -> Result<Vec<u64>, Memory>
+    ensures { (serial : ℕ) → IfOk result (λ pinned. has pinned.items serial ≡ world.is_pinned going.now serial) }
 {
-    let mut serials = Vec::new(alloc);
+    let held = &going.held;
+    let core = &held.core;
+    let mut serials = Vec::new(held.site.alloc);
     for caller in &core.callers {
         caller.stack.add_serials(&mut serials)?;
     }
@@ -44,12 +44,13 @@ fn pinned_of(alloc: Global, core: &Core) -> Result<Vec<u64>, Memory>
 }
 
 /// The live devices whose driver does not support detaching.
-fn undetachable_of(alloc: Global, setup: &Setup, core: &Core) -> Result<Vec<u64>, Memory>
-    ensures { IfOk result (λ list. list.items ≡ serials_where (λ d. (world.policy_of setup.now d.row).nodetach) core.now.tree.live) }
+fn undetachable_of(going: &Going) -> Result<Vec<u64>, Memory>
+    ensures { IfOk result (λ list. list.items ≡ serials_where (λ d. (world.policy_of going.now.setup d.row).nodetach) going.now.live) }
 {
-    let mut serials = Vec::new(alloc);
-    for device in core.tree.devices() {
-        if policy_of(setup, device.row).nodetach {
+    let mut serials = Vec::new(going.alloc());
+    let live = going.devices();
+    for device in live {
+        if policy_of(going.setup(), device.row).nodetach {
             serials.push(device.serial)?;
         }
     }
@@ -57,36 +58,36 @@ fn undetachable_of(alloc: Global, setup: &Setup, core: &Core) -> Result<Vec<u64>
 }
 
 /// The marks of the live devices.
-fn marks_of(alloc: Global, setup: &Setup, core: &Core) -> Result<Marks, Memory>
-    requires kept { Kept (world_of setup.now core.now) }
-    ensures { (target : ℕ) (forced : Bool) → IfOk result (AreMarksOf (world_of setup.now core.now) target forced) }
+fn marks_of(going: &Going) -> Result<Marks, Memory>
+    ensures { (target : ℕ) (forced : Bool) → IfOk result (AreMarksOf going.now target forced) }
 {
-    let pinned = pinned_of(alloc, core)?;
-    let undetachable = undetachable_of(alloc, setup, core)?;
+    going.stands();
+    let pinned = pinned_of(going)?;
+    let undetachable = undetachable_of(going)?;
     Ok(Marks::make(pinned, undetachable))
 }
 
 /// Whether a device may not go now: its driver, a scan, another freeing or a reference of the caller keeps it.
-fn is_kept(setup: &Setup, core: &Core, caller: u8, forced: bool, device: &Dev) -> bool
-    ensures { result ≡ keeps (world_of setup.now core.now) caller forced device.now }
+fn is_kept(going: &Going, caller: u8, forced: bool, device: &Dev) -> bool
+    ensures { result ≡ keeps going.now caller forced device.now }
 {
-    (!forced && policy_of(setup, device.row).nodetach)
-        || is_pinned(core, device.serial)
+    (!forced && policy_of(going.setup(), device.row).nodetach)
+        || is_pinned(going, device.serial)
         || device.condemned.is_some()
-        || core.refs.holds(device.serial, caller)
+        || going.refs().holds(device.serial, caller)
 }
 
 /// Whether a target without children keeps itself from going.
-fn alone_in_the_way(setup: &Setup, core: &Core, going: Detachment) -> Option<u64>
-    requires live { IsTrue (world.is_live core.now.tree.live going.target) }
-    requires bare { world.children core.now.tree.live going.target ≡ [] }
-    ensures { result ≡ world.serial_of (next.hindered (world_of setup.now core.now) going.target going.caller going.forced) }
+fn alone_in_the_way(going: &Going, leaving: Detachment) -> Option<u64>
+    requires live { IsTrue (world.is_live going.now.live leaving.target) }
+    requires bare { world.children going.now.live leaving.target ≡ [] }
+    ensures { result ≡ world.serial_of (next.hindered going.now leaving.target leaving.caller leaving.forced) }
 {
-    core.tree.stands();
-    match core.tree.get(going.target) {
+    going.tree().stands();
+    match going.device(leaving.target) {
         Some(device) => {
-            if is_kept(setup, core, going.caller, going.forced, &device) {
-                Some(going.target)
+            if is_kept(going, leaving.caller, leaving.forced, &device) {
+                Some(leaving.target)
             } else {
                 None
             }
@@ -96,21 +97,22 @@ fn alone_in_the_way(setup: &Setup, core: &Core, going: Detachment) -> Option<u64
 }
 
 /// The device that keeps the target's subtree from being freed. See config_detach(9).
-pub fn in_the_way(site: &Site, core: &Core, going: Detachment) -> Result<Option<u64>, Memory>
-    requires kept { Kept (world_at site.now core.now) }
-    requires live { IsTrue (world.is_live core.now.tree.live going.target) }
-    ensures { IfOk result (λ serial. serial ≡ world.serial_of (next.hindered (world_at site.now core.now) going.target going.caller going.forced)) }
+pub fn in_the_way(going: &Going, leaving: Detachment) -> Result<Option<u64>, Memory>
+    requires live { IsTrue (world.is_live going.now.live leaving.target) }
+    ensures { IfOk result (λ serial. serial ≡ world.serial_of (next.hindered going.now leaving.target leaving.caller leaving.forced)) }
 {
-    if core.tree.is_bare(going.target) {
-        return Ok(alone_in_the_way(&site.setup, core, going));
+    let tree = going.tree();
+    if tree.is_bare(leaving.target) {
+        return Ok(alone_in_the_way(going, leaving));
     }
-    let marks = marks_of(site.alloc, &site.setup, core)?;
+    let marks = marks_of(going)?;
+    let refs = going.refs();
     Ok(hindered(
-        &core.tree,
-        &core.refs,
+        tree,
+        refs,
         &marks,
-        going.target,
-        going.caller,
-        going.forced,
+        leaving.target,
+        leaving.caller,
+        leaving.forced,
     ))
 }

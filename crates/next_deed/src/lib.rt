@@ -6,6 +6,7 @@ mod due;
 mod freeing;
 mod hindered;
 mod late;
+mod looks;
 mod next;
 mod next_due;
 mod plan;

@@ -1,22 +1,19 @@
-//! What a caller does next.
-ghost use Rattle.std.specs.Prelude.{◌≡◌, ◌≤◌, ◌<◌, ◌-◌, ℕ, List, ◌∷◌, true, false, not, ◌&&◌, ◌==◌, Some, None, IfOk, IfSome, length, if◌then◌else◌};
+//! What a caller of a run does next.
+ghost use Rattle.std.specs.Prelude.{◌≡◌, ◌≤◌, ◌<◌, ℕ, List, ◌∷◌, true, false, not, ◌&&◌, ◌==◌, Some, None, IfOk, IfSome, length, if◌then◌else◌};
 ghost use Rattle.run_rules.specs.Next as next;
 ghost use Rattle.run_rules.specs.World.{caller_at, has_ended};
 ghost use Rattle.run_rules.specs.declared.deed.Choice.TheVariants.{Does};
 ghost use Rattle.run_rules.specs.declared.world.Frame as frames;
-ghost use Rattle.run_rules.specs.declared.world.Setup as from;
-ghost use Rattle.run_sound.specs.Kept.{Kept, MayRun};
-ghost use Rattle.run_world.specs.View.{world_of, Books};
-ghost use Rattle.run_world.specs.Sites.{world_at};
 ghost use Rattle.next_deed.specs.Choices.{GoesByFrames};
 
 use crate::command::plan_command;
 use crate::freeing::{plan_closing, plan_free};
+use crate::looks::power_owner;
 use crate::plan::{plan_boot, plan_call, plan_scan};
 use crate::power::plan_power;
 use cf_types::{Command, Memory};
-use run_rules::{Activity, Choice, Deed, Frame, Setup, Wait};
-use run_world::{Core, Site, command_of, is_ended};
+use run_rules::{Activity, Choice, Deed, Frame, Wait};
+use run_world::Going;
 
 /// Whether a command is one of pmf(9).
 #[inline(always)]
@@ -42,29 +39,27 @@ fn other_turn(turn: Option<u8>, caller: u8) -> Option<u8>
 
 /// The caller that a command waits for.
 #[inline(always)]
-fn waits_for(core: &Core, caller: u8, said: &Command) -> Option<u8>
-    ensures { (if next.is_power said.now then next.other_turn core.now.power_owner caller else None) ≡ result }
+fn waits_for(going: &Going, caller: u8, said: &Command) -> Option<u8>
+    ensures { (if next.is_power said.now then next.other_turn going.now.power_owner caller else None) ≡ result }
 {
     if is_power(said) {
-        other_turn(core.power_owner, caller)
+        other_turn(power_owner(going), caller)
     } else {
         None
     }
 }
 
 /// A command begins, or it waits for the power turn.
-fn plan_start(site: &Site, core: &Core, caller: u8, said: &Command) -> Result<Choice, Memory>
-    requires may { MayRun site.now.setup }
-    requires kept { Kept (world_at site.now core.now) }
-    requires caller { caller < length core.now.callers.items }
-    requires said { next.command_of (world_at site.now core.now) caller ≡ Some said.now }
-    ensures { IfOk result (λ does. next.starting (world_at site.now core.now) caller said.now ≡ does) }
+fn plan_start(going: &Going, caller: u8, said: &Command) -> Result<Choice, Memory>
+    requires caller { caller < length going.now.callers }
+    requires said { next.command_of going.now caller ≡ Some said.now }
+    ensures { IfOk result (λ does. next.starting going.now caller said.now ≡ does) }
 {
-    match waits_for(core, caller, said) {
+    match waits_for(going, caller, said) {
         Some(other) => Ok(Choice::Waits(Wait::Power(other))),
         None => {
-            let number = core.callers[caller as usize].over + 1;
-            let deed = plan_command(site, core, caller, number, said)?;
+            let number = going.caller(caller).over + 1;
+            let deed = plan_command(going, caller, number, said)?;
             Ok(Choice::Does(deed))
         }
     }
@@ -72,25 +67,21 @@ fn plan_start(site: &Site, core: &Core, caller: u8, said: &Command) -> Result<Ch
 
 /// What the caller of a script does without a frame: its next command begins, or it has none left.
 #[tactic(auto, unfolding(run_rules::specs::Next::next_command))]
-fn plan_next(site: &Site, core: &Core, caller: u8) -> Result<Choice, Memory>
-    requires may { MayRun site.now.setup }
-    requires kept { Kept (world_at site.now core.now) }
-    requires caller { caller < length core.now.callers.items }
+fn plan_next(going: &Going, caller: u8) -> Result<Choice, Memory>
+    requires caller { caller < length going.now.callers }
     requires script { 1 ≤ caller }
-    ensures { IfOk result (λ does. next.next_command (world_at site.now core.now) caller ≡ does) }
+    ensures { IfOk result (λ does. next.next_command going.now caller ≡ does) }
 {
-    match command_of(&site.setup, core, caller) {
-        Some(said) => plan_start(site, core, caller, said),
-        None => Ok(plan_closing(core, caller)),
+    match going.command(caller) {
+        Some(said) => plan_start(going, caller, said),
+        None => Ok(plan_closing(going, caller)),
     }
 }
 
 /// What a frame on top leads to.
 #[inline(always)]
-fn plan_frame(site: &Site, core: &Core, frame: &Frame) -> Deed
-    requires books { Books site.now.setup core.now }
-    requires live { length core.now.tree.live ≤ 1024 }
-    ensures { (k : ℕ) (rest : List frames.Frame) → next.on_top (world_at site.now core.now) k (frame.now ∷ rest) ≡ Does result }
+fn plan_frame(going: &Going, frame: &Frame) -> Deed
+    ensures { (k : ℕ) (rest : List frames.Frame) → next.on_top going.now k (frame.now ∷ rest) ≡ Does result }
 {
     match frame {
         Frame::Scan {
@@ -98,28 +89,26 @@ fn plan_frame(site: &Site, core: &Core, frame: &Frame) -> Deed
             only,
             filter,
             position,
-        } => plan_scan(site, core, *serial, *only, filter.items(), *position),
-        Frame::Finaliser { serial } => plan_call(site, core, *serial, None, false),
+        } => plan_scan(going, *serial, *only, filter.items(), *position),
+        Frame::Finaliser { serial } => plan_call(going, *serial, None, false),
     }
 }
 
 /// What a caller that is in no transfer, detachment or power command does next: its frames go first.
 #[inline(always)]
-fn plan_stack(site: &Site, core: &Core, caller: u8) -> Result<Choice, Memory>
-    requires may { MayRun site.now.setup }
-    requires kept { Kept (world_at site.now core.now) }
-    requires books { Books site.now.setup core.now }
-    requires caller { caller < length core.now.callers.items }
-    requires goes { has_ended (world_at site.now core.now) caller ≡ false }
-    ensures { IfOk result (λ does. next.on_top (world_at site.now core.now) caller (caller_at (world_at site.now core.now) caller).stack ≡ does) }
+fn plan_stack(going: &Going, caller: u8) -> Result<Choice, Memory>
+    requires caller { caller < length going.now.callers }
+    requires goes { has_ended going.now caller ≡ false }
+    ensures { IfOk result (λ does. next.on_top going.now caller (caller_at going.now caller).stack ≡ does) }
 {
-    match core.callers[caller as usize].stack.top() {
-        Some(frame) => Ok(Choice::Does(plan_frame(site, core, frame))),
+    going.stands();
+    match going.caller(caller).stack.top() {
+        Some(frame) => Ok(Choice::Does(plan_frame(going, frame))),
         None => {
             if caller == 0 {
-                Ok(Choice::Does(plan_boot(site, core)))
+                Ok(Choice::Does(plan_boot(going)))
             } else {
-                plan_next(site, core, caller)
+                plan_next(going, caller)
             }
         }
     }
@@ -127,43 +116,40 @@ fn plan_stack(site: &Site, core: &Core, caller: u8) -> Result<Choice, Memory>
 
 /// What a caller that is in the middle of this does next.
 #[inline(always)]
-fn plan_activity(site: &Site, core: &Core, caller: u8, doing: Activity) -> Result<Choice, Memory>
-    requires may { MayRun site.now.setup }
-    requires kept { Kept (world_at site.now core.now) }
-    requires books { Books site.now.setup core.now }
-    requires caller { caller < length core.now.callers.items }
-    requires goes { has_ended (world_at site.now core.now) caller ≡ false }
-    ensures { IfOk result (λ does. next.by_activity (world_at site.now core.now) caller doing ≡ does) }
+fn plan_activity(going: &Going, caller: u8, doing: Activity) -> Result<Choice, Memory>
+    requires caller { caller < length going.now.callers }
+    requires goes { has_ended going.now caller ≡ false }
+    ensures { IfOk result (λ does. next.by_activity going.now caller doing ≡ does) }
 {
     match doing {
         Activity::Ended => Ok(Choice::Ended),
         Activity::Transfer(ticket) => Ok(Choice::Does(Deed::Done(ticket))),
-        Activity::Frees(_) => Ok(plan_free(core, caller)),
-        Activity::Power(kind, target) => Ok(plan_power(&site.setup, core, kind, target)),
-        Activity::Scans => plan_stack(site, core, caller),
-        Activity::Idle => plan_stack(site, core, caller),
+        Activity::Frees(_) => Ok(plan_free(going, caller)),
+        Activity::Power(kind, target) => Ok(plan_power(going, kind, target)),
+        Activity::Scans => plan_stack(going, caller),
+        Activity::Idle => plan_stack(going, caller),
     }
 }
 
 /// Whether a caller waits for the boot to be over.
 #[inline(always)]
-fn waits_for_boot(core: &Core, caller: u8) -> bool
-    requires there { 0 < length core.now.callers.items }
-    ensures { (s : from.Setup) → (not (caller == 0) && not (has_ended (world_of s core.now) 0)) ≡ result }
+fn waits_for_boot(going: &Going, caller: u8) -> bool
+    requires there { caller < length going.now.callers }
+    ensures { (not (caller == 0) && not (has_ended going.now 0)) ≡ result }
 {
-    caller != 0 && !is_ended(core, 0)
+    caller != 0 && !going.has_ended(0)
 }
 
 /// Whether a caller goes on by its frames: it does not wait for the boot, and is in the middle of nothing but scans.
 #[inline(always)]
-pub fn goes_by_frames(core: &Core, caller: u8) -> bool
-    requires caller { caller < length core.now.callers.items }
-    ensures { result ≡ true → (s : from.Setup) → GoesByFrames (world_of s core.now) caller }
+pub fn goes_by_frames(going: &Going, caller: u8) -> bool
+    requires { caller < length going.now.callers }
+    ensures { result ≡ true → GoesByFrames going.now caller }
 {
-    if waits_for_boot(core, caller) {
+    if waits_for_boot(going, caller) {
         return false;
     }
-    match core.callers[caller as usize].doing {
+    match going.caller(caller).doing {
         Activity::Scans => true,
         Activity::Idle => true,
         _ => false,
@@ -172,60 +158,53 @@ pub fn goes_by_frames(core: &Core, caller: u8) -> bool
 
 /// What a caller that goes on by its frames does next, if a scan is on top; none if `choose` has to decide.
 #[inline(always)]
-pub fn next_on_scan(site: &Site, core: &Core, caller: u8) -> Option<Deed>
-    requires kept { Kept (world_at site.now core.now) }
-    requires books { Books site.now.setup core.now }
-    requires caller { caller < length core.now.callers.items }
-    requires goes { GoesByFrames (world_at site.now core.now) caller }
-    ensures { IfSome result (λ deed. next.next (world_at site.now core.now) caller ≡ Does deed) }
+pub fn next_on_scan(going: &Going, caller: u8) -> Option<Deed>
+    requires caller { caller < length going.now.callers }
+    requires goes { GoesByFrames going.now caller }
+    ensures { IfSome result (λ deed. next.next going.now caller ≡ Does deed) }
 {
-    let frame = core.callers[caller as usize].stack.top()?;
+    let frame = going.caller(caller).stack.top()?;
     match frame {
         Frame::Scan {
             serial,
             only,
             filter,
             position,
-        } => Some(plan_scan(site, core, *serial, *only, filter.items(), *position)),
+        } => Some(plan_scan(going, *serial, *only, filter.items(), *position)),
         Frame::Finaliser { serial: _ } => None,
     }
 }
 
 /// What a caller that is in the middle of a power command does next; none if `choose` has to decide.
 #[inline(always)]
-pub fn next_in_power(site: &Site, core: &Core, caller: u8) -> Option<Deed>
-    requires kept { Kept (world_at site.now core.now) }
-    requires caller { caller < length core.now.callers.items }
-    ensures { IfSome result (λ deed. next.next (world_at site.now core.now) caller ≡ Does deed) }
+pub fn next_in_power(going: &Going, caller: u8) -> Option<Deed>
+    requires { caller < length going.now.callers }
+    ensures { IfSome result (λ deed. next.next going.now caller ≡ Does deed) }
 {
-    if waits_for_boot(core, caller) {
+    if waits_for_boot(going, caller) {
         return None;
     }
-    let Activity::Power(kind, target) = core.callers[caller as usize].doing else {
+    let Activity::Power(kind, target) = going.caller(caller).doing else {
         return None;
     };
-    match plan_power(&site.setup, core, kind, target) {
+    match plan_power(going, kind, target) {
         Choice::Does(deed) => Some(deed),
         _ => None,
     }
 }
 
 /// What a caller does next.
-#[tactic(auto, unfolding(run_rules::specs::Next::next))]
 #[inline(never)]
-pub fn choose(site: &Site, core: &Core, caller: u8) -> Result<Choice, Memory>
-    requires may { MayRun site.now.setup }
-    requires kept { Kept (world_at site.now core.now) }
-    requires books { Books site.now.setup core.now }
-    requires caller { caller < length core.now.callers.items }
-    ensures { IfOk result (λ does. next.next (world_at site.now core.now) caller ≡ does) }
+pub fn choose(going: &Going, caller: u8) -> Result<Choice, Memory>
+    requires { caller < length going.now.callers }
+    ensures { IfOk result (λ does. next.next going.now caller ≡ does) }
 {
-    if is_ended(core, caller) {
+    if going.has_ended(caller) {
         return Ok(Choice::Ended);
     }
-    if waits_for_boot(core, caller) {
+    if waits_for_boot(going, caller) {
         return Ok(Choice::Waits(Wait::Boot));
     }
-    let doing = core.callers[caller as usize].doing;
-    plan_activity(site, core, caller, doing)
+    let doing = going.caller(caller).doing;
+    plan_activity(going, caller, doing)
 }

@@ -1,16 +1,16 @@
 //! Where a scan goes on after a turn that is not due.
-ghost use Rattle.std.specs.Prelude.{◌≡◌, ◌≤◌, ◌<◌, ℕ, true, false, length, IfSome};
+ghost use Rattle.std.specs.Prelude.{◌≡◌, ◌≤◌, ◌<◌, ℕ, true, false, IfSome};
 ghost use Rattle.run_rules.specs.Search as rule;
 ghost use Rattle.run_rules.specs.declared.world.Position as places;
-ghost use Rattle.run_world.specs.View.{Books};
 ghost use Rattle.next_deed.specs.Pairs.{IsIdle, IsPassed, IsWhereDue};
 ghost use Rattle.next_deed.specs.Turns.{is_open_at};
 
 use crate::due::is_open;
+use crate::looks::spot_count;
 use crate::search::winner_at;
 use cf_types::Place;
-use run_rules::{Position, Setup, Turn, Wanted};
-use run_world::{Core, Site, is_occupied};
+use run_rules::{Position, Turn, Wanted};
+use run_world::{Going, is_occupied};
 use scan_engine::is_child;
 
 /// What a scan goes by: the device that it searches, the spot of that device, none for the root, and the locator values
@@ -53,23 +53,16 @@ fn sooner(behind: Position, next: Position, found: Option<Position>) -> Position
 
 /// Where a spot is due on the bus of a turn: at the row that takes it, if it is open.
 #[tactic(auto, unfolding(run_rules::specs::Search::is_due))]
-fn due_position(
-    site: &Site,
-    core: &Core,
-    scan: &Scan<'_>,
-    turn: Turn,
-    spot: u16,
-) -> Option<Position>
-    requires books { Books site.now.setup core.now }
+fn due_position(going: &Going, scan: &Scan<'_>, turn: Turn, spot: u16) -> Option<Position>
     ensures place { IfSome result (λ p. (p.attr ≡ turn.at.attr) × (p.spot ≡ spot)) }
-    ensures due { IsWhereDue site.now core.now scan.now.serial scan.now.filter.now scan.now.parent turn spot result }
+    ensures due { IsWhereDue going.now scan.now.serial scan.now.filter.now scan.now.parent turn spot result }
 {
-    if !is_child(&site.setup.machine, scan.parent, turn.place, spot)
-        || !is_open(&site.setup, core, scan.filter, spot)
+    if !is_child(&going.setup().machine, scan.parent, turn.place, spot)
+        || !is_open(going, scan.filter, spot)
     {
         return None;
     }
-    let row = winner_at(site, core, scan.serial, turn.place, spot)?;
+    let row = winner_at(going, scan.serial, turn.place, spot)?;
     Some(Position {
         attr: turn.at.attr,
         row,
@@ -80,22 +73,20 @@ fn due_position(
 /// Where a search of an indirect bus goes on: at the first pair of an open spot and the row that takes it, so that rows
 /// that take nothing are skipped.
 #[inline(never)]
-fn next_pair(site: &Site, core: &Core, scan: &Scan<'_>, turn: Turn) -> Position
-    requires books { Books site.now.setup core.now }
-    requires few { length site.now.setup.machine.spots ≤ 1024 }
+fn next_pair(going: &Going, scan: &Scan<'_>, turn: Turn) -> Position
     requires attr { turn.at.attr < 64 }
     requires indirect { turn.indirect ≡ true }
     ensures behind { rule.is_before turn.at result ≡ true }
     ensures bus { (p : places.Position) → rule.is_before p result ≡ true → p.attr ≤ turn.at.attr }
-    ensures idle { IsIdle site.now core.now scan.now.serial scan.now.filter.now scan.now.parent turn result }
+    ensures idle { IsIdle going.now scan.now.serial scan.now.filter.now scan.now.parent turn result }
 {
     let mut next = Position {
         attr: turn.at.attr + 1,
         row: 0,
         spot: 0,
     };
-    for spot in 0..site.setup.machine.spots.len() as u16 {
-        let found = due_position(site, core, scan, turn, spot);
+    for spot in 0..spot_count(going) {
+        let found = due_position(going, scan, turn, spot);
         next = sooner(turn.at, next, found);
     }
     next
@@ -104,61 +95,58 @@ fn next_pair(site: &Site, core: &Core, scan: &Scan<'_>, turn: Turn) -> Position
 /// Whether a search passes a spot: it is not open, or is not on this bus.
 #[tactic(auto, unfolding(run_rules::specs::Search::is_open))]
 #[inline(always)]
-fn is_passed(setup: &Setup, core: &Core, scan: &Scan<'_>, place: Place, spot: u16) -> bool
-    ensures { result ≡ true → rule.is_child setup.now.machine scan.now.parent place spot ≡ true
-        → is_open_at setup.now core.now scan.now.filter.now spot ≡ false }
+fn is_passed(going: &Going, scan: &Scan<'_>, place: Place, spot: u16) -> bool
+    ensures { result ≡ true → rule.is_child going.now.setup.machine scan.now.parent place spot ≡ true
+        → is_open_at going.now scan.now.filter.now spot ≡ false }
 {
-    is_occupied(&core.tree, spot)
-        || !is_child(&setup.machine, scan.parent, place, spot)
-        || !is_open(setup, core, scan.filter, spot)
+    is_occupied(going.tree(), spot)
+        || !is_child(&going.setup().machine, scan.parent, place, spot)
+        || !is_open(going, scan.filter, spot)
 }
 
 /// The first spot from a number on that a search of this bus does not pass; after all spots if there is none.
 #[inline(always)]
-fn next_open(setup: &Setup, core: &Core, scan: &Scan<'_>, place: Place, from: u16) -> u16
-    requires few { length setup.now.machine.spots ≤ 1024 }
+fn next_open(going: &Going, scan: &Scan<'_>, place: Place, from: u16) -> u16
     ensures behind { from ≤ result }
-    ensures passed { (x : ℕ) → from ≤ x → x < result → IsPassed setup.now core.now scan.now.filter.now scan.now.parent place x }
+    ensures passed { (x : ℕ) → from ≤ x → x < result → IsPassed going.now scan.now.filter.now scan.now.parent place x }
 {
-    for spot in from..setup.machine.spots.len() as u16 {
-        if !is_passed(setup, core, scan, place, spot) {
+    let count = spot_count(going);
+    for spot in from..count {
+        if !is_passed(going, scan, place, spot) {
             return spot;
         }
     }
-    from.max(setup.machine.spots.len() as u16)
+    from.max(count)
 }
 
 /// Where a search of a direct bus goes on: at its next open spot.
 #[inline(never)]
-fn next_on_bus(setup: &Setup, core: &Core, scan: &Scan<'_>, turn: Turn) -> Position
-    requires few { length setup.now.machine.spots ≤ 1024 }
+fn next_on_bus(going: &Going, scan: &Scan<'_>, turn: Turn) -> Position
     requires spot { turn.at.spot < 1024 }
     ensures here { (result.attr ≡ turn.at.attr) × (result.row ≡ turn.at.row) }
     ensures behind { turn.at.spot < result.spot }
-    ensures passed { (x : ℕ) → turn.at.spot < x → x < result.spot → IsPassed setup.now core.now scan.now.filter.now scan.now.parent turn.place x }
+    ensures passed { (x : ℕ) → turn.at.spot < x → x < result.spot → IsPassed going.now scan.now.filter.now scan.now.parent turn.place x }
 {
     let from = turn.at.spot + 1;
     Position {
         attr: turn.at.attr,
         row: turn.at.row,
-        spot: next_open(setup, core, scan, turn.place, from),
+        spot: next_open(going, scan, turn.place, from),
     }
 }
 
 /// Where a search goes on after a turn that is not due: no turn that is due is between.
 #[inline(always)]
-pub fn next_position(site: &Site, core: &Core, scan: &Scan<'_>, turn: Turn) -> Position
-    requires books { Books site.now.setup core.now }
-    requires few { length site.now.setup.machine.spots ≤ 1024 }
+pub fn next_position(going: &Going, scan: &Scan<'_>, turn: Turn) -> Position
     requires attr { turn.at.attr < 64 }
     requires spot { turn.at.spot < 1024 }
     ensures behind { rule.is_before turn.at result ≡ true }
     ensures bus { (p : places.Position) → rule.is_before p result ≡ true → p.attr ≤ turn.at.attr }
-    ensures idle { IsIdle site.now core.now scan.now.serial scan.now.filter.now scan.now.parent turn result }
+    ensures idle { IsIdle going.now scan.now.serial scan.now.filter.now scan.now.parent turn result }
 {
     if turn.indirect {
-        next_pair(site, core, scan, turn)
+        next_pair(going, scan, turn)
     } else {
-        next_on_bus(&site.setup, core, scan, turn)
+        next_on_bus(going, scan, turn)
     }
 }

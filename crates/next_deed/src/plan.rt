@@ -1,17 +1,15 @@
 //! What a caller does next.
-ghost use Rattle.std.specs.Prelude.{◌≡◌, ◌≤◌, ◌<◌, Some, true, false, length};
+ghost use Rattle.std.specs.Prelude.{◌≡◌, ◌<◌, true, length};
 ghost use Rattle.run_rules.specs.declared.deed.Choice.TheVariants.{Does};
 ghost use Rattle.run_rules.specs.Next.{next_boot, finalise};
 ghost use Rattle.run_rules.specs.Search as rule;
-ghost use Rattle.run_world.specs.View.{Books};
-ghost use Rattle.run_world.specs.Sites.{world_at};
 ghost use Rattle.next_deed.specs.Turns.{next_scan_at};
 
 use crate::due::{due_turn, who_searches};
 use crate::late::shown_by;
 use crate::search::{arrival, parent_ref};
 use run_rules::{Deed, Position, Turn, Wanted};
-use run_world::{Core, Site, place_of};
+use run_world::{Going, place_of};
 
 /// The position after a turn: after it, or at the first pair of the same row.
 #[tactic(auto, unfolding(run_rules::specs::Search::after_turn))]
@@ -39,25 +37,23 @@ fn after_turn(turn: Turn) -> Position
 #[tactic(auto, unfolding(run_rules::specs::Next::next_scan))]
 #[inline(always)]
 pub fn plan_scan(
-    site: &Site,
-    core: &Core,
+    going: &Going,
     serial: u64,
     only: Option<u32>,
     filter: &[Wanted],
     position: Position,
 ) -> Deed
-    requires books { Books site.now.setup core.now }
-    requires live { length core.now.tree.live ≤ 1024 }
-    ensures { next_scan_at site.now core.now serial only filter.now position ≡ result }
+    ensures { next_scan_at going.now serial only filter.now position ≡ result }
 {
-    let by = who_searches(&site.setup, &core.tree, serial);
-    match due_turn(site, core, serial, &by, only, filter, position) {
+    going.stands();
+    let by = who_searches(going, serial);
+    match due_turn(going, serial, &by, only, filter, position) {
         None => Deed::EndScan { of: serial },
         Some(turn) => Deed::Search {
             parent: serial,
             spot: turn.at.spot,
             moved: after_turn(turn),
-            got: arrival(site, core, serial, by.parent, turn.place, turn.at.spot),
+            got: arrival(going, serial, by.parent, turn.place, turn.at.spot),
         },
     }
 }
@@ -65,12 +61,10 @@ pub fn plan_scan(
 /// What the finalizer of a device does.
 #[tactic(auto, unfolding(run_rules::specs::Next::finalise))]
 #[inline(never)]
-pub fn plan_call(site: &Site, core: &Core, serial: u64, listed: Option<u64>, anew: bool) -> Deed
-    requires books { Books site.now.setup core.now }
-    requires live { length core.now.tree.live ≤ 1024 }
-    ensures { finalise (world_at site.now core.now) serial listed anew ≡ result }
+pub fn plan_call(going: &Going, serial: u64, listed: Option<u64>, anew: bool) -> Deed
+    ensures { finalise going.now serial listed anew ≡ result }
 {
-    match shown_by(site, core, serial) {
+    match shown_by(going, serial) {
         None => Deed::Finalise {
             of: serial,
             shown: None,
@@ -82,11 +76,10 @@ pub fn plan_call(site: &Site, core: &Core, serial: u64, listed: Option<u64>, ane
             of: serial,
             shown: Some(spot),
             got: arrival(
-                site,
-                core,
+                going,
                 serial,
-                parent_ref(&site.setup, &core.tree, serial),
-                place_of(&site.setup, spot),
+                parent_ref(going, serial),
+                place_of(going.setup(), spot),
                 spot,
             ),
             listed,
@@ -97,21 +90,21 @@ pub fn plan_call(site: &Site, core: &Core, serial: u64, listed: Option<u64>, ane
 
 /// What the boot does without a frame: interrupts first, then the finalizers, in passes until none answers 1. See
 /// autoconf(9).
-pub fn plan_boot(site: &Site, core: &Core) -> Deed
-    requires books { Books site.now.setup core.now }
-    requires live { length core.now.tree.live ≤ 1024 }
-    requires called { core.now.pass_repeats ≡ true → 0 < length core.now.finalisers.items }
-    ensures { next_boot (world_at site.now core.now) ≡ Does result }
+pub fn plan_boot(going: &Going) -> Deed
+    requires called { going.now.pass_repeats ≡ true → 0 < length going.now.finalisers }
+    ensures { next_boot going.now ≡ Does result }
 {
+    let held = &going.held;
+    let core = &held.core;
     if !core.interrupts_on {
         return Deed::BeginInterrupts;
     }
     if core.next_finaliser < core.finalisers.len() as u64 {
         let serial = core.finalisers[core.next_finaliser as usize];
-        return plan_call(site, core, serial, Some(core.next_finaliser), false);
+        return plan_call(going, serial, Some(core.next_finaliser), false);
     }
     if core.pass_repeats {
-        return plan_call(site, core, core.finalisers[0], Some(0), true);
+        return plan_call(going, core.finalisers[0], Some(0), true);
     }
     Deed::EndCaller
 }

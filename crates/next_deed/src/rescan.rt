@@ -1,5 +1,5 @@
 //! What a rescan searches, or why it does not begin. See drvctl(8).
-ghost use Rattle.std.specs.Prelude.{◌≡◌, ◌≤◌, ◌∷◌, true, Some, length, map, is_some};
+ghost use Rattle.std.specs.Prelude.{◌≡◌, ◌∷◌, true, Some, map, is_some};
 ghost use Rattle.std.specs.List.{list_any};
 ghost use Rattle.cf_types.specs.Lookups.{place_of_name};
 ghost use Rattle.run_rules.specs.declared.deed.Deed.TheVariants.{Rescan};
@@ -7,16 +7,15 @@ ghost use Rattle.run_rules.specs.declared.world.Dev.{Dev};
 ghost use Rattle.run_rules.specs.Next as next;
 ghost use Rattle.run_rules.specs.Next.{has_nothing, rescan_of, rescanning, wanted_of};
 ghost use Rattle.run_rules.specs.World as world;
-ghost use Rattle.run_rules.specs.World.{World, is_number, offered_by};
+ghost use Rattle.run_rules.specs.World.{is_number, offered_by};
 ghost use Rattle.next_deed.specs.Choices.{or_refused};
-ghost use Rattle.run_world.specs.Sites.{world_at};
 
 use crate::hindered::is_pinned;
+use crate::looks::offers_of;
 use cf_types::{Given, Locator, Name, Place};
 use locator_rules::locators_at;
-use run_rules::{Deed, Dev, Refusal, Setup};
-use run_world::{Core, Site, attr_named, driver_of, has, locator_place, policy_of};
-use scan_engine::offered;
+use run_rules::{CommandRefusal, Deed, Dev};
+use run_world::{Going, attr_named, has, locator_place, policy_of};
 
 /// Whether a locator that is given has this place.
 fn stands_at(locators: &[Locator], given: &Given, place: usize) -> bool
@@ -57,6 +56,7 @@ fn are_wanted(locators: &[Locator], given: &[Given]) -> bool
 }
 
 /// Whether a list is empty.
+#[inline(always)]
 fn is_nothing(offers: &[u32]) -> bool
     ensures { result ≡ has_nothing offers.now }
 {
@@ -68,22 +68,23 @@ fn is_nothing(offers: &[u32]) -> bool
 
 /// The attribute of a name, if a rescan with these locator values may search it alone.
 fn attr_of(
-    setup: &Setup,
+    going: &Going,
     offers: &[u32],
     name: &[u8],
     given: &[Given],
-) -> Result<Option<u32>, Refusal>
-    requires few { length setup.now.tables.attrs ≤ 65536 }
-    ensures { (w : World) (d : Dev) → w.setup ≡ setup.now → offered_by w.setup d.row ≡ offers.now
-        → rescan_of w d (Some name.now) given.now ≡ or_refused (Rescan d.serial) result }
+) -> Result<Option<u32>, CommandRefusal>
+    ensures { (d : Dev) → offered_by going.now.setup d.row ≡ offers.now
+        → rescan_of going.now d (Some name.now) given.now ≡ or_refused (Rescan d.serial) result }
 {
+    going.stands();
+    let setup = going.setup();
     match attr_named(setup, name) {
-        None => Err(Refusal::BadAttribute),
+        None => Err(CommandRefusal::BadAttribute),
         Some(attr) => {
             if !has(offers, attr) {
-                Err(Refusal::BadAttribute)
+                Err(CommandRefusal::BadAttribute)
             } else if !are_wanted(locators_at(&setup.tables, Place::At(attr)), given) {
-                Err(Refusal::BadLocator)
+                Err(CommandRefusal::BadLocator)
             } else {
                 Ok(Some(attr))
             }
@@ -92,48 +93,43 @@ fn attr_of(
 }
 
 /// What a rescan of a device searches: one attribute alone, or all that the device offers.
+#[inline(always)]
 fn only_of(
-    setup: &Setup,
+    going: &Going,
     offers: &[u32],
     attr: &Option<Name>,
     given: &[Given],
-) -> Result<Option<u32>, Refusal>
-    requires few { length setup.now.tables.attrs ≤ 65536 }
-    ensures { (w : World) (d : Dev) → w.setup ≡ setup.now → offered_by w.setup d.row ≡ offers.now
-        → rescan_of w d attr.now given.now ≡ or_refused (Rescan d.serial) result }
+) -> Result<Option<u32>, CommandRefusal>
+    ensures { (d : Dev) → offered_by going.now.setup d.row ≡ offers.now
+        → rescan_of going.now d attr.now given.now ≡ or_refused (Rescan d.serial) result }
 {
     match attr {
         None => Ok(None),
-        Some(name) => attr_of(setup, offers, name.bytes(), given),
+        Some(name) => attr_of(going, offers, name.bytes(), given),
     }
 }
 
 /// A command to search a device again.
 pub fn plan_search(
-    site: &Site,
-    core: &Core,
+    going: &Going,
     device: Dev,
     attr: &Option<Name>,
     given: &[Given],
-) -> Result<Deed, Refusal>
-    requires { world.device_at core.now.tree.live device.serial ≡ Some device }
-    ensures { rescanning (world_at site.now core.now) device attr.now given.now ≡ or_refused (λ deed. deed) result }
+) -> Result<Deed, CommandRefusal>
+    requires { world.device_at going.now.live device.serial ≡ Some device }
+    ensures { rescanning going.now device attr.now given.now ≡ or_refused (λ deed. deed) result }
 {
-    if is_pinned(core, device.serial) {
-        return Err(Refusal::Busy(device.serial));
+    if is_pinned(going, device.serial) {
+        return Err(CommandRefusal::Busy(device.serial));
     }
     if device.asleep {
-        return Err(Refusal::Asleep);
+        return Err(CommandRefusal::Asleep);
     }
-    let offers = offered(
-        &site.graph,
-        &site.setup.tables,
-        driver_of(&site.setup, device.row),
-    );
-    if policy_of(&site.setup, device.row).norescan || is_nothing(offers) {
-        return Err(Refusal::NoRescan);
+    let offers = offers_of(going, device.row);
+    if policy_of(going.setup(), device.row).norescan || is_nothing(offers) {
+        return Err(CommandRefusal::NoRescan);
     }
-    let only = only_of(&site.setup, offers, attr, given)?;
+    let only = only_of(going, offers, attr, given)?;
     Ok(Deed::Rescan {
         of: device.serial,
         only,

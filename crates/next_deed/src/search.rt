@@ -1,24 +1,22 @@
 //! What is attached to a spot.
-ghost use Rattle.std.specs.Prelude.{◌≡◌, ◌≤◌, ◌<◌, length};
+ghost use Rattle.std.specs.Prelude.{◌≡◌};
 ghost use Rattle.run_rules.specs.Next as next;
 ghost use Rattle.run_rules.specs.Search as rule;
-ghost use Rattle.run_world.specs.View.{Books};
 
-use crate::unit::unit_of;
+use crate::unit::unit_at;
 use cf_types::Place;
-use dev_tree::DevTree;
 use match_search::{Rows, Sought, winner};
-use run_rules::{Arrival, ParentRef, Setup};
-use run_world::{Core, Site, driver_of};
+use run_rules::{Arrival, ParentRef};
+use run_world::{Going, driver_of};
 
 /// The parent of a search.
 #[inline(always)]
-pub fn parent_ref(setup: &Setup, tree: &DevTree, serial: u64) -> ParentRef
-    ensures { result ≡ rule.parent_ref setup.now tree.now.live serial }
+pub fn parent_ref(going: &Going, serial: u64) -> ParentRef
+    ensures { result ≡ rule.parent_ref going.now.setup going.now.live serial }
 {
-    match tree.get(serial) {
+    match going.device(serial) {
         Some(d) => ParentRef::Dev {
-            device: driver_of(setup, d.row),
+            device: driver_of(going.setup(), d.row),
             unit: d.unit,
         },
         None => ParentRef::Root,
@@ -27,10 +25,12 @@ pub fn parent_ref(setup: &Setup, tree: &DevTree, serial: u64) -> ParentRef
 
 /// The row that takes a spot below a parent, which rows name so.
 #[inline(always)]
-fn winner_below(site: &Site, core: &Core, named: ParentRef, place: Place, spot: u16) -> Option<u32>
-    requires { Books site.now.setup core.now }
-    ensures { rule.winner site.now.setup core.now.tree.live named place spot ≡ result }
+fn winner_below(going: &Going, named: ParentRef, place: Place, spot: u16) -> Option<u32>
+    ensures { rule.winner going.now.setup going.now.live named place spot ≡ result }
 {
+    let held = &going.held;
+    let site = &held.site;
+    let core = &held.core;
     let rows = Rows {
         tables: &site.setup.tables,
         graph: &site.graph,
@@ -47,34 +47,29 @@ fn winner_below(site: &Site, core: &Core, named: ParentRef, place: Place, spot: 
 
 /// The row that takes a spot below a parent.
 #[inline(always)]
-pub fn winner_at(site: &Site, core: &Core, parent: u64, place: Place, spot: u16) -> Option<u32>
-    requires { Books site.now.setup core.now }
-    ensures { rule.winner_at site.now.setup core.now.tree.live parent place spot ≡ result }
+pub fn winner_at(going: &Going, parent: u64, place: Place, spot: u16) -> Option<u32>
+    ensures { rule.winner_at going.now.setup going.now.live parent place spot ≡ result }
 {
-    let named = parent_ref(&site.setup, &core.tree, parent);
-    winner_below(site, core, named, place, spot)
+    winner_below(going, parent_ref(going, parent), place, spot)
 }
 
 /// The device that is attached to a spot below a parent, as rows name it, if a row takes the spot.
 #[tactic(auto, unfolding(run_rules::specs::Next::arrival))]
 #[inline(always)]
 pub fn arrival(
-    site: &Site,
-    core: &Core,
+    going: &Going,
     parent: u64,
     named: ParentRef,
     place: Place,
     spot: u16,
 ) -> Option<Arrival>
-    requires books { Books site.now.setup core.now }
-    requires live { length core.now.tree.live ≤ 1024 }
-    requires named { named ≡ rule.parent_ref site.now.setup core.now.tree.live parent }
-    ensures { next.arrival site.now.setup core.now.tree.live parent place spot ≡ result }
+    requires { named ≡ rule.parent_ref going.now.setup going.now.live parent }
+    ensures { next.arrival going.now.setup going.now.live parent place spot ≡ result }
 {
-    match winner_below(site, core, named, place, spot) {
+    match winner_below(going, named, place, spot) {
         Some(row) => Some(Arrival {
             row,
-            unit: unit_of(&site.setup, &core.units, row),
+            unit: unit_at(going, row),
             parent,
             spot,
         }),

@@ -1,3 +1,3 @@
-pub mod UnderLaws
+pub mod Numbered
 pub mod AboveLaws
 pub mod FromEnd

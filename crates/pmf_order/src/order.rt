@@ -2,7 +2,7 @@ ghost use Rattle.std.specs.Prelude.{◌≡◌, find, reverse, IsTrue};
 ghost use Rattle.run_rules.specs.Next as next;
 ghost use Rattle.run_rules.specs.World.{is_live, serial_of};
 ghost use Rattle.pmf_order.specs.Resting.{sleeps, wakes_below};
-ghost use Rattle.pmf_order.specs.Under.{AreNeverUnder};
+ghost use Rattle.run_rules.specs.Chains.{AllMiss};
 
 use crate::above::first_above;
 use crate::under::{Strangers, is_under};
@@ -11,9 +11,9 @@ use run_rules::Dev;
 
 /// Whether a suspension of the target is still to put the device to sleep.
 fn is_to_sleep(tree: &DevTree, device: &Dev, target: u64, strangers: &mut Strangers) -> bool
-    requires { AreNeverUnder tree.now.live target strangers.old.serials }
+    requires { AllMiss tree.now.live target strangers.old.serials }
     ensures is { result ≡ sleeps tree.now.live target device.now }
-    ensures noted { AreNeverUnder tree.now.live target strangers.new.serials }
+    ensures noted { AllMiss tree.now.live target strangers.new.serials }
 {
     !device.asleep && is_under(tree, device.serial, target, strangers)
 }
@@ -56,9 +56,9 @@ fn is_to_wake(
     above: Option<u64>,
     strangers: &mut Strangers,
 ) -> bool
-    requires { AreNeverUnder tree.now.live target strangers.old.serials }
+    requires { AllMiss tree.now.live target strangers.old.serials }
     ensures is { result ≡ wakes_below tree.now.live target above device.now }
-    ensures noted { AreNeverUnder tree.now.live target strangers.new.serials }
+    ensures noted { AllMiss tree.now.live target strangers.new.serials }
 {
     device.asleep
         && (above == Some(device.serial) || is_under(tree, device.serial, target, strangers))

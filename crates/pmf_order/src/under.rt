@@ -3,7 +3,8 @@ ghost use Rattle.std.specs.Prelude.{◌≡◌, ◌%◌, ◌==◌, ℕ, List};
 ghost use Rattle.std.specs.List.{slice_index_or, slice_set};
 ghost use Rattle.run_rules.specs.World as world;
 ghost use Rattle.run_rules.specs.declared.world.Dev.{Dev};
-ghost use Rattle.pmf_order.specs.Under.{AreNeverUnder, Leads};
+ghost use Rattle.run_rules.specs.Chains.{AllMiss};
+ghost use Rattle.pmf_order.specs.Under.{Leads};
 
 use dev_tree::DevTree;
 
@@ -18,7 +19,7 @@ impl Strangers {
     /// No device is known.
     #[inline(always)]
     pub fn none() -> Strangers
-        ensures { (live : List Dev) (target : ℕ) → AreNeverUnder live target result.serials }
+        ensures { (live : List Dev) (target : ℕ) → AllMiss live target result.serials }
     {
         Strangers { serials: [0; 64] }
     }
@@ -64,7 +65,7 @@ fn parent_of(tree: &DevTree, serial: u64) -> u64
 
 /// Walks up the chain of parents from a device.
 fn walk(tree: &DevTree, serial: u64, target: u64, strangers: &Strangers) -> Way
-    requires { AreNeverUnder tree.now.live target strangers.now.serials }
+    requires { AllMiss tree.now.live target strangers.now.serials }
     ensures { Leads tree.now.live target serial result }
 {
     tree.stands();
@@ -87,9 +88,9 @@ fn walk(tree: &DevTree, serial: u64, target: u64, strangers: &Strangers) -> Way
 /// Whether a chain of parents leads from the device to the target, found by a walk up the chain. If none does, it notes the device
 /// and its parent.
 fn is_under_by_walk(tree: &DevTree, serial: u64, target: u64, strangers: &mut Strangers) -> bool
-    requires { AreNeverUnder tree.now.live target strangers.old.serials }
+    requires { AllMiss tree.now.live target strangers.old.serials }
     ensures is { result ≡ world.is_under tree.now.live target serial }
-    ensures noted { AreNeverUnder tree.now.live target strangers.new.serials }
+    ensures noted { AllMiss tree.now.live target strangers.new.serials }
 {
     match walk(tree, serial, target, strangers) {
         Way::Under => true,
@@ -106,9 +107,9 @@ fn is_under_by_walk(tree: &DevTree, serial: u64, target: u64, strangers: &mut St
 /// the walks from devices near by are short.
 #[inline(always)]
 pub fn is_under(tree: &DevTree, serial: u64, target: u64, strangers: &mut Strangers) -> bool
-    requires { AreNeverUnder tree.now.live target strangers.old.serials }
+    requires { AllMiss tree.now.live target strangers.old.serials }
     ensures is { result ≡ world.is_under tree.now.live target serial }
-    ensures noted { AreNeverUnder tree.now.live target strangers.new.serials }
+    ensures noted { AllMiss tree.now.live target strangers.new.serials }
 {
     let parent = parent_of(tree, serial);
     if serial != 0 && strangers.has(serial) {

@@ -17,7 +17,7 @@ use Rattle.run_rules.specs.References.{is_of, without_first}
 use Rattle.run_rules.specs.After.{after, pushed, referred, rescan_frame, settled, unreferred, with_caller, with_condemner}
 use Rattle.run_rules.specs.Next.{next}
 use Rattle.run_rules.specs.declared.deed.Deed.TheVariants.{Drop, Refuse, Open, Close, Start, Done, Detach, Rescan, BeginPower, EndPower, Plug, Unplug, Tell, EndCaller}
-use Rattle.run_rules.specs.declared.deed.Refusal.{Refusal}
+use Rattle.run_rules.specs.declared.deed.CommandRefusal.{CommandRefusal}
 use Rattle.cf_types.specs.declared.machine.Ticket.{Ticket}
 use Rattle.run_rules.specs.declared.deed.Choice.TheVariants.{Does}
 use Rattle.run_sound.proofs.Commands.{IsBetween}
@@ -101,7 +101,7 @@ refs_fall p (r ∷ rs) h = cases (p r) (λ k. refs_fall p rs k) h
 begins_calm : (w : World) (k : ℕ) → Kept w → IsBetween w k → is_powering (caller_at w k).doing ≡ false
 begins_calm w k kept between = ap is_powering (between_idle w k kept between)
 
-pub refuse_rises : (n : ℕ) (w : World) (k : ℕ) (why : Refusal) → Kept w → next w k ≡ Does (Refuse why) → own n (after w k (Refuse why)) k ≤ own n w k + 0
+pub refuse_rises : (n : ℕ) (w : World) (k : ℕ) (why : CommandRefusal) → Kept w → next w k ≡ Does (Refuse why) → own n (after w k (Refuse why)) k ≤ own n w k + 0
 unfolding after
 refuse_rises n w k why kept e =
     set_rises n w k 0 w.refs w.sole w.absent _ kept.sound (doing_there w k (Refuse why) e) (begins_calm w k kept (has_command_reason w k (Refuse why) e).between) refl (omega arith) (omega arith)

@@ -17,7 +17,7 @@ use Rattle.run_rules.specs.declared.world.Setup.{Setup}
 use Rattle.run_rules.specs.declared.world.Wait.TheVariants as wait
 use Rattle.run_rules.specs.declared.deed.Deed.{Deed}
 use Rattle.run_rules.specs.declared.deed.Deed.TheVariants.{Close, EndCaller, Refuse}
-use Rattle.run_rules.specs.declared.deed.Refusal.TheVariants as refusal
+use Rattle.run_rules.specs.declared.deed.CommandRefusal.TheVariants as refusal
 use Rattle.run_rules.specs.declared.deed.Choice.TheVariants.{Waits, Does}
 use Rattle.run_rules.specs.World.{World, Caller, beginning, caller_at, device_named, is_held, nobody, opening}
 use Rattle.run_rules.specs.Laws.{is_ok, opens, returns}
@@ -162,16 +162,7 @@ module _ (h : List Event) (w : World) (k : ℕ) (d : Deed) (may : MayRun w.setup
   most_next n (command.OpenDev name) r x line later idle says low = opens_low n (act.OpenDev name r) name x r line refl low
   most_next n (command.OpenSole name) r x line later idle says low = opens_low n (act.OpenSole name r) name x r line refl low
   most_next n (command.CloseDev name) r x line later idle says low = closes_low n name x r line later idle says low
-  most_next n (command.Io name value) r x line later idle says low = stays_low n _ x line refl low
-  most_next n (command.Detach name) r x line later idle says low = stays_low n _ x line refl low
-  most_next n (command.Rescan name attr given) r x line later idle says low = stays_low n _ x line refl low
-  most_next n (command.ListDev name) r x line later idle says low = stays_low n _ x line refl low
-  most_next n (command.TreeDev name) r x line later idle says low = stays_low n _ x line refl low
-  most_next n (command.Suspend name) r x line later idle says low = stays_low n _ x line refl low
-  most_next n (command.Resume name) r x line later idle says low = stays_low n _ x line refl low
-  most_next n (command.ResumeTree name) r x line later idle says low = stays_low n _ x line refl low
-  most_next n (command.Plug name) r x line later idle says low = stays_low n _ x line refl low
-  most_next n (command.Unplug name) r x line later idle says low = stays_low n _ x line refl low
+  most_next n said r x line later idle says low = stays_low n _ x line refl low
 
 -- ---- how far a caller is
 

@@ -19,3 +19,4 @@ pub mod Texts
 pub mod Held
 pub mod PlainScripts
 pub mod Vectors
+pub mod Boots

@@ -52,16 +52,7 @@ counts_on : (names : List (List ℕ)) (c : Command) (x : List ℕ) → count_of 
 counts_on names (command.OpenDev name) x = count_last names name x
 counts_on names (command.OpenSole name) x = count_last names name x
 counts_on names (command.CloseDev name) x = count_less names name x
-counts_on names (command.Io name value) x = refl
-counts_on names (command.Detach name) x = refl
-counts_on names (command.Rescan name attr given) x = refl
-counts_on names (command.ListDev name) x = refl
-counts_on names (command.TreeDev name) x = refl
-counts_on names (command.Suspend name) x = refl
-counts_on names (command.Resume name) x = refl
-counts_on names (command.ResumeTree name) x = refl
-counts_on names (command.Plug name) x = refl
-counts_on names (command.Unplug name) x = refl
+counts_on names said x = refl
 
 -- a name that may be open counts
 none_open : (names : List (List ℕ)) → ((x : List ℕ) → count_of names x ≡ 0) → is_empty names ≡ true
@@ -131,17 +122,7 @@ behind_one n (d ∷ ds) c x = behind_one (count_after n d x) ds c x
 pub freeing_leaves : (n : ℕ) (c : Command) (x : List ℕ) → is_freeing c ≡ true → count_after n c x ≡ n
 freeing_leaves n (command.Detach name) x h = refl
 freeing_leaves n (command.Unplug name) x h = refl
-freeing_leaves n (command.OpenDev name) x h = absurd cc
-freeing_leaves n (command.OpenSole name) x h = absurd cc
-freeing_leaves n (command.CloseDev name) x h = absurd cc
-freeing_leaves n (command.Io name value) x h = absurd cc
-freeing_leaves n (command.Rescan name attr given) x h = absurd cc
-freeing_leaves n (command.ListDev name) x h = absurd cc
-freeing_leaves n (command.TreeDev name) x h = absurd cc
-freeing_leaves n (command.Suspend name) x h = absurd cc
-freeing_leaves n (command.Resume name) x h = absurd cc
-freeing_leaves n (command.ResumeTree name) x h = absurd cc
-freeing_leaves n (command.Plug name) x h = absurd cc
+freeing_leaves n said x h = absurd cc
 
 -- what frees nothing is never refused
 spares : (names : List (List ℕ)) (script : List Command) → AllByRecursion (λ c. is_freeing c ≡ false) script → lets_go names script ≡ true

@@ -19,3 +19,11 @@ pub mod Chains
 pub mod Levels
 pub mod Removals
 pub mod Order
+pub mod MatchLines
+pub mod FirstPassing
+pub mod BestFirst
+pub mod SpotLists
+pub mod Suits
+pub mod Spans
+pub mod Climbs
+pub mod FromEnd

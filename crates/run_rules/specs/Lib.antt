@@ -11,3 +11,8 @@ pub mod Counts
 pub mod Laws
 pub mod Sound
 pub mod Formed
+pub mod MatchLines
+pub mod Suits
+pub mod Spans
+pub mod Chains
+pub mod Said

@@ -28,7 +28,7 @@ use Rattle.run_rules.specs.References.{count_in}
 use Rattle.run_rules.specs.Search.{winner_at, unit_of, due, after_turn}
 use Rattle.run_rules.specs.declared.deed.Deed.{Deed}
 use Rattle.run_rules.specs.declared.deed.Deed.TheVariants.{Search, EndScan, BeginInterrupts, Finalise, EndCaller, Drop, Refuse, Open, Close, Start, Done, Detach, Free, Rescan, BeginPower, Sleep, Wake, EndPower, Plug, Unplug, Tell}
-use Rattle.run_rules.specs.declared.deed.Refusal.TheVariants as refusal
+use Rattle.run_rules.specs.declared.deed.CommandRefusal.TheVariants as refusal
 use Rattle.run_rules.specs.declared.deed.PowerEnd.TheVariants as ends
 use Rattle.run_rules.specs.declared.deed.Choice.{Choice}
 use Rattle.run_rules.specs.declared.deed.Choice.TheVariants.{Ended, Waits, Does}

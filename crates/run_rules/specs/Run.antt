@@ -24,8 +24,8 @@ use Rattle.run_rules.specs.Next.{next, command_of, name_at}
 use Rattle.run_rules.specs.After.{after}
 use Rattle.run_rules.specs.declared.deed.Deed.{Deed}
 use Rattle.run_rules.specs.declared.deed.Deed.TheVariants.{Search, EndScan, BeginInterrupts, Finalise, EndCaller, Drop, Refuse, Open, Close, Start, Done, Detach, Free, Rescan, BeginPower, Sleep, Wake, EndPower, Plug, Unplug, Tell}
-use Rattle.run_rules.specs.declared.deed.Refusal.{Refusal}
-use Rattle.run_rules.specs.declared.deed.Refusal.TheVariants as refusal
+use Rattle.run_rules.specs.declared.deed.CommandRefusal.{CommandRefusal}
+use Rattle.run_rules.specs.declared.deed.CommandRefusal.TheVariants as refusal
 use Rattle.run_rules.specs.declared.deed.PowerEnd.{PowerEnd}
 use Rattle.run_rules.specs.declared.deed.PowerEnd.TheVariants as ends
 use Rattle.run_rules.specs.declared.deed.Choice.{Choice}
@@ -66,7 +66,7 @@ tree_names w (Some name) =
     option_map (λ d. map (depth_name w.setup) ((0, d) ∷ tree_below (length w.live) w.live 1 d.serial)) (device_named w.setup w.live name)
 
 -- the reply of a refusal; a device is named as it is live
-abbrev pub reply_of : World → Refusal → Reply
+abbrev pub reply_of : World → CommandRefusal → Reply
 reply_of w refusal.NoDevice = reply.NoDevice
 reply_of w refusal.Gone = reply.Gone
 reply_of w refusal.Exclusive = reply.Exclusive

@@ -33,7 +33,7 @@ pub enum Deed {
         of: u64,
     },
     /// A command ends at once with this reply, and nothing else changes.
-    Refuse(Refusal),
+    Refuse(CommandRefusal),
     /// A reference is granted; a sole one excludes all others.
     Open {
         of: u64,
@@ -84,7 +84,7 @@ pub enum Deed {
 
 /// The replies of a command that has no effect. See `Reply`.
 #[derive(Clone, Copy)]
-pub enum Refusal {
+pub enum CommandRefusal {
     NoDevice,
     Gone,
     Exclusive,

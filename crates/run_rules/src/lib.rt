@@ -3,13 +3,15 @@
 
 mod deed;
 mod event;
+mod said;
 mod shared_act;
 mod world;
 
-pub use deed::{Choice, Deed, PowerEnd, Refusal};
+pub use deed::{Choice, CommandRefusal, Deed, PowerEnd};
 pub use event::{Act, DepthName, Event, Format, Got, IoAnswer, PowerKind, Reply, Shown};
+pub use said::{name_given, power_name};
 pub use shared_act::SharedAct;
 pub use world::{
-    Activity, Arrival, Deferred, Dev, Frame, Key, ParentRef, Placing, Position, Ref, Setup, Turn,
-    Wait, Wanted,
+    Activity, Arrival, Deferred, Dev, Frame, Key, ParentRef, Placing, Position, Ref, Setup, Span,
+    Turn, Wait, Wanted,
 };

@@ -144,3 +144,10 @@ pub enum ParentRef {
     Root,
     Dev { device: u32, unit: u32 },
 }
+
+/// Numbers of spots: from the first one to before the end.
+#[derive(Clone, Copy)]
+pub struct Span {
+    pub first: u16,
+    pub end: u16,
+}

@@ -7,7 +7,7 @@ use Rattle.run_rules.specs.declared.world.Placing.{Placing}
 use Rattle.run_rules.specs.declared.world.Placing.TheVariants.{Nowhere, Queued, PutOff, Pushed}
 use Rattle.run_rules.specs.declared.world.Position.{Position}
 use Rattle.run_rules.specs.declared.deed.Deed.{Deed}
-use Rattle.run_rules.specs.declared.deed.Deed.TheVariants.{Search, EndScan, BeginInterrupts, Finalise, EndCaller, Drop, Refuse, Open, Close, Start, Done, Detach, Free, Rescan, BeginPower, Sleep, Wake, EndPower, Plug, Unplug, Tell}
+use Rattle.run_rules.specs.declared.deed.Deed.TheVariants.{Search, Finalise, Detach, Free, Sleep, Wake, Unplug}
 use Rattle.run_rules.specs.World.{World, Caller, caller_at, has_ended, offered_by, policy_of}
 use Rattle.run_rules.specs.After.{after, arrived, attached, finaliser_done, finaliser_placed, finaliser_placing, list_moved, listed, moved_top, new_device, place_finaliser, place_scan, released, scan_placed, scan_placing, show_spot, with_stack}
 
@@ -100,21 +100,8 @@ live_same w k (Free s) h = absurd cc
 live_same w k (Sleep s) h = absurd cc
 live_same w k (Wake s) h = absurd cc
 live_same w k (Unplug x (Some s)) h = absurd cc
-live_same w k (EndScan p) h = refl
-live_same w k BeginInterrupts h = refl
-live_same w k EndCaller h = refl
-live_same w k (Drop s) h = refl
-live_same w k (Refuse why) h = refl
-live_same w k (Open s sole) h = refl
-live_same w k (Close s) h = refl
-live_same w k (Start ticket) h = refl
-live_same w k (Done ticket) h = refl
-live_same w k (Rescan s only) h = refl
-live_same w k (BeginPower kind s) h = refl
-live_same w k (EndPower end) h = refl
-live_same w k (Plug x) h = refl
 live_same w k (Unplug x None) h = refl
-live_same w k Tell h = refl
+live_same w k d h = refl
 
 -- ---- which come
 

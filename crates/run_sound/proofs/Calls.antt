@@ -16,7 +16,7 @@ use Rattle.run_rules.specs.declared.world.Placing.TheVariants.{Nowhere, Queued, 
 use Rattle.run_rules.specs.declared.world.Position.{Position}
 use Rattle.run_rules.specs.World.{World, Caller, beginning, caller_at, nobody, opening, scan_of, policy_of, offered_by, has_ended}
 use Rattle.run_rules.specs.declared.deed.Deed.{Deed}
-use Rattle.run_rules.specs.declared.deed.Deed.TheVariants.{Search, EndScan, BeginInterrupts, Finalise, EndCaller, Drop, Refuse, Open, Close, Start, Done, Detach, Free, Rescan, BeginPower, Sleep, Wake, EndPower, Plug, Unplug, Tell}
+use Rattle.run_rules.specs.declared.deed.Deed.TheVariants.{Search, EndScan, BeginInterrupts, Finalise, EndCaller, Drop, Start, Detach, Free, Rescan, BeginPower, Sleep, Wake, Unplug}
 use Rattle.run_rules.specs.After.{after, settled, with_stack, doing, over, under_top, moved_top, released, arrived, attached, listed, finaliser_placed, scan_placed, finaliser_placing, scan_placing, place_finaliser, place_scan, show_spot, list_moved, finaliser_done, same_key, freed, freeing_target, rescan_frame}
 use Rattle.run_sound.specs.Calls.{IsOfDevice, CallsDevices}
 use Rattle.run_sound.proofs.Callers.{all_set, all_or, all_append}
@@ -123,11 +123,7 @@ calls_after w k (Finalise s shown got listed anew) low h =
     (arrived_so (show_spot w shown) k got false (rw (shown_next w shown) low) (shown_so w shown h)))
 calls_after w k EndCaller low h = done_so w k activity.Ended h
 calls_after w k (Drop s) low h = h
-calls_after w k (Refuse why) low h = over_so w k h
-calls_after w k (Open s sole) low h = over_so w k h
-calls_after w k (Close s) low h = over_so w k h
 calls_after w k (Start t) low h = done_so w k (activity.Transfer t) h
-calls_after w k (Done t) low h = over_so w k h
 calls_after w k (Detach s) low h = done_so w k (activity.Frees s) h
 calls_after w k (Free s) low h = freed_so (freed w s) k (freeing_target (caller_at w k).doing s) h
 calls_after w k (Rescan s only) low h =
@@ -135,11 +131,9 @@ calls_after w k (Rescan s only) low h =
 calls_after w k (BeginPower what s) low h = done_so w k (activity.Power what s) h
 calls_after w k (Sleep s) low h = h
 calls_after w k (Wake s) low h = h
-calls_after w k (EndPower end) low h = over_so w k h
-calls_after w k (Plug x) low h = over_so w k h
 calls_after w k (Unplug x None) low h = over_so w k h
 calls_after w k (Unplug x (Some s)) low h = done_so w k (activity.Frees s) h
-calls_after w k Tell low h = over_so w k h
+calls_after w k d low h = over_so w k h
 
 each_beginning : {A : Type 0} (scripts : List A) → AllByRecursion (λ (c : Caller). Each c.stack) (map (λ script. beginning []) scripts)
 each_beginning [] = tt

@@ -20,7 +20,7 @@ use Rattle.run_rules.specs.World.{World, Caller, caller_at, has, has_ended, offe
 use Rattle.run_rules.specs.After.{after, attached, doing, finaliser_placed, finaliser_placing, listed, moved_top, new_device, place_finaliser, place_scan, released, same_key, scan_placed, scan_placing, show_spot, under_top, with_stack}
 use Rattle.run_sound.specs.Left.{boot_left, free_spots, scan_left, spot_worth, turns_left, whole_scan}
 use Rattle.run_rules.specs.declared.deed.Deed.{Deed}
-use Rattle.run_rules.specs.declared.deed.Deed.TheVariants.{Search, EndScan, BeginInterrupts, Finalise, EndCaller, Drop, Refuse, Open, Close, Start, Done, Detach, Free, Rescan, BeginPower, Sleep, Wake, EndPower, Plug, Unplug, Tell}
+use Rattle.run_rules.specs.declared.deed.Deed.TheVariants.{Search, EndScan, BeginInterrupts, Finalise, EndCaller}
 use Rattle.run_rules.specs.declared.deed.Choice.TheVariants.{Does}
 use Rattle.run_rules.specs.Next.{next}
 use Rattle.run_rules.proofs.Setups.{after_setup}
@@ -380,22 +380,7 @@ deed_falls n w (Finalise s (Some x) None listed anew) may kept e b is why fits =
 deed_falls n w (Finalise s (Some x) (Some a) listed anew) may kept e b is why fits =
     shows_falls n w s x a listed anew b why.called (shown_inside w 0 s x (Some a) listed anew why).1 fits
 deed_falls n w EndCaller may kept e b is why fits = end_falls n w b.there b.goes
-deed_falls n w (Drop s) may kept e b is why fits = absurd is
-deed_falls n w (Refuse reply) may kept e b is why fits = absurd is
-deed_falls n w (Open s sole) may kept e b is why fits = absurd is
-deed_falls n w (Close s) may kept e b is why fits = absurd is
-deed_falls n w (Start ticket) may kept e b is why fits = absurd is
-deed_falls n w (Done ticket) may kept e b is why fits = absurd is
-deed_falls n w (Detach s) may kept e b is why fits = absurd is
-deed_falls n w (Free s) may kept e b is why fits = absurd is
-deed_falls n w (Rescan s only) may kept e b is why fits = absurd is
-deed_falls n w (BeginPower kind s) may kept e b is why fits = absurd is
-deed_falls n w (Sleep s) may kept e b is why fits = absurd is
-deed_falls n w (Wake s) may kept e b is why fits = absurd is
-deed_falls n w (EndPower end) may kept e b is why fits = absurd is
-deed_falls n w (Plug x) may kept e b is why fits = absurd is
-deed_falls n w (Unplug x of) may kept e b is why fits = absurd is
-deed_falls n w Tell may kept e b is why fits = absurd is
+deed_falls n w d may kept e b is why fits = absurd is
 
 -- so the boot ends
 pub boot_falls : (w : World) (d : Deed) → MayRun w.setup → Kept w → next w 0 ≡ Does d → boot_left (after w 0 d) < boot_left w

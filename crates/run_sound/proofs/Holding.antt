@@ -38,27 +38,14 @@ freed_refs w k s false = refl
 pub refs_same : (w : World) (k : ℕ) (d : Deed) → opened_by d ≡ None → returned_by d ≡ None → (after w k d).refs ≡ w.refs
 unfolding after released
 refs_same w k (Search p spot to got) a b = search_part (λ (w : World). w.refs) refs_beside come_refs w k p spot to got
-refs_same w k (EndScan p) a b = refl
-refs_same w k BeginInterrupts a b = refl
 refs_same w k (Finalise s shown got place anew) a b = call_part (λ (w : World). w.refs) refs_beside come_refs w k s shown got place anew
-refs_same w k EndCaller a b = refl
 refs_same w k (Drop s) a b = absurd cc
-refs_same w k (Refuse why) a b = refl
 refs_same w k (Open s sole) a b = absurd cc
 refs_same w k (Close s) a b = absurd cc
-refs_same w k (Start ticket) a b = refl
-refs_same w k (Done ticket) a b = refl
-refs_same w k (Detach s) a b = refl
 refs_same w k (Free s) a b = freed_refs w k s (freeing_target (caller_at w k).doing s)
-refs_same w k (Rescan s only) a b = refl
-refs_same w k (BeginPower kind s) a b = refl
-refs_same w k (Sleep s) a b = refl
-refs_same w k (Wake s) a b = refl
-refs_same w k (EndPower end) a b = refl
-refs_same w k (Plug x) a b = refl
 refs_same w k (Unplug x None) a b = refl
 refs_same w k (Unplug x (Some s)) a b = refl
-refs_same w k Tell a b = refl
+refs_same w k d a b = refl
 
 -- so each caller holds what it held
 pub holds_same : (w : World) (k : ℕ) (d : Deed) → opened_by d ≡ None → returned_by d ≡ None → (j s : ℕ) → is_held (after w k d) j s ≡ is_held w j s

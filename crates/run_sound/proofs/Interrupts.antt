@@ -7,7 +7,7 @@ use Rattle.run_rules.specs.declared.world.Arrival.{Arrival}
 use Rattle.run_rules.specs.declared.world.Frame.{Frame}
 use Rattle.run_rules.specs.declared.world.Setup.{Setup}
 use Rattle.run_rules.specs.declared.deed.Deed.{Deed}
-use Rattle.run_rules.specs.declared.deed.Deed.TheVariants.{Search, EndScan, BeginInterrupts, Finalise, EndCaller, Drop, Refuse, Open, Close, Start, Done, Detach, Free, Rescan, BeginPower, Sleep, Wake, EndPower, Plug, Unplug, Tell}
+use Rattle.run_rules.specs.declared.deed.Deed.TheVariants.{Search, EndScan, BeginInterrupts, Finalise, EndCaller, Free, Unplug}
 use Rattle.run_rules.specs.declared.deed.Choice.TheVariants.{Does}
 use Rattle.run_rules.specs.World.{World, caller_at, has_ended, is_ended, opening}
 use Rattle.run_rules.specs.Next.{next}
@@ -37,27 +37,12 @@ freed_on w k s false = refl
 stay_on : (w : World) (k : ℕ) (d : Deed) → w.interrupts_on ≡ true → (after w k d).interrupts_on ≡ true
 unfolding after released
 stay_on w k (Search p spot to got) on = search_part (λ (w : World). w.interrupts_on) on_beside come_on w k p spot to got ∙ on
-stay_on w k (EndScan p) on = on
 stay_on w k BeginInterrupts on = refl
 stay_on w k (Finalise s shown got place anew) on = call_part (λ (w : World). w.interrupts_on) on_beside come_on w k s shown got place anew ∙ on
-stay_on w k EndCaller on = on
-stay_on w k (Drop s) on = on
-stay_on w k (Refuse why) on = on
-stay_on w k (Open s sole) on = on
-stay_on w k (Close s) on = on
-stay_on w k (Start ticket) on = on
-stay_on w k (Done ticket) on = on
-stay_on w k (Detach s) on = on
 stay_on w k (Free s) on = freed_on w k s (freeing_target (caller_at w k).doing s) ∙ on
-stay_on w k (Rescan s only) on = on
-stay_on w k (BeginPower kind s) on = on
-stay_on w k (Sleep s) on = on
-stay_on w k (Wake s) on = on
-stay_on w k (EndPower end) on = on
-stay_on w k (Plug x) on = on
 stay_on w k (Unplug x None) on = on
 stay_on w k (Unplug x (Some s)) on = on
-stay_on w k Tell on = on
+stay_on w k d on = on
 
 -- ---- the boot ends where they work
 
@@ -89,22 +74,7 @@ ends_on w (Finalise s shown got place anew) e is goes ended =
 ends_on w EndCaller e is goes ended =
     let why : IsEnd w 0 = has_reason w 0 EndCaller e in
     stay_on w 0 EndCaller (elim why.over [ inl boot ↦ boot.1 | inr script ↦ absurd (script.0 refl) ])
-ends_on w (Drop s) e is goes ended = absurd is
-ends_on w (Refuse why) e is goes ended = absurd is
-ends_on w (Open s sole) e is goes ended = absurd is
-ends_on w (Close s) e is goes ended = absurd is
-ends_on w (Start ticket) e is goes ended = absurd is
-ends_on w (Done ticket) e is goes ended = absurd is
-ends_on w (Detach s) e is goes ended = absurd is
-ends_on w (Free s) e is goes ended = absurd is
-ends_on w (Rescan s only) e is goes ended = absurd is
-ends_on w (BeginPower kind s) e is goes ended = absurd is
-ends_on w (Sleep s) e is goes ended = absurd is
-ends_on w (Wake s) e is goes ended = absurd is
-ends_on w (EndPower end) e is goes ended = absurd is
-ends_on w (Plug x) e is goes ended = absurd is
-ends_on w (Unplug x of) e is goes ended = absurd is
-ends_on w Tell e is goes ended = absurd is
+ends_on w d e is goes ended = absurd is
 
 pub interrupts_after : (w : World) (k : ℕ) (d : Deed) → Kept w → next w k ≡ Does d → InterruptsWork w → InterruptsWork (after w k d)
 interrupts_after w k d kept e before ended = cases (has_ended w 0) refl

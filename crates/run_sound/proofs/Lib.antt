@@ -41,3 +41,4 @@ pub mod Unheld
 pub mod InFull
 pub mod Calls
 pub mod ScriptLaws
+pub mod Told

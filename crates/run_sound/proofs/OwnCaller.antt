@@ -9,7 +9,7 @@ use Rattle.run_rules.specs.declared.world.Placing.{Placing}
 use Rattle.run_rules.specs.declared.world.Placing.TheVariants.{Nowhere, Queued, PutOff, Pushed}
 use Rattle.run_rules.specs.World.{World, Caller, caller_at, has_ended, nobody, offered_by, policy_of}
 use Rattle.run_rules.specs.declared.deed.Deed.{Deed}
-use Rattle.run_rules.specs.declared.deed.Deed.TheVariants.{Search, EndScan, BeginInterrupts, Finalise, EndCaller, Drop, Refuse, Open, Close, Start, Done, Detach, Free, Rescan, BeginPower, Sleep, Wake, EndPower, Plug, Unplug, Tell}
+use Rattle.run_rules.specs.declared.deed.Deed.TheVariants.{Search, EndScan, BeginInterrupts, Finalise, EndCaller}
 use Rattle.run_rules.specs.After.{after, arrived, attached, finaliser_done, finaliser_placed, finaliser_placing, list_moved, listed, moved_top, place_finaliser, place_scan, released, settled, scan_placed, scan_placing, show_spot, with_stack}
 
 -- a deed of the boot: of a frame, of the boot's list, or the end
@@ -110,19 +110,4 @@ module _ (P : Caller → Type 0) (stays : Stays P) where
   own_after w k BeginInterrupts is h = own_interrupts P stays.stacked w k h
   own_after w k (Finalise s shown got place anew) is h = own_finalised P stays.stacked w k s shown got place anew h
   own_after w k EndCaller is h = own_set P w.callers k _ (stays.ended (caller_at w k) h) h
-  own_after w k (Drop s) is h = absurd is
-  own_after w k (Refuse why) is h = absurd is
-  own_after w k (Open s sole) is h = absurd is
-  own_after w k (Close s) is h = absurd is
-  own_after w k (Start ticket) is h = absurd is
-  own_after w k (Done ticket) is h = absurd is
-  own_after w k (Detach s) is h = absurd is
-  own_after w k (Free s) is h = absurd is
-  own_after w k (Rescan s only) is h = absurd is
-  own_after w k (BeginPower kind s) is h = absurd is
-  own_after w k (Sleep s) is h = absurd is
-  own_after w k (Wake s) is h = absurd is
-  own_after w k (EndPower end) is h = absurd is
-  own_after w k (Plug x) is h = absurd is
-  own_after w k (Unplug x of) is h = absurd is
-  own_after w k Tell is h = absurd is
+  own_after w k d is h = absurd is

@@ -23,7 +23,7 @@ use Rattle.run_rules.proofs.Devices.{all_imp, all_both}
 use Rattle.run_sound.proofs.Callers.{all_set, clash, is_ended_so, pins_same, caller_there, caller_each, pins_kept, any_set_same, doing_so, doing_there}
 use Rattle.run_sound.proofs.Commands.{IsBetween}
 use Rattle.run_sound.proofs.Reasons.{has_command_reason}
-use Rattle.run_rules.specs.declared.deed.Refusal.{Refusal}
+use Rattle.run_rules.specs.declared.deed.CommandRefusal.{CommandRefusal}
 
 -- ---- the parts that speak of each device, where the devices stay
 
@@ -204,7 +204,7 @@ later_held w k refs sole absent at = record { there = at.there; later = at.later
 
 -- ---- deeds that change nothing else
 
-pub sound_refused : (w : World) (k : ℕ) (why : Refusal) → Sound w → next w k ≡ Does (Refuse why) → Sound (after w k (Refuse why))
+pub sound_refused : (w : World) (k : ℕ) (why : CommandRefusal) → Sound w → next w k ≡ Does (Refuse why) → Sound (after w k (Refuse why))
 unfolding after
 sound_refused w k why sound chosen = let at = (has_command_reason w k (Refuse why) chosen).between in sound_over w k sound (between_later w k (Refuse why) chosen at) at.idle
 

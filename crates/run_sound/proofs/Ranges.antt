@@ -1,5 +1,5 @@
 -- A deed keeps a world in its ranges.
-use Rattle.std.proofs.Common.{◌≡◌, ◌<◌, ◌≤◌, ℕ, ◌+◌, Bool, true, false, List, [], ◌∷◌, ◌++◌, length, Option, Some, None, refl, ◌∙◌, ap, arith}
+use Rattle.std.proofs.Common.{◌≡◌, ◌<◌, ◌≤◌, ℕ, Bool, true, false, List, [], ◌∷◌, ◌++◌, length, Option, Some, None, refl, ◌∙◌, ap, arith}
 use Rattle.std.specs.Prelude.{⊤, is_some}
 use Rattle.run_rules.specs.declared.world.Setup.{Setup}
 use Rattle.run_rules.specs.declared.world.Dev.{Dev}
@@ -7,7 +7,7 @@ use Rattle.run_rules.specs.declared.world.Arrival.{Arrival}
 use Rattle.run_rules.specs.declared.world.Position.{Position}
 use Rattle.run_rules.specs.World.{World, caller_at, has_ended}
 use Rattle.run_rules.specs.declared.deed.Deed.{Deed}
-use Rattle.run_rules.specs.declared.deed.Deed.TheVariants.{Search, EndScan, BeginInterrupts, Finalise, EndCaller, Drop, Refuse, Open, Close, Start, Done, Detach, Free, Rescan, BeginPower, Sleep, Wake, EndPower, Plug, Unplug, Tell}
+use Rattle.run_rules.specs.declared.deed.Deed.TheVariants.{Search, EndScan, BeginInterrupts, Finalise, EndCaller}
 use Rattle.run_rules.specs.declared.deed.Choice.TheVariants.{Does}
 use Rattle.run_rules.specs.Next.{next}
 use Rattle.run_rules.specs.After.{after, arrived, attached, finaliser_done, list_moved, moved_top, new_device, released, show_spot, with_stack}
@@ -35,29 +35,11 @@ may_fit s live hidden p a d may r u x = record { row = rw r may.row; unit = rw u
 pub comes_fit : (w : World) (k : ℕ) (d : Deed) → MayRun w.setup → Kept w → next w k ≡ Does d → ComesFit w d
 comes_fit w k (Search p spot to None) may kept e = tt
 comes_fit w k (Search p spot to (Some a)) may kept e = may_fit w.setup w.live w.hidden p a (new_device w a) (search_comes w k p spot to a may kept e) refl refl refl
-comes_fit w k (EndScan p) may kept e = tt
-comes_fit w k BeginInterrupts may kept e = tt
 comes_fit w k (Finalise s shown None listed anew) may kept e = tt
 comes_fit w k (Finalise s None (Some a) listed anew) may kept e = absurd (none_shown w k s a listed anew e)
 comes_fit w k (Finalise s (Some x) (Some a) listed anew) may kept e =
     may_fit w.setup w.live (show_spot w (Some x)).hidden s a (new_device w a) (finalise_comes w k s x a listed anew may kept e) refl refl refl
-comes_fit w k EndCaller may kept e = tt
-comes_fit w k (Drop s) may kept e = tt
-comes_fit w k (Refuse why) may kept e = tt
-comes_fit w k (Open s sole) may kept e = tt
-comes_fit w k (Close s) may kept e = tt
-comes_fit w k (Start ticket) may kept e = tt
-comes_fit w k (Done ticket) may kept e = tt
-comes_fit w k (Detach s) may kept e = tt
-comes_fit w k (Free s) may kept e = tt
-comes_fit w k (Rescan s only) may kept e = tt
-comes_fit w k (BeginPower kind s) may kept e = tt
-comes_fit w k (Sleep s) may kept e = tt
-comes_fit w k (Wake s) may kept e = tt
-comes_fit w k (EndPower end) may kept e = tt
-comes_fit w k (Plug x) may kept e = tt
-comes_fit w k (Unplug x of) may kept e = tt
-comes_fit w k Tell may kept e = tt
+comes_fit w k d may kept e = tt
 
 -- what comes to a world, if something does, fits in
 abbrev FitsIf : World → Option Arrival → Type 0
@@ -126,22 +108,7 @@ listed_after w (Finalise s shown got listed anew) e is fits l =
     (λ h. omega (arith, one_there w 0 s listed anew l call.called h, arrived_more u 0 got false, ap length (shown_called w shown)))
     (arrived_listed u 0 got false (call_fits w s shown got listed anew fits) (shown_listed w shown l))
 listed_after w EndCaller e is fits l = record { few = l.few; some = l.some }
-listed_after w (Drop s) e is fits l = absurd is
-listed_after w (Refuse why) e is fits l = absurd is
-listed_after w (Open s sole) e is fits l = absurd is
-listed_after w (Close s) e is fits l = absurd is
-listed_after w (Start ticket) e is fits l = absurd is
-listed_after w (Done ticket) e is fits l = absurd is
-listed_after w (Detach s) e is fits l = absurd is
-listed_after w (Free s) e is fits l = absurd is
-listed_after w (Rescan s only) e is fits l = absurd is
-listed_after w (BeginPower kind s) e is fits l = absurd is
-listed_after w (Sleep s) e is fits l = absurd is
-listed_after w (Wake s) e is fits l = absurd is
-listed_after w (EndPower end) e is fits l = absurd is
-listed_after w (Plug x) e is fits l = absurd is
-listed_after w (Unplug x of) e is fits l = absurd is
-listed_after w Tell e is fits l = absurd is
+listed_after w d e is fits l = absurd is
 
 -- while the boot goes on after the deed
 listed_then : (w : World) (k : ℕ) (d : Deed) → MayRun w.setup → Kept w → next w k ≡ Does d → has_ended (after w k d) 0 ≡ false → HasBootList (after w k d)

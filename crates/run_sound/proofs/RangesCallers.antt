@@ -18,7 +18,7 @@ use Rattle.run_rules.specs.World.{World, Caller, caller_at, device_at, has_ended
 use Rattle.run_rules.specs.Search.{after_turn, due}
 use Rattle.run_rules.specs.Next.{arrival, by_activity, finalise, late_spot, next, next_boot, next_scan, on_top, place_of_spot}
 use Rattle.run_rules.specs.declared.deed.Deed.{Deed}
-use Rattle.run_rules.specs.declared.deed.Deed.TheVariants.{Search, EndScan, BeginInterrupts, Finalise, EndCaller, Drop, Refuse, Open, Close, Start, Done, Detach, Free, Rescan, BeginPower, Sleep, Wake, EndPower, Plug, Unplug, Tell}
+use Rattle.run_rules.specs.declared.deed.Deed.TheVariants.{Search, EndScan, BeginInterrupts, Finalise, EndCaller, Drop, Free, Rescan, Sleep, Wake, Unplug}
 use Rattle.run_rules.specs.declared.deed.Choice.{Choice}
 use Rattle.run_rules.specs.declared.deed.Choice.TheVariants.{Ended, Waits, Does}
 use Rattle.run_rules.specs.After.{after, arrived, attached, finaliser_done, finaliser_placed, finaliser_placing, freed, freeing_target, list_moved, listed, moved_top, over, place_finaliser, place_scan, released, settled, scan_placed, scan_placing, show_spot, with_stack}
@@ -69,28 +69,16 @@ freed_callers P w k s false stays h = h
 pub callers_after : (P : List Caller → Type 0) (w : World) (k : ℕ) (d : Deed) → StaysSet k P → P w.callers → P (after w k d).callers
 unfolding after released
 callers_after P w k (Search p spot to got) stays h = arrived_callers P (with_stack w k (moved_top to (caller_at w k).stack)) k got true stays (stays w.callers _ h)
-callers_after P w k (EndScan p) stays h = stays w.callers _ h
-callers_after P w k BeginInterrupts stays h = stays w.callers _ h
 callers_after P w k (Finalise s shown got place anew) stays h =
     called_callers P (arrived (show_spot w shown) k got false) k place anew (is_some shown) stays (arrived_callers P (show_spot w shown) k got false stays (shown_callers P w shown h))
-callers_after P w k EndCaller stays h = stays w.callers _ h
 callers_after P w k (Drop s) stays h = h
-callers_after P w k (Refuse why) stays h = stays w.callers _ h
-callers_after P w k (Open s sole) stays h = stays w.callers _ h
-callers_after P w k (Close s) stays h = stays w.callers _ h
-callers_after P w k (Start ticket) stays h = stays w.callers _ h
-callers_after P w k (Done ticket) stays h = stays w.callers _ h
-callers_after P w k (Detach s) stays h = stays w.callers _ h
 callers_after P w k (Free s) stays h = freed_callers P w k s (freeing_target (caller_at w k).doing s) stays h
 callers_after P w k (Rescan s only) stays h = stays (slice_set w.callers k _) _ (stays w.callers _ h)
-callers_after P w k (BeginPower kind s) stays h = stays w.callers _ h
 callers_after P w k (Sleep s) stays h = h
 callers_after P w k (Wake s) stays h = h
-callers_after P w k (EndPower end) stays h = stays w.callers _ h
-callers_after P w k (Plug x) stays h = stays w.callers _ h
 callers_after P w k (Unplug x None) stays h = stays w.callers _ h
 callers_after P w k (Unplug x (Some s)) stays h = stays w.callers _ h
-callers_after P w k Tell stays h = stays w.callers _ h
+callers_after P w k d stays h = stays w.callers _ h
 
 -- ---- so there are as many, and each other one is as it was
 

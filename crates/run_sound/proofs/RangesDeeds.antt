@@ -5,7 +5,7 @@ use Rattle.run_rules.specs.declared.world.Dev.{Dev}
 use Rattle.run_rules.specs.declared.world.Arrival.{Arrival}
 use Rattle.run_rules.specs.World.{World, caller_at, is_under}
 use Rattle.run_rules.specs.declared.deed.Deed.{Deed}
-use Rattle.run_rules.specs.declared.deed.Deed.TheVariants.{Search, EndScan, BeginInterrupts, Finalise, EndCaller, Drop, Refuse, Open, Close, Start, Done, Detach, Free, Rescan, BeginPower, Sleep, Wake, EndPower, Plug, Unplug, Tell}
+use Rattle.run_rules.specs.declared.deed.Deed.TheVariants.{Search, Finalise, Detach, Free, Sleep, Wake, Unplug}
 use Rattle.run_rules.specs.After.{after, arrived, attached, finaliser_done, freed, freeing_target, list_moved, moved_top, new_device, over, released, show_spot, with_condemner, with_sleep, with_stack}
 use Rattle.run_sound.proofs.Comings.{Comes, attached_comes}
 use Rattle.run_sound.specs.Kept.{AreRanged}
@@ -97,31 +97,18 @@ ranged_after w k (Search p spot to None) fits r = r
 ranged_after w k (Search p spot to (Some a)) fits r =
     let u : World = with_stack w k (moved_top to (caller_at w k).stack) in
     come_ranged u (attached u k a true) a (attached_comes u k a true) fits r
-ranged_after w k (EndScan p) fits r = r
-ranged_after w k BeginInterrupts fits r = r
 ranged_after w k (Finalise s shown None listed anew) fits r = finalised w (show_spot w shown) k listed anew (is_some shown) (shown_ranged w shown r)
 ranged_after w k (Finalise s shown (Some a) listed anew) fits r =
     let u : World = show_spot w shown in
     finalised w (attached u k a false) k listed anew (is_some shown)
     (come_ranged u (attached u k a false) a (attached_comes u k a false) (shown_fits w shown a fits) (shown_ranged w shown r))
-ranged_after w k EndCaller fits r = r
-ranged_after w k (Drop s) fits r = r
-ranged_after w k (Refuse why) fits r = r
-ranged_after w k (Open s sole) fits r = r
-ranged_after w k (Close s) fits r = r
-ranged_after w k (Start ticket) fits r = r
-ranged_after w k (Done ticket) fits r = r
 ranged_after w k (Detach s) fits r = condemned_ranged w k s r
 ranged_after w k (Free s) fits r = freed_ranged w k s (freeing_target (caller_at w k).doing s) r
-ranged_after w k (Rescan s only) fits r = r
-ranged_after w k (BeginPower kind s) fits r = r
 ranged_after w k (Sleep s) fits r = sleep_ranged w s true r
 ranged_after w k (Wake s) fits r = sleep_ranged w s false r
-ranged_after w k (EndPower end) fits r = r
-ranged_after w k (Plug x) fits r = r
 ranged_after w k (Unplug x None) fits r = r
 ranged_after w k (Unplug x (Some s)) fits r = condemned_ranged w k s r
-ranged_after w k Tell fits r = r
+ranged_after w k d fits r = r
 
 -- ---- the next serial
 
@@ -158,26 +145,10 @@ freed_serial w k s false = refl
 pub after_serials : (w : World) (k : ℕ) (d : Deed) → GrowsByOne w.next (after w k d).next
 unfolding after released
 after_serials w k (Search p spot to got) = arrived_serial (with_stack w k (moved_top to (caller_at w k).stack)) k got true
-after_serials w k (EndScan p) = same_serial w.next
-after_serials w k BeginInterrupts = same_serial w.next
 after_serials w k (Finalise s shown got listed anew) =
     let u : World = arrived (show_spot w shown) k got false in
     between w.next (show_spot w shown).next u.next _ (shown_serial w shown) (finalised_serial u k listed anew (is_some shown)) (arrived_serial (show_spot w shown) k got false)
-after_serials w k EndCaller = same_serial w.next
-after_serials w k (Drop s) = same_serial w.next
-after_serials w k (Refuse why) = same_serial w.next
-after_serials w k (Open s sole) = same_serial w.next
-after_serials w k (Close s) = same_serial w.next
-after_serials w k (Start ticket) = same_serial w.next
-after_serials w k (Done ticket) = same_serial w.next
-after_serials w k (Detach s) = same_serial w.next
 after_serials w k (Free s) = rw (freed_serial w k s (freeing_target (caller_at w k).doing s)) (same_serial w.next)
-after_serials w k (Rescan s only) = same_serial w.next
-after_serials w k (BeginPower kind s) = same_serial w.next
-after_serials w k (Sleep s) = same_serial w.next
-after_serials w k (Wake s) = same_serial w.next
-after_serials w k (EndPower end) = same_serial w.next
-after_serials w k (Plug x) = same_serial w.next
 after_serials w k (Unplug x None) = same_serial w.next
 after_serials w k (Unplug x (Some s)) = same_serial w.next
-after_serials w k Tell = same_serial w.next
+after_serials w k d = same_serial w.next

@@ -19,7 +19,7 @@ use Rattle.run_rules.specs.declared.world.Activity.{Activity}
 use Rattle.run_rules.specs.declared.world.Activity.TheVariants as activity
 use Rattle.run_rules.specs.World.{World, has, has_ended, is_number, is_referred, is_live, policy_of, offered_by, device_at, device_on, is_held, is_pinned, is_condemned, device_named, caller_at}
 use Rattle.run_rules.specs.declared.deed.Deed.{Deed}
-use Rattle.run_rules.specs.declared.deed.Deed.TheVariants.{Search, EndScan, BeginInterrupts, Finalise, EndCaller, Drop, Refuse, Open, Close, Start, Done, Detach, Free, Rescan, BeginPower, Sleep, Wake, EndPower, Plug, Unplug, Tell}
+use Rattle.run_rules.specs.declared.deed.Deed.TheVariants.{Search, EndScan, BeginInterrupts, Finalise, EndCaller, Rescan, BeginPower, Unplug}
 use Rattle.run_rules.specs.declared.deed.Choice.{Choice}
 use Rattle.run_rules.specs.declared.deed.Choice.TheVariants.{Ended, Does}
 use Rattle.run_rules.specs.Next.{next, next_scan, next_boot, finalise, next_free, next_sleep, next_wake, freeing, suspending, waking, powering, hindered, other_turn, is_power, rescan_of, has_nothing, wanted_of, telling, on_device, on_held, late_spot, command_of, first_held, command_deed, next_command, on_top, by_activity}
@@ -324,23 +324,9 @@ has_reasons w k (EndScan p) h = (h.0, tt)
 has_reasons w k BeginInterrupts h = (h.0, tt)
 has_reasons w k (Finalise s shown got listed anew) h = (h.0, tt)
 has_reasons w k EndCaller h = (h.0, tt)
-has_reasons w k (Drop s) h = (tt, h)
-has_reasons w k (Refuse why) h = (tt, h)
-has_reasons w k (Open s sole) h = (tt, h)
-has_reasons w k (Close s) h = (tt, h)
-has_reasons w k (Start t) h = (tt, h)
-has_reasons w k (Done t) h = (tt, h)
-has_reasons w k (Detach s) h = (tt, h)
-has_reasons w k (Free s) h = (tt, h)
-has_reasons w k (Rescan s only) h = (tt, h)
-has_reasons w k (BeginPower kind s) h = (tt, h)
-has_reasons w k (Sleep s) h = (tt, h)
-has_reasons w k (Wake s) h = (tt, h)
-has_reasons w k (EndPower end) h = (tt, h)
-has_reasons w k (Plug x) h = (tt, h)
 has_reasons w k (Unplug x None) h = (tt, h)
 has_reasons w k (Unplug x (Some s)) h = (tt, h)
-has_reasons w k Tell h = (tt, h)
+has_reasons w k d h = (tt, h)
 
 -- that of a frame's deed
 pub has_reason : (w : World) (k : ℕ) (d : Deed) → next w k ≡ Does d → HasReason w k d

@@ -9,7 +9,7 @@ use Rattle.run_rules.specs.declared.world.Activity.{Activity}
 use Rattle.run_rules.specs.declared.world.Activity.TheVariants as activity
 use Rattle.run_rules.specs.World.{World, Caller, beginning, caller_at, nobody, opening, scan_of}
 use Rattle.run_rules.specs.declared.deed.Deed.{Deed}
-use Rattle.run_rules.specs.declared.deed.Deed.TheVariants.{Search, EndScan, BeginInterrupts, Finalise, EndCaller, Drop, Refuse, Open, Close, Start, Done, Detach, Free, Rescan, BeginPower, Sleep, Wake, EndPower, Plug, Unplug, Tell}
+use Rattle.run_rules.specs.declared.deed.Deed.TheVariants.{Search, EndScan, BeginInterrupts, Finalise, EndCaller, Drop, Start, Detach, Free, Rescan, BeginPower, Sleep, Wake, Unplug}
 use Rattle.run_rules.specs.declared.deed.Choice.TheVariants.{Does}
 use Rattle.run_rules.specs.Next.{next}
 use Rattle.run_rules.specs.After.{after, doing, freed, freeing_target, over, pushed, settled, rescan_frame}
@@ -73,22 +73,16 @@ module _ (w : World) (k : ℕ) (old : NamesCaller k (caller_at w k)) where
   own_names (Finalise s shown got listed anew) e = own_after (NamesCaller k) (stays_named k) w k (Finalise s shown got listed anew) tt old
   own_names EndCaller e = own_after (NamesCaller k) (stays_named k) w k EndCaller tt old
   own_names (Drop s) e = old
-  own_names (Refuse why) e = over_names
-  own_names (Open s sole) e = over_names
-  own_names (Close s) e = over_names
   own_names (Start t) e = turns_named (activity.Transfer t) (starts_own k t (ap (λ (x : Ticket). x.caller) (has_command_reason w k (Start t) e).ticket))
-  own_names (Done t) e = over_names
   own_names (Detach s) e = turns_named (activity.Frees s) (λ t same. absurd cc)
   own_names (Free s) e = freed_names s (freeing_target now.doing s)
   own_names (Rescan s only) e = rescan_names (rescan_frame w k s only)
   own_names (BeginPower kind s) e = turns_named (activity.Power kind s) (λ t same. absurd cc)
   own_names (Sleep s) e = old
   own_names (Wake s) e = old
-  own_names (EndPower end) e = over_names
-  own_names (Plug x) e = over_names
   own_names (Unplug x None) e = over_names
   own_names (Unplug x (Some s)) e = turns_named (activity.Frees s) (λ t same. absurd cc)
-  own_names Tell e = over_names
+  own_names d e = over_names
 
 -- ---- all callers
 

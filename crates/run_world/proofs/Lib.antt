@@ -8,3 +8,4 @@ pub mod WantedLaws
 pub mod StepLaws
 pub mod TellLaws
 pub mod MarkedLaws
+pub mod GoingLaws

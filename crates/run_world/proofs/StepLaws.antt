@@ -30,29 +30,11 @@ arrives s live hidden p a may = record { known = rw may.parent may.known; unit =
 pub deed_arrives : (w : World) (k : ℕ) (d : Deed) → MayRun w.setup → Kept w → next w k ≡ Does d → IfSome (got_of d) (MayArrive w.setup w.live)
 deed_arrives w k (Search p spot to None) may kept chosen = tt
 deed_arrives w k (Search p spot to (Some a)) may kept chosen = arrives w.setup w.live w.hidden p a (search_comes w k p spot to a may kept chosen)
-deed_arrives w k (EndScan p) may kept chosen = tt
-deed_arrives w k BeginInterrupts may kept chosen = tt
 deed_arrives w k (Finalise s shown None listed anew) may kept chosen = tt
 deed_arrives w k (Finalise s None (Some a) listed anew) may kept chosen = absurd (none_shown w k s a listed anew chosen)
 deed_arrives w k (Finalise s (Some x) (Some a) listed anew) may kept chosen =
     arrives w.setup w.live (show_spot w (Some x)).hidden s a (finalise_comes w k s x a listed anew may kept chosen)
-deed_arrives w k EndCaller may kept chosen = tt
-deed_arrives w k (Drop s) may kept chosen = tt
-deed_arrives w k (Refuse why) may kept chosen = tt
-deed_arrives w k (Open s sole) may kept chosen = tt
-deed_arrives w k (Close s) may kept chosen = tt
-deed_arrives w k (Start ticket) may kept chosen = tt
-deed_arrives w k (Done ticket) may kept chosen = tt
-deed_arrives w k (Detach s) may kept chosen = tt
-deed_arrives w k (Free s) may kept chosen = tt
-deed_arrives w k (Rescan s only) may kept chosen = tt
-deed_arrives w k (BeginPower kind s) may kept chosen = tt
-deed_arrives w k (Sleep s) may kept chosen = tt
-deed_arrives w k (Wake s) may kept chosen = tt
-deed_arrives w k (EndPower end) may kept chosen = tt
-deed_arrives w k (Plug x) may kept chosen = tt
-deed_arrives w k (Unplug x of) may kept chosen = tt
-deed_arrives w k Tell may kept chosen = tt
+deed_arrives w k d may kept chosen = tt
 
 -- ---- the finaliser that is called
 

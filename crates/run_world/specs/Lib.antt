@@ -11,3 +11,5 @@ pub mod Rescans
 pub mod Scripted
 pub mod Marked
 pub mod Known
+pub mod Held
+pub mod Going

@@ -11,7 +11,7 @@ ghost use Rattle.run_world.specs.Arrivals.{finalised_too, searched_too};
 ghost use Rattle.run_world.specs.Callers.{framed, stacked, released_frames};
 
 use cf_types::List;
-use defer_queue::Deferred;
+use defer_queue::DeferQueue;
 use run_rules::{Activity, Frame, Key, Placing, Position};
 use scan_engine::Stack;
 use std::alloc::Global;
@@ -41,7 +41,7 @@ pub fn new_scan(alloc: Global, serial: u64) -> Frame
 }
 
 /// Begins the deferred scans to a key, the first of them on top.
-fn push_released(alloc: Global, stack: &mut Stack, deferred: &mut Deferred, which: Key)
+fn push_released(alloc: Global, stack: &mut Stack, deferred: &mut DeferQueue, which: Key)
     requires room { length (entries_of deferred.old which) ≤ stack.old.room }
     ensures frames { stack.new.frames ≡ released_frames deferred.old which ++ stack.old.frames }
     ensures deferred { deferred.new ≡ others_of deferred.old which }
@@ -132,7 +132,8 @@ impl CallerState {
     }
 
     /// The deferred scans to a key begin.
-    pub fn release(&mut self, alloc: Global, deferred: &mut Deferred, which: Key)
+    #[inline(always)]
+    pub fn release(&mut self, alloc: Global, deferred: &mut DeferQueue, which: Key)
         requires low { self.old.doing ≡ Scans → self.old.over < 2 ^ 32 - 1 }
         requires room { length (entries_of deferred.old which) ≤ self.old.stack.room }
         ensures caller { caller_of self.new ≡ framed (caller_of self.old) (released_frames deferred.old which ++ self.old.stack.frames) }
@@ -143,7 +144,8 @@ impl CallerState {
     }
 
     /// The scan on top is over, and those that were deferred to its end begin.
-    pub fn end_scan(&mut self, alloc: Global, deferred: &mut Deferred, which: Key)
+    #[inline(always)]
+    pub fn end_scan(&mut self, alloc: Global, deferred: &mut DeferQueue, which: Key)
         requires low { self.old.doing ≡ Scans → self.old.over < 2 ^ 32 - 1 }
         requires top { 0 < length self.old.stack.frames }
         requires room { length (entries_of deferred.old which) ≤ self.old.stack.room }
@@ -156,6 +158,7 @@ impl CallerState {
     }
 
     /// The finalizer of a new device, and above it its scan, if these are their places.
+    #[inline(always)]
     pub fn place(&mut self, alloc: Global, finaliser: Placing, scan: Placing, serial: u64)
         requires room { 2 ≤ self.old.stack.room }
         ensures { caller_of self.new ≡ searched_too scan (finalised_too finaliser (caller_of self.old) serial) serial }

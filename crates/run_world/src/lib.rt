@@ -3,6 +3,8 @@
 
 mod activity;
 mod caller;
+mod going;
+mod held;
 mod named;
 mod parts;
 mod recent;
@@ -15,6 +17,8 @@ mod spots;
 
 pub use activity::{begin, begin_scan, finish, is_ended};
 pub use caller::CallerState;
+pub use going::Going;
+pub use held::Held;
 pub use named::{attr_named, device_named, spot_named};
 pub use parts::{Core, append, opening_core};
 pub use recent::{Called, Recent, Telling};

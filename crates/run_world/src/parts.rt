@@ -8,7 +8,7 @@ use crate::recent::Recent;
 use crate::spot_set::SpotSet;
 use crate::spots::{is_absent, is_late};
 use cf_types::Memory;
-use defer_queue::Deferred;
+use defer_queue::DeferQueue;
 use dev_tree::DevTree;
 use match_search::LiveRows;
 use ref_ledger::Refs;
@@ -33,7 +33,7 @@ pub struct Core {
     /// The caller that has the power turn.
     pub power_owner: Option<u8>,
     /// The deferred scans.
-    pub deferred: Deferred,
+    pub deferred: DeferQueue,
     /// The devices with a finalizer, the position in this list, and whether one of this pass answered 1.
     pub finalisers: Vec<u64>,
     pub next_finaliser: u64,
@@ -108,7 +108,7 @@ pub fn opening_core(alloc: Global, setup: &Setup) -> Result<Core, Memory>
         hidden,
         interrupts_on: false,
         power_owner: None,
-        deferred: Deferred::make(alloc),
+        deferred: DeferQueue::make(alloc),
         finalisers: Vec::new(alloc),
         next_finaliser: 0,
         pass_repeats: false,

@@ -151,6 +151,7 @@ impl Recent {
     }
 
     /// Keeps an act that says this about a spot, or about the device there.
+    #[inline(always)]
     pub fn keep_act(&mut self, telling: Telling, spot: u16, act: SharedAct)
         ensures { (s : Setup) → AreRecent s self.old → act ≡ act_telling s telling → AreRecent s self.new }
     {
@@ -172,6 +173,7 @@ impl Recent {
     }
 
     /// Keeps the name of a device that is called so, for the spot on which it is.
+    #[inline(always)]
     pub fn keep_name(&mut self, of: Called, spot: u16, name: Name)
         ensures { (s : Setup) → AreRecent s self.old → name ≡ name_called s of → AreRecent s self.new }
     {
@@ -182,6 +184,7 @@ impl Recent {
     }
 
     /// The act of the tree last printed, if it is this tree.
+    #[inline(always)]
     pub fn tree(&self, tree: &Act) -> Option<&SharedAct>
         ensures { IfSome result (λ a. a.now ≡ tree.now) }
     {
@@ -192,6 +195,7 @@ impl Recent {
     }
 
     /// Keeps the act of a tree.
+    #[inline(always)]
     pub fn keep_tree(&mut self, tree: SharedAct)
         ensures { (s : Setup) → AreRecent s self.old → AreRecent s self.new }
     {

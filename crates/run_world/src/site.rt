@@ -13,7 +13,7 @@ ghost use Rattle.scan_engine.specs.Styled.{AreStylesOf};
 
 use attr_graph::Graph;
 use cf_tables::Compiled;
-use cf_types::{List, Machine, Memory, Script};
+use cf_types::{List, Machine, Memory, Placed, Script};
 use match_search::{FixedRows, Leaders, RowIndex};
 use run_rules::Setup;
 use scan_engine::{ChildSpans, Styles};
@@ -33,6 +33,9 @@ pub struct Site {
     pub fixed: FixedRows,
     pub spans: ChildSpans,
     pub styles: Styles,
+    /// The statements that the tables were made from: they are freed with the site, and a program that ends soon frees
+    /// neither.
+    pub placed: List<Placed>,
     pub ghost graphed: { IsGraphOf (declared_by setup.tables) graph },
     pub ghost indexed: { IsIndexOf setup.tables setup.machine index } by { Prim.hlevel (props, EachLater-prop) },
     pub ghost led: { AreLeadersOf setup.tables index leaders } by { Prim.hlevel props },
@@ -83,7 +86,7 @@ impl Site {
         requires { Bounded (setup_of tables machine scripts) }
         ensures { IfOk result (λ site. site.setup ≡ setup_of tables machine scripts) }
     {
-        let (tables, graph) = tables.into_parts();
+        let (tables, graph, placed) = tables.into_parts();
         let setup = Setup {
             tables,
             machine,
@@ -99,8 +102,10 @@ impl Site {
                 fixed: known.fixed,
                 spans: known.spans,
                 styles: known.styles,
+                placed,
             }),
             Err(_) => {
+                drop(placed);
                 drop(graph);
                 drop(setup);
                 Err(Memory)

@@ -48,6 +48,7 @@ pub fn policy_of(setup: &Setup, row: u32) -> Policy
 }
 
 /// Whether the machine marks a spot absent.
+#[inline(always)]
 pub fn is_absent(setup: &Setup, spot: u16) -> bool
     ensures { result ≡ option_map_or (λ spot. spot.absent) (slice_get setup.now.machine.spots spot) false }
 {
@@ -58,6 +59,7 @@ pub fn is_absent(setup: &Setup, spot: u16) -> bool
 }
 
 /// Whether the machine marks a spot late.
+#[inline(always)]
 pub fn is_late(setup: &Setup, spot: u16) -> bool
     ensures { result ≡ option_map_or (λ spot. spot.late) (slice_get setup.now.machine.spots spot) false }
 {

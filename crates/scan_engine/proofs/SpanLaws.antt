@@ -1,86 +1,24 @@
--- The spans of spots, one spot more; and what stands outside of one.
-use Rattle.std.proofs.Common.{◌≡◌, ℕ, ◌+◌, ◌<◌, ◌≤◌, Bool, true, false, not, ◌&&◌, nat_lt, List, length, slice_get, Option, Some, None, refl, sym, ap, subst, ◌∙◌, inl, inr, arith, max}
-use Rattle.std.specs.Option.{option_map_or}
-use Rattle.std.proofs.lemmas.Bool.{cases_lt, eqb-true}
+-- Before the span of a parent, and behind it, no spot is a child.
+use Rattle.std.proofs.Common.{◌≡◌, ℕ, ◌<◌, ◌≤◌, Bool, true, false, not, ◌&&◌, nat_lt, Option, refl, ap, ◌∙◌, inl, inr, arith, max}
+use Rattle.std.proofs.Math.Bool.{and-false}
+use Rattle.std.proofs.lemmas.Bool.{cases_lt}
 use Rattle.std.proofs.lemmas.Bool.Decides.{nat_tests}
-use Rattle.std.proofs.lemmas.Option.{slice_get_past}
 use Rattle.cf_types.specs.declared.machine.Machine.{Machine}
-use Rattle.cf_types.specs.declared.machine.Spot.{Spot}
 use Rattle.cf_types.specs.declared.tables.Place.{Place}
-use Rattle.run_rules.specs.Search.{is_child, same_spot}
-use Rattle.run_rules.specs.World.{same_place}
-use Rattle.run_rules.proofs.Below.{and_both}
-use Rattle.scan_engine.specs.declared.spans.Span.{Span}
-use Rattle.scan_engine.specs.Spans.{AreSpansOf, Covers, HoldsChildren, span_at}
-
--- ---- they are made spot by spot
-
--- each of the first n spots stands in the span of its parent
-abbrev pub AreSpansTo : Machine → ℕ → List Span → Type 0
-AreSpansTo m n spans = (x : ℕ) (spot : Spot) → x < n → slice_get m.spots x ≡ Some spot → Covers (span_at spans spot.parent) x
-
-pub spans_more : (m : Machine) (n : ℕ) (spot : Spot) (old new : List Span) → slice_get m.spots n ≡ Some spot → Covers (span_at new spot.parent) n
-    → ((p : Option ℕ) (x : ℕ) → Covers (span_at old p) x → Covers (span_at new p) x) → AreSpansTo m n old → AreSpansTo m (n + 1) new
-spans_more m n spot old new at here rest h = λ x s lt is. elim (cases_lt x n) [
-  | inl less ↦ rest s.parent x (h x s less is)
-  | inr past ↦
-      let same : n ≡ x = omega arith in
-      let its : spot ≡ s = some_same spot s (sym at ∙ ap (slice_get m.spots) same ∙ is) in
-      subst (Covers (span_at new s.parent)) same (subst (λ (u : Spot). Covers (span_at new u.parent) n) its here)
-]
-  where
-    some_same : (a b : Spot) → Some a ≡ Some b → a ≡ b
-    some_same a b e = cc
-
-pub spans_all : (m : Machine) (n : ℕ) (spans : List Span) → n ≡ length m.spots → AreSpansTo m n spans → AreSpansOf m spans
-spans_all m n spans e h = λ x s is. elim (cases_lt x n) [
-  | inl less ↦ h x s less is
-  | inr past ↦ absurd (none s (sym (slice_get_past m.spots x (omega (arith, e))) ∙ is))
-]
-  where
-    none : (s : Spot) → None ≡ Some s → ⊥
-    none s is = absurd cc
-
--- ---- the span of a parent has all spots below it
-
-same_spot_is : (a b : Option ℕ) → same_spot a b ≡ true → a ≡ b
-same_spot_is None None h = refl
-same_spot_is (Some x) (Some y) h = ap Some (eqb-true x y h)
-same_spot_is None (Some y) h = absurd cc
-same_spot_is (Some x) None h = absurd cc
-
-pub spans_hold : (m : Machine) (spans : List Span) (parent : Option ℕ) → AreSpansOf m spans → HoldsChildren m parent (span_at spans parent)
-spans_hold m spans parent h = λ place x child. by_spot place x (slice_get m.spots x) refl child
-  where
-    by_spot : (place : Place) (x : ℕ) (o : Option Spot) → slice_get m.spots x ≡ o
-        → option_map_or (λ spot. same_spot spot.parent parent && same_place spot.place place) o false ≡ true → Covers (span_at spans parent) x
-    by_spot place x None is child = absurd cc
-    by_spot place x (Some spot) is child =
-        let same : spot.parent ≡ parent = same_spot_is spot.parent parent (and_both (same_spot spot.parent parent) (same_place spot.place place) child).0 in
-        subst (λ p. Covers (span_at spans p) x) same (h x spot is)
-
--- ---- outside of it no spot is a child
-
-not_there : (b : Bool) → (b ≡ true → ⊥) → b ≡ false
-not_there true h = absurd (h refl)
-not_there false h = refl
-
-no_child : (m : Machine) (parent : Option ℕ) (span : Span) (place : Place) (x : ℕ) (b : Bool) → HoldsChildren m parent span → (Covers span x → ⊥) → (is_child m parent place x && b) ≡ false
-no_child m parent span place x b h outside = ap (λ c. c && b) (not_there (is_child m parent place x) (λ child. outside (h place x child)))
+use Rattle.run_rules.specs.declared.world.Span.{Span}
+use Rattle.run_rules.specs.Search.{is_child}
+use Rattle.run_rules.specs.Spans.{HoldsChildren}
+use Rattle.run_rules.proofs.Spans.{no_child}
 
 pub before_span : (m : Machine) (parent : Option ℕ) (span : Span) (place : Place) (from x : ℕ) → HoldsChildren m parent span → x < max from span.first
     → (is_child m parent place x && not (nat_lt x from)) ≡ false
 before_span m parent span place from x h lt = elim (cases_lt x from) [
-  | inl less ↦ ap (λ b. is_child m parent place x && not b) (low less) ∙ and_false (is_child m parent place x)
+  | inl less ↦ ap (λ b. is_child m parent place x && not b) (low less) ∙ and-false (is_child m parent place x)
   | inr le ↦ no_child m parent span place x (not (nat_lt x from)) h (λ covers. omega (arith, covers.0, lt, le))
 ]
   where
     low : x < from → nat_lt x from ≡ true
     low less = grind (arith, nat_tests)
-
-    and_false : (b : Bool) → (b && false) ≡ false
-    and_false true = refl
-    and_false false = refl
 
 pub behind_span : (m : Machine) (parent : Option ℕ) (span : Span) (place : Place) (from x : ℕ) → HoldsChildren m parent span → span.end ≤ x
     → (is_child m parent place x && not (nat_lt x from)) ≡ false

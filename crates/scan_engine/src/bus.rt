@@ -2,8 +2,8 @@
 ghost use Rattle.std.specs.Prelude.{◌≡◌, ◌≤◌, map, flat_map, length, true, false};
 ghost use Rattle.cf_types.specs.Numbers.{below};
 ghost use Rattle.run_rules.specs.Search.{bus_turns, child_spots};
-ghost use Rattle.scan_engine.specs.Buses.{begin_in, turn_on};
-ghost use Rattle.scan_engine.specs.Spans.{HoldsChildren};
+ghost use Rattle.scan_engine.specs.Buses.{begin_in, row_turn, turn_on};
+ghost use Rattle.run_rules.specs.Spans.{HoldsChildren};
 ghost use Rattle.scan_engine.specs.Turns.{first_from};
 
 use crate::spans::Children;
@@ -42,7 +42,7 @@ impl Bus {
 fn row_turn(machine: &Machine, children: Children, bus: Bus, row: u32, spot: u16) -> Option<Turn>
     requires few { length machine.now.spots ≤ 1024 }
     requires span { HoldsChildren machine.now children.spot children.span }
-    ensures { first_from (map (turn_on bus row) (child_spots machine.now children.spot bus.place)) (record { attr = bus.attr; row = row; spot = spot }) ≡ result }
+    ensures { row_turn machine.now children.spot bus row spot ≡ result }
 {
     let spot = next_child(machine, children.spot, children.span, bus.place, spot)?;
     Some(Turn {

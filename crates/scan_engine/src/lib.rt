@@ -8,9 +8,9 @@ mod spots;
 mod stack;
 mod styles;
 
-pub use run_rules::{Frame, Position, Turn, Wanted};
+pub use run_rules::{Frame, Position, Span, Turn, Wanted};
 pub use scan::{Ground, Searched, next_turn, offered};
-pub use spans::{ChildSpans, Children, Span};
+pub use spans::{ChildSpans, Children};
 pub use spots::is_child;
 pub use stack::Stack;
 pub use styles::Styles;

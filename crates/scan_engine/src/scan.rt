@@ -7,7 +7,7 @@ ghost use Rattle.run_rules.specs.Search.{is_before, turns_of};
 ghost use Rattle.attr_graph.specs.Graphs.{IsGraphOf, declared_by};
 ghost use Rattle.scan_engine.specs.Buses.{place_turns};
 ghost use Rattle.scan_engine.specs.Grounds.{IsGround};
-ghost use Rattle.scan_engine.specs.Spans.{HoldsChildren};
+ghost use Rattle.run_rules.specs.Spans.{HoldsChildren};
 ghost use Rattle.scan_engine.specs.Turns.{IsTurn, first_from};
 
 use crate::bus::{Bus, bus_turn};

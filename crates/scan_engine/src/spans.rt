@@ -1,17 +1,11 @@
 //! The numbers between which the spots below a spot are.
 ghost use Rattle.std.specs.Prelude.{◌≡◌, ◌<◌, ◌≤◌, ℕ, Option, IfOk, length};
-ghost use Rattle.scan_engine.specs.Spans.{AreSpansOf, Covers, seat_of, span_at};
+ghost use Rattle.run_rules.specs.Spans.{AreSpansOf, Covers, seat_of, span_at};
 
 use cf_types::{Machine, Memory};
+use run_rules::Span;
 use std::alloc::Global;
 use std::marker::Model;
-
-/// Numbers of spots: from the first one to before the end.
-#[derive(Clone, Copy)]
-pub struct Span {
-    pub first: u16,
-    pub end: u16,
-}
 
 /// The spots below a spot, or below the root: that spot, and the numbers between which they are.
 #[derive(Clone, Copy)]
@@ -20,29 +14,27 @@ pub struct Children {
     pub span: Span,
 }
 
-impl Span {
-    /// No numbers.
-    fn none() -> Span
-        ensures { result ≡ record { first = 0; end = 0 } }
-    {
-        Span { first: 0, end: 0 }
-    }
+/// No numbers.
+fn no_span() -> Span
+    ensures { result ≡ record { first = 0; end = 0 } }
+{
+    Span { first: 0, end: 0 }
+}
 
-    /// With one number more, and those between.
-    fn with(self, spot: u16) -> Span
-        requires few { spot < 1024 }
-        ensures here { Covers result spot }
-        ensures rest { (x : ℕ) → Covers self x → Covers result x }
-    {
-        let first = if self.end == 0 {
-            spot
-        } else {
-            self.first.min(spot)
-        };
-        Span {
-            first,
-            end: self.end.max(spot + 1),
-        }
+/// A span with one number more, and those between.
+fn widened(span: Span, spot: u16) -> Span
+    requires few { spot < 1024 }
+    ensures here { Covers result spot }
+    ensures rest { (x : ℕ) → Covers span x → Covers result x }
+{
+    let first = if span.end == 0 {
+        spot
+    } else {
+        span.first.min(spot)
+    };
+    Span {
+        first,
+        end: span.end.max(spot + 1),
     }
 }
 
@@ -65,7 +57,7 @@ pub struct ChildSpans {
 
 impl Model for ChildSpans {
     ghost use Rattle.std.specs.Prelude.{List};
-    ghost use Rattle.scan_engine.specs.declared.spans.Span.{Span};
+    ghost use Rattle.run_rules.specs.declared.world.Span.{Span};
 
     ghost Value = { List Span };
 
@@ -81,7 +73,7 @@ impl ChildSpans {
     {
         let seat = seat_of(parent);
         if seat < self.spans.len() {
-            self.spans[seat] = self.spans[seat].with(spot);
+            self.spans[seat] = widened(self.spans[seat], spot);
         }
     }
 
@@ -91,7 +83,7 @@ impl ChildSpans {
         ensures { IfOk result (AreSpansOf machine.now) }
     {
         let mut spans = ChildSpans {
-            spans: vec![in alloc; Span::none(); machine.spots.len() + 1]?,
+            spans: vec![in alloc; no_span(); machine.spots.len() + 1]?,
         };
         for (number, spot) in machine.spots.items().iter().enumerate() {
             spans.put(spot.parent, number as u16);

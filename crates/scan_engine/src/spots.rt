@@ -2,10 +2,10 @@
 ghost use Rattle.std.specs.Prelude.{◌≡◌, ◌≤◌, ◌&&◌, not, nat_lt, find, length};
 ghost use Rattle.cf_types.specs.Numbers.{below};
 ghost use Rattle.run_rules.specs.Search as rule;
-ghost use Rattle.scan_engine.specs.Spans.{HoldsChildren};
+ghost use Rattle.run_rules.specs.Spans.{HoldsChildren};
 
-use crate::spans::Span;
 use cf_types::{Machine, Place};
+use run_rules::Span;
 
 /// Whether a spot is below another one, or below the root, at a place.
 #[inline(always)]

@@ -1,6 +1,6 @@
 use Rattle.std.proofs.Common.{◌∙◌}
 use Rattle.plain_world.specs.Plain.{world_of}
-use Rattle.boot_looks.proofs.Going.{no_end, no_wait}
+use Rattle.progress_laws.proofs.Boots.{no_end, no_wait}
 use Rattle.boot_looks.proofs.boot.boot_deed.Goals as goal
 
 pub unreachable-requires : goal.unreachable-requires

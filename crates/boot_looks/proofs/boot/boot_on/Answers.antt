@@ -1,6 +1,6 @@
 use Rattle.plain_world.specs.Plain.{world_of}
 use Rattle.plain_effect.proofs.Places.{has_place}
-use Rattle.boot_looks.proofs.Going.{few_called}
+use Rattle.plain_world.proofs.Going.{few_called}
 use Rattle.boot_looks.proofs.boot.boot_on.Goals as goal
 
 pub apply-requires-clause-place : goal.apply-requires-clause-place

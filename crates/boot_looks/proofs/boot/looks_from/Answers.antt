@@ -10,7 +10,7 @@ use Rattle.plain_world.specs.Plain.{state_at, world_of}
 use Rattle.plain_world.proofs.RulesLaws.{spots_are}
 use Rattle.boot_looks.specs.declared.visit.Look.{Look}
 use Rattle.boot_looks.specs.Looks.{AreBootLooks, AreSeen}
-use Rattle.boot_looks.proofs.Going.{none_first}
+use Rattle.plain_world.proofs.Going.{none_first}
 use Rattle.boot_looks.proofs.Looking.{looked, looking_first, looking_more}
 use Rattle.boot_looks.proofs.boot.looks_from.Goals as goal
 

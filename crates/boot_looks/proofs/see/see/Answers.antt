@@ -1,6 +1,6 @@
 use Rattle.std.proofs.Common.{◌≡◌, ◌<◌, ◌+◌, ◌∙◌, List, Option, length, sym, ap, subst, arith}
 use Rattle.plain_world.specs.Plain.{world_of}
-use Rattle.plain_world.specs.Standing.{Standing}
+use Rattle.plain_world.specs.LiveDevices.{LiveDevices}
 use Rattle.boot_looks.specs.declared.see.Span.{Span}
 use Rattle.boot_looks.specs.declared.visit.Look.{Look}
 use Rattle.boot_looks.specs.Looks.{span_of}
@@ -23,7 +23,7 @@ loop-spot-preserved c =
     elim c.match-visit_by.branch [
       | in-Some+in_ok-live w ↦
           sees_one world live d span k old c.loop-spot.looks.items c.match-visit_by.looks.items w.in-Some.visit (record { live = w.in_ok-live.live; visit = w.in-Some.visit }) low
-          (sym c.visit_by.ensures ∙ w.in-Some.is) (ap (λ (l : Standing). record { live = l; visit = w.in-Some.visit }) w.in_ok-live.ensures)
+          (sym c.visit_by.ensures ∙ w.in-Some.is) (ap (λ (l : LiveDevices). record { live = l; visit = w.in-Some.visit }) w.in_ok-live.ensures)
           (ap (λ v. v.items) w.looks-is ∙ w.put.ensures) c.loop-spot.invariant
       | in_default w ↦
           subst (λ (looks : List (Option Look)). SeesTo world live d span (k + 1) old looks) (sym (ap (λ v. v.items) w.looks-is))

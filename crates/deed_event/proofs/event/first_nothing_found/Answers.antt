@@ -4,9 +4,8 @@ use Rattle.run_rules.specs.Run as run
 use Rattle.deed_event.proofs.RecentLaws.{parent_told}
 use Rattle.deed_event.proofs.event.first_nothing_found.Goals as goal
 
-pub returns-clause-aside : goal.returns-clause-aside
-returns-clause-aside c =
-    let s = c.args.setup.now in
-    c.keep.ensures.aside s c.requires.names.recent
-    (rw (c.in_ok-parent_name.ensures, c.in_ok-spot_name.ensures, c.called_at.ensures)
-    (ap (λ (n : List ℕ). act.Found n (run.spot_name s c.args.spot) None) (sym (parent_told s c.args.core.now.tree.live c.args.parent))))
+pub keep-requires : goal.keep-requires
+keep-requires c =
+    let w = c.args.going.now in
+    rw (c.in_ok-parent_name.ensures, c.in_ok-spot_name.ensures, c.setup.ensures, c.called_at.ensures)
+    (ap (λ (n : List ℕ). act.Found n (run.spot_name w.setup c.args.spot) None) (sym (parent_told w.setup w.live c.args.parent)))

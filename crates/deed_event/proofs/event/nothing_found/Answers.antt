@@ -6,7 +6,7 @@ use Rattle.deed_event.proofs.event.nothing_found.Goals as goal
 
 pub returns-in_ok-clone-in-Some-clause-act : goal.returns-in_ok-clone-in-Some-clause-act
 returns-in_ok-clone-in-Some-clause-act c =
-    let s = c.args.setup.now in
+    let w = c.args.going.now in
     c.in_ok-clone-in-Some.ensures
-    ∙ c.in-Some.ensures s c.requires.names.recent
-    ∙ rw c.called_at.ensures (ap (λ (n : List ℕ). act.Found n (run.spot_name s c.args.spot) None) (parent_told s c.args.core.now.tree.live c.args.parent))
+    ∙ c.in-Some.ensures
+    ∙ rw c.called_at.ensures (ap (λ (n : List ℕ). act.Found n (run.spot_name w.setup c.args.spot) None) (parent_told w.setup w.live c.args.parent))

@@ -1,32 +1,32 @@
-use Rattle.std.proofs.Common.{refl, subst}
+use Rattle.std.proofs.Common.{◌≡◌, refl, subst, sym}
 use Rattle.run_rules.specs.Lines.{IsFormed}
-use Rattle.run_world.proofs.TellLaws.{doer_there, few_over}
+use Rattle.run_rules.specs.Next.{next}
+use Rattle.run_rules.specs.World.{World}
+use Rattle.run_rules.specs.declared.deed.Choice.TheVariants.{Does}
+use Rattle.run_rules.specs.declared.deed.Deed.TheVariants.{Done}
+use Rattle.run_rules.proofs.Setups.{after_setup}
 use Rattle.dev_board.proofs.post.end_transfer.Goals as goal
 
-pub finish_transfer-requires-clause-caller : goal.finish_transfer-requires-clause-caller
-finish_transfer-requires-clause-caller c = rw c.deed_event.ensures.aside.same (doer_there c.args.setup.now c.args.state.now.core c.args.ticket.caller _ c.requires.chosen)
+pub finish_transfer-requires : goal.finish_transfer-requires
+finish_transfer-requires c = subst (λ (w : World). next w c.args.ticket.caller ≡ Does (Done c.args.ticket)) (sym c.deed_event.ensures.same) c.requires
 
-pub finish_transfer-requires-clause-low : goal.finish_transfer-requires-clause-low
-finish_transfer-requires-clause-low c = rw c.deed_event.ensures.aside.same (few_over c.args.setup.now c.args.state.now.core c.args.ticket.caller c.requires.kept.may c.requires.kept.kept)
-
-pub returns-in-Ok-clause-ok : goal.returns-in-Ok-clause-ok
-returns-in-Ok-clause-ok c = record {
-  world = rw c.deed_event.ensures.aside.same at (c.finish_transfer.ensures.world c.args.setup.now c.args.ticket);
-  events = rw (c.append_event.ensures.events, c.reserve.ensures.items, c.in-Ok.ensures.event) refl;
-  formed = subst IsFormed c.in-Ok.ensures.event c.in-Ok.ensures.formed;
+pub returns-clause-ok : goal.returns-clause-ok
+returns-clause-ok c = record {
+  world = rw c.deed_event.ensures.same at c.finish_transfer.ensures;
+  events = rw (c.append_event.ensures.events, c.in_ok-reserve.ensures.items, c.in_ok-event.ensures.event) refl;
+  formed = subst IsFormed c.in_ok-event.ensures.event c.in_ok-event.ensures.formed;
   stops = refl;
   stopped = refl;
 }
 
-pub returns-in-Ok-clause-told : goal.returns-in-Ok-clause-told
-returns-in-Ok-clause-told c = rw (c.append_event.ensures.told, c.reserve.ensures.items, c.in-Ok.ensures.event) refl
-
-pub deed_event-requires : goal.deed_event-requires
-deed_event-requires c = record {
-  kept = c.requires.kept.kept;
-  may = c.requires.kept.may;
-  calls = c.requires.kept.calls;
-  scripts = c.requires.kept.scripts;
-  recent = c.requires.kept.books.recent;
-  chosen = c.requires.chosen;
-}
+pub returns-clause-told : goal.returns-clause-told
+returns-clause-told c =
+    rw (
+      c.append_event.ensures.told,
+      c.in_ok-reserve.ensures.items,
+      c.in_ok-event.ensures.event,
+      c.setup.ensures,
+      c.finish_transfer.ensures,
+      c.deed_event.ensures.same,
+      after_setup c.args.state.now.going c.args.ticket.caller (Done c.args.ticket),
+    ) refl

@@ -3,6 +3,9 @@ use Rattle.std.specs.Option.{option_eq}
 use Rattle.std.proofs.lemmas.Bool.Decides.{nat_tests}
 use Rattle.cf_types.specs.contracts.machine.TicketPartialEq.TheImpl as block
 use Rattle.cf_types.specs.declared.machine.Ticket.{Ticket}
+use Rattle.run_rules.specs.World.{opening}
+use Rattle.run_rules.specs.declared.world.Setup.{Setup}
+use Rattle.dev_board.specs.Witness.{told_stale}
 use Rattle.dev_board.proofs.post.post_result.Goals as goal
 
 same : (a b : Ticket) → block.ghosts.eq a b ≡ true → a ≡ b
@@ -22,13 +25,13 @@ is_other o t h e = clash (ap (λ (x : Option Ticket). option_eq block.ghosts.eq 
     clash h k = cc
 
 pub post_kept-requires-clause-held : goal.post_kept-requires-clause-held
-post_kept-requires-clause-held c = c.kept_ticket-held.ensures c.args.setup.now ∙ is_same c.kept_ticket-held.result c.args.ticket (sym c.eq.ensures ∙ c.if-eq.true)
+post_kept-requires-clause-held c = c.kept_ticket-held.ensures ∙ is_same c.kept_ticket-held.result c.args.ticket (sym c.eq.ensures ∙ c.if-eq.true)
 
 pub returns-else-eq-clause-post : goal.returns-else-eq-clause-post
 returns-else-eq-clause-post c = (
   c.requires.goes_on,
-  sym (c.kept_ticket-held.ensures c.args.setup.now),
+  sym (c.kept_ticket-held.ensures),
   is_other c.kept_ticket-held.result c.args.ticket (sym c.eq.ensures ∙ c.if-eq.false),
-  c.of_stale.ensures,
+  c.of_stale.ensures ∙ ap (λ (s : Setup). told_stale (opening s) c.args.ticket.caller c.kept_ticket-held.result) c.setup.ensures,
   refl,
 )

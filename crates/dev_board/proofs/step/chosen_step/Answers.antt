@@ -1,16 +1,10 @@
 use Rattle.std.proofs.Common.{refl}
 use Rattle.run_rules.specs.World.{World}
-use Rattle.run_world.specs.View.{world_of}
 use Rattle.dev_board.proofs.NextLaws.{ended_so, quiet_wait, wait_is}
 use Rattle.dev_board.proofs.step.chosen_step.Goals as goal
 
 pub choose-requires : goal.choose-requires
-choose-requires g c = record {
-  may = c.requires.may.kept.may;
-  kept = c.requires.may.kept.kept;
-  books = c.requires.may.kept.books;
-  caller = c.requires.may.caller;
-}
+choose-requires g c = c.requires.may.caller
 
 pub step_deed-requires : goal.step_deed-requires
 step_deed-requires g c = record {
@@ -31,9 +25,9 @@ returns-in-Err-clause-denials g c = (refl, refl)
 
 pub returns-in-Ok-Ended-clause-stepped : goal.returns-in-Ok-Ended-clause-stepped
 returns-in-Ok-Ended-clause-stepped g c =
-    let w : World = world_of c.args.site.now.setup c.args.state.now.core in
+    let w : World = c.args.state.now.going in
     record {
-      step = (c.requires.may.goes_on, ended_so w c.args.caller c.requires.may.kept.kept (rw c.in-Ok-Ended.field-0-is at c.in-Ok-Ended.ensures), refl);
+      step = (c.requires.may.goes_on, ended_so w c.args.caller c.stands.ensures.goes_on.kept (rw c.in-Ok-Ended.field-0-is at c.in-Ok-Ended.ensures), refl);
       kept = c.requires.may.kept;
       agree = c.requires.may.agree;
       falls = λ did. absurd did;
@@ -44,9 +38,9 @@ returns-in-Ok-Ended-clause-denials g c = (refl, refl)
 
 pub returns-in-Ok-Waits-clause-stepped : goal.returns-in-Ok-Waits-clause-stepped
 returns-in-Ok-Waits-clause-stepped g c =
-    let w : World = world_of c.args.site.now.setup c.args.state.now.core in
+    let w : World = c.args.state.now.going in
     record {
-      step = (c.requires.may.goes_on, wait_is w c.args.caller c.in-Ok-Waits.why c.requires.may.kept.kept (rw c.in-Ok-Waits.field-0-is at c.in-Ok-Waits.ensures), refl);
+      step = (c.requires.may.goes_on, wait_is w c.args.caller c.in-Ok-Waits.why c.stands.ensures.goes_on.kept (rw c.in-Ok-Waits.field-0-is at c.in-Ok-Waits.ensures), refl);
       kept = c.requires.may.kept;
       agree = c.requires.may.agree;
       falls = λ did. absurd did;
@@ -54,8 +48,8 @@ returns-in-Ok-Waits-clause-stepped g c =
 
 pub returns-in-Ok-Waits-clause-denials : goal.returns-in-Ok-Waits-clause-denials
 returns-in-Ok-Waits-clause-denials g c =
-    let w : World = world_of c.args.site.now.setup c.args.state.now.core in
-    quiet_wait w c.args.caller c.in-Ok-Waits.why c.args.state.now.core.tree.live (g.S.Slots.denials c.args.slots.now) (g.S.Slots.last_denial c.args.slots.now) c.requires.may.kept.kept
+    let w : World = c.args.state.now.going in
+    quiet_wait w c.args.caller c.in-Ok-Waits.why c.args.state.now.going.live (g.S.Slots.denials c.args.slots.now) (g.S.Slots.last_denial c.args.slots.now) c.stands.ensures.goes_on.kept
     (rw c.in-Ok-Waits.field-0-is at c.in-Ok-Waits.ensures)
 
 pub returns-in-Ok-Does-clause-stepped : goal.returns-in-Ok-Does-clause-stepped

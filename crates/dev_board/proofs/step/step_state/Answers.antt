@@ -1,6 +1,7 @@
-use Rattle.std.proofs.Common.{ℕ, arith, refl, subst}
-use Rattle.std.proofs.lemmas.List.{length-map}
-use Rattle.run_world.specs.View.{caller_of}
+use Rattle.std.proofs.Common.{◌∙◌, ℕ, ap, arith, refl, subst}
+use Rattle.run_rules.specs.World.{opening}
+use Rattle.run_rules.specs.declared.world.Setup.{Setup}
+use Rattle.dev_board.specs.Witness.{told_stop}
 use Rattle.dev_board.specs.Stepping.{StepIs}
 use Rattle.dev_board.specs.StateKept.{shown_of}
 use Rattle.dev_board.proofs.NextLaws.{of_boot}
@@ -8,10 +9,9 @@ use Rattle.dev_board.proofs.step.step_state.Goals as goal
 
 pub returns-in-None-clause-boot : goal.returns-in-None-clause-boot
 returns-in-None-clause-boot g c = λ boots.
-    (let s = c.args.site.now.setup in
-    let old = shown_of s c.args.state.now in
-    let new = shown_of s c.next_step.new.state in
-    of_boot old new c.next_step.result c.requires.kept.kept (subst (λ (k : ℕ). StepIs old k c.next_step.result new) boots c.next_step.ensures.stepped.step))
+    (let old = shown_of c.args.state.now in
+    let new = shown_of c.next_step.new.state in
+    of_boot old new c.next_step.result c.stands.ensures.goes_on.kept (subst (λ (k : ℕ). StepIs old k c.next_step.result new) boots c.next_step.ensures.stepped.step))
 
 pub returns-in-None-clause-step : goal.returns-in-None-clause-step
 returns-in-None-clause-step g c = c.next_step.ensures.stepped.step
@@ -44,7 +44,7 @@ pub next_step-requires : goal.next_step-requires
 next_step-requires g c = record {
   may = record {
     kept = c.requires.kept;
-    caller = omega (arith, c.requires.caller, c.requires.kept.kept.ranges.callers.as_many, length-map c.args.state.now.core.callers.items caller_of);
+    caller = omega (arith, c.requires.caller, c.stands.ensures.goes_on.kept.ranges.callers.as_many);
     agree = c.requires.agree;
     goes_on = c.in-None.is;
   };
@@ -54,4 +54,4 @@ pub returns-in-Some-clause-boot : goal.returns-in-Some-clause-boot
 returns-in-Some-clause-boot g c = λ boots. tt
 
 pub returns-in-Some-clause-step : goal.returns-in-Some-clause-step
-returns-in-Some-clause-step g c = (c.in-Some.is, c.of_stop.ensures, refl)
+returns-in-Some-clause-step g c = (c.in-Some.is, c.of_stop.ensures ∙ ap (λ (s : Setup). told_stop (opening s) c.args.caller c.in-Some.first) c.setup.ensures, refl)

@@ -1,5 +1,5 @@
-use Rattle.std.proofs.Common.{arith}
-use Rattle.run_world.specs.Sites.{world_at}
+use Rattle.std.proofs.Common.{ap, arith, length}
+use Rattle.run_rules.specs.declared.world.Setup.{Setup}
 use Rattle.dev_board.proofs.WhoGoes.{all_lines}
 use Rattle.dev_board.proofs.waiting.lines_of.Goals as goal
 
@@ -8,4 +8,4 @@ returns c =
     let all = c.loop-i-test.false in
     let few = c.loop-i.auto.i-end in
     let many = c.len-scripts.ensures in
-    all_lines (world_at c.args.site.now c.args.state.now.core) c.loop-i.i c.loop-i.lines (omega arith) c.loop-i.invariant
+    all_lines c.args.going.now c.loop-i.i c.loop-i.lines (omega (arith, ap (λ (s : Setup). length s.scripts) c.setup.ensures)) c.loop-i.invariant

@@ -6,8 +6,8 @@ use Rattle.next_deed.proofs.due.due_turn.Given as goal
 
 abbrev pub invariant-loop-turn : goal.invariant-loop-turn
 invariant-loop-turn l =
-    rule.due l.site.setup l.core.tree.live l.core.absent l.core.hidden l.serial l.only l.filter l.position
-    ≡ rule.due l.site.setup l.core.tree.live l.core.absent l.core.hidden l.serial l.only l.filter l.fn.from
+    rule.due l.going.setup l.going.live l.going.absent l.going.hidden l.serial l.only l.filter l.position
+    ≡ rule.due l.going.setup l.going.live l.going.absent l.going.hidden l.serial l.only l.filter l.fn.from
 
 abbrev pub decreases-loop-turn : goal.decreases-loop-turn
-decreases-loop-turn l = turns_after (turns_of l.site.setup.tables l.site.setup.machine l.by.driver l.by.attach l.by.spot l.only) l.position
+decreases-loop-turn l = turns_after (turns_of l.going.setup.tables l.going.setup.machine l.by.driver l.by.attach l.by.spot l.only) l.position

@@ -1,7 +1,6 @@
 use Rattle.std.proofs.Common.{◌∙◌, ap}
 use Rattle.run_rules.specs.Next.{by_activity}
-use Rattle.run_world.specs.View.{world_of}
 use Rattle.next_deed.proofs.next.plan_activity.Goals as goal
 
 pub returns-in-Power : goal.returns-in-Power
-returns-in-Power c = ap (by_activity (world_of c.args.site.now.setup c.args.core.now) c.args.caller) c.in-Power.is ∙ c.plan_power.ensures c.args.caller
+returns-in-Power c = ap (by_activity c.args.going.now c.args.caller) c.in-Power.is ∙ c.plan_power.ensures c.args.caller

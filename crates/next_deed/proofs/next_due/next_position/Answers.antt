@@ -16,5 +16,5 @@ returns-else-turn-clause-bus c = λ p h. rw (← c.next_on_bus.ensures.here.0) (
 
 pub returns-else-turn-clause-idle : goal.returns-else-turn-clause-idle
 returns-else-turn-clause-idle c =
-    closed_between c.args.site.now.setup c.args.core.now.tree.live c.args.core.now.absent c.args.core.now.hidden c.args.scan.now.serial c.args.scan.now.filter.now c.args.scan.now.parent c.args.turn c.next_on_bus.result
+    closed_between c.args.going.now.setup c.args.going.now.live c.args.going.now.absent c.args.going.now.hidden c.args.scan.now.serial c.args.scan.now.filter.now c.args.scan.now.parent c.args.turn c.next_on_bus.result
     c.next_on_bus.ensures.here.0 c.next_on_bus.ensures.here.1 c.next_on_bus.ensures.passed

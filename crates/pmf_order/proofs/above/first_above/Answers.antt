@@ -3,7 +3,7 @@ use native.Mathlib.Numerals.{unary_clauses}
 use Rattle.run_rules.specs.World.{device_at}
 use Rattle.run_rules.proofs.Chains.{chain_nothing}
 use Rattle.pmf_order.proofs.AboveLaws.{IsLowest, lowest_asleep, lowest_awake, lowest_begins, lowest_is, nothing_left}
-use Rattle.pmf_order.proofs.UnderLaws.{all_positive}
+use Rattle.pmf_order.proofs.Numbered.{all_positive}
 use Rattle.pmf_order.proofs.above.first_above.Goals as goal
 use Rattle.pmf_order.proofs.above.first_above.Goals.{then-device, else-device}
 

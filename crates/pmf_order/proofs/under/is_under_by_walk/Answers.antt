@@ -1,20 +1,14 @@
-use Rattle.std.proofs.Common.{◌%◌, length, sym}
-use Rattle.run_rules.specs.World.{is_under, parent_of}
-use Rattle.pmf_order.specs.Under.{IsNeverUnder}
-use Rattle.pmf_order.proofs.UnderLaws.{one_noted, parent_never}
+use Rattle.std.proofs.Common.{◌%◌, sym}
+use Rattle.run_rules.specs.World.{parent_of}
+use Rattle.run_rules.specs.Chains.{NeverMeets}
+use Rattle.run_rules.proofs.Climbs.{misses_under, two_kept}
 use Rattle.pmf_order.proofs.under.is_under_by_walk.Goals as goal
 
 pub returns-in-Apart-clause-is : goal.returns-in-Apart-clause-is
-unfolding is_under
-returns-in-Apart-clause-is c = sym ((rw c.in-Apart.is at c.walk.ensures) (length c.args.tree.now.live))
+returns-in-Apart-clause-is c = sym (misses_under c.args.tree.now.live c.args.target c.args.serial (rw c.in-Apart.is at c.walk.ensures))
 
 pub returns-in-Apart-clause-noted : goal.returns-in-Apart-clause-noted
 returns-in-Apart-clause-noted c =
-    let live = c.args.tree.now.live in
-    let target = c.args.target in
-    let serial = c.args.serial in
-    let noted = c.args.strangers.now.serials in
-    let never : IsNeverUnder live target serial = rw c.in-Apart.is at c.walk.ensures in
-    let parent = parent_of live serial in
+    let never : NeverMeets c.args.tree.now.live c.args.target c.args.serial = rw c.in-Apart.is at c.walk.ensures in
     rw (c.note-in-Apart.ensures, c.note.ensures, c.parent_of.ensures)
-    (one_noted live target _ (parent % 64) parent (one_noted live target noted (serial % 64) serial c.requires never) (parent_never live target serial never))
+    (two_kept c.args.tree.now.live c.args.target c.args.strangers.now.serials (c.args.serial % 64) (parent_of c.args.tree.now.live c.args.serial % 64) c.args.serial c.requires never)

@@ -7,4 +7,4 @@ abbrev pub decreases-push_names : goal.decreases-push_names
 decreases-push_names l = l.levels
 
 abbrev pub invariant-loop-device : goal.invariant-loop-device
-invariant-loop-device l = l.names ≡ l.initial.names ++ told_among (depth_name l.setup) l.core.tree.live l.levels l.depth (take l.device-index l.children)
+invariant-loop-device l = l.names ≡ l.initial.names ++ told_among (depth_name l.going.setup) l.going.live l.levels l.depth (take l.device-index l.children)

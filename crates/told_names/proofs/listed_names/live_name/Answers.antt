@@ -5,4 +5,4 @@ use Rattle.told_names.proofs.listed_names.live_name.Goals as goal
 
 pub returns : goal.returns
 returns c =
-    subst (λ (x : List ℕ). IfOk c.parent_name.result (λ n. n ≡ x)) (live_named c.args.setup.now c.args.core.now.tree.live c.args.serial c.requires.live) c.parent_name.ensures
+    subst (λ (x : List ℕ). IfOk c.parent_name.result (λ n. n ≡ x)) (live_named c.args.going.now.setup c.args.going.now.live c.args.serial c.requires) c.parent_name.ensures

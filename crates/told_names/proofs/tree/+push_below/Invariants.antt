@@ -1,6 +1,5 @@
 use Rattle.std.proofs.Common.{◌≡◌, ◌++◌, take}
 use Rattle.run_rules.specs.Tree.{dev_line}
-use Rattle.run_world.specs.View.{world_of}
 use Rattle.told_names.proofs.WalkLaws.{told_among}
 use Rattle.told_names.proofs.tree.+push_below.Given as goal
 
@@ -8,4 +7,4 @@ abbrev pub decreases-push_below : goal.decreases-push_below
 decreases-push_below l = l.levels
 
 abbrev pub invariant-loop-device : goal.invariant-loop-device
-invariant-loop-device l = l.lines ≡ l.initial.lines ++ told_among (dev_line (world_of l.setup l.core)) l.core.tree.live l.levels l.depth (take l.device-index l.children)
+invariant-loop-device l = l.lines ≡ l.initial.lines ++ told_among (dev_line l.going) l.going.live l.levels l.depth (take l.device-index l.children)

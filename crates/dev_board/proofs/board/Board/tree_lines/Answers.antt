@@ -5,15 +5,7 @@ use Rattle.history_laws.specs.Tells.{TellsTree}
 use Rattle.history_laws.proofs.TreeTold.{tree_always}
 use Rattle.run_rules.specs.declared.event.Event.{Event}
 use Rattle.run_rules.specs.Tree.{tree_lines}
-use Rattle.run_world.specs.View.{world_of}
 use Rattle.dev_board.proofs.board.Board.tree_lines.Goals as goal
-
-pub tree_of-requires-clause-names : goal.tree_of-requires-clause-names
-tree_of-requires-clause-names c = record {
-  bounded = c.self.inside.site.bounded;
-  rows = c.self.invariant.kept.ranges.devices.rows;
-  recent = c.self.invariant.books.recent;
-}
 
 -- lines that are those of the tree tell what the history tells
 told_lines : {E : Type 0} (lines : List DevLine) (h : List Event) (r : Result (List DevLine) E) → TellsTree h lines → IfOk r (λ ls. ls ≡ lines) → IfOk r (λ ls. TellsTree h ls)
@@ -22,8 +14,7 @@ told_lines lines h (Err e) told same = tt
 
 pub returns-clause-told : goal.returns-clause-told
 returns-clause-told c =
-    let b = c.self.inside in
-    let kept = c.self.invariant in
+    let state = c.self.inside.state in
     rw (← c.self.view_is)
-    (told_lines (tree_lines (world_of b.site.setup b.state.core)) b.state.events.items c.tree_of.result
-    (tree_always b.site.setup b.state.events.items (world_of b.site.setup b.state.core) kept.may kept.run) c.tree_of.ensures)
+    (told_lines (tree_lines state.going) state.events.items c.tree_of.result
+    (tree_always state.going.setup state.events.items state.going c.stands.ensures.goes_on.may c.self.invariant.run) c.tree_of.ensures)

@@ -1,7 +1,7 @@
 use Rattle.std.proofs.Common.{◌≡◌, true, sym, ap, ◌∙◌, arith}
 use Rattle.lease_table.specs.Leases.{claim_at}
 use Rattle.lease_table.specs.Words.{is_holder, said}
-use Rattle.lease_table.specs.declared.view.Word.{Word}
+use Rattle.lease_table.specs.declared.view.SlotWord.{SlotWord}
 use Rattle.lease_table.proofs.Keeps.{looks}
 use Rattle.lease_table.proofs.table.LeaseTable.look.Goals as goal
 
@@ -27,4 +27,4 @@ returns-clause-own c =
     let held = ap (λ z. claim_at z.view.standing x) c.seat.view_is ∙ (ap (λ z. claim_at c.args.seat.now.view.standing z.slot) c.lease.view_is ∙ c.requires.held) in
     let own : is_holder (said word) s.seat.me.0.standing.number ≡ true = (c.load-word.ensures.2.held c.args.lease.now.generation held).2 in
     let number : s.seat.me.0.standing.number ≡ c.args.seat.now.caller = c.seat.invariant.0 ∙ ap (λ z. z.caller) c.seat.view_is in
-    ap (λ (z : Word). is_holder z c.args.seat.now.caller) c.word_of.ensures ∙ (ap (λ z. is_holder (said word) z) (sym number) ∙ own)
+    ap (λ (z : SlotWord). is_holder z c.args.seat.now.caller) c.word_of.ensures ∙ (ap (λ z. is_holder (said word) z) (sym number) ∙ own)

@@ -3,7 +3,7 @@ use Rattle.std.specs.Prelude.{bit_or}
 use Rattle.atomic_table.specs.Table.{Allows}
 use Rattle.lease_table.specs.Leases.{Took, gained_from, showing, with_claim}
 use Rattle.lease_table.specs.Words.{said}
-use Rattle.lease_table.specs.declared.view.Word.{Word}
+use Rattle.lease_table.specs.declared.view.SlotWord.{SlotWord}
 use Rattle.lease_table.proofs.Keeps.{takes, fails, rule}
 use Rattle.lease_table.proofs.table.LeaseTable.take.Goals as goal
 
@@ -29,8 +29,8 @@ returns-then-said-clause-taken c =
     let f = fails c.args.seat.now.view c.fetch_or-word.new.seat.me.0 c.clear.new.seat.view c.args.slot word (gained_from word) (c.fetch_or-word.ensures.2 ∙ ap (λ z. showing z.view (with_claim z.view.standing c.args.slot (gained_from word)) c.args.slot word) c.seat.view_is) c.clear.ensures.cleared in
     let is : c.word_of-said.result.condemned ≡ true = search rules in (
       f.1,
-      ap (λ (z : Word). z.condemned) (f.0 ∙ sym c.word_of-said.ensures) ∙ is,
-      ap (λ (z : Word). z.generation) (f.0 ∙ sym c.word_of-said.ensures),
+      ap (λ (z : SlotWord). z.condemned) (f.0 ∙ sym c.word_of-said.ensures) ∙ is,
+      ap (λ (z : SlotWord). z.generation) (f.0 ∙ sym c.word_of-said.ensures),
     )
 
 pub returns-clause-taken : goal.returns-clause-taken
@@ -39,6 +39,6 @@ returns-clause-taken c =
     let f = fails c.args.seat.now.view c.fetch_or-word.new.seat.me.0 c.clear-2.new.seat.view c.args.slot word (gained_from word) (c.fetch_or-word.ensures.2 ∙ ap (λ z. showing z.view (with_claim z.view.standing c.args.slot (gained_from word)) c.args.slot word) c.seat.view_is) c.clear-2.ensures.cleared in
     let is : c.word_of-said.result.live ≡ false = search rules in (
       f.1,
-      ap (λ (z : Word). z.live) (f.0 ∙ sym c.word_of-said.ensures) ∙ is,
-      ap (λ (z : Word). z.generation) (f.0 ∙ sym c.word_of-said.ensures),
+      ap (λ (z : SlotWord). z.live) (f.0 ∙ sym c.word_of-said.ensures) ∙ is,
+      ap (λ (z : SlotWord). z.generation) (f.0 ∙ sym c.word_of-said.ensures),
     )

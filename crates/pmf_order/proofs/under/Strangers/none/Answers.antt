@@ -1,5 +1,5 @@
-use Rattle.pmf_order.proofs.UnderLaws.{none_noted}
+use Rattle.run_rules.proofs.Climbs.{none_kept}
 use Rattle.pmf_order.proofs.under.Strangers.none.Goals as goal
 
 pub returns : goal.returns
-returns c = λ live target. none_noted live target 64
+returns c = λ live target. none_kept live target 64

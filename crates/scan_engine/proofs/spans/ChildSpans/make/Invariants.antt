@@ -1,4 +1,4 @@
-use Rattle.scan_engine.proofs.SpanLaws.{AreSpansTo}
+use Rattle.run_rules.proofs.Spans.{AreSpansTo}
 use Rattle.scan_engine.proofs.spans.ChildSpans.make.Given as goal
 
 abbrev pub invariant-loop-number : goal.invariant-loop-number
