@@ -30,8 +30,8 @@ is_judged _ = false
 
 -- what they declare with the surviving instances, where none has a code, or else the first code
 abbrev pub Judges : List (List ℕ) → List Placed → Verdict → Type 0
-Judges files placed (verdict.Accepted standing) =
-    (first_code files [] placed ≡ None) × (standing.declarations ≡ declared (stmts_of placed)) × (standing.instances ≡ surviving [] (stmts_of placed))
+Judges files placed (verdict.Accepted selection) =
+    (first_code files [] placed ≡ None) × (selection.declarations ≡ declared (stmts_of placed)) × (selection.instances ≡ surviving [] (stmts_of placed))
 Judges files placed (verdict.Refused refusal) = first_code files [] placed ≡ Some refusal
 
 -- the first statements declare d and have n instances without any code, and no more is declared than there are statements;

@@ -3,12 +3,9 @@ use Rattle.std.specs.Prelude.{◌≡◌, ℕ, Bool, List, [], map, Some, None, R
 use Rattle.cf_types.specs.declared.instance.Instance.{Instance}
 use Rattle.cf_types.specs.declared.stmt.Expanded.{Expanded}
 use Rattle.cf_types.specs.declared.stmt.Placed.{Placed}
-use Rattle.cf_types.specs.declared.stmt.UnitMark.{UnitMark}
-use Rattle.cf_types.specs.declared.stmt.UnitMark.TheVariants.{Fixed, Star}
 use Rattle.cf_types.specs.declared.tables.Tables.{Tables}
 use Rattle.cf_rows.specs.Rows.{seen}
 use Rattle.cf_rows.specs.declared.marks.Split.{Split}
-use Rattle.cf_select.specs.declared.instance.Inst.{Inst}
 use Rattle.config_rules.specs.Declared.{declared}
 use Rattle.cf_types.specs.declared.declared.Declared.{Declared}
 use Rattle.config_rules.specs.Fault.{fault_in, stmts_of}
@@ -19,19 +16,6 @@ use Rattle.config_rules.specs.Reading.{Reading}
 use Rattle.config_rules.specs.Select.{RootedInsts}
 use Rattle.cf_compile.specs.declared.stop.CompileStop.{CompileStop}
 use Rattle.cf_compile.specs.declared.stop.CompileStop.TheVariants.{Refused, ReadFault, Memory}
-
--- the unit that is written, 0 where there is a star
-abbrev pub written_unit : UnitMark → ℕ
-written_unit (Fixed unit) = unit
-written_unit Star = 0
-
-abbrev pub is_starred : UnitMark → Bool
-is_starred (Fixed unit) = false
-is_starred Star = true
-
--- what matters of an instance for being rooted
-abbrev pub inst_of : Instance → Inst
-inst_of i = record { device = i.joined.device; unit = written_unit i.mark; star = is_starred i.mark; place = i.joined.place; parent = i.joined.parent }
 
 -- files and statements that were read without a fault
 abbrev pub read_from : List (List ℕ) → List Placed → Reading

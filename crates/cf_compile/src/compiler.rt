@@ -9,33 +9,33 @@ ghost use Rattle.config_rules.specs.Written.{AreWritten};
 ghost use Rattle.cf_compile.specs.Meant.{Finds, IsMeant, read_from, reading_of};
 
 use crate::build::tables_of;
-use crate::judge::{Standing, Verdict, judge};
+use crate::judge::{Selection, Verdict, judge};
 use crate::stop::CompileStop;
-use crate::tokens::without_tokens;
+use crate::tokens::lightened;
 use cf_expand::expand;
 use cf_io::Files;
-use cf_select::{Kept, survivors};
+use cf_select::{SurvivingInstances, survivors};
 use cf_tables::Compiled;
 use cf_types::{Expanded, Memory, Placed, Refusal, Text};
 use std::alloc::Global;
 
 /// The tables of accepted statements, with the graph by which they were judged.
-fn tables_of_standing(
+fn tables_of_selection(
     alloc: Global,
     files: &[Text],
     placed: &[Placed],
     idle: &[u32],
-    standing: Standing,
+    selection: Selection,
 ) -> Result<Compiled, Memory>
     requires written { AreWritten placed.now }
-    requires accepted { Judges files.now placed.now (Verdict.Accepted standing) }
+    requires accepted { Judges files.now placed.now (Verdict.Accepted selection) }
     requires idle { idle.now ≡ idle_insts [] (stmts_of placed.now) }
     ensures { IfOk result (IsMeant files.now placed.now) }
 {
-    let Standing {
+    let Selection {
         declarations,
         instances,
-    } = standing;
+    } = selection;
     let (declared, graph) = declarations.into_parts();
     let tables = tables_of(alloc, files, placed, idle, declared, &graph, instances)?;
     Ok(Compiled::make(alloc, tables, graph))
@@ -51,18 +51,18 @@ pub fn compile_placed(
     requires { AreWritten placed.now }
     ensures { Finds (record (read_from files.now placed.now) { fault = fault }) result }
 {
-    let Kept { kept, idle } = survivors(alloc, placed)?;
+    let SurvivingInstances { kept, idle } = survivors(alloc, placed)?;
     match judge(alloc, files, placed, kept.items())? {
         Verdict::Refused(refusal) => Err(CompileStop::Refused(refusal)),
-        Verdict::Accepted(standing) => match fault {
+        Verdict::Accepted(selection) => match fault {
             Some(fault) => Err(CompileStop::Refused(fault)),
-            None => Ok(tables_of_standing(alloc, files, placed, idle.items(), standing)?),
+            None => Ok(tables_of_selection(alloc, files, placed, idle.items(), selection)?),
         },
     }
 }
 
-/// The tables of what was read, or its first fault: that of a statement, or else that of the reading. The tokens of
-/// free statements are freed first, because nobody reads them from here on.
+/// The tables of what was read, or its first fault: that of a statement, or else that of the reading. If there are many
+/// statements, their tokens are freed first, because nobody reads them from here on.
 fn compile_read(alloc: Global, read: Expanded) -> Result<Compiled, CompileStop>
     requires { AreWritten read.placed }
     ensures { Finds (reading_of read) result }
@@ -72,7 +72,7 @@ fn compile_read(alloc: Global, read: Expanded) -> Result<Compiled, CompileStop>
         files,
         fault,
     } = read;
-    let placed = without_tokens(alloc, placed);
+    let placed = lightened(alloc, placed);
     let found = compile_placed(alloc, files.items(), placed.items(), fault);
     drop(files);
     match found {

@@ -17,7 +17,7 @@ use std::alloc::Global;
 
 /// What accepted statements declare, and the instances among them that no later negation takes back.
 #[derive(Drop)]
-pub struct Standing {
+pub struct Selection {
     pub declarations: Declarations,
     pub instances: List<Instance>,
 }
@@ -25,7 +25,7 @@ pub struct Standing {
 /// What the statements of a configuration are judged to be.
 #[derive(Drop)]
 pub enum Verdict {
-    Accepted(Standing),
+    Accepted(Selection),
     Refused(Refusal),
 }
 
@@ -81,20 +81,20 @@ fn is_judged(stmt: &Stmt) -> bool
 #[inline(never)]
 fn judge_any(
     alloc: Global,
-    standing: &mut Standing,
+    selection: &mut Selection,
     count: usize,
     place: u32,
     stmt: &Stmt,
     is_kept: bool,
 ) -> Result<Option<u8>, Memory>
-    requires fits { FitsDeclared standing.old.declarations }
+    requires fits { FitsDeclared selection.old.declarations }
     requires few { HasFewLocators stmt.now }
-    requires attrs { length standing.old.declarations.attrs < 65536 }
-    requires devices { length standing.old.declarations.devices < 65536 }
-    ensures code { IfOk result (λ code. code ≡ code_of standing.old.declarations count stmt.now) }
-    ensures declared { IfOk result (λ code. code ≡ None → standing.new.declarations ≡ declare standing.old.declarations stmt.now) }
-    ensures kept { IfOk result (λ code. code ≡ None → standing.new.instances ≡ standing.old.instances
-        ++ (if is_kept then option_to_list (instance_at standing.old.declarations place stmt.now) else [])) }
+    requires attrs { length selection.old.declarations.attrs < 65536 }
+    requires devices { length selection.old.declarations.devices < 65536 }
+    ensures code { IfOk result (λ code. code ≡ code_of selection.old.declarations count stmt.now) }
+    ensures declared { IfOk result (λ code. code ≡ None → selection.new.declarations ≡ declare selection.old.declarations stmt.now) }
+    ensures kept { IfOk result (λ code. code ≡ None → selection.new.instances ≡ selection.old.instances
+        ++ (if is_kept then option_to_list (instance_at selection.old.declarations place stmt.now) else [])) }
 {
     let Stmt::Inst {
         base,
@@ -104,12 +104,12 @@ fn judge_any(
         flags,
     } = stmt
     else {
-        return standing.declarations.take(alloc, stmt);
+        return selection.declarations.take(alloc, stmt);
     };
     if count >= MAX_INSTANCES {
         return Ok(Some(code::TOO_MANY_INSTANCES));
     }
-    match standing.declarations.join(base, at, pairs.items()) {
+    match selection.declarations.join(base, at, pairs.items()) {
         Ok(joined) => {
             let instance = Instance {
                 stmt: place,
@@ -117,7 +117,7 @@ fn judge_any(
                 mark: *mark,
                 flags: *flags,
             };
-            push_kept(&mut standing.instances, instance, is_kept)?;
+            push_kept(&mut selection.instances, instance, is_kept)?;
             Ok(None)
         }
         Err(code) => Ok(Some(code)),
@@ -130,23 +130,23 @@ fn judge_any(
 #[inline(always)]
 fn judge_statement(
     alloc: Global,
-    standing: &mut Standing,
+    selection: &mut Selection,
     count: usize,
     place: u32,
     stmt: &Stmt,
     is_kept: bool,
 ) -> Result<Option<u8>, Memory>
-    requires fits { FitsDeclared standing.old.declarations }
+    requires fits { FitsDeclared selection.old.declarations }
     requires few { HasFewLocators stmt.now }
-    requires attrs { length standing.old.declarations.attrs < 65536 }
-    requires devices { length standing.old.declarations.devices < 65536 }
-    ensures code { IfOk result (λ code. code ≡ code_of standing.old.declarations count stmt.now) }
-    ensures declared { IfOk result (λ code. code ≡ None → standing.new.declarations ≡ declare standing.old.declarations stmt.now) }
-    ensures kept { IfOk result (λ code. code ≡ None → standing.new.instances ≡ standing.old.instances
-        ++ (if is_kept then option_to_list (instance_at standing.old.declarations place stmt.now) else [])) }
+    requires attrs { length selection.old.declarations.attrs < 65536 }
+    requires devices { length selection.old.declarations.devices < 65536 }
+    ensures code { IfOk result (λ code. code ≡ code_of selection.old.declarations count stmt.now) }
+    ensures declared { IfOk result (λ code. code ≡ None → selection.new.declarations ≡ declare selection.old.declarations stmt.now) }
+    ensures kept { IfOk result (λ code. code ≡ None → selection.new.instances ≡ selection.old.instances
+        ++ (if is_kept then option_to_list (instance_at selection.old.declarations place stmt.now) else [])) }
 {
     if is_judged(stmt) {
-        return judge_any(alloc, standing, count, place, stmt, is_kept);
+        return judge_any(alloc, selection, count, place, stmt, is_kept);
     }
     Ok(None)
 }
@@ -192,7 +192,7 @@ pub fn judge(
 {
     let instances = room_for(alloc, survive)?;
     let declarations = no_declarations(alloc, placed)?;
-    let mut standing = Standing {
+    let mut selection = Selection {
         declarations,
         instances,
     };
@@ -201,7 +201,7 @@ pub fn judge(
         let stmt = &statement.stmt;
         match judge_statement(
             alloc,
-            &mut standing,
+            &mut selection,
             count,
             place as u32,
             stmt,
@@ -209,15 +209,15 @@ pub fn judge(
         ) {
             Ok(None) => {}
             Ok(Some(code)) => {
-                drop(standing);
+                drop(selection);
                 return Ok(Verdict::Refused(refusal(alloc, files, statement, code)?));
             }
             Err(stop) => {
-                drop(standing);
+                drop(selection);
                 return Err(stop);
             }
         }
         count += instance_count(stmt);
     }
-    Ok(Verdict::Accepted(standing))
+    Ok(Verdict::Accepted(selection))
 }

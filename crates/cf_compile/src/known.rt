@@ -10,12 +10,12 @@ ghost use Rattle.cf_compile.specs.Meant.{reading_of};
 
 use crate::build::split_by_root;
 use crate::compiler::compile_placed;
-use crate::judge::{Standing, Verdict, judge};
+use crate::judge::{Selection, Verdict, judge};
 use crate::stop::CompileStop;
 use cf_expand::expand;
 use cf_io::Files;
 use cf_rows::Split;
-use cf_select::{Kept, survivors};
+use cf_select::{SurvivingInstances, survivors};
 use cf_tables::Compiled;
 use cf_types::{Expanded, List, Memory, Placed, Text};
 use std::alloc::Global;
@@ -33,14 +33,14 @@ pub struct Known {
 }
 
 /// The places of the orphans among the instances that stand.
-fn orphans_in(alloc: Global, standing: Standing) -> Result<List<u32>, Memory>
-    requires { All (λ x. x.joined.device < length standing.declarations.devices) standing.instances }
-    ensures { IfOk result (AreOrphansIn standing.declarations standing.instances) }
+fn orphans_in(alloc: Global, selection: Selection) -> Result<List<u32>, Memory>
+    requires { All (λ x. x.joined.device < length selection.declarations.devices) selection.instances }
+    ensures { IfOk result (AreOrphansIn selection.declarations selection.instances) }
 {
-    let Standing {
+    let Selection {
         declarations,
         instances,
-    } = standing;
+    } = selection;
     let (declared, graph) = declarations.into_parts();
     drop(declared);
     let Split { rooted, orphans } = split_by_root(alloc, &graph, instances.items())?;
@@ -54,10 +54,10 @@ fn orphans_of(alloc: Global, files: &[Text], placed: &[Placed]) -> Result<List<u
     requires accepted { first_code files.now [] placed.now ≡ None }
     ensures { IfOk result (AreOrphans placed.now) }
 {
-    let Kept { kept, idle } = survivors(alloc, placed)?;
+    let SurvivingInstances { kept, idle } = survivors(alloc, placed)?;
     drop(idle);
     match judge(alloc, files, placed, kept.items())? {
-        Verdict::Accepted(standing) => orphans_in(alloc, standing),
+        Verdict::Accepted(selection) => orphans_in(alloc, selection),
         Verdict::Refused(_) => unreachable!(),
     }
 }

@@ -171,7 +171,7 @@ fn push_part(
 }
 
 /// Appends the tokens of the line that begins there, and returns where the next line begins, if there is one.
-#[inline]
+#[inline(always)]
 pub fn cut_line(
     tokens: &mut Vec<Token>,
     line: u32,

@@ -140,8 +140,8 @@ pub fn skip(text: &[u8], rest: Rest) -> Option<Rest>
 }
 
 /// Appends the tokens of the line that begins there, which can be cut, and returns where the next line begins, if there
-/// is one.
-#[inline(always)]
+/// is one. Inlined into the caller, which calls it twice, the loop would stand there twice.
+#[inline(never)]
 fn cut_checked(
     tokens: &mut Vec<Token>,
     line: u32,

@@ -7,7 +7,7 @@ use Rattle.std.proofs.lemmas.List.{length-map, map-append}
 use Rattle.std.proofs.lemmas.Slice.Eq.{bytes_eq-Decides}
 use Rattle.cf_types.proofs.PlaceLemmas.{position_cons, position-map}
 use Rattle.indexmap.specs.IndexMap.{insert_entry}
-use Rattle.cf_names.specs.Numbers.{AreNumbers, Numbers, number_in}
+use Rattle.cf_names.specs.NameNumbers.{AreNumbers, NameNumbers, number_in}
 
 -- ---- one more key of a map
 
@@ -84,7 +84,7 @@ key_is : (q name : List ℕ) (k : List ℕ) → k ≡ name → is_key q k ≡ by
 key_is q name k is = ap (bytes_eq q) is ∙ eq_sym q name
 
 -- a name gets the next number, unless one stands there
-pub next_name : (old : Numbers) (new : List (List ℕ × ℕ)) (k : List ℕ) (name : List ℕ) (number v : ℕ) → v ≡ unwrap_or (number_in old name) number
+pub next_name : (old : NameNumbers) (new : List (List ℕ × ℕ)) (k : List ℕ) (name : List ℕ) (number v : ℕ) → v ≡ unwrap_or (number_in old name) number
     → new ≡ insert_entry key_eq old.entries k v → k ≡ name
     → (names : List (List ℕ)) → AreNumbers old names → length names ≡ number → (q : List ℕ) → lookup (is_key q) new ≡ position (λ n. bytes_eq n q) (names ++ name ∷ [])
 next_name old new k name number v value entries is names are size q =
@@ -98,11 +98,11 @@ next_name old new k name number v value entries is names are size q =
     ∙ sym (position_push (λ n. bytes_eq n q) names name)
 
 -- the number of a name in a list of what has names
-pub number_is : {X : Type 0} (name_of : X → List ℕ) (xs : List X) (numbers : Numbers) (q : List ℕ) → AreNumbers numbers (map name_of xs) → number_in numbers q ≡ position (λ x. bytes_eq (name_of x) q) xs
+pub number_is : {X : Type 0} (name_of : X → List ℕ) (xs : List X) (numbers : NameNumbers) (q : List ℕ) → AreNumbers numbers (map name_of xs) → number_in numbers q ≡ position (λ x. bytes_eq (name_of x) q) xs
 number_is name_of xs numbers q are = are q ∙ position-map (λ n. bytes_eq n q) name_of xs
 
 -- the numbers with one more of what has names
-pub numbers_push : {X : Type 0} (name_of : X → List ℕ) (xs ys : List X) (x : X) (name : List ℕ) (number : ℕ) (old new : Numbers) → AreNumbers old (map name_of xs) → name ≡ name_of x → number ≡ length xs → ys ≡ xs ++ x ∷ []
+pub numbers_push : {X : Type 0} (name_of : X → List ℕ) (xs ys : List X) (x : X) (name : List ℕ) (number : ℕ) (old new : NameNumbers) → AreNumbers old (map name_of xs) → name ≡ name_of x → number ≡ length xs → ys ≡ xs ++ x ∷ []
     → ((names : List (List ℕ)) → AreNumbers old names → length names ≡ number → AreNumbers new (names ++ name ∷ [])) → AreNumbers new (map name_of ys)
 numbers_push name_of xs ys x name number old new are is size more step =
     subst (AreNumbers new) (ap (λ (n : List ℕ). map name_of xs ++ n ∷ []) is ∙ sym (map-append name_of xs (x ∷ [])) ∙ ap (map name_of) (sym more))

@@ -6,7 +6,7 @@ use Rattle.cf_types.specs.declared.tables.Attr.{Attr}
 use Rattle.cf_types.specs.declared.tables.Device.{Device}
 use Rattle.cf_names.specs.declared.index.Index.{Index}
 use Rattle.cf_names.specs.Attaches.{AreOfDevices}
-use Rattle.cf_names.specs.Numbers.{AreNumbers}
+use Rattle.cf_names.specs.NameNumbers.{AreNumbers}
 use Rattle.cf_names.specs.Spots.{AreSpots, all_spots}
 
 -- the numbers of all names, and of the attachments of all devices, and their first spots where these are noted

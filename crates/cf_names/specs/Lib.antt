@@ -1,5 +1,5 @@
 pub mod Attaches
 pub mod Hash
 pub mod Indexed
-pub mod Numbers
+pub mod NameNumbers
 pub mod Spots

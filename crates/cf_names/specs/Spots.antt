@@ -1,7 +1,8 @@
 -- The first spots of devices at places.
-use Rattle.std.specs.Prelude.{◌≡◌, ℕ, ◌==◌, ◌&&◌, Bool, true, false, List, Option, find, flat_map, map, option_map, length}
+use Rattle.std.specs.Prelude.{◌≡◌, ℕ, ◌==◌, ◌&&◌, Bool, true, false, List, Option, Some, find, flat_map, if◌then◌else◌, map, option_map, length}
 use Rattle.std.specs.List.{enumerate_from}
-use Rattle.std.specs.HashMap.{get}
+use Rattle.std.specs.HashMap.{HashMap, get}
+use Rattle.std.specs.Option.{unwrap_or}
 use Rattle.cf_types.specs.declared.tables.Attach.{Attach}
 use Rattle.cf_types.specs.declared.tables.Place.{Place}
 use Rattle.cf_types.specs.declared.tables.Place.TheVariants.{Root, At}
@@ -45,6 +46,11 @@ same_place (At a) (At b) = a == b
 -- a spot is one of this device at this place
 abbrev pub is_at : SpotKey → Spot → Bool
 is_at key spot = (spot.key.device == key.device) && same_place spot.key.place key.place
+
+-- a key has its first spot, and all others have what they had
+abbrev pub Notes : {S : Type 0} → SpotKey → FirstSpot → HashMap SpotKey FirstSpot S → HashMap SpotKey FirstSpot S → Type 0
+Notes key spot old new = (q : SpotKey) → get block.ghosts.eq new q
+    ≡ (if block.ghosts.eq key q then Some (unwrap_or (get block.ghosts.eq old key) spot) else get block.ghosts.eq old q)
 
 -- of each device the first spot at each place is noted
 pub record AreSpots (spots : Spots) (all : List Spot) : Type 0 where

@@ -2,12 +2,12 @@ ghost use Rattle.std.specs.Prelude.{◌≡◌, ◌==◌, ◌<◌, ℕ, [], ◌�
 ghost use Rattle.cf_types.specs.declared.declared.Declared.{Declared};
 ghost use Rattle.cf_names.specs.Attaches.{numbers_at};
 ghost use Rattle.cf_names.specs.Indexed.{IsIndexOf};
-ghost use Rattle.cf_names.specs.Numbers.{AreNumbers};
+ghost use Rattle.cf_names.specs.NameNumbers.{AreNumbers};
 ghost use Rattle.cf_names.specs.Spots.{AreSpots};
 
 use crate::attached::Attached;
 use crate::hash::NameHash;
-use crate::numbers::{Numbers, no_numbers, reserve_names};
+use crate::numbers::{NameNumbers, no_numbers, reserve_names};
 use crate::spots::{MAX_SCANNED, Spots};
 use cf_types::{Attach, Memory};
 use std::alloc::Global;
@@ -19,9 +19,9 @@ pub type OfDevices = Vec<Attached>;
 /// the first spot at each place, if these are noted.
 #[derive(Drop)]
 pub struct Index {
-    pub attrs: Numbers,
-    pub devices: Numbers,
-    pub attaches: Numbers,
+    pub attrs: NameNumbers,
+    pub devices: NameNumbers,
+    pub attaches: NameNumbers,
     pub of_devices: OfDevices,
     pub spots: Option<Spots>,
 }

@@ -11,5 +11,5 @@ mod spots;
 pub use catalog::Catalog;
 pub use hash::{HashKey, NameHash};
 pub use index::Room;
-pub use numbers::{Numbers, add_name, no_numbers, number_in};
+pub use numbers::{NameNumbers, add_name, no_numbers, number_in};
 pub use spots::{FirstSpot, MAX_SCANNED, SpotKey, Spots};

@@ -1,9 +1,6 @@
 //! Of each device the first of its spots at each place, so that no look-up goes over many attachments or places.
-ghost use Rattle.std.specs.Prelude.{◌≡◌, ◌+◌, [], ◌++◌, ◌∷◌, List, Some, if◌then◌else◌, map, IfOk, IfSome, OnOk};
-ghost use Rattle.std.specs.HashMap.{get};
-ghost use Rattle.std.specs.Option.{unwrap_or};
-ghost use Rattle.cf_names.specs.Spots.{AreSpots, Spot, all_spots, first_spot, is_at, spot_at, spots_at};
-ghost use Rattle.cf_names.specs.contracts.spots.SpotKeyPartialEq.TheImpl as block;
+ghost use Rattle.std.specs.Prelude.{◌≡◌, ◌+◌, [], ◌++◌, ◌∷◌, List, map, IfOk, IfSome, OnOk};
+ghost use Rattle.cf_names.specs.Spots.{AreSpots, Notes, Spot, all_spots, first_spot, is_at, spot_at, spots_at};
 
 use cf_types::{Attach, Memory, Place};
 use std::alloc::Global;
@@ -40,7 +37,7 @@ fn note(
     key: SpotKey,
     spot: FirstSpot,
 ) -> Result<(), Memory>
-    ensures { OnOk result ((q : SpotKey) → get block.ghosts.eq first.new q ≡ (if block.ghosts.eq key q then Some (unwrap_or (get block.ghosts.eq first.old key) spot) else get block.ghosts.eq first.old q)) }
+    ensures { OnOk result (Notes key spot first.old first.new) }
 {
     first.entry(key)?.or_insert(spot);
     Ok(())

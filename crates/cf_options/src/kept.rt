@@ -1,16 +1,13 @@
 ghost use Rattle.std.specs.Prelude.{◌≡◌, [], ◌∷◌, ◌++◌, IfOk, OnOk, false, true};
-ghost use Rattle.std.specs.Option.{option_copied};
 ghost use Rattle.cf_types.specs.declared.stmt.ItemKind.TheVariants as of_kind;
 ghost use Rattle.config_rules.specs.Fault.{stmts_of};
-ghost use Rattle.config_rules.specs.Meaning.{file_systems_in, pseudos_in};
+ghost use Rattle.config_rules.specs.Meaning.{file_systems_in, makeoptions_in, options_in, pseudos_in};
 ghost use Rattle.config_rules.specs.Select.{kept_items};
-ghost use Rattle.cf_options.specs.Last.{AreLast, is_dropped, not_dropped};
-ghost use Rattle.cf_options.specs.Parts.{all_of, items_in};
+ghost use Rattle.cf_options.specs.Last.{AreNegations, is_dropped, not_dropped};
 
 use crate::copies::item_copied;
-use crate::last::{LastPlaces, is_dropped};
-use crate::parts::{file_systems_in, items_in};
-use cf_types::{Item, ItemKind, ItemList, Items, List, Memory, Name, Placed, Pseudo, Stmt};
+use crate::last::{LastPlaces, Negations, is_dropped};
+use cf_types::{Item, ItemList, Items, List, Memory, Name, Placed, Pseudo, Stmt};
 use std::alloc::Global;
 
 /// Appends a copy of an item, if no negation after its place takes it back.
@@ -93,23 +90,6 @@ fn push_kept(
     push_items(alloc, kept, items.items(), last, place)
 }
 
-/// Appends those of the items of a statement, if it has any, that no negation after their place takes back. Most have none.
-#[inline(always)]
-fn push_statement(
-    alloc: Global,
-    kept: &mut ItemList,
-    items: Option<&Items>,
-    last: &LastPlaces,
-    place: usize,
-) -> Result<(), Memory>
-    ensures { OnOk result (kept.new ≡ kept.old ++ not_dropped (is_dropped last.now place) (λ i. i.name) (all_of (option_copied items.entry))) }
-{
-    match items {
-        Some(items) => push_kept(alloc, kept, items, last, place),
-        None => Ok(()),
-    }
-}
-
 /// Appends a file system, if no negation after its place takes it back.
 fn push_name(
     kept: &mut List<Name>,
@@ -140,74 +120,103 @@ fn push_names(
     Ok(())
 }
 
-/// Appends the pseudo-device of a statement, if no negation after its place takes it back.
+/// Appends a pseudo-device, if no negation after its place takes it back.
 fn push_pseudo(
     kept: &mut List<Pseudo>,
-    stmt: &Stmt,
+    name: &Name,
+    count: u32,
     last: &LastPlaces,
     place: usize,
 ) -> Result<(), Memory>
-    ensures { OnOk result (kept.new ≡ kept.old ++ not_dropped (is_dropped last.now place) (λ p. p.name) (pseudos_in stmt.now)) }
+    ensures { OnOk result (kept.new ≡ kept.old ++ not_dropped (is_dropped last.now place) (λ p. p.name) (record { name = name.now; count = count } ∷ [])) }
+{
+    if is_dropped(last, name, place) {
+        return Ok(());
+    }
+    kept.push(Pseudo {
+        name: name.clone()?,
+        count,
+    })
+}
+
+/// The items that no later negation takes back, by their kind.
+#[derive(Drop)]
+pub struct KeptItems {
+    pub pseudos: List<Pseudo>,
+    pub options: ItemList,
+    pub makeoptions: ItemList,
+    pub file_systems: List<Name>,
+}
+
+/// Appends those of the items of a statement, if it has any, that no negation after their place takes back. Most have none.
+#[inline(always)]
+fn push_statement(
+    alloc: Global,
+    kept: &mut KeptItems,
+    stmt: &Stmt,
+    last: &Negations,
+    place: usize,
+) -> Result<(), Memory>
+    ensures pseudos { OnOk result (kept.new.pseudos ≡ kept.old.pseudos
+        ++ not_dropped (is_dropped last.now.pseudos place) (λ p. p.name) (pseudos_in stmt.now)) }
+    ensures options { OnOk result (kept.new.options ≡ kept.old.options
+        ++ not_dropped (is_dropped last.now.options place) (λ i. i.name) (options_in stmt.now)) }
+    ensures makeoptions { OnOk result (kept.new.makeoptions ≡ kept.old.makeoptions
+        ++ not_dropped (is_dropped last.now.makeoptions place) (λ i. i.name) (makeoptions_in stmt.now)) }
+    ensures file_systems { OnOk result (kept.new.file_systems ≡ kept.old.file_systems
+        ++ not_dropped (is_dropped last.now.file_systems place) (λ n. n) (file_systems_in stmt.now)) }
 {
     match stmt {
         Stmt::PseudoDevice { name, count } => {
-            if !is_dropped(last, name, place) {
-                kept.push(Pseudo {
-                    name: name.clone()?,
-                    count: *count,
-                })?;
-            }
-            Ok(())
+            push_pseudo(&mut kept.pseudos, name, *count, &last.pseudos, place)
+        }
+        Stmt::Options { items } => {
+            push_kept(alloc, &mut kept.options, items, &last.options, place)
+        }
+        Stmt::MakeOptions { items } => {
+            push_kept(
+                alloc,
+                &mut kept.makeoptions,
+                items,
+                &last.makeoptions,
+                place,
+            )
+        }
+        Stmt::FileSystems { names } => {
+            push_names(
+                &mut kept.file_systems,
+                names.items(),
+                &last.file_systems,
+                place,
+            )
         }
         _ => Ok(()),
     }
 }
 
-/// The options, or the makeoptions, that no later negation takes back.
-pub fn kept_items(
-    alloc: Global,
-    kind: ItemKind,
-    placed: &[Placed],
-    last: &LastPlaces,
-) -> Result<ItemList, Memory>
-    requires { AreLast placed.now kind last.now }
-    ensures { IfOk result (λ kept. kept ≡ kept_items kind (items_in kind) (λ i. i.name) (stmts_of placed.now)) }
+/// No item.
+fn nothing_kept(alloc: Global) -> KeptItems
+    ensures { result ≡ record { pseudos = []; options = []; makeoptions = []; file_systems = [] } }
 {
-    let mut kept = ItemList::make(alloc);
-    for (i, p) in placed.iter().enumerate() {
-        push_statement(alloc, &mut kept, items_in(kind, &p.stmt), last, i)?;
+    KeptItems {
+        pseudos: List::make(alloc),
+        options: ItemList::make(alloc),
+        makeoptions: ItemList::make(alloc),
+        file_systems: List::make(alloc),
     }
-    Ok(kept)
 }
 
-/// The file systems that no later negation takes back.
-pub fn kept_file_systems(
-    alloc: Global,
-    placed: &[Placed],
-    last: &LastPlaces,
-) -> Result<List<Name>, Memory>
-    requires { AreLast placed.now of_kind.FileSystem last.now }
-    ensures { IfOk result (λ kept. kept ≡ kept_items of_kind.FileSystem file_systems_in (λ n. n) (stmts_of placed.now)) }
+/// The items that no later negation takes back, found in one walk.
+pub fn kept_items(alloc: Global, placed: &[Placed], last: &Negations) -> Result<KeptItems, Memory>
+    requires { AreNegations placed.now last.now }
+    ensures pseudos { IfOk result (λ kept. kept.pseudos ≡ kept_items of_kind.PseudoDevice pseudos_in (λ p. p.name) (stmts_of placed.now)) }
+    ensures options { IfOk result (λ kept. kept.options ≡ kept_items of_kind.Options options_in (λ i. i.name) (stmts_of placed.now)) }
+    ensures makeoptions { IfOk result (λ kept. kept.makeoptions ≡ kept_items of_kind.MakeOptions makeoptions_in (λ i. i.name) (stmts_of placed.now)) }
+    ensures file_systems { IfOk result (λ kept. kept.file_systems ≡ kept_items of_kind.FileSystem file_systems_in (λ n. n) (stmts_of placed.now)) }
 {
-    let mut kept = List::make(alloc);
+    let mut kept = nothing_kept(alloc);
     for (i, p) in placed.iter().enumerate() {
-        push_names(&mut kept, file_systems_in(&p.stmt), last, i)?;
-    }
-    Ok(kept)
-}
-
-/// The pseudo-devices that no later negation takes back.
-pub fn kept_pseudos(
-    alloc: Global,
-    placed: &[Placed],
-    last: &LastPlaces,
-) -> Result<List<Pseudo>, Memory>
-    requires { AreLast placed.now of_kind.PseudoDevice last.now }
-    ensures { IfOk result (λ kept. kept ≡ kept_items of_kind.PseudoDevice pseudos_in (λ p. p.name) (stmts_of placed.now)) }
-{
-    let mut kept = List::make(alloc);
-    for (i, p) in placed.iter().enumerate() {
-        push_pseudo(&mut kept, &p.stmt, last, i)?;
+        push_statement(alloc, &mut kept, &p.stmt, last, i)?;
     }
     Ok(kept)
 }

@@ -6,7 +6,6 @@ mod idle;
 mod kept;
 mod last;
 mod lists;
-mod parts;
 mod standing;
 
 pub use lists::{ItemLists, items};

@@ -5,9 +5,9 @@ ghost use Rattle.config_rules.specs.Meaning.{file_systems_in, idle_items, makeop
 ghost use Rattle.config_rules.specs.Select.{kept_items};
 
 use crate::idle::idle_items;
-use crate::kept::{kept_file_systems, kept_items, kept_pseudos};
+use crate::kept::{KeptItems, kept_items};
 use crate::last::last_negations;
-use cf_types::{ItemKind, ItemList, List, Memory, Name, Placed, Pseudo};
+use cf_types::{ItemList, List, Memory, Name, Placed, Pseudo};
 use std::alloc::Global;
 
 /// The items of a configuration that no later negation takes back, each list in the order of the statements, and the
@@ -33,11 +33,17 @@ pub fn items(alloc: Global, placed: &[Placed]) -> Result<ItemLists, Memory>
     ensures idle { IfOk result (λ lists. lists.idle ≡ idle_items [] (stmts_of placed.now)) }
 {
     let last = last_negations(alloc, placed)?;
+    let KeptItems {
+        pseudos,
+        options,
+        makeoptions,
+        file_systems,
+    } = kept_items(alloc, placed, &last)?;
     Ok(ItemLists {
-        pseudos: kept_pseudos(alloc, placed, &last.pseudos)?,
-        options: kept_items(alloc, ItemKind::Options, placed, &last.options)?,
-        makeoptions: kept_items(alloc, ItemKind::MakeOptions, placed, &last.makeoptions)?,
-        file_systems: kept_file_systems(alloc, placed, &last.file_systems)?,
+        pseudos,
+        options,
+        makeoptions,
+        file_systems,
         idle: idle_items(alloc, placed, &last)?,
     })
 }

@@ -1,7 +1,7 @@
 ghost use Rattle.std.specs.Prelude.{◌≡◌, ℕ, ◌&&◌, ◌||◌, List, false, true, not, map, bytes_eq, if◌then◌else◌, IfOk, OnOk};
 ghost use Rattle.cf_types.specs.declared.stmt.ItemKind.{ItemKind as Kind};
 ghost use Rattle.config_rules.specs.Select.{drops, has_name, item_names, same_kind};
-ghost use Rattle.cf_options.specs.ItemFlags.{flag_of, stands_in};
+ghost use Rattle.cf_options.specs.ItemFlags.{Sets, flag_of, stands_in};
 ghost use Rattle.cf_options.specs.Last.{is_behind, is_dropped, last_of};
 
 use crate::last::{LastPlaces, Negations, is_dropped};
@@ -60,7 +60,7 @@ fn set<'a>(
     name: &'a Name,
     stands: bool,
 ) -> Result<(), Memory>
-    ensures { OnOk result ((q : List ℕ) → is_dropped last.now place q ≡ true → flag_of flags.new q ≡ (if bytes_eq name.now q then stands else flag_of flags.old q)) }
+    ensures { OnOk result (Sets last.now place (bytes_eq name.now) stands flags.old flags.new) }
 {
     if !is_dropped(last, name, place) {
         return Ok(());
@@ -79,7 +79,7 @@ fn set_names<'a>(
     names: &'a [Name],
     stands: bool,
 ) -> Result<(), Memory>
-    ensures { OnOk result ((q : List ℕ) → is_dropped last.now place q ≡ true → flag_of flags.new q ≡ (if has_name names.now q then stands else flag_of flags.old q)) }
+    ensures { OnOk result (Sets last.now place (has_name names.now) stands flags.old flags.new) }
 {
     for name in names {
         set(flags, last, place, name, stands)?;
@@ -94,7 +94,8 @@ fn set_items<'a>(
     place: usize,
     items: &'a [Item],
 ) -> Result<(), Memory>
-    ensures { OnOk result ((q : List ℕ) → is_dropped last.now place q ≡ true → flag_of flags.new q ≡ (if has_name (map (λ i. i.name) items.now) q then true else flag_of flags.old q)) }
+    ensures { OnOk result ((q : List ℕ) → is_dropped last.now place q ≡ true
+        → flag_of flags.new q ≡ (if has_name (map (λ i. i.name) items.now) q then true else flag_of flags.old q)) }
 {
     for item in items {
         set(flags, last, place, &item.name, true)?;

@@ -17,12 +17,12 @@ use Rattle.config_rules.specs.Meaning.{own_unit, first_unit, device_rows, in_ord
 use Rattle.cf_types.specs.Numbers.{below}
 use Rattle.cf_rows.specs.Rows.{seen, UnitFits, AreGroups}
 
--- one more empty list
-pub empty_more : {X : Type 0} (lists : List (List X)) (more : List X) (d : ℕ) → ((k : ℕ) → get_or lists k [] ≡ []) → more ≡ [] → get_or (lists ++ more ∷ []) d [] ≡ []
-empty_more [] more zero h e = e
-empty_more [] more (suc d) h e = refl
-empty_more (x ∷ lists) more zero h e = h 0
-empty_more (x ∷ lists) more (suc d) h e = empty_more lists more d (λ k. h (suc k)) e
+-- one more place with nothing
+pub none_more : {X : Type 0} (xs : List (Option X)) (d : ℕ) → ((k : ℕ) → get_or xs k None ≡ None) → get_or (xs ++ None ∷ []) d None ≡ None
+none_more [] zero h = refl
+none_more [] (suc d) h = refl
+none_more (x ∷ xs) zero h = h 0
+none_more (x ∷ xs) (suc d) h = none_more xs d (λ k. h (suc k))
 
 -- one more instance
 pub seen_more : (refs : List (Bor Instance)) (i : ℕ) (r : Bor Instance) → i < length refs → r ≡ get_or refs i r → seen (take (i + 1) refs) ≡ seen (take i refs) ++ r.now ∷ []

@@ -235,3 +235,25 @@ merged_step files all placed place p made made1 made2 made3 negations names left
           ∙ ap (λ (ps : List Placed). made ++ warnings files all before ps) (sym here)
           ∙ kept.total;
     }
+
+-- where no place is left, no statement gets a warning
+none_left : (files : List (List ℕ)) (all : List Instance) (before : List Stmt) (placed : List Placed) → [] ≡ places_of idle_negations before (stmts_of placed) → [] ≡ places_of idle_names before (stmts_of placed) → AreLeft all [] (length before)
+    → warnings files all before placed ≡ []
+unfolding warnings
+none_left files all before [] negations names left = refl
+none_left files all before (p ∷ placed) negations names left =
+    let w = warning files p in
+    let n1 = places_step idle_negations (length before) before (stmts_of placed) p.stmt [] refl negations in
+    let n2 = places_step idle_names (length before) before (stmts_of placed) p.stmt [] refl names in
+    let o = orphans_step all [] (length before) left in
+    let further : AreLeft all [] (length (before ++ p.stmt ∷ [])) = subst (λ (n : ℕ). AreLeft all [] n) (sym (length-append before (p.stmt ∷ []))) o.1 in
+    let here : map w (idle before p.stmt ++ orphan all (length before)) ≡ [] =
+    parts_of files all before p 0 o.0
+    ∙ ap (λ k. (replicate k (w Nothing) ++ replicate (idle_names before p.stmt) (w Nothing)) ++ []) (sym n1.0)
+    ∙ ap (λ k. replicate k (w Nothing) ++ []) (sym n2.0) in
+    ap (λ (ws : List Warning). ws ++ warnings files all (before ++ p.stmt ∷ []) placed) here ∙ none_left files all (before ++ p.stmt ∷ []) placed n1.1 n2.1 further
+
+pub none_warned : (files : List (List ℕ)) (all : List Instance) (placed : List Placed) (negations names left : List ℕ) → negations ≡ [] → names ≡ [] → left ≡ []
+    → negations ≡ places_of idle_negations [] (stmts_of placed) → names ≡ places_of idle_names [] (stmts_of placed) → ArePlacesOfOrphans left all → warnings files all [] placed ≡ []
+none_warned files all placed negations names left a b c is are ordered =
+    none_left files all [] placed (sym a ∙ is) (sym b ∙ are) (subst (λ (places : List ℕ). AreLeft all places 0) c (all_left left all ordered))

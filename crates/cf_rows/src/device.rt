@@ -1,37 +1,60 @@
-ghost use Rattle.std.specs.Prelude.{◌≡◌, ℕ, ◌<◌, ◌==◌, [], length, filter, IfOk};
+ghost use Rattle.std.specs.Prelude.{◌≡◌, ℕ, ◌<◌, ◌==◌, [], ◌∷◌, ◌++◌, length, filter, None, IfOk, OnOk};
 ghost use Rattle.std.specs.List.{slice_index_or};
+ghost use Rattle.std.specs.Option.{unwrap_or};
 ghost use Rattle.cf_rows.specs.Rows.{seen};
 
-use cf_types::{Instance, List, Memory};
+use crate::group::Group;
+use cf_types::{Instance, Memory};
 use std::alloc::Global;
 
-/// This many empty lists.
-fn empty_lists<'a>(alloc: Global, count: u32) -> Result<Vec<List<&'a Instance>>, Memory>
-    ensures size { IfOk result (λ lists. length lists.items ≡ count) }
-    ensures empty { IfOk result (λ lists. (d : ℕ) → slice_index_or lists.items d [] ≡ []) }
+/// No instance for this many devices.
+fn no_groups<'a>(alloc: Global, count: u32) -> Result<Vec<Option<Group<'a>>>, Memory>
+    ensures size { IfOk result (λ groups. length groups.items ≡ count) }
+    ensures empty { IfOk result (λ groups. (d : ℕ) → slice_index_or groups.items d None ≡ None) }
 {
-    let mut lists = Vec::new(alloc);
+    let mut groups = Vec::with_capacity(alloc, count as usize)?;
     for _device in 0..count {
-        lists.push(List::make(alloc))?;
+        groups.push(None)?;
     }
-    Ok(lists)
+    Ok(groups)
 }
 
-/// The instances of each device below `devices`, in order.
+/// Adds an instance to those of its device.
+fn add_own<'a>(
+    alloc: Global,
+    own: &mut Option<Group<'a>>,
+    instance: &'a Instance,
+) -> Result<(), Memory>
+    ensures { OnOk result (unwrap_or own.new [] ≡ unwrap_or own.old [] ++ instance.entry ∷ []) }
+{
+    match own {
+        Some(group) => group.push(instance),
+        None => {
+            *own = Some(Group::make(alloc, instance));
+            Ok(())
+        }
+    }
+}
+
+/// The instances of each device below `devices`, in order. Most devices have one or none, which needs no list.
 pub fn by_device<'a>(
     alloc: Global,
     devices: u32,
     instances: &[&'a Instance],
-) -> Result<Vec<List<&'a Instance>>, Memory>
-    ensures size { IfOk result (λ lists. length lists.items ≡ devices) }
-    ensures own { IfOk result (λ lists. (d : ℕ) → d < devices → seen (slice_index_or lists.items d []) ≡ filter (λ i. i.joined.device == d) (seen instances.now)) }
+) -> Result<Vec<Option<Group<'a>>>, Memory>
+    ensures size { IfOk result (λ groups. length groups.items ≡ devices) }
+    ensures own { IfOk result (λ groups. (d : ℕ) → d < devices
+        → seen (unwrap_or (slice_index_or groups.items d None) []) ≡ filter (λ i. i.joined.device == d) (seen instances.now)) }
 {
-    let mut lists = empty_lists(alloc, devices)?;
+    let mut groups = no_groups(alloc, devices)?;
     for instance in instances {
         if instance.joined.device < devices {
-            let own = &mut lists[instance.joined.device as usize];
-            own.push(*instance)?;
+            add_own(
+                alloc,
+                &mut groups[instance.joined.device as usize],
+                instance,
+            )?;
         }
     }
-    Ok(lists)
+    Ok(groups)
 }

@@ -1,4 +1,4 @@
-ghost use Rattle.std.specs.Prelude.{◌≡◌, ◌≤◌, ◌==◌, ◌++◌, [], drop, length, replicate, IfOk, OnOk};
+ghost use Rattle.std.specs.Prelude.{◌≡◌, ◌≤◌, ◌==◌, ◌++◌, [], drop, length, replicate, IfOk, IsTrue, OnOk};
 ghost use Rattle.std.specs.List.{prefix_len, slice_index_or};
 ghost use Rattle.config_rules.specs.Meaning.{warning, warnings};
 ghost use Rattle.cf_rows.specs.Idle.{ArePlacesOfNegations, ArePlacesOfNames, ArePlacesOfOrphans};
@@ -118,6 +118,17 @@ pub struct Warned<'a> {
     pub orphans: &'a [u32],
 }
 
+impl Warned<'_> {
+    /// Whether no statement gets a warning.
+    fn is_none(&self) -> bool
+        ensures instances { IsTrue result → self.now.instances.now ≡ [] }
+        ensures items { IsTrue result → self.now.items.now ≡ [] }
+        ensures orphans { IsTrue result → self.now.orphans.now ≡ [] }
+    {
+        self.instances.is_empty() && self.items.is_empty() && self.orphans.is_empty()
+    }
+}
+
 /// No warning, with room for one for each of these places.
 fn room_for(alloc: Global, warned: &Warned) -> Result<List<Warning>, Memory>
     ensures { IfOk result (λ made. made ≡ []) }
@@ -167,6 +178,9 @@ pub fn warnings(
     requires items { ArePlacesOfNames warned.now.items.now placed.now }
     ensures { IfOk result (λ made. (insts : _) → ArePlacesOfOrphans warned.now.orphans.now insts → made ≡ warnings files.now insts [] placed.now) }
 {
+    if warned.is_none() {
+        return Ok(List::make(alloc));
+    }
     let names = shared_names(alloc, files)?;
     merged(alloc, names.items(), placed, warned)
 }

@@ -110,21 +110,25 @@ fn units_ascend(own: &[&Instance]) -> bool
     true
 }
 
-/// The instances of a device in the order of their rows.
-pub fn in_order<'a>(alloc: Global, own: &[&'a Instance]) -> Result<Vec<&'a Instance>, Memory>
+/// Replaces the list by the instances of a device in the order of their rows.
+pub fn put_in_order<'a>(
+    alloc: Global,
+    ordered: &mut Vec<&'a Instance>,
+    own: &[&'a Instance],
+) -> Result<(), Memory>
     requires { All UnitFits (seen own.now) }
-    ensures { IfOk result (λ ordered. seen ordered.items ≡ in_order (seen own.now)) }
+    ensures { OnOk result (seen ordered.new.items ≡ in_order (seen own.now)) }
 {
-    let mut ordered = Vec::with_capacity(alloc, own.len())?;
+    ordered.clear();
     if units_ascend(own) {
-        push_fixed(&mut ordered, own)?;
-        push_starred(&mut ordered, own)?;
-        return Ok(ordered);
+        push_fixed(ordered, own)?;
+        push_starred(ordered, own)?;
+        return Ok(());
     }
     let groups = by_unit(alloc, own)?;
     for group in &groups {
-        group.append_to(&mut ordered)?;
+        group.append_to(ordered)?;
     }
-    push_starred(&mut ordered, own)?;
-    Ok(ordered)
+    push_starred(ordered, own)?;
+    Ok(())
 }

@@ -15,9 +15,9 @@ use Rattle.cf_types.proofs.TestLemmas.{equal_itself}
 use Rattle.cf_types.specs.Gather.{is_in}
 use Rattle.config_rules.specs.Select.{Rooted, AreRooted, is_at_root, is_at_root_at}
 use Rattle.config_rules.proofs.RootedLaws.{Closed, closed_marks}
-use Rattle.cf_select.specs.declared.instance.Inst.{Inst}
+use Rattle.cf_types.specs.declared.instance.Instance.{Instance}
 use Rattle.cf_select.specs.declared.want.Want.{Want}
-use Rattle.cf_select.specs.Carried.{inst_of}
+use Rattle.config_rules.specs.Meaning.{inst_of}
 use Rattle.cf_select.specs.Reached.{AllRooted, AreMarked, AreWaiting, AreWithin, Serves}
 use Rattle.cf_select.specs.Wanted.{wants, wants_at}
 use Rattle.std.specs.Option.{option_map_or}
@@ -94,15 +94,15 @@ spread_all at_root carries wanted n w m o next h r =
 
 -- ---- the marks at the start
 
-pub root_read : (insts : List Inst) (i : ℕ) → get_or (map (λ x. is_at_root (inst_of x)) insts) i false ≡ is_at_root_at (map inst_of insts) i
+pub root_read : (insts : List Instance) (i : ℕ) → get_or (map (λ x. is_at_root (inst_of x)) insts) i false ≡ is_at_root_at (map inst_of insts) i
 root_read [] i = refl
 root_read (x ∷ insts) zero = refl
 root_read (x ∷ insts) (suc i) = root_read insts i
 
-pub roots_marked : (insts : List Inst) (marks : List Bool) (i : ℕ) → marks ≡ map (λ x. is_at_root (inst_of x)) insts → is_at_root_at (map inst_of insts) i ≡ true → get_or marks i false ≡ true
+pub roots_marked : (insts : List Instance) (marks : List Bool) (i : ℕ) → marks ≡ map (λ x. is_at_root (inst_of x)) insts → is_at_root_at (map inst_of insts) i ≡ true → get_or marks i false ≡ true
 roots_marked insts marks i e root = ap (λ xs. get_or xs i false) e ∙ root_read insts i ∙ root
 
-pub marked_roots : (carries : ℕ → ℕ → Bool) (insts : List Inst) (marks : List Bool) → marks ≡ map (λ x. is_at_root (inst_of x)) insts → AllRooted (is_at_root_at (map inst_of insts)) carries (length insts) marks
+pub marked_roots : (carries : ℕ → ℕ → Bool) (insts : List Instance) (marks : List Bool) → marks ≡ map (λ x. is_at_root (inst_of x)) insts → AllRooted (is_at_root_at (map inst_of insts)) carries (length insts) marks
 marked_roots carries insts marks e = record {
   as_many = ap length e ∙ length-map insts (λ x. is_at_root (inst_of x));
   sound = λ i h m. ([], (h, sym (root_read insts i) ∙ ap (λ xs. get_or xs i false) (sym e) ∙ m));
@@ -112,16 +112,16 @@ marked_roots carries insts marks e = record {
 pub read_at : (xs : List ℕ) (i r : ℕ) → i < length xs → r ≡ get_or xs i r → r ≡ get_or xs i 0
 read_at xs i r h e = e ∙ get_or_default xs i r 0 h
 
-pub known_at : (graph : Shape) (insts : List Inst) (n : ℕ) (i : Inst) → All (λ x. x.device < length graph.devices) insts → slice_get insts n ≡ Some i → i.device < length graph.devices
+pub known_at : (graph : Shape) (insts : List Instance) (n : ℕ) (i : Instance) → All (λ x. x.joined.device < length graph.devices) insts → slice_get insts n ≡ Some i → i.joined.device < length graph.devices
 known_at graph insts n i known is = elim (slice_get_cases insts n).1 [
-  | inl e ↦ (let P : Inst → Type 0 = λ x. x.device < length graph.devices in
+  | inl e ↦ (let P : Instance → Type 0 = λ x. x.joined.device < length graph.devices in
       let same : e.0 ≡ i = cc (is, e.2) in
       subst P same (subst P e.3 (All-get_or P insts n e.0 e.1 known)))
   | inr e ↦ (let no_way : Some i ≡ None = sym is ∙ e.1 in absurd (cc))
 ]
 
 -- what an instance waits for has a mark
-pub wanted_within : (insts : List Inst) (marks : List Bool) (q : Want) (x : ℕ) (so : Bool) → length marks ≡ length insts → so ≡ wants_at (map inst_of insts) q x → so ≡ true → x < length marks
+pub wanted_within : (insts : List Instance) (marks : List Bool) (q : Want) (x : ℕ) (so : Bool) → length marks ≡ length insts → so ≡ wants_at (map inst_of insts) q x → so ≡ true → x < length marks
 wanted_within insts marks q x so size is so_is = elim (slice_get_cases (map inst_of insts) x).1 [
   | inl e ↦ omega (arith, e.1, size, length-map insts inst_of)
   | inr e ↦ (let none : wants_at (map inst_of insts) q x ≡ false = ap (λ i. option_map_or (λ j. wants j q) i false) e.1 in

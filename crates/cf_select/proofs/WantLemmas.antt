@@ -11,7 +11,7 @@ use Rattle.std.proofs.lemmas.List.{take_more, map-append, length-map, length-tak
 use Rattle.std.proofs.Math.Bool.{or-false, and-false}
 use Rattle.cf_types.proofs.TestLemmas.{equal_turned}
 use Rattle.config_rules.specs.Select as select
-use Rattle.cf_select.specs.declared.instance.Inst.{Inst}
+use Rattle.cf_types.specs.declared.instance.Instance.{Instance}
 use Rattle.cf_select.specs.declared.want.Want.{Want}
 use Rattle.cf_types.specs.declared.stmt.UnitMark.{UnitMark}
 use Rattle.cf_types.specs.declared.stmt.UnitMark.TheVariants.{Fixed, Star}
@@ -24,7 +24,8 @@ use Rattle.config_rules.specs.Select.{carries, carries_at, is_parent, offers_pla
 use Rattle.attr_graph.specs.Reach.{Shape}
 use Rattle.cf_select.specs.declared.want.Carrier.{Carrier}
 use Rattle.cf_select.specs.declared.want.Carrier.TheVariants as carrier
-use Rattle.cf_select.specs.Carried.{inst_of, offered_in}
+use Rattle.cf_select.specs.Carried.{offered_in}
+use Rattle.config_rules.specs.Meaning.{inst_of}
 use Rattle.cf_select.specs.Wanted.{asks, carriers_of, is_at, own_of, wants, wants_at, wants_of}
 
 and_true : (a : Bool) → (a && true) ≡ a
@@ -47,23 +48,24 @@ at_append t [] y (suc x) = sym (ap (λ b. t y && b) (eq_past x) ∙ and-false (t
 at_append t (z ∷ xs) y zero = sym (ap (λ b. t z || (t y && b)) (eq_front (length xs)) ∙ ap (λ b. t z || b) (and-false (t y)) ∙ or-false (t z))
 at_append t (z ∷ xs) y (suc x) = at_append t xs y x ∙ sym (ap (λ b. option_map_or t (slice_get xs x) false || (t y && b)) (eq_next (length xs) x))
 
-pub wants_more : (insts : List Inst) (i : ℕ) (d : Inst) (q : Want) (x : ℕ) (now next : Bool) → i < length insts → now ≡ wants_at (map inst_of (take i insts)) q x
-    → next ≡ (now || (wants (inst_of (get_or insts i d)) q && (i == x))) → next ≡ wants_at (map inst_of (take (i + 1) insts)) q x
-wants_more insts i d q x now next h so_far new =
+pub wants_more : (insts : List Instance) (i : ℕ) (here : Instance) (q : Want) (x : ℕ) (now next : Bool) → i < length insts → here ≡ get_or insts i here → now ≡ wants_at (map inst_of (take i insts)) q x
+    → next ≡ (now || (wants (inst_of here) q && (i == x))) → next ≡ wants_at (map inst_of (take (i + 1) insts)) q x
+wants_more insts i here q x now next h is so_far new =
     let front = map inst_of (take i insts) in
     let size : length front ≡ i = length-map (take i insts) inst_of ∙ length-take-le i insts (omega arith) in
-    let more : wants_at (map inst_of (take (i + 1) insts)) q x ≡ (wants_at front q x || (wants (inst_of (get_or insts i d)) q && (i == x))) =
-    ap (λ xs. wants_at xs q x) (ap (map inst_of) (take_more insts i d h) ∙ map-append inst_of (take i insts) (get_or insts i d ∷ []))
-    ∙ at_append (λ j. wants j q) front (inst_of (get_or insts i d)) x
-    ∙ ap (λ n. wants_at front q x || (wants (inst_of (get_or insts i d)) q && (n == x))) size in
-    new ∙ ap (λ b. b || (wants (inst_of (get_or insts i d)) q && (i == x))) so_far ∙ sym more
+    let more : wants_at (map inst_of (take (i + 1) insts)) q x ≡ (wants_at front q x || (wants (inst_of here) q && (i == x))) =
+    ap (λ xs. wants_at xs q x) (ap (map inst_of) (take_more insts i here h) ∙ map-append inst_of (take i insts) (get_or insts i here ∷ []) ∙ ap (λ (one : Instance). map inst_of (take i insts) ++ inst_of one ∷ []) (sym is))
+    ∙ at_append (λ j. wants j q) front (inst_of here) x
+    ∙ ap (λ n. wants_at front q x || (wants (inst_of here) q && (n == x))) size in
+    new ∙ ap (λ b. b || (wants (inst_of here) q && (i == x))) so_far ∙ sym more
 
 -- one more instance, with its attribute noted
-pub noted_more : (insts : List Inst) (i : ℕ) (d : Inst) (q : Want) (x : ℕ) (old new : List Bool) → i < length insts → (wants_at (map inst_of (take i insts)) q x ≡ true → slice_index_or old q.attr false ≡ true)
-    → (wants (inst_of (get_or insts i d)) q ≡ true → slice_index_or new q.attr false ≡ true) → (slice_index_or old q.attr false ≡ true → slice_index_or new q.attr false ≡ true)
+pub noted_more : (insts : List Instance) (i : ℕ) (here : Instance) (q : Want) (x : ℕ) (old new : List Bool) → i < length insts → here ≡ get_or insts i here
+    → (wants_at (map inst_of (take i insts)) q x ≡ true → slice_index_or old q.attr false ≡ true)
+    → (wants (inst_of here) q ≡ true → slice_index_or new q.attr false ≡ true) → (slice_index_or old q.attr false ≡ true → slice_index_or new q.attr false ≡ true)
     → wants_at (map inst_of (take (i + 1) insts)) q x ≡ true → slice_index_or new q.attr false ≡ true
-noted_more insts i d q x old new h so_far own kept now =
-    either (wants_at (map inst_of (take i insts)) q x) (wants (inst_of (get_or insts i d)) q) (i == x) (λ e. kept (so_far e)) own (wants_more insts i d q x _ _ h refl refl ∙ now)
+noted_more insts i here q x old new h is so_far own kept now =
+    either (wants_at (map inst_of (take i insts)) q x) (wants (inst_of here) q) (i == x) (λ e. kept (so_far e)) own (wants_more insts i here q x _ _ h is refl refl ∙ now)
   where
     either : (a b c : Bool) → {A : Type 0} → (a ≡ true → A) → (b ≡ true → A) → (a || (b && c)) ≡ true → A
     either true b c f g e = f refl
@@ -153,5 +155,5 @@ pub carried_wants : (graph : Shape) (insts : List select.Inst) (n : ℕ) (j : se
     → list_any (λ q. wants_at insts q x) (wants_of j (interfaces_of graph.attrs (slice_index_or graph.devices j.device []))) ≡ carries_at (offered_in graph) insts n x
 carried_wants graph insts n j x is = carried_or_none graph j (slice_get insts x) ∙ sym (ap (λ o. option_map_or (λ z. option_map_or (λ y. carries (offered_in graph) z y) (slice_get insts x) false) o false) is)
 
-pub inst_got : (insts : List Inst) (n : ℕ) (i : Inst) → slice_get insts n ≡ Some i → slice_get (map inst_of insts) n ≡ Some (inst_of i)
+pub inst_got : (insts : List Instance) (n : ℕ) (i : Instance) → slice_get insts n ≡ Some i → slice_get (map inst_of insts) n ≡ Some (inst_of i)
 inst_got insts n i is = slice_get-map inst_of insts n ∙ ap (λ o. option_map inst_of o) is

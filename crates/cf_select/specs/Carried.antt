@@ -1,22 +1,11 @@
 -- Which instance can carry which, by a graph of attributes and devices.
-use Rattle.std.specs.Prelude.{ℕ, Bool, if◌then◌else◌, List, [], length}
+use Rattle.std.specs.Prelude.{ℕ, Bool, List, [], length}
 use Rattle.std.specs.List.{slice_index_or}
 use Rattle.attr_graph.specs.Reach.{Shape}
-use Rattle.cf_types.specs.declared.stmt.UnitMark.{UnitMark}
-use Rattle.cf_types.specs.declared.stmt.UnitMark.TheVariants.{Fixed, Star}
 use Rattle.cf_types.specs.Gather.{is_in}
 use Rattle.cf_types.specs.Offers.{interfaces_of}
 use Rattle.config_rules.specs.Select as select
 use Rattle.config_rules.specs.Select.{AreRooted, carries_at, is_at_root_at}
-use Rattle.cf_select.specs.declared.instance.Inst.{Inst}
-
--- the unit, or that it is starred
-abbrev pub mark_of : Inst → UnitMark
-mark_of i = if i.star then Star else Fixed i.unit
-
--- the instance as the rules see it
-abbrev pub inst_of : Inst → select.Inst
-inst_of i = record { device = i.device; mark = mark_of i; place = i.place; parent = i.parent }
 
 -- what a device offers, as the graph has it
 abbrev pub interfaces_in : Shape → ℕ → List ℕ

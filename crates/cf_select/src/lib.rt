@@ -2,7 +2,6 @@
 //! config(5).
 #![tactic(auto)]
 
-mod instance;
 mod lists;
 mod marks;
 mod named;
@@ -13,6 +12,5 @@ mod waiting;
 mod want;
 mod wants;
 
-pub use instance::Inst;
 pub use marks::rooted;
-pub use standing::{Kept, survivors};
+pub use standing::{SurvivingInstances, survivors};

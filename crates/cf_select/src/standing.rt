@@ -22,7 +22,7 @@ use std::collections::HashMap;
 
 /// Which statements are instances that survive, and which negations of instances take back nothing.
 #[derive(Drop)]
-pub struct Kept {
+pub struct SurvivingInstances {
     /// One truth value for each placed statement: true for an instance that no later negation names.
     pub kept: List<bool>,
     /// The places of the negations of instances that take nothing back.
@@ -146,13 +146,13 @@ fn lists_for<'a>(alloc: Global, placed: &[Placed]) -> Result<HashMap<Named<'a>, 
 
 /// Which of at most 65,536 placed statements are instances that survive, and which negations of instances take back
 /// nothing. The only error is `Memory`. See config(5).
-pub fn survivors(alloc: Global, placed: &[Placed]) -> Result<Kept, Memory>
+pub fn survivors(alloc: Global, placed: &[Placed]) -> Result<SurvivingInstances, Memory>
     requires { length placed.now ≤ 65536 }
     ensures kept { IfOk result (λ it. it.kept ≡ kept (stmts_of placed.now)) }
     ensures idle { IfOk result (λ it. it.idle ≡ idle_insts [] (stmts_of placed.now)) }
 {
     if !negate_instances(placed) {
-        return Ok(Kept {
+        return Ok(SurvivingInstances {
             kept: all_instances(alloc, placed)?,
             idle: List::make(alloc),
         });
@@ -167,7 +167,7 @@ pub fn survivors(alloc: Global, placed: &[Placed]) -> Result<Kept, Memory>
         free.push(true)?;
     }
     keep_instances(placed, &mut free);
-    Ok(Kept {
+    Ok(SurvivingInstances {
         kept: List::from_vec(free),
         idle,
     })

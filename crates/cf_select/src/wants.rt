@@ -1,42 +1,42 @@
 ghost use Rattle.std.specs.Prelude.{◌≡◌, ℕ, ◌&&◌, ◌||◌, ◌==◌, true, false, [], ◌∷◌, length, map, IfOk, OnOk};
 ghost use Rattle.std.specs.List.{slice_index_or};
-ghost use Rattle.cf_select.specs.Carried.{inst_of};
+ghost use Rattle.config_rules.specs.Meaning.{inst_of};
 ghost use Rattle.cf_select.specs.Wanted.{carriers_of, waits, wants, wants_at};
 ghost use Rattle.cf_select.specs.declared.want.Carrier.TheVariants.{Any, Of};
 ghost use Rattle.cf_select.specs.declared.want.Want.{Want as Wanted};
 
-use crate::instance::Inst;
 use crate::lists::push_place;
 use crate::places::Places;
 use crate::waiting::Waiting;
 use crate::want::{Carrier, Want};
-use cf_types::{Memory, ParentSpec, Place};
+use cf_types::{Instance, Memory, ParentSpec, Place, UnitMark};
 use std::alloc::Global;
 use std::collections::HashMap;
 
 /// The carrier that an instance is, for those that name a parent with a unit.
-pub fn own_carrier(inst: &Inst) -> Carrier
-    ensures { carriers_of (inst_of inst.now) ≡ Any ∷ Of inst.now.device ∷ result ∷ [] }
+pub fn own_carrier(instance: &Instance) -> Carrier
+    ensures { carriers_of (inst_of instance.now) ≡ Any ∷ Of instance.now.joined.device ∷ result ∷ [] }
 {
-    if inst.star {
-        return Carrier::Starred(inst.device);
+    let device = instance.joined.device;
+    match instance.mark {
+        UnitMark::Fixed(unit) => Carrier::Unit(device, unit),
+        UnitMark::Star => Carrier::Starred(device),
     }
-    Carrier::Unit(inst.device, inst.unit)
 }
 
 /// Adds an instance to those that wait for the carriers that it asks for.
 fn put(
     alloc: Global,
     waiting: &mut HashMap<Want, Places>,
-    inst: &Inst,
+    instance: &Instance,
     place: usize,
 ) -> Result<(), Memory>
-    ensures { OnOk result ((q : Want) (x : ℕ) → waits waiting.new q x ≡ (waits waiting.old q x || (wants (inst_of inst.now) q && place == x))) }
+    ensures { OnOk result ((q : Want) (x : ℕ) → waits waiting.new q x ≡ (waits waiting.old q x || (wants (inst_of instance.now) q && place == x))) }
 {
-    let Place::At(attr) = inst.place else {
+    let Place::At(attr) = instance.joined.place else {
         return Ok(());
     };
-    let carrier = match inst.parent {
+    let carrier = match instance.joined.parent {
         None => Carrier::Any,
         Some(ParentSpec { device, unit: None }) => Carrier::Of(device),
         Some(
@@ -57,12 +57,12 @@ fn put(
 }
 
 /// The places of the instances by what they wait for.
-fn lists_of(alloc: Global, insts: &[Inst]) -> Result<HashMap<Want, Places>, Memory>
-    ensures { IfOk result (λ lists. (q : Want) (x : ℕ) → waits lists q x ≡ wants_at (map inst_of insts.now) q x) }
+fn lists_of(alloc: Global, instances: &[Instance]) -> Result<HashMap<Want, Places>, Memory>
+    ensures { IfOk result (λ lists. (q : Want) (x : ℕ) → waits lists q x ≡ wants_at (map inst_of instances.now) q x) }
 {
     let mut lists = HashMap::new(alloc);
-    for (place, inst) in insts.iter().enumerate() {
-        put(alloc, &mut lists, inst, place)?;
+    for (place, instance) in instances.iter().enumerate() {
+        put(alloc, &mut lists, instance, place)?;
     }
     Ok(lists)
 }
@@ -80,32 +80,32 @@ fn note(noted: &mut Vec<bool>, attr: u32) -> Result<(), Memory>
 }
 
 /// Notes the attribute at whose place an instance is.
-fn note_place(noted: &mut Vec<bool>, inst: &Inst) -> Result<(), Memory>
-    ensures wanted { OnOk result ((q : Want) → wants (inst_of inst.now) q ≡ true → slice_index_or noted.new.items q.attr false ≡ true) }
+fn note_place(noted: &mut Vec<bool>, instance: &Instance) -> Result<(), Memory>
+    ensures wanted { OnOk result ((q : Want) → wants (inst_of instance.now) q ≡ true → slice_index_or noted.new.items q.attr false ≡ true) }
     ensures kept { OnOk result ((a : ℕ) → slice_index_or noted.old.items a false ≡ true → slice_index_or noted.new.items a false ≡ true) }
 {
-    match inst.place {
+    match instance.joined.place {
         Place::At(attr) => note(noted, attr),
         Place::Root => Ok(()),
     }
 }
 
 /// For each attribute whether an instance waits for a carrier that offers it.
-fn noted_attrs(alloc: Global, insts: &[Inst]) -> Result<Vec<bool>, Memory>
-    ensures { IfOk result (λ noted. (q : Want) (x : ℕ) → wants_at (map inst_of insts.now) q x ≡ true → slice_index_or noted.items q.attr false ≡ true) }
+fn noted_attrs(alloc: Global, instances: &[Instance]) -> Result<Vec<bool>, Memory>
+    ensures { IfOk result (λ noted. (q : Want) (x : ℕ) → wants_at (map inst_of instances.now) q x ≡ true → slice_index_or noted.items q.attr false ≡ true) }
 {
     let mut noted = Vec::new(alloc);
-    for inst in insts {
-        note_place(&mut noted, inst)?;
+    for instance in instances {
+        note_place(&mut noted, instance)?;
     }
     Ok(noted)
 }
 
 /// The places of the instances by what they wait for.
-pub fn waiting_lists(alloc: Global, insts: &[Inst]) -> Result<Waiting, Memory>
-    ensures { IfOk result (λ waiting. (q : Want) (x : ℕ) → waits waiting.lists q x ≡ wants_at (map inst_of insts.now) q x) }
+pub fn waiting_lists(alloc: Global, instances: &[Instance]) -> Result<Waiting, Memory>
+    ensures { IfOk result (λ waiting. (q : Want) (x : ℕ) → waits waiting.lists q x ≡ wants_at (map inst_of instances.now) q x) }
 {
-    let lists = lists_of(alloc, insts)?;
-    let noted = noted_attrs(alloc, insts)?;
+    let lists = lists_of(alloc, instances)?;
+    let noted = noted_attrs(alloc, instances)?;
     Ok(Waiting { lists, noted })
 }

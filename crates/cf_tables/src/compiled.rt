@@ -85,8 +85,8 @@ impl Compiled {
         &self.graph
     }
 
-    /// The tables and their graph.
-    pub fn into_parts(self) -> (Tables, Graph)
+    /// The tables, their graph, and the statements that went with them.
+    pub fn into_parts(self) -> (Tables, Graph, List<Placed>)
         ensures tables { result.0 ≡ self }
         ensures graph { IsGraphOf (declared_by self) result.1 }
     {
@@ -95,16 +95,16 @@ impl Compiled {
             graph,
             placed,
         } = self;
-        drop(placed);
-        (tables, graph)
+        (tables, graph, placed)
     }
 
     /// The tables alone.
     pub fn into_tables(self) -> Tables
         ensures { result ≡ self }
     {
-        let (tables, graph) = self.into_parts();
+        let (tables, graph, placed) = self.into_parts();
         drop(graph);
+        drop(placed);
         tables
     }
 }

@@ -8,7 +8,7 @@ use Rattle.cf_types.specs.declared.stmt.Piece.{Piece}
 use Rattle.file_rules.specs.Condition.{Disjunction, is_true, nesting}
 use Rattle.file_rules.specs.Sources.{HasForm, IsCondition, Source, condition_in, is_tail, path_in, tail_in}
 use Rattle.file_select.specs.Findings.{Finds, JudgesOptional}
-use Rattle.file_select.specs.declared.condition.Verdict.TheVariants.{NoForm, TooDeep, Value}
+use Rattle.file_select.specs.declared.condition.ConditionAnswer.TheVariants.{NoForm, TooDeep, Value}
 use Rattle.file_select.specs.declared.statement.Finding.TheVariants.{Bad, Good}
 
 pub prefix_within : {X : Type 0} (p : X → Bool) (xs : List X) → prefix_len p xs ≤ length xs

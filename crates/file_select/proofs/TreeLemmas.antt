@@ -8,10 +8,10 @@ use Rattle.config_rules.specs.Form.{each}
 use Rattle.file_rules.specs.Condition.{Symbol, Word, Not, And, Or, Open, Close, Disjunction, one_of, either, Conjunction, all_of, both, Term, named, negated, grouped, Cond, symbol_of, spelled, spelled_conjunction, spelled_term, is_true, is_true_conjunction, is_true_term, nesting, nesting_conjunction, nesting_term}
 use Rattle.file_rules.specs.Sources.{IsCondition}
 use Rattle.file_select.specs.Findings.{Judges, JudgesOptional}
-use Rattle.file_select.specs.Steps.{State, valued, deeper, fresh, value_of, with_term, with_not, step, start, run, verdict_of}
+use Rattle.file_select.specs.Steps.{State, valued, deeper, fresh, value_of, with_term, with_not, step, start, run, answer_of}
 use Rattle.file_select.specs.declared.condition.Level.{Level}
-use Rattle.file_select.specs.declared.condition.Verdict.{Verdict}
-use Rattle.file_select.specs.declared.condition.Verdict.TheVariants.{NoForm, TooDeep, Value}
+use Rattle.file_select.specs.declared.condition.ConditionAnswer.{ConditionAnswer}
+use Rattle.file_select.specs.declared.condition.ConditionAnswer.TheVariants.{NoForm, TooDeep, Value}
 use Rattle.file_select.specs.declared.symbol.Symbol.{Symbol as Read}
 
 -- ---- numbers and tests
@@ -255,12 +255,12 @@ module _ (test : List ℕ → Bool) where
           let deep : nat_lt 64 (nesting d) ≡ false = sym (ap (λ (s : State). s.deep) k) ∙ is in
           (d, c, grind (arith, nat_tests, deep), ap (λ (s : State). value_of s.level) k ∙ value-ended false d 0)
 
-  by_end : (ps : List Piece) (outer : List Level) (level : Level) (wants deep : Bool) → run test ps start ≡ Some (at outer level wants deep) → Judges test ps (verdict_of (at outer level wants deep))
+  by_end : (ps : List Piece) (outer : List Level) (level : Level) (wants deep : Bool) → run test ps start ≡ Some (at outer level wants deep) → Judges test ps (answer_of (at outer level wants deep))
   by_end ps outer level true deep e = unread ps (at outer level true deep) e (λ o w. absurd (cc))
   by_end ps (o ∷ outer) level false deep e = unread ps (at (o ∷ outer) level false deep) e (λ o w. absurd (cc))
   by_end ps [] level false deep e = by_depth ps (at [] level false deep) deep refl e refl refl
 
-  pub judged : (ps : List Piece) (t : State) → Some t ≡ run test ps start → Judges test ps (verdict_of t)
+  pub judged : (ps : List Piece) (t : State) → Some t ≡ run test ps start → Judges test ps (answer_of t)
   judged ps t e = by_end ps t.outer t.level t.wants t.deep (sym e)
 
   -- one piece more
@@ -297,7 +297,7 @@ module _ (test : List ℕ → Bool) where
   not_missing ps some h None = some
   not_missing ps some h (Some d) = h d
 
-  pub optional_judged : (ps : List Piece) (v : Verdict) → ¬ (ps ≡ []) → Judges test ps v → JudgesOptional test ps v
+  pub optional_judged : (ps : List Piece) (v : ConditionAnswer) → ¬ (ps ≡ []) → Judges test ps v → JudgesOptional test ps v
   optional_judged ps NoForm some h = not_missing ps some h
   optional_judged ps TooDeep some (d, c, deep) = (Some d, c, deep)
   optional_judged ps (Value value) some (d, c, depth, is) = (Some d, c, depth, is)
@@ -305,6 +305,6 @@ module _ (test : List ℕ → Bool) where
   not_nil : (ps : List Piece) → false ≡ (length ps == 0) → ¬ (ps ≡ [])
   not_nil ps h e = let k : (length ps == 0) ≡ true = ap (λ qs. length qs == 0) e in absurd (cc)
 
-  pub optional_ok : {E : Type 0} (ps : List Piece) (r : Result Verdict E) → false ≡ (length ps == 0) → IfOk r (Judges test ps) → IfOk r (JudgesOptional test ps)
+  pub optional_ok : {E : Type 0} (ps : List Piece) (r : Result ConditionAnswer E) → false ≡ (length ps == 0) → IfOk r (Judges test ps) → IfOk r (JudgesOptional test ps)
   optional_ok ps (Ok v) some h = optional_judged ps v (not_nil ps some) h
   optional_ok ps (Err e) some h = tt

@@ -4,19 +4,19 @@ use Rattle.std.specs.Option.{option_map_or}
 use Rattle.cf_types.specs.declared.stmt.Piece.{Piece}
 use Rattle.file_rules.specs.Condition.{Cond, Disjunction, is_true, nesting}
 use Rattle.file_rules.specs.Sources.{HasCode, IsCondition, IsSource, Source, is_selected}
-use Rattle.file_select.specs.declared.condition.Verdict.{Verdict}
-use Rattle.file_select.specs.declared.condition.Verdict.TheVariants.{NoForm, TooDeep, Value}
+use Rattle.file_select.specs.declared.condition.ConditionAnswer.{ConditionAnswer}
+use Rattle.file_select.specs.declared.condition.ConditionAnswer.TheVariants.{NoForm, TooDeep, Value}
 use Rattle.file_select.specs.declared.statement.Finding.{Finding}
 use Rattle.file_select.specs.declared.statement.Finding.TheVariants.{Bad, Good}
 
 -- no condition, one that nests too deep, or its value
-abbrev pub Judges : (List ℕ → Bool) → List Piece → Verdict → Type 0
+abbrev pub Judges : (List ℕ → Bool) → List Piece → ConditionAnswer → Type 0
 Judges test ps NoForm = (d : Disjunction) → ¬ Cond ps d
 Judges test ps TooDeep = (d : Disjunction) × Cond ps d × (64 < nesting d)
 Judges test ps (Value value) = (d : Disjunction) × Cond ps d × (nesting d ≤ 64) × (value ≡ is_true test d)
 
 -- the same of what may be missing, which is true then
-abbrev pub JudgesOptional : (List ℕ → Bool) → List Piece → Verdict → Type 0
+abbrev pub JudgesOptional : (List ℕ → Bool) → List Piece → ConditionAnswer → Type 0
 JudgesOptional test ps NoForm = (condition : Option Disjunction) → ¬ IsCondition ps condition
 JudgesOptional test ps TooDeep = (condition : Option Disjunction) × IsCondition ps condition × (64 < option_map_or nesting condition 0)
 JudgesOptional test ps (Value value) =

@@ -5,8 +5,8 @@ use Rattle.config_rules.specs.Form.{given, is_mark, ◌or◌}
 use Rattle.file_rules.specs.Condition as rules
 use Rattle.file_rules.specs.Condition.{symbol_of}
 use Rattle.file_select.specs.declared.condition.Level.{Level}
-use Rattle.file_select.specs.declared.condition.Verdict.{Verdict}
-use Rattle.file_select.specs.declared.condition.Verdict.TheVariants.{NoForm, TooDeep, Value}
+use Rattle.file_select.specs.declared.condition.ConditionAnswer.{ConditionAnswer}
+use Rattle.file_select.specs.declared.condition.ConditionAnswer.TheVariants.{NoForm, TooDeep, Value}
 use Rattle.file_select.specs.declared.symbol.Symbol.{Symbol}
 use Rattle.file_select.specs.declared.symbol.Symbol.TheVariants as symbol
 
@@ -74,8 +74,8 @@ abbrev pub start : State
 start = record { outer = []; level = fresh 0; wants = true; deep = false }
 
 -- what was read, at its end
-abbrev pub verdict_of : State → Verdict
-verdict_of s = if s.wants || not (is_empty s.outer) then NoForm else (if s.deep then TooDeep else Value (value_of s.level))
+abbrev pub answer_of : State → ConditionAnswer
+answer_of s = if s.wants || not (is_empty s.outer) then NoForm else (if s.deep then TooDeep else Value (value_of s.level))
   where
     is_empty : List Level → Bool
     is_empty [] = true

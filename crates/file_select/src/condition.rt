@@ -3,7 +3,7 @@
 ghost use Rattle.std.specs.Prelude.{◌≡◌, true, false, IfOk};
 ghost use Rattle.config_rules.specs.Select.{has_name};
 ghost use Rattle.file_select.specs.Findings.{Judges};
-ghost use Rattle.file_select.specs.Steps.{closed, deeper, fresh, opened, run, start, step, value_of, verdict_of, with_not, with_or, with_term, with_word};
+ghost use Rattle.file_select.specs.Steps.{closed, deeper, fresh, opened, run, start, step, value_of, answer_of, with_not, with_or, with_term, with_word};
 
 use crate::symbol::{Symbol, symbol_of, word_of};
 use crate::texts::TextSet;
@@ -237,22 +237,22 @@ impl Evaluation {
     }
 
     /// What was read, at its end.
-    fn verdict(&self) -> Verdict
-        ensures { result ≡ verdict_of self.now }
+    fn answer(&self) -> ConditionAnswer
+        ensures { result ≡ answer_of self.now }
     {
         if self.wants_term || !self.outer.is_empty() {
-            return Verdict::NoForm;
+            return ConditionAnswer::NoForm;
         }
         if self.is_deep {
-            return Verdict::TooDeep;
+            return ConditionAnswer::TooDeep;
         }
-        Verdict::Value(self.level.value())
+        ConditionAnswer::Value(self.level.value())
     }
 }
 
 /// What a condition is found to be.
 #[derive(Clone, Copy)]
-pub enum Verdict {
+pub enum ConditionAnswer {
     /// It is not a condition.
     NoForm,
     /// More parentheses and `!` are open at a name than may be.
@@ -283,11 +283,15 @@ fn evaluate(
 }
 
 /// What these tokens are as a condition, if these names are true.
-pub fn judge(alloc: Global, names: &TextSet, pieces: &[PieceView<'_>]) -> Result<Verdict, Memory>
+pub fn judge(
+    alloc: Global,
+    names: &TextSet,
+    pieces: &[PieceView<'_>],
+) -> Result<ConditionAnswer, Memory>
     ensures { IfOk result (Judges (has_name names.now) pieces.now) }
 {
     match evaluate(alloc, names, pieces)? {
-        Some(read) => Ok(read.verdict()),
-        None => Ok(Verdict::NoForm),
+        Some(read) => Ok(read.answer()),
+        None => Ok(ConditionAnswer::NoForm),
     }
 }

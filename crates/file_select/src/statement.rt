@@ -7,7 +7,7 @@ ghost use Rattle.config_rules.specs.Select.{has_name};
 ghost use Rattle.file_rules.specs.Sources.{condition_in, ends_condition, file_pieces, is_flag, is_rule, is_tail, path_in};
 ghost use Rattle.file_select.specs.Findings.{Finds, JudgesOptional};
 
-use crate::condition::{Verdict, judge};
+use crate::condition::{ConditionAnswer, judge};
 use crate::symbol::word_of;
 use crate::texts::TextSet;
 use cf_types::code::configuration as code;
@@ -103,11 +103,11 @@ fn judge_optional(
     alloc: Global,
     names: &TextSet,
     pieces: &[PieceView<'_>],
-) -> Result<Verdict, Memory>
+) -> Result<ConditionAnswer, Memory>
     ensures { IfOk result (JudgesOptional (has_name names.now) pieces.now) }
 {
     if pieces.is_empty() {
-        return Ok(Verdict::Value(true));
+        return Ok(ConditionAnswer::Value(true));
     }
     judge(alloc, names, pieces)
 }
@@ -144,8 +144,8 @@ pub fn find(alloc: Global, names: &TextSet, pieces: &[PieceView<'_>]) -> Result<
         return Ok(Finding::Bad(code::NO_CONDITION));
     }
     match judge_optional(alloc, names, condition)? {
-        Verdict::NoForm => Ok(Finding::Bad(code::NO_CONDITION)),
-        Verdict::TooDeep => Ok(Finding::Bad(code::TOO_DEEP)),
-        Verdict::Value(selected) => Ok(Finding::Good(selected)),
+        ConditionAnswer::NoForm => Ok(Finding::Bad(code::NO_CONDITION)),
+        ConditionAnswer::TooDeep => Ok(Finding::Bad(code::TOO_DEEP)),
+        ConditionAnswer::Value(selected) => Ok(Finding::Good(selected)),
     }
 }

@@ -1,1 +1,2 @@
+mod NumberText
 pub mod SeekLemmas

@@ -1,8 +1,8 @@
 ghost use Rattle.std.specs.Prelude.{◌≡◌, ◌++◌, [], OnOk, map, codes};
 ghost use Rattle.config_rules.specs.Listing.{spaced, default_text, locator_text, attr_line, attr_name, offers_text, device_text, attach_line, place_name};
 
-use crate::word::{put_attr_name, put_device_name, put_place};
-use cf_types::{Attach, Attr, Device, Locator, Memory, Place, Tables, put_decimal};
+use crate::word::{put_assigned, put_attr_name, put_device_name, put_place};
+use cf_types::{Attach, Attr, Device, Locator, Memory, Place, Tables};
 
 /// A locator with its default.
 fn put_default(out: &mut Vec<u8>, locator: &Locator, default: i64) -> Result<(), Memory>
@@ -12,8 +12,7 @@ fn put_default(out: &mut Vec<u8>, locator: &Locator, default: i64) -> Result<(),
         out.push(b'[')?;
     }
     out.extend_from_slice(locator.name.bytes())?;
-    out.push(b'=')?;
-    put_decimal(out, default)?;
+    put_assigned(out, default)?;
     if locator.optional {
         out.push(b']')?;
     }

@@ -1,21 +1,33 @@
-ghost use Rattle.std.specs.Prelude.{◌≡◌, ◌<◌, ◌++◌, OnOk, map, codes, length, pos};
+ghost use Rattle.std.specs.Prelude.{◌≡◌, ◌<◌, ◌++◌, OnOk, map, codes, decimal, length, pos, if◌then◌else◌};
+ghost use Rattle.std.specs.Fmt.{signed_decimal};
 ghost use Rattle.std.specs.List.{enumerate_from, slice_index_or};
 ghost use Rattle.config_rules.specs.Listing.{spaced, parent_text, at_text, row_name, row_head, row_tail, row_line, locator_name, value_text, values_text};
 
 use crate::word::{
-    put_attach_name, put_attr_name, put_device_name, put_number, put_place, put_unit,
+    put_assigned, put_attach_name, put_attr_name, put_device_name, put_number, put_place, put_unit,
 };
 use cf_types::{Locator, Memory, ParentSpec, Place, Row, Tables, put_decimal};
 use locator_rules::locators_at;
+
+/// The unit of a row, or the first one that a starred row may take: 0 for most of these.
+#[tactic(auto, using(crate::proofs::NumberText::zero_decimal))]
+fn put_row_unit(out: &mut Vec<u8>, row: &Row) -> Result<(), Memory>
+    ensures { OnOk result (out.new.items ≡ out.old.items ++ (if row.now.star then codes "* from " ++ decimal row.now.unit else decimal row.now.unit)) }
+{
+    if row.star {
+        if row.unit == 0 {
+            return Ok(out.extend_from_slice(b"* from 0")?);
+        }
+        out.extend_from_slice(b"* from ")?;
+    }
+    put_decimal(out, i64::from(row.unit))
+}
 
 fn put_row_name(out: &mut Vec<u8>, tables: &Tables, row: &Row) -> Result<(), Memory>
     ensures { OnOk result (out.new.items ≡ out.old.items ++ row_name tables.now row.now) }
 {
     put_device_name(out, tables, row.device)?;
-    if row.star {
-        out.extend_from_slice(b"* from ")?;
-    }
-    put_decimal(out, i64::from(row.unit))
+    put_row_unit(out, row)
 }
 
 /// What a row attaches to, below an attribute.
@@ -57,8 +69,7 @@ fn put_value(out: &mut Vec<u8>, locators: &[Locator], n: usize, value: i64) -> R
     ensures { OnOk result (out.new.items ≡ out.old.items ++ value_text locators.now (n, value)) }
 {
     put_locator_name(out, locators, n)?;
-    out.push(b'=')?;
-    put_decimal(out, value)
+    put_assigned(out, value)
 }
 
 /// The value at a place.
@@ -95,6 +106,18 @@ fn put_row_head(out: &mut Vec<u8>, tables: &Tables, n: usize, row: &Row) -> Resu
     put_at(out, tables, row)
 }
 
+/// The flags, which are 0 in most rows.
+#[tactic(auto, using(crate::proofs::NumberText::zero_text))]
+fn put_flags(out: &mut Vec<u8>, flags: i64) -> Result<(), Memory>
+    ensures { OnOk result (out.new.items ≡ out.old.items ++ (codes " flags " ++ signed_decimal flags)) }
+{
+    if flags == 0 {
+        return Ok(out.extend_from_slice(b" flags 0")?);
+    }
+    out.extend_from_slice(b" flags ")?;
+    put_decimal(out, flags)
+}
+
 fn put_row_tail(out: &mut Vec<u8>, tables: &Tables, row: &Row) -> Result<(), Memory>
     ensures { OnOk result (out.new.items ≡ out.old.items ++ row_tail tables.now row.now) }
 {
@@ -103,8 +126,7 @@ fn put_row_tail(out: &mut Vec<u8>, tables: &Tables, row: &Row) -> Result<(), Mem
     out.extend_from_slice(b" on ")?;
     put_place(out, tables, row.place)?;
     put_values(out, locators_at(tables, row.place), row.locs.items())?;
-    out.extend_from_slice(b" flags ")?;
-    put_decimal(out, row.flags)
+    put_flags(out, row.flags)
 }
 
 pub fn put_row(out: &mut Vec<u8>, tables: &Tables, n: usize, row: &Row) -> Result<(), Memory>

@@ -1,4 +1,5 @@
-ghost use Rattle.std.specs.Prelude.{◌≡◌, ◌++◌, OnOk, decimal};
+ghost use Rattle.std.specs.Prelude.{◌≡◌, ◌++◌, OnOk, codes, decimal};
+ghost use Rattle.std.specs.Fmt.{signed_decimal};
 ghost use Rattle.config_rules.specs.Listing.{attr_name, device_name, attach_name, place_name, unit_text};
 
 use cf_types::{Memory, Place, Tables, put_decimal};
@@ -56,4 +57,19 @@ pub fn put_number(out: &mut Vec<u8>, number: usize) -> Result<(), Memory>
     let mut digits = Buffer::new();
     out.extend_from_slice(digits.format(number).as_bytes())?;
     Ok(())
+}
+
+/// `=` and a value. Most values are -1 or 0, whose digits need not be made.
+#[tactic(auto, using(crate::proofs::NumberText::zero_text, crate::proofs::NumberText::minus_one_text))]
+pub fn put_assigned(out: &mut Vec<u8>, value: i64) -> Result<(), Memory>
+    ensures { OnOk result (out.new.items ≡ out.old.items ++ (codes "=" ++ signed_decimal value)) }
+{
+    if value == -1 {
+        return Ok(out.extend_from_slice(b"=-1")?);
+    }
+    if value == 0 {
+        return Ok(out.extend_from_slice(b"=0")?);
+    }
+    out.push(b'=')?;
+    put_decimal(out, value)
 }

@@ -4,7 +4,7 @@ pub returns : goal.returns
 returns c d is =
     record {
       marks = c.in_ok-marks.marks;
-      is_rooted = c.in_ok-marks.ensures d is;
+      is_rooted = c.in_ok-marks.ensures.tables d is;
       rooted = rw c.items.ensures at c.in_ok-split_by_marks.ensures.rooted;
       orphans = rw c.items.ensures at c.in_ok-split_by_marks.ensures.orphans;
     }

@@ -15,11 +15,11 @@ returns-in-Refused c =
 pub returns-in-Some : goal.returns-in-Some
 returns-in-Some c =
     let r : Reading = record (read_from c.args.files.now c.args.placed.now) { fault = c.args.fault } in
-    let judged : Judges c.args.files.now c.args.placed.now (Accepted c.in-Accepted.standing) = rw c.in-Accepted.is at c.in_ok-refusal.ensures in
+    let judged : Judges c.args.files.now c.args.placed.now (Accepted c.in-Accepted.selection) = rw c.in-Accepted.is at c.in_ok-refusal.ensures in
     fault_in_ends r judged.0 ∙ c.in-Some.is
 
 pub returns : goal.returns
 returns c =
     let r : Reading = record (read_from c.args.files.now c.args.placed.now) { fault = c.args.fault } in
-    let judged : Judges c.args.files.now c.args.placed.now (Accepted c.in-Accepted.standing) = rw c.in-Accepted.is at c.in_ok-refusal.ensures in
-    (fault_in_ends r judged.0 ∙ c.in-None.is, c.in_ok-tables_of_standing-in-None.ensures)
+    let judged : Judges c.args.files.now c.args.placed.now (Accepted c.in-Accepted.selection) = rw c.in-Accepted.is at c.in_ok-refusal.ensures in
+    (fault_in_ends r judged.0 ∙ c.in-None.is, c.in_ok-tables_of_selection-in-None.ensures)

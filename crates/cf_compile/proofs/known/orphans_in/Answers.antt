@@ -7,6 +7,6 @@ use Rattle.cf_compile.proofs.known.orphans_in.Goals as goal
 
 pub split_by_root-requires : goal.split_by_root-requires
 split_by_root-requires c =
-    devices_in_graph c.args.standing.declarations c.into_parts-declared.result.1 c.items.result.now
+    devices_in_graph c.args.selection.declarations c.into_parts-declared.result.1 c.items.result.now
     (subst (λ (d : Declared). IsGraphOf d c.into_parts-declared.result.1) c.into_parts-declared.ensures.lists c.into_parts-declared.ensures.graph)
-    (subst (λ (is : List Instance). All (λ x. x.joined.device < length c.args.standing.declarations.devices) is) (sym c.items.ensures) c.requires)
+    (subst (λ (is : List Instance). All (λ x. x.joined.device < length c.args.selection.declarations.devices) is) (sym c.items.ensures) c.requires)

@@ -1,6 +1,6 @@
 use Rattle.std.proofs.Common.{◌∙◌, Option, ℕ, ap, rules}
 use Rattle.std.specs.Prelude.{unwrap_or}
-use Rattle.cf_names.specs.Numbers.{number_in}
+use Rattle.cf_names.specs.NameNumbers.{number_in}
 use Rattle.cf_names.proofs.NumberLemmas.{next_name}
 use Rattle.cf_names.proofs.numbers.add_name.Goals as goal
 

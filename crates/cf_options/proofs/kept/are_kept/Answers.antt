@@ -1,4 +1,4 @@
-use Rattle.std.proofs.Common.{◌≡◌, ◌∙◌, ap, not, sym, true}
+use Rattle.std.proofs.Common.{ap, not, sym}
 use Rattle.cf_options.specs.Last.{is_dropped}
 use Rattle.cf_types.specs.declared.stmt.Item.{Item}
 use Rattle.cf_options.proofs.KeptLemmas.{kept_all, kept_step}

@@ -14,7 +14,7 @@ loop-instance-preserved c =
 
 pub returns : goal.returns
 returns c =
-    let ordered : seen c.deref-instance-items.result.now ≡ in_order (seen c.args.own.now) = ap seen c.deref-instance-items.ensures.value ∙ c.in_ok-ordered.ensures in
+    let ordered : seen c.deref-instance-items.result.now ≡ in_order (seen c.args.own.now) = ap seen c.deref-instance-items.ensures.value ∙ c.in_ok-put_in_order.ensures in
     c.loop-instance.invariant
     ∙ ap (λ (xs : List Instance). c.args.rows.now ++ map (row c.first_unit-first.result) xs) (ap seen (take_all c.loop-instance.instance-index c.deref-instance-items.result.now c.loop-instance-test.false) ∙ ordered)
     ∙ ap (λ (n : ℕ). c.args.rows.now ++ map (row n) (in_order (seen c.args.own.now))) c.first_unit-first.ensures

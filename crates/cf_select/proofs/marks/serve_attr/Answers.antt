@@ -1,5 +1,5 @@
 use Rattle.std.proofs.Common.{refl}
-use Rattle.cf_select.specs.Carried.{inst_of}
+use Rattle.config_rules.specs.Meaning.{inst_of}
 use Rattle.cf_select.proofs.ReachedLemmas.{serves_then}
 use Rattle.cf_select.proofs.WantLemmas.{three_wants}
 use Rattle.cf_select.proofs.marks.serve_attr.Goals as goal
@@ -13,4 +13,4 @@ serve_want-requires-3 c = c.in_ok-serve_want-2.ensures.within
 pub returns : goal.returns
 returns c =
     serves_then _ _ _ _ _ _ _ _ _ _ _ _ (serves_then _ _ _ _ _ _ _ _ _ _ _ _ c.in_ok-serve_want.ensures c.in_ok-serve_want-2.ensures refl) c.in_ok-serve_want-3.ensures
-    (three_wants (inst_of c.args.inst.now) c.args.attr c.own_carrier-own.result c.own_carrier-own.ensures)
+    (three_wants (inst_of c.args.instance.now) c.args.attr c.own_carrier-own.result c.own_carrier-own.ensures)

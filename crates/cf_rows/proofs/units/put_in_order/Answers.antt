@@ -4,10 +4,7 @@ use Rattle.std.proofs.lemmas.List.{take_all}
 use Rattle.cf_types.specs.declared.instance.Instance.{Instance}
 use Rattle.cf_rows.specs.Rows.{seen, starred}
 use Rattle.cf_rows.proofs.RowLemmas.{seen_groups}
-use Rattle.cf_rows.proofs.units.in_order.Goals as goal
-
-pub loop-group-init : goal.loop-group-init
-loop-group-init c = ap seen c.in_ok-ordered.ensures.items
+use Rattle.cf_rows.proofs.units.put_in_order.Goals as goal
 
 pub loop-group-preserved : goal.loop-group-preserved
 loop-group-preserved c =

@@ -1,6 +1,6 @@
 use Rattle.std.proofs.Common.{◌∙◌}
 use Rattle.cf_compile.proofs.CompileLaws.{graph_of_meant}
-use Rattle.cf_compile.proofs.compiler.tables_of_standing.Goals as goal
+use Rattle.cf_compile.proofs.compiler.tables_of_selection.Goals as goal
 
 pub make-requires : goal.make-requires
 make-requires c =
