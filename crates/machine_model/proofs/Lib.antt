@@ -5,3 +5,4 @@ pub mod SpotLemmas
 pub mod DriverLemmas
 pub mod MachineLemmas
 pub mod SeenLemmas
+pub mod LocatedLemmas

@@ -1,5 +1,5 @@
 -- One more name among names that are found by slots.
-use Rattle.std.proofs.Common.{◌≡◌, ℕ, zero, suc, ◌+◌, ◌-◌, ◌<◌, ◌≤◌, ◌≢◌, ◌⊎◌, inl, inr, Bool, true, false, cond, List, [], ◌∷◌, ◌++◌, length, get_or, map, refl, ap, sym, ◌∙◌, subst, arith, Option, Some, None, bytes_eq, length-append}
+use Rattle.std.proofs.Common.{◌≡◌, ℕ, zero, suc, ◌+◌, ◌-◌, ◌<◌, ◌≤◌, ◌⊎◌, inl, inr, Bool, true, false, cond, List, [], ◌∷◌, ◌++◌, length, get_or, map, refl, ap, sym, ◌∙◌, subst, arith, Option, Some, None, bytes_eq, length-append}
 use Rattle.std.specs.Prelude.{◌==◌, is_some, position, replicate, slice_get, slice_index, slice_set}
 use Rattle.std.specs.Hash.FoldHasher as folding
 use Rattle.std.specs.Borrow.{Bor}
@@ -13,8 +13,8 @@ use Rattle.cf_types.proofs.PlaceLemmas.{position-map}
 use Rattle.machine_model.specs.declared.names.Names.{Names}
 use Rattle.machine_model.specs.declared.names.TheConstants.{FREE}
 use Rattle.machine_model.specs.Names.{AreNames, HaveNames, HaveSlots, held, number_if, number_of, slot_of}
-use Rattle.machine_model.specs.Numbers.{AreInOrder, IsWith}
-use Rattle.machine_model.specs.Numbers as numbered
+use Rattle.machine_model.specs.NumberedNames.{AreInOrder, IsWith}
+use Rattle.machine_model.specs.NumberedNames as numbered
 use Rattle.machine_model.proofs.NumberLemmas.{position_push}
 
 -- ---- what one more name leaves

@@ -15,11 +15,11 @@ use Rattle.std.proofs.lemmas.List.Folds.{find-append, list_any-append}
 use Rattle.std.proofs.lemmas.List.Sorted.{ranks_by, searchable_from_sorted}
 use Rattle.std.proofs.lemmas.Map.Text.{is_eq-slice_cmp}
 use Rattle.std.proofs.lemmas.Slice.Eq.{bytes_eq-Decides}
-use Rattle.cf_types.proofs.PlaceLemmas.{position_cons, position_found, position_kept, position_new, position_within, position-map}
+use Rattle.cf_types.proofs.PlaceLemmas.{position_cons, position_found, position_kept, position_new, position_within}
 use Rattle.config_rules.specs.MachineText.{differ, is_one}
 use Rattle.config_rules.proofs.MachineLaws.{differ_push}
 use Rattle.machine_model.specs.declared.numbers.Numbered.{Numbered}
-use Rattle.machine_model.specs.Numbers.{AreInOrder, HaveNumbers, IsPlaceOf, IsWith, comes_before, number_in}
+use Rattle.machine_model.specs.NumberedNames.{AreInOrder, HaveNumbers, IsPlaceOf, IsWith, comes_before, number_in}
 
 -- ---- the place of a name
 

@@ -4,11 +4,11 @@ use Rattle.cf_types.specs.declared.machine.Machine.{Machine}
 use Rattle.cf_types.specs.declared.machine.Spot.{Spot}
 use Rattle.config_rules.specs.Formed.{CountedTables}
 use Rattle.machine_model.specs.declared.draft.Draft.{Draft}
-use Rattle.machine_model.specs.declared.index.Index.{Index}
+use Rattle.machine_model.specs.declared.index.TableNames.{TableNames}
 use Rattle.machine_model.specs.Names.{AreNames}
 
 -- counted tables, with the names of their attributes and attachments
-pub record IsIndex (index : Index) : Type 0 where
+pub record IsIndex (index : TableNames) : Type 0 where
   pub counted : CountedTables index.tables.now
   pub attrs : AreNames index.attrs (map (λ a. a.name) index.tables.now.attrs)
   pub attaches : AreNames index.attaches (map (λ a. a.name) index.tables.now.attaches)

@@ -4,8 +4,8 @@ use Rattle.std.specs.Borrow.{Bor}
 use Rattle.std.specs.Hash.FoldHasher as folding
 use Rattle.machine_model.specs.declared.names.Names.{Names}
 use Rattle.machine_model.specs.declared.names.TheConstants.{FREE}
-use Rattle.machine_model.specs.Numbers.{AreInOrder}
-use Rattle.machine_model.specs.Numbers as numbered
+use Rattle.machine_model.specs.NumberedNames.{AreInOrder}
+use Rattle.machine_model.specs.NumberedNames as numbered
 
 -- the slot of a name among so many
 abbrev pub slot_of : ℕ → List ℕ → ℕ

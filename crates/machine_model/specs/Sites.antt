@@ -8,7 +8,7 @@ use Rattle.cf_types.specs.Lookups.{spot_number}
 use Rattle.config_rules.specs.Form.{given, ◌or◌}
 use Rattle.config_rules.specs.MachineText.{GivenValue, depth_of, found_fault, found_value, is_one, spot_above, spot_locators, spot_place}
 use Rattle.machine_model.specs.declared.draft.Draft.{Draft}
-use Rattle.machine_model.specs.declared.spot.Site.{Site}
+use Rattle.machine_model.specs.declared.spot.SpotSite.{SpotSite}
 use Rattle.machine_model.specs.Names.{number_of, slot_of}
 
 -- the first code of a name, a parent and an attribute
@@ -26,7 +26,7 @@ found_fault_at spots above locs found =
     or given (nat_lt 64 (depth_of (length spots) spots above)) TOO_DEEP)
 
 -- where a spot of these words hangs, and the slot of its name, which is new
-pub record IsSite (t : Tables) (draft : Draft) (name parent attr : List ℕ) (site : Site) : Type 0 where
+pub record IsSite (t : Tables) (draft : Draft) (name parent attr : List ℕ) (site : SpotSite) : Type 0 where
   pub above : site.above ≡ spot_above draft.machine.spots parent
   pub place : spot_place t parent attr ≡ Some site.place
   pub locators : site.locators.now ≡ spot_locators t parent attr
@@ -34,7 +34,7 @@ pub record IsSite (t : Tables) (draft : Draft) (name parent attr : List ℕ) (si
   pub slot : site.slot ≡ slot_of (length draft.names.slots.items) name
 
 -- the spot at a site
-abbrev pub spot_at : Site → List ℕ → List GivenValue → List (List ℕ) → Spot
+abbrev pub spot_at : SpotSite → List ℕ → List GivenValue → List (List ℕ) → Spot
 spot_at site name found marks = record {
   name = name;
   parent = site.above;

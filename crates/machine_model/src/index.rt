@@ -9,7 +9,7 @@ use std::alloc::Global;
 
 /// Tables, with the names of their attributes and attachments.
 #[derive(Drop)]
-pub struct Index<'t> {
+pub struct TableNames<'t> {
     pub tables: &'t Tables,
     pub attrs: Names<'t>,
     pub attaches: Names<'t>,
@@ -40,12 +40,12 @@ fn attach_names<'t>(alloc: Global, attaches: &'t [Attach]) -> Result<Names<'t>, 
 }
 
 /// The tables with their names.
-pub fn index_of<'t>(alloc: Global, tables: &'t Tables) -> Result<Index<'t>, Memory>
+pub fn index_of<'t>(alloc: Global, tables: &'t Tables) -> Result<TableNames<'t>, Memory>
     requires { CountedTables tables.now }
     ensures index { IfOk result (λ index. IsIndex index) }
     ensures tables { IfOk result (λ index. index.tables.now ≡ tables.now) }
 {
-    Ok(Index {
+    Ok(TableNames {
         tables,
         attrs: attr_names(alloc, tables.attrs.items())?,
         attaches: attach_names(alloc, tables.attaches.items())?,

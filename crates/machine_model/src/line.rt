@@ -10,7 +10,7 @@ ghost use Rattle.machine_text.specs.Words.{seen};
 
 use crate::draft::Draft;
 use crate::driver::add_policies;
-use crate::index::Index;
+use crate::index::TableNames;
 use crate::locator::{FoundValue, count_located, given_values, names_differ};
 use crate::lookup::{attach_number, interface_number, spot_number};
 use crate::names::insert;
@@ -60,7 +60,7 @@ fn add_spot_named<'t>(
 /// Adds `spot NAME PARENT ATTR`, with its locators and marks.
 fn add_spot<'t>(
     alloc: Global,
-    index: &Index,
+    index: &TableNames,
     draft: &mut Draft<'t>,
     name: &'t [u8],
     parent: &[u8],
@@ -105,7 +105,7 @@ fn matched_spot(draft: &Draft, word: &[u8]) -> Option<Option<u16>>
 
 /// Adds `match ATTACHMENT SPOT V`.
 fn add_match(
-    index: &Index,
+    index: &TableNames,
     draft: &mut Draft,
     attach: &[u8],
     spot: &[u8],
@@ -149,7 +149,7 @@ fn is_style(word: &[u8]) -> bool
 
 /// Adds `style ATTACHMENT ATTR direct` or `indirect`.
 fn add_style(
-    index: &Index,
+    index: &TableNames,
     draft: &mut Draft,
     attach: &[u8],
     attr: &[u8],
@@ -190,7 +190,7 @@ fn is_driver(words: &[&[u8]]) -> bool
 /// Adds `driver ATTACHMENT` and one or more policies.
 fn add_driver(
     alloc: Global,
-    index: &Index,
+    index: &TableNames,
     draft: &mut Draft,
     attach: &[u8],
     policies: &[&[u8]],
@@ -216,7 +216,7 @@ fn add_driver(
 /// Adds what follows `spot`.
 fn add_spot_line<'t>(
     alloc: Global,
-    index: &Index,
+    index: &TableNames,
     draft: &mut Draft<'t>,
     words: &[&'t [u8]],
 ) -> Result<(), LineStop>
@@ -234,7 +234,7 @@ fn add_spot_line<'t>(
 }
 
 /// Adds what follows `match`.
-fn add_match_line(index: &Index, draft: &mut Draft, words: &[&[u8]]) -> Result<(), LineStop>
+fn add_match_line(index: &TableNames, draft: &mut Draft, words: &[&[u8]]) -> Result<(), LineStop>
     requires index { IsIndex index.now }
     requires draft { IsDraft draft.old }
     ensures left { Leaves (after_line index.now.tables.now draft.old.machine (match_line (seen words.now))) result draft.new.machine }
@@ -247,7 +247,7 @@ fn add_match_line(index: &Index, draft: &mut Draft, words: &[&[u8]]) -> Result<(
 }
 
 /// Adds what follows `style`.
-fn add_style_line(index: &Index, draft: &mut Draft, words: &[&[u8]]) -> Result<(), LineStop>
+fn add_style_line(index: &TableNames, draft: &mut Draft, words: &[&[u8]]) -> Result<(), LineStop>
     requires index { IsIndex index.now }
     requires draft { IsDraft draft.old }
     ensures left { Leaves (after_line index.now.tables.now draft.old.machine (style_line (seen words.now))) result draft.new.machine }
@@ -262,7 +262,7 @@ fn add_style_line(index: &Index, draft: &mut Draft, words: &[&[u8]]) -> Result<(
 /// Adds what follows `driver`.
 fn add_driver_line(
     alloc: Global,
-    index: &Index,
+    index: &TableNames,
     draft: &mut Draft,
     words: &[&[u8]],
 ) -> Result<(), LineStop>
@@ -280,7 +280,7 @@ fn add_driver_line(
 /// Adds what follows the first word of a line.
 fn add_rest<'t>(
     alloc: Global,
-    index: &Index,
+    index: &TableNames,
     draft: &mut Draft<'t>,
     word: &[u8],
     rest: &[&'t [u8]],
@@ -308,7 +308,7 @@ fn add_rest<'t>(
 /// Adds what a line of these words says; nothing if there are none.
 pub fn add_words<'t>(
     alloc: Global,
-    index: &Index,
+    index: &TableNames,
     draft: &mut Draft<'t>,
     words: &[&'t [u8]],
 ) -> Result<(), LineStop>

@@ -1,14 +1,14 @@
-ghost use Rattle.std.specs.Prelude.{◌≡◌, ◌==◌, IfOk, false, length, map, not, option_map, take_while};
-ghost use Rattle.std.specs.List.{after_first, before_first, list_any};
+ghost use Rattle.std.specs.Prelude.{◌≡◌, ◌==◌, IfOk, false, length, map, option_map, position};
+ghost use Rattle.std.specs.List.{list_any};
 ghost use Rattle.std.specs.Option.{option_map_or};
 ghost use Rattle.config_rules.specs.Form.{each};
-ghost use Rattle.config_rules.specs.MachineText.{differ, located_value, is_located, is_one, located};
+ghost use Rattle.config_rules.specs.MachineText.{differ, located_value, is_one, located};
 ghost use Rattle.machine_model.specs.Found.{given_of, names_of};
-ghost use Rattle.machine_model.specs.Numbers.{AreNumbers};
-ghost use Rattle.machine_model.specs.Numbers as numbered;
+ghost use Rattle.machine_model.specs.NumberedNames.{AreNumbers};
+ghost use Rattle.machine_model.specs.NumberedNames as numbered;
 ghost use Rattle.machine_text.specs.Words.{seen};
 
-use crate::numbers::{Numbers, number_in, push, put_in_order};
+use crate::numbers::{NumberedNames, number_in, push, put_in_order};
 use crate::word::ranged;
 use cf_types::Memory;
 use smallvec::SmallVec;
@@ -30,45 +30,26 @@ fn has_equals(word: &[u8]) -> bool
     word.iter().any(|&byte| byte == b'=')
 }
 
-/// How many bytes come before the first `=`; all of them if there is none.
-fn equals_at(word: &[u8]) -> usize
-    ensures { result ≡ length (take_while (λ c. not (c == 61)) word.now) }
+/// The place of the first `=`.
+fn equals_at(word: &[u8]) -> Option<usize>
+    ensures { result ≡ position (λ c. c == 61) word.now }
 {
-    word.iter().take_while(|&&byte| byte != b'=').count()
-}
-
-fn name_part(word: &[u8]) -> &[u8]
-    ensures { result.now ≡ before_first (λ c. c == 61) word.now }
-{
-    word.split_at(equals_at(word)).0
-}
-
-/// What follows the first `=`.
-fn value_part(word: &[u8]) -> &[u8]
-    ensures { result.now ≡ after_first (λ c. c == 61) word.now }
-{
-    match word.split_at(equals_at(word)).1.split_first() {
-        Some((_, rest)) => rest,
-        None => &[],
-    }
-}
-
-fn is_located(word: &[u8]) -> bool
-    ensures { result ≡ is_located word.now }
-{
-    has_equals(word) && name_part(word).len() > 0
+    word.iter().position(|&byte| byte == b'=')
 }
 
 /// Reads `loc=V`.
 fn located_value(word: &[u8]) -> Option<FoundValue>
     ensures { option_map given_of result ≡ located_value word.now }
 {
-    if !is_located(word) {
+    let Some(place) = equals_at(word) else {
+        return None;
+    };
+    if place == 0 {
         return None;
     }
-    match ranged(value_part(word)) {
+    match ranged(&word[place + 1..]) {
         Some(value) => Some(FoundValue {
-            name: name_part(word),
+            name: &word[..place],
             value,
         }),
         None => None,
@@ -107,7 +88,7 @@ pub fn count_located(words: &[&[u8]]) -> usize
 }
 
 /// The numbers of the names of these values.
-fn name_numbers<'t>(alloc: Global, found: &[FoundValue<'t>]) -> Result<Numbers<'t>, Memory>
+fn name_numbers<'t>(alloc: Global, found: &[FoundValue<'t>]) -> Result<NumberedNames<'t>, Memory>
     ensures { IfOk result (λ numbers. AreNumbers numbers.items (names_of found.now)) }
 {
     let mut numbers = Vec::with_capacity(alloc, found.len())?;
@@ -118,7 +99,7 @@ fn name_numbers<'t>(alloc: Global, found: &[FoundValue<'t>]) -> Result<Numbers<'
     Ok(numbers)
 }
 
-fn has_number(numbers: &Numbers, name: &[u8], number: usize) -> bool
+fn has_number(numbers: &NumberedNames, name: &[u8], number: usize) -> bool
     requires { numbered.AreInOrder numbers.now.items }
     ensures { result ≡ option_map_or (λ n. n == number) (numbered.number_in numbers.now.items name.now) false }
 {
@@ -129,7 +110,7 @@ fn has_number(numbers: &Numbers, name: &[u8], number: usize) -> bool
 }
 
 /// Whether no name is there twice, by the numbers of the names.
-fn differ_by_number(numbers: &Numbers, found: &[FoundValue]) -> bool
+fn differ_by_number(numbers: &NumberedNames, found: &[FoundValue]) -> bool
     requires { AreNumbers numbers.now.items (names_of found.now) }
     ensures { result ≡ differ (names_of found.now) }
 {

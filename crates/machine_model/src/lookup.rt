@@ -4,12 +4,12 @@ ghost use Rattle.config_rules.specs.MachineText.{interface_number, spot_above, s
 ghost use Rattle.machine_model.specs.Indexed.{IsDraft, IsIndex};
 
 use crate::draft::Draft;
-use crate::index::Index;
+use crate::index::TableNames;
 use crate::names::number_of;
 use crate::word::spells;
 use cf_types::Place;
 
-fn attr_number(index: &Index, name: &[u8]) -> Option<u32>
+fn attr_number(index: &TableNames, name: &[u8]) -> Option<u32>
     requires { IsIndex index.now }
     ensures { result ≡ attr_number index.now.tables.now.attrs name.now }
 {
@@ -20,7 +20,7 @@ fn attr_number(index: &Index, name: &[u8]) -> Option<u32>
 }
 
 /// The number of the attachment of this name.
-pub fn attach_number(index: &Index, name: &[u8]) -> Option<u32>
+pub fn attach_number(index: &TableNames, name: &[u8]) -> Option<u32>
     requires { IsIndex index.now }
     ensures { result ≡ attach_number index.now.tables.now.attaches name.now }
 {
@@ -31,7 +31,7 @@ pub fn attach_number(index: &Index, name: &[u8]) -> Option<u32>
 }
 
 /// The number of the interface attribute of this name.
-pub fn interface_number(index: &Index, name: &[u8]) -> Option<u32>
+pub fn interface_number(index: &TableNames, name: &[u8]) -> Option<u32>
     requires { IsIndex index.now }
     ensures { result ≡ interface_number index.now.tables.now name.now }
 {
@@ -65,7 +65,7 @@ pub fn spot_above(draft: &Draft, parent: &[u8]) -> Option<u16>
 }
 
 /// The place of a spot, if its attribute is one and both sides are `root`, or neither is.
-pub fn spot_place(index: &Index, parent: &[u8], attr: &[u8]) -> Option<Place>
+pub fn spot_place(index: &TableNames, parent: &[u8], attr: &[u8]) -> Option<Place>
     requires { IsIndex index.now }
     ensures { result ≡ spot_place index.now.tables.now parent.now attr.now }
 {

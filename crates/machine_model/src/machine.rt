@@ -6,12 +6,12 @@ ghost use Rattle.machine_model.specs.Indexed.{IsIndex};
 ghost use Rattle.machine_model.specs.Left.{Gives};
 
 use crate::draft::Draft;
-use crate::index::{Index, index_of};
+use crate::index::{TableNames, index_of};
 use crate::line::add_words;
 use crate::names::no_names;
 use cf_types::code::machine as code;
 use cf_types::{Attach, List, Machine, Memory, Policy, Tables};
-use machine_text::{LineStop, MachineStop, bad_line, cut_words};
+use machine_text::{LineStop, MachineStop, bad_line, cut_words, first_line};
 use std::alloc::Global;
 
 /// About how many bytes a machine file has for each spot.
@@ -40,7 +40,7 @@ fn no_machine(alloc: Global, tables: &Tables) -> Result<Machine, Memory>
 }
 
 /// The machine that the lines of a text describe.
-fn read_with(alloc: Global, index: &Index, text: &[u8]) -> Result<Machine, MachineStop>
+fn read_with(alloc: Global, index: &TableNames, text: &[u8]) -> Result<Machine, MachineStop>
     requires index { IsIndex index.now }
     requires short { length text.now ≤ 1048576 }
     ensures gives { Gives (after_lines index.now.tables.now (word_lines text.now) (no_machine index.now.tables.now)) result }
@@ -52,13 +52,16 @@ fn read_with(alloc: Global, index: &Index, text: &[u8]) -> Result<Machine, Machi
     };
     let mut words = Vec::new(alloc);
     let mut number = 1;
-    for line in text.split(|&byte| byte == b'\n') {
+    let mut left = Some(text);
+    while let Some(text) = left {
+        let (line, rest) = first_line(text);
         cut_words(&mut words, line)?;
         match add_words(alloc, index, &mut draft, &words) {
             Ok(()) => {}
             Err(LineStop::Code(code)) => return Err(MachineStop::Fault { line: number, code }),
             Err(LineStop::Memory) => return Err(MachineStop::Memory),
         }
+        left = rest;
         number += 1;
     }
     let Draft { machine, .. } = draft;

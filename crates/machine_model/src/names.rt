@@ -2,10 +2,10 @@
 //! choice of names makes a look-up slow.
 ghost use Rattle.std.specs.Prelude.{◌≡◌, ◌≤◌, ◌<◌, ◌==◌, ℕ, List, ◌∷◌, ◌++◌, [], IfErr, IfOk, None, OnOk, Some, if◌then◌else◌, length, slice_index, slice_set};
 ghost use Rattle.machine_model.specs.Names.{AreNames, HaveNames, HaveSlots, number_of, slot_of};
-ghost use Rattle.machine_model.specs.Numbers.{AreInOrder};
+ghost use Rattle.machine_model.specs.NumberedNames.{AreInOrder};
 
 use crate::numbers;
-use crate::numbers::{Numbers, put_in_order};
+use crate::numbers::{NumberedNames, put_in_order};
 use cf_types::Memory;
 use std::alloc::Global;
 use std::hash::{FoldHasher, Hasher};
@@ -20,7 +20,7 @@ pub struct Names<'t> {
     /// By the hashes of names their numbers, one in each slot.
     pub slots: Vec<u32>,
     /// The names whose slot another name has.
-    pub rest: Numbers<'t>,
+    pub rest: NumberedNames<'t>,
 }
 
 /// How many slots serve about so many names: four to sixteen times as many, and a power of two.

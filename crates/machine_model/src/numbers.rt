@@ -1,6 +1,6 @@
 //! Names with their numbers, found by binary search.
 ghost use Rattle.std.specs.Prelude.{◌≡◌, ℕ, List, None, OnOk};
-ghost use Rattle.machine_model.specs.Numbers.{AreInOrder, IsPlaceOf, IsWith, number_in};
+ghost use Rattle.machine_model.specs.NumberedNames.{AreInOrder, IsPlaceOf, IsWith, number_in};
 
 use cf_types::Memory;
 
@@ -12,10 +12,10 @@ pub struct Numbered<'t> {
 }
 
 /// Names in order, each with its number: that of the first that is the same.
-pub type Numbers<'t> = Vec<Numbered<'t>>;
+pub type NumberedNames<'t> = Vec<Numbered<'t>>;
 
 /// The place of a name: how many names come before it.
-fn place_of(numbers: &Numbers, name: &[u8]) -> usize
+fn place_of(numbers: &NumberedNames, name: &[u8]) -> usize
     requires { AreInOrder numbers.now.items }
     ensures { IsPlaceOf name.now numbers.now.items result }
 {
@@ -23,7 +23,7 @@ fn place_of(numbers: &Numbers, name: &[u8]) -> usize
 }
 
 /// The number of a name with this place.
-fn number_at(numbers: &Numbers, place: usize, name: &[u8]) -> Option<usize>
+fn number_at(numbers: &NumberedNames, place: usize, name: &[u8]) -> Option<usize>
     requires order { AreInOrder numbers.now.items }
     requires place { IsPlaceOf name.now numbers.now.items place }
     ensures { result ≡ number_in numbers.now.items name.now }
@@ -39,7 +39,7 @@ fn number_at(numbers: &Numbers, place: usize, name: &[u8]) -> Option<usize>
 }
 
 /// The number of a name.
-pub fn number_in(numbers: &Numbers, name: &[u8]) -> Option<usize>
+pub fn number_in(numbers: &NumberedNames, name: &[u8]) -> Option<usize>
     requires { AreInOrder numbers.now.items }
     ensures { result ≡ number_in numbers.now.items name.now }
 {
@@ -47,7 +47,7 @@ pub fn number_in(numbers: &Numbers, name: &[u8]) -> Option<usize>
 }
 
 /// Adds a name, which is not there yet, at its place.
-pub fn add<'t>(numbers: &mut Numbers<'t>, name: &'t [u8], number: usize) -> Result<(), Memory>
+pub fn add<'t>(numbers: &mut NumberedNames<'t>, name: &'t [u8], number: usize) -> Result<(), Memory>
     requires order { AreInOrder numbers.old.items }
     requires new { number_in numbers.old.items name.now ≡ None }
     ensures order { OnOk result (AreInOrder numbers.new.items) }
@@ -59,7 +59,11 @@ pub fn add<'t>(numbers: &mut Numbers<'t>, name: &'t [u8], number: usize) -> Resu
 }
 
 /// Adds a name at the end.
-pub fn push<'t>(numbers: &mut Numbers<'t>, name: &'t [u8], number: usize) -> Result<(), Memory>
+pub fn push<'t>(
+    numbers: &mut NumberedNames<'t>,
+    name: &'t [u8],
+    number: usize,
+) -> Result<(), Memory>
     ensures { OnOk result (IsWith name.now number numbers.old.items numbers.new.items) }
 {
     numbers.push(Numbered { name, number })?;
@@ -67,7 +71,7 @@ pub fn push<'t>(numbers: &mut Numbers<'t>, name: &'t [u8], number: usize) -> Res
 }
 
 /// Puts names in order; of equal names the first stays the first.
-pub fn put_in_order(numbers: &mut Numbers) -> Result<(), Memory>
+pub fn put_in_order(numbers: &mut NumberedNames) -> Result<(), Memory>
     ensures order { OnOk result (AreInOrder numbers.new.items) }
     ensures same { OnOk result ((q : List ℕ) → number_in numbers.new.items q ≡ number_in numbers.old.items q) }
 {

@@ -7,7 +7,7 @@ ghost use Rattle.machine_model.specs.Sites.{IsSite, found_fault_at, site_fault, 
 ghost use Rattle.machine_text.specs.Words.{seen};
 
 use crate::draft::Draft;
-use crate::index::Index;
+use crate::index::TableNames;
 use crate::locator::FoundValue;
 use crate::lookup::{spot_above, spot_place};
 use crate::names::find;
@@ -123,7 +123,7 @@ fn depth_below(spots: &[Spot], above: Option<u16>) -> usize
 
 /// What a spot is below, and the slot of its name among those of the spots.
 #[derive(Drop)]
-pub struct Site<'t> {
+pub struct SpotSite<'t> {
     pub slot: usize,
     above: Option<u16>,
     place: Place,
@@ -139,12 +139,12 @@ fn is_orphan(parent: &[u8], above: Option<u16>) -> bool
 
 /// The site of a new spot, or the first code of its name, its parent and its attribute.
 fn site_of<'t>(
-    index: &Index<'t>,
+    index: &TableNames<'t>,
     draft: &Draft,
     name: &[u8],
     parent: &[u8],
     attr: &[u8],
-) -> Result<Site<'t>, u8>
+) -> Result<SpotSite<'t>, u8>
     requires index { IsIndex index.now }
     requires draft { IsDraft draft.now }
     ensures fault { IfErr result (λ code. site_fault index.now.tables.now draft.now.machine.spots name.now parent.now attr.now ≡ Some code) }
@@ -160,7 +160,7 @@ fn site_of<'t>(
         return Err(code::UNKNOWN_SPOT);
     }
     match spot_place(index, parent, attr) {
-        Some(place) => Ok(Site {
+        Some(place) => Ok(SpotSite {
             slot,
             above,
             place,
@@ -171,7 +171,7 @@ fn site_of<'t>(
 }
 
 /// The first code of the values that are found at a site, and of its depth.
-fn found_fault_at(draft: &Draft, site: &Site, found: &[FoundValue]) -> Option<u8>
+fn found_fault_at(draft: &Draft, site: &SpotSite, found: &[FoundValue]) -> Option<u8>
     ensures code { result ≡ found_fault_at draft.now.machine.spots site.now.above site.now.locators.now (map given_of found.now) }
     ensures not_full { result ≡ None → length draft.now.machine.spots < 1024 }
 {
@@ -190,13 +190,13 @@ fn found_fault_at(draft: &Draft, site: &Site, found: &[FoundValue]) -> Option<u8
 
 /// The site of a new spot, or the first code of the spot.
 pub fn fitting_site<'t>(
-    index: &Index<'t>,
+    index: &TableNames<'t>,
     draft: &Draft,
     name: &[u8],
     parent: &[u8],
     attr: &[u8],
     found: &[FoundValue],
-) -> Result<Site<'t>, u8>
+) -> Result<SpotSite<'t>, u8>
     requires index { IsIndex index.now }
     requires draft { IsDraft draft.now }
     ensures fault { IfErr result (λ code. spot_fault index.now.tables.now draft.now.machine.spots name.now parent.now attr.now (map given_of found.now) ≡ Some code) }
@@ -214,7 +214,7 @@ pub fn fitting_site<'t>(
 /// The spot of a line at its site.
 pub fn make_spot(
     alloc: Global,
-    site: &Site,
+    site: &SpotSite,
     name: &[u8],
     found: &[FoundValue],
     marks: &[&[u8]],

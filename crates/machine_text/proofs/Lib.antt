@@ -1,3 +1,4 @@
 pub mod CommentLemmas
+pub mod PartLemmas
 pub mod PlainLemmas
 pub mod TextLemmas

@@ -1,9 +1,9 @@
 -- A text whose bytes are all plain has no bad line.
-use Rattle.std.proofs.Common.{◌≡◌, ℕ, zero, suc, ◌+◌, ◌&&◌, ◌||◌, Bool, true, false, not, cond, List, [], ◌∷◌, take, refl, ap, sym, ◌∙◌, arith, Option, Some, None}
-use Rattle.std.specs.Prelude.{◌==◌, option_map}
+use Rattle.std.proofs.Common.{◌≡◌, ℕ, zero, suc, ◌+◌, ◌&&◌, ◌||◌, Bool, true, false, not, cond, List, [], ◌∷◌, take, refl, ap, sym, ◌∙◌, None}
+use Rattle.std.specs.Prelude.{◌==◌}
 use Rattle.std.specs.List.{list_all, list_any, onto_first, position_or_len, slice_split}
 use Rattle.cf_types.specs.Lines.{lines_of}
-use Rattle.config_rules.specs.MachineText.{bad_line, has_bad_byte, is_allowed}
+use Rattle.config_rules.specs.MachineText.{bad_line, is_allowed}
 use Rattle.machine_text.proofs.TextLemmas.{bad_from, bad_later}
 
 abbrev pub is_plain : ℕ → Bool

@@ -1,6 +1,8 @@
 -- One more line of a machine file, and one more word of a line.
-use Rattle.std.proofs.Common.{◌≡◌, ℕ, ◌+◌, ◌≤◌, Bool, true, false, cond, List, [], ◌∷◌, ◌++◌, length, drop, ap, sym, ◌∙◌, arith, Option, Some, None, append_assoc}
-use Rattle.std.specs.Prelude.{filter, find, nat_lt, option_map, ◌==◌}
+use Rattle.std.proofs.Common.{◌≡◌, ℕ, suc, ◌+◌, ◌<◌, ◌≤◌, Bool, true, false, cond, List, [], ◌∷◌, ◌++◌, length, drop, ap, sym, ◌∙◌, arith, Option, Some, None, append_assoc}
+use Rattle.std.specs.Prelude.{MatchOption, filter, find, nat_lt, option_map, ◌==◌}
+use Rattle.std.specs.Borrow.{Bor}
+use Rattle.std.specs.Option.{option_map_or}
 use Rattle.std.specs.List.{enumerate_from}
 use Rattle.std.proofs.lemmas.List.{drop_all, drop_more, length_push}
 use Rattle.std.proofs.lemmas.Iterator.{YieldsList}
@@ -11,6 +13,7 @@ use Rattle.std.proofs.lemmas.List.Splits.{length-slice_split}
 use Rattle.std.proofs.lemmas.List.Sums.{count_by-le-length}
 use Rattle.cf_types.specs.Lines.{lines_of}
 use Rattle.config_rules.specs.MachineText.{has_bad_byte}
+use Rattle.machine_text.specs.Words.{IsFirstLine}
 
 -- ---- what is left in a loop over a list, at its next value and at its end
 
@@ -58,3 +61,15 @@ not_empty word h = grind (arith, nat_tests)
 
 pub empty_word : (word : List ℕ) → (length word == 0) ≡ true → nat_lt 0 (length word) ≡ false
 empty_word word h = grind (arith, nat_tests)
+
+-- ---- the lines behind the first one
+
+pub lines_left : (text line : List ℕ) (rest : Option (Bor (List ℕ))) → MatchOption rest (lines_of text ≡ line ∷ []) (λ rest. IsFirstLine text line rest.now)
+    → lines_of text ≡ line ∷ option_map_or (λ rest. lines_of rest.now) rest []
+lines_left text line None is = is
+lines_left text line (Some rest) is = is.lines
+
+pub fewer_left : (text line : List ℕ) (rest : Option (Bor (List ℕ))) → MatchOption rest (lines_of text ≡ line ∷ []) (λ rest. IsFirstLine text line rest.now)
+    → option_map_or (λ rest. suc (length rest.now)) rest 0 < suc (length text)
+fewer_left text line None is = omega arith
+fewer_left text line (Some rest) is = omega (arith, is.shorter)

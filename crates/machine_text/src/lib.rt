@@ -5,6 +5,6 @@ mod line;
 mod stop;
 mod text;
 
-pub use line::{MachineStop, cut_words, has_bad_byte, uncommented, words_of};
+pub use line::{MachineStop, cut_words, first_line, has_bad_byte, uncommented, words_of};
 pub use stop::LineStop;
 pub use text::bad_line;

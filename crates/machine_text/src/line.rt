@@ -1,6 +1,8 @@
-ghost use Rattle.std.specs.Prelude.{◌≡◌, IfOk, OnOk};
+ghost use Rattle.std.specs.Prelude.{◌≡◌, ◌==◌, ◌||◌, ◌∷◌, [], IfOk, MatchOption, OnOk, position};
+ghost use Rattle.cf_types.specs.Lines.{lines_of};
+ghost use Rattle.config_rules.specs.Cut.{is_space};
 ghost use Rattle.config_rules.specs.MachineText.{has_bad_byte, is_allowed, uncommented, words_of};
-ghost use Rattle.machine_text.specs.Words.{parted, seen};
+ghost use Rattle.machine_text.specs.Words.{IsFirstLine, IsFirstPart, parted, seen, some_word};
 
 use cf_text::is_space;
 use cf_types::{List, Memory as NoMemory, Text};
@@ -89,15 +91,58 @@ fn parted(alloc: Global, bytes: &[u8]) -> Result<List<Text>, NoMemory>
     Ok(words)
 }
 
+/// The first line of a text, and what is after its newline; none if it has no newline.
+pub fn first_line(text: &[u8]) -> (&[u8], Option<&[u8]>)
+    ensures { MatchOption result.1 (lines_of text.now ≡ result.0.now ∷ []) (λ rest. IsFirstLine text.now result.0.now rest.now) }
+{
+    match memchr(b'\n', text) {
+        Some(place) => (&text[..place], Some(&text[place + 1..])),
+        None => (text, None),
+    }
+}
+
+/// Whether a byte ends a word: a space, a tab, or the mark before a comment.
+#[inline(always)]
+fn ends_word(byte: u8) -> bool
+    ensures { result ≡ (is_space byte || byte == 35) }
+{
+    byte <= b'#' && (is_space(byte) || byte == b'#')
+}
+
+/// The place of the first byte that ends a word.
+#[inline(always)]
+fn part_end(line: &[u8]) -> Option<usize>
+    ensures { result ≡ position (λ c. is_space c || c == 35) line.now }
+{
+    line.iter().position(|&byte| ends_word(byte))
+}
+
+/// What is before the first space, tab or comment of a line, and what is after it; none if that is a comment or nothing.
+#[inline(always)]
+fn first_part(line: &[u8]) -> (&[u8], Option<&[u8]>)
+    ensures { MatchOption result.1 (words_of line.now ≡ some_word result.0.now) (λ rest. IsFirstPart line.now result.0.now rest.now) }
+{
+    let Some(end) = part_end(line) else {
+        return (line, None);
+    };
+    if line[end] == b'#' {
+        return (&line[..end], None);
+    }
+    (&line[..end], Some(&line[end + 1..]))
+}
+
 /// Replaces the words by those of a line. They are borrowed from the line, and the room of the list is reused.
 pub fn cut_words<'t>(words: &mut Vec<&'t [u8]>, line: &'t [u8]) -> Result<(), NoMemory>
     ensures { OnOk result (seen words.new.items ≡ words_of line.now) }
 {
     words.clear();
-    for word in uncommented(line).split(|&byte| is_space(byte)) {
-        if !word.is_empty() {
-            words.push(word)?;
+    let mut left = Some(line);
+    while let Some(text) = left {
+        let (part, rest) = first_part(text);
+        if !part.is_empty() {
+            words.push(part)?;
         }
+        left = rest;
     }
     Ok(())
 }

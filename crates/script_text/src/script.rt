@@ -13,9 +13,6 @@ use std::alloc::Global;
 /// The most commands of a script.
 const MAX_COMMANDS: usize = 500;
 
-/// The code of a command too many.
-const TOO_MANY: u8 = 4;
-
 /// The command that the words of a line spell; `None` if there are no words.
 fn words_say(alloc: Global, words: &[&[u8]]) -> Result<Option<Command>, LineStop>
     ensures { Says (words_say (seen words.now)) result }

@@ -1,4 +1,4 @@
-use Rattle.std.proofs.Common.{refl, rules}
+use Rattle.std.proofs.Common.{rules}
 use Rattle.machine_model.proofs.NameLemmas.{none_yet}
 use Rattle.machine_model.proofs.names.no_names.Goals as goal
 

@@ -1,4 +1,4 @@
-use Rattle.std.proofs.Common.{◌∙◌, ap, sym}
+use Rattle.std.proofs.Common.{◌∙◌, sym}
 use Rattle.machine_model.proofs.NameLemmas.{held_is, number_past, number_there}
 use Rattle.machine_model.proofs.names.number_at.Goals as goal
 

@@ -1,6 +1,6 @@
 use Rattle.std.proofs.Common.{rules}
 use Rattle.std.proofs.lemmas.List.Sorted.{IsPartitionPoint-from_clause}
-use Rattle.machine_model.specs.Numbers.{comes_before}
+use Rattle.machine_model.specs.NumberedNames.{comes_before}
 use Rattle.machine_model.proofs.NumberLemmas.{parted}
 use Rattle.machine_model.proofs.numbers.place_of.Goals as goal
 

@@ -1,13 +1,11 @@
-use Rattle.std.proofs.Common.{◌≡◌, ◌++◌, length, drop}
-use Rattle.std.specs.Prelude.{filter, nat_lt}
-use Rattle.std.specs.List.{slice_split}
-use Rattle.config_rules.specs.Cut.{is_space}
-use Rattle.config_rules.specs.MachineText.{uncommented, words_of}
+use Rattle.std.proofs.Common.{◌≡◌, ◌++◌, [], suc, length}
+use Rattle.std.specs.Option.{option_map_or}
+use Rattle.config_rules.specs.MachineText.{words_of}
 use Rattle.machine_text.specs.Words.{seen}
 use Rattle.machine_text.proofs.line.cut_words.Given as goal
 
-abbrev pub invariant-loop-word : goal.invariant-loop-word
-invariant-loop-word l = record {
-  iterator : (goal.iterator-loop-word).can_next l.word-iterator × (goal.iterator-loop-word).is_finite l.word-iterator;
-  so_far : seen l.words.items ++ filter (λ w. nat_lt 0 (length w)) (drop (length l.yielded) (slice_split is_space (uncommented l.line))) ≡ words_of l.line;
-}
+abbrev pub invariant-loop-left : goal.invariant-loop-left
+invariant-loop-left l = seen l.words.items ++ option_map_or (λ text. words_of text.now) l.left [] ≡ words_of l.line
+
+abbrev pub decreases-loop-left : goal.decreases-loop-left
+decreases-loop-left l = option_map_or (λ text. suc (length text.now)) l.left 0
