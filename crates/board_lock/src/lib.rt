@@ -20,4 +20,4 @@ pub use names::{Closings, Dids, Naming, Stops};
 pub use parts::RunParts;
 pub use seat::{Done, DoneEnd, Seat};
 pub use shared::{Finished, SharedBoard};
-pub use turn::Turn;
+pub use turn::LockAnswer;

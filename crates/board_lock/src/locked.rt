@@ -16,8 +16,8 @@ use crate::lease_slots::LeaseSlots;
 use crate::names::Naming;
 use crate::seat::Seat;
 use crate::tally::{Books, ends_caller};
-use crate::turn::Turn;
-use dev_board::{Board, IoResult, LeaseStep, Posted, Standing, Stepped};
+use crate::turn::LockAnswer;
+use dev_board::{Board, IoResult, LeaseStep, Outlook, Posted, Stepped};
 use lease_table::LeaseTable;
 use quiet_events::may_end_wait;
 use run_rules::Event;
@@ -101,7 +101,7 @@ impl<N: Naming> Locked<N> {
     /// One step of the seat's caller; none if the caller has to wait.
     #[tactic(auto, using(crate::proofs::Opened::kept_same))]
     #[inline(always)]
-    pub fn turn(&mut self, table: &LeaseTable, seat: &mut Seat<N>) -> Option<Turn>
+    pub fn turn(&mut self, table: &LeaseTable, seat: &mut Seat<N>) -> Option<LockAnswer>
         requires { table.now ≡ N.table }
         ensures { TryIs N.opening seat.old result seat.new }
     {
@@ -115,34 +115,34 @@ impl<N: Naming> Locked<N> {
         let (place, told) = match board.step(seat.caller(), slots) {
             Stepped::Did(place, told) => (place, told),
             Stepped::Waits(_) => return None,
-            Stepped::Transfer(ticket, told) => return Some(Turn::Transfer(ticket, told)),
+            Stepped::Transfer(ticket, told) => return Some(LockAnswer::Transfer(ticket, told)),
             Stepped::Closed => {
                 if seat.has_ended() {
-                    return Some(Turn::Closed);
+                    return Some(LockAnswer::Closed);
                 }
                 return None;
             }
-            Stepped::Stopped(first, told) => return Some(Turn::Stopped(first, told)),
-            Stepped::Memory => return Some(Turn::Memory),
+            Stepped::Stopped(first, told) => return Some(LockAnswer::Stopped(first, told)),
+            Stepped::Memory => return Some(LockAnswer::Memory),
         };
         count_event(books, seat, board.event(place));
         leave(at_work, seat.has_ended());
         settle(table, seat, told.lease());
-        Some(Turn::Did(place, told))
+        Some(LockAnswer::Did(place, told))
     }
 
     /// Whether an answer is an event that ends no other caller's wait.
     #[inline(always)]
-    fn is_quiet(&self, turn: &Turn) -> bool
+    fn is_quiet(&self, turn: &LockAnswer) -> bool
         ensures { result ≡ true → IsEvent turn.now }
     {
-        matches!(turn, Turn::Did(..)) && !self.may_end_waits(turn)
+        matches!(turn, LockAnswer::Did(..)) && !self.may_end_waits(turn)
     }
 
     /// Steps of the seat's caller as long as each is an event that ends no other caller's wait, at most `MANY` of them.
     /// It returns the last answer; none if the caller has to wait.
     #[inline(always)]
-    pub fn turns(&mut self, table: &LeaseTable, seat: &mut Seat<N>) -> Option<Turn>
+    pub fn turns(&mut self, table: &LeaseTable, seat: &mut Seat<N>) -> Option<LockAnswer>
         requires { table.now ≡ N.table }
         ensures { TriesAre N.opening seat.old result seat.new }
     {
@@ -156,7 +156,7 @@ impl<N: Naming> Locked<N> {
     }
 
     /// The end of a transfer of the seat's caller, which was carried out.
-    pub fn accept(&mut self, seat: &mut Seat<N>, done: IoResult) -> Turn
+    pub fn accept(&mut self, seat: &mut Seat<N>, done: IoResult) -> LockAnswer
         requires caller { done.caller ≡ seat.old.caller }
         requires carried { N.carried done }
         ensures { PostIs N.opening done seat.old result seat.new }
@@ -170,12 +170,12 @@ impl<N: Naming> Locked<N> {
         let _ = seat.caller();
         let (place, told) = match board.post(done) {
             Posted::Did(place, told) => (place, told),
-            Posted::Stale(kept, told) => return Turn::Stale(kept, told),
-            Posted::Stopped(first, told) => return Turn::Stopped(first, told),
-            Posted::Memory => return Turn::Memory,
+            Posted::Stale(kept, told) => return LockAnswer::Stale(kept, told),
+            Posted::Stopped(first, told) => return LockAnswer::Stopped(first, told),
+            Posted::Memory => return LockAnswer::Memory,
         };
         count_event(books, seat, board.event(place));
-        Turn::Did(place, told)
+        LockAnswer::Did(place, told)
     }
 
     /// Stops the board for the seat's caller.
@@ -199,16 +199,16 @@ impl<N: Naming> Locked<N> {
     /// What a caller that has to wait is answered: that nobody goes on, or that memory ran out as that was looked at; none if it
     /// is to wait for a notice. While another caller is at work, nothing is looked at.
     #[cold]
-    pub fn rest(&mut self) -> Option<Turn>
+    pub fn rest(&mut self) -> Option<LockAnswer>
         ensures rest { RestIs N.opening result }
         ensures same { self.new ≡ self.old }
     {
         if self.at_work <= 1 {
             self.board.stands();
             match self.board.standing() {
-                Ok(Standing::Stuck) => return Some(Turn::Stuck),
+                Ok(Outlook::Stuck) => return Some(LockAnswer::Stuck),
                 Ok(_) => {}
-                Err(_) => return Some(Turn::Memory),
+                Err(_) => return Some(LockAnswer::Memory),
             }
         }
         self.at_work = self.at_work.saturating_sub(1);
@@ -224,10 +224,10 @@ impl<N: Naming> Locked<N> {
 
     /// Whether an answer may end the wait of another caller. If not, no other caller's wait ends with it.
     #[inline(always)]
-    pub fn may_end_waits(&self, turn: &Turn) -> bool
+    pub fn may_end_waits(&self, turn: &LockAnswer) -> bool
         ensures { result ≡ false → EndsNone self.now turn.now }
     {
-        let Turn::Did(place, _) = turn else {
+        let LockAnswer::Did(place, _) = turn else {
             return false;
         };
         let place = *place;

@@ -23,10 +23,10 @@ use crate::names::Naming;
 use crate::parts::RunParts;
 use crate::seat::{Done, Seat};
 use crate::tally::Books;
-use crate::turn::Turn;
+use crate::turn::LockAnswer;
 use cf_types::{List, Memory, Ticket};
 use dev_board::{Board, IoResult};
-use lease_table::{LeaseKeeper, LeaseTable, Word};
+use lease_table::{LeaseKeeper, LeaseTable, SlotWord};
 use std::alloc::Global;
 use std::marker::Model;
 use std::sync::{Arc, Condvar, Mutex, Wait};
@@ -146,7 +146,7 @@ impl<N: Naming> SharedBoard<N> {
     /// at work then and nobody goes on, it returns `Stuck`. At an event, the lease that it names is taken or given back
     /// before the lock is released.
     #[inline(always)]
-    pub fn step<R: Wait>(&self, rt: &R, seat: &mut Seat<N>) -> Turn
+    pub fn step<R: Wait>(&self, rt: &R, seat: &mut Seat<N>) -> LockAnswer
         ensures { TurnIs N.opening seat.old result seat.new }
     {
         let mut guard = self.lock.lock(rt);
@@ -171,7 +171,7 @@ impl<N: Naming> SharedBoard<N> {
     /// Steps of the seat's caller while it has the lock once, as long as each is an event that ends no other caller's
     /// wait, at most 32 of them; the answer is that of the last. If the caller has to wait, it goes on as `step` does. The
     /// contract has them as a list of turns, each as `step` answers it.
-    pub fn steps<R: Wait>(&self, rt: &R, seat: &mut Seat<N>) -> Turn
+    pub fn steps<R: Wait>(&self, rt: &R, seat: &mut Seat<N>) -> LockAnswer
         ensures turns { StepsAre N.opening seat.old result seat.new }
         ensures last { LastIs N.opening seat.old result seat.new }
     {
@@ -194,7 +194,7 @@ impl<N: Naming> SharedBoard<N> {
 
     /// Hands in the result of a transfer of the seat's caller, which was carried out after a look that showed its slot live. The result
     /// is spent at every answer. Nobody is woken, since the end of a transfer ends no wait.
-    pub fn post<R: Wait>(&self, rt: &R, seat: &mut Seat<N>, done: IoResult) -> Turn
+    pub fn post<R: Wait>(&self, rt: &R, seat: &mut Seat<N>, done: IoResult) -> LockAnswer
         requires caller { done.caller ≡ seat.old.caller }
         requires carried { N.carried done }
         requires looked { seat.old.looked ≡ Some done.slot }
@@ -204,7 +204,7 @@ impl<N: Naming> SharedBoard<N> {
     }
 
     /// What the word of a transfer's slot says, without the lock; none if the seat has no lease on that slot.
-    pub fn look(&self, seat: &mut Seat<N>, ticket: &Ticket) -> Option<Word>
+    pub fn look(&self, seat: &mut Seat<N>, ticket: &Ticket) -> Option<SlotWord>
         ensures look { LookIs seat.old.leases seat.old.caller ticket.now.slot result seat.new.leases }
         ensures rest { seat.new ≡ looking seat.old ticket.now.slot result seat.new.leases }
     {

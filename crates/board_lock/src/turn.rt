@@ -3,7 +3,7 @@ use dev_board::Told;
 
 /// What the lock answers to a caller.
 #[derive(Drop)]
-pub enum Turn {
+pub enum LockAnswer {
     /// Exactly the one event that the caller does next was appended, at this place.
     Did(u64, Told),
     /// The caller waits for the result of this transfer.

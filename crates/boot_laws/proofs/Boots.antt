@@ -10,7 +10,7 @@ use Rattle.run_rules.specs.declared.world.Key.TheVariants as key
 use Rattle.run_rules.specs.declared.world.Setup.{Setup}
 use Rattle.run_rules.specs.declared.world.Turn.{Turn}
 use Rattle.run_rules.specs.declared.deed.Deed.{Deed}
-use Rattle.run_rules.specs.declared.deed.Deed.TheVariants.{Search, EndScan, BeginInterrupts, Finalise, EndCaller, Drop, Refuse, Open, Close, Start, Done, Detach, Free, Rescan, BeginPower, Sleep, Wake, EndPower, Plug, Unplug, Tell}
+use Rattle.run_rules.specs.declared.deed.Deed.TheVariants.{Search, EndScan, BeginInterrupts, Finalise, EndCaller}
 use Rattle.run_rules.specs.declared.deed.Choice.TheVariants.{Does}
 use Rattle.run_rules.specs.World.{World, Caller, caller_at, has_ended, is_ended, nobody, opening, scan_of}
 use Rattle.run_rules.specs.After.{after}
@@ -45,22 +45,7 @@ watched_after w (EndScan p) kept e goes is watched = end_watched w p e watched
 watched_after w BeginInterrupts kept e goes is watched = phase_watched w e watched
 watched_after w (Finalise s shown got listed anew) kept e goes is watched = final_watched w s shown got listed anew kept e watched
 watched_after w EndCaller kept e goes is watched = absurd (goes refl)
-watched_after w (Drop s) kept e goes is watched = absurd is
-watched_after w (Refuse why) kept e goes is watched = absurd is
-watched_after w (Open s sole) kept e goes is watched = absurd is
-watched_after w (Close s) kept e goes is watched = absurd is
-watched_after w (Start t) kept e goes is watched = absurd is
-watched_after w (Done t) kept e goes is watched = absurd is
-watched_after w (Detach s) kept e goes is watched = absurd is
-watched_after w (Free s) kept e goes is watched = absurd is
-watched_after w (Rescan s only) kept e goes is watched = absurd is
-watched_after w (BeginPower kind s) kept e goes is watched = absurd is
-watched_after w (Sleep s) kept e goes is watched = absurd is
-watched_after w (Wake s) kept e goes is watched = absurd is
-watched_after w (EndPower end) kept e goes is watched = absurd is
-watched_after w (Plug x) kept e goes is watched = absurd is
-watched_after w (Unplug x of) kept e goes is watched = absurd is
-watched_after w Tell kept e goes is watched = absurd is
+watched_after w d kept e goes is watched = absurd is
 
 pub opening_to_come : (s : Setup) (p : ℕ) (t : Turn) → IsTurnOf (opening s) p t → IsToCome (opening s) p t
 unfolding opening

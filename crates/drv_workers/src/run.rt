@@ -15,7 +15,7 @@ use crate::medium::Medium;
 use crate::worker::work;
 use board_lock::{Done, Finished, Naming, RunParts, Seat, SharedBoard};
 use cf_types::{List, Memory};
-use dev_board::{Board, Standing};
+use dev_board::{Board, Outlook};
 use std::alloc::Global;
 use std::marker::Brand;
 use std::sync::Wait;
@@ -137,7 +137,7 @@ fn over_only(left: Finished, scripts: u64) -> Result<Finished, Memory>
         return Ok(left);
     }
     match left.board().standing() {
-        Ok(Standing::Stuck) => Ok(left),
+        Ok(Outlook::Stuck) => Ok(left),
         _ => Err(Memory),
     }
 }

@@ -3,7 +3,7 @@ ghost use Rattle.board_lock.specs.Carried.{CarriesFor};
 ghost use Rattle.drv_workers.specs.Ends.{WorkEnds};
 
 use crate::medium::Medium;
-use board_lock::{Done, DoneEnd, Naming, Seat, SharedBoard, Turn};
+use board_lock::{Done, DoneEnd, LockAnswer, Naming, Seat, SharedBoard};
 use std::sync::Wait;
 
 /// Steps a seat until its caller has ended, the board was stopped, or memory ran out or nobody goes on, at which it stops the board
@@ -21,20 +21,20 @@ pub fn work<M: Medium, N: Naming, R: Wait>(
     let mut seat = seat;
     for _ in rt.forever() {
         let turn = match shared.steps(rt, &mut seat) {
-            Turn::Transfer(ticket, _) => match shared.look(&mut seat, &ticket) {
+            LockAnswer::Transfer(ticket, _) => match shared.look(&mut seat, &ticket) {
                 Some(_) => shared.post(rt, &mut seat, medium.transfer(rt, ticket)),
                 None => continue,
             },
             turn => turn,
         };
         match turn {
-            Turn::Closed => return seat.into_done(DoneEnd::Closed),
-            Turn::Stopped(first, told) => return seat.into_done(DoneEnd::Stopped(first, told)),
-            Turn::Memory => {
+            LockAnswer::Closed => return seat.into_done(DoneEnd::Closed),
+            LockAnswer::Stopped(by, told) => return seat.into_done(DoneEnd::Stopped(by, told)),
+            LockAnswer::Memory => {
                 shared.stop(rt, &mut seat);
                 return seat.into_done(DoneEnd::Memory);
             }
-            Turn::Stuck => {
+            LockAnswer::Stuck => {
                 shared.stop(rt, &mut seat);
                 return seat.into_done(DoneEnd::Stuck);
             }

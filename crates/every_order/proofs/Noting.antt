@@ -3,21 +3,23 @@ use Rattle.std.proofs.Common.{◌≡◌, ◌⊎◌, inl, inr, ◌≤◌, ◌<◌
 use Rattle.std.specs.Prelude.{All}
 use Rattle.std.specs.List.{Contains}
 use Rattle.std.proofs.lemmas.Bool.{cases_lt}
-use Rattle.std.proofs.lemmas.List.{take_all}
+use Rattle.std.proofs.lemmas.List.{get_or_default, take_all}
 use Rattle.std.proofs.lemmas.List.Elements.{All-nil, All-weaker}
 use Rattle.std.proofs.lemmas.List.Sums.{sum_by_more}
 use Rattle.progress_laws.specs.Still.{HaveAllEnded, IsStuck, SomebodyDoes}
 use Rattle.run_rules.specs.declared.world.Setup.{Setup}
 use Rattle.run_rules.specs.Tree.{tree_text}
 use Rattle.run_rules.specs.World.{World}
-use Rattle.run_sound.specs.Kept.{MayRun}
+use Rattle.run_sound.specs.Kept.{Kept, MayRun}
 use Rattle.plain_world.specs.Plain.{world_of}
 use Rattle.every_order.specs.declared.known.Met.{Met}
 use Rattle.every_order.specs.declared.every.Every.{Every}
 use Rattle.every_order.specs.declared.ways.Noted.{Noted}
 use Rattle.every_order.specs.declared.ways.Way.{Way}
 use Rattle.every_order.specs.Every.{IsEvery}
-use Rattle.every_order.specs.Kinds.{goers, turns_in, wait_text}
+use Rattle.every_order.specs.declared.kind.Kind.{Kind}
+use Rattle.every_order.specs.declared.kind.Kind.TheVariants.{End, Stuck, GoesOn}
+use Rattle.every_order.specs.Kinds.{IsKind, goers, turns_in, wait_text}
 use Rattle.every_order.specs.Noted.{AddsText, AreFound, AreNoted, AreSorted, IsAmong, IsFound, IsFoundIn, IsNoted, IsOther, AddsWay, Notes, Texts, way_of, ways_in}
 use Rattle.every_order.specs.Reach.{Leads}
 use Rattle.every_order.specs.Search.{AreMet, HasWithin, IsAt, IsWhole, worlds_in}
@@ -152,7 +154,7 @@ is_other : (s : Setup) (met : List Met) (place : ℕ) (one : Met) (Kind : World 
 is_other s met place one Kind old new at never same =
     record { other = λ m here. subst (λ (y : Met). Kind (world_of s y.plain) → ⊥) (at_one met place one m at here) never; same = same }
 
-pub note_end : (s : Setup) (met : List Met) (place : ℕ) (one : Met) (old new : Noted) → IsAt met place one → new.turns ≡ old.turns + goers (world_of s one.plain) → HaveAllEnded (world_of s one.plain)
+note_end : (s : Setup) (met : List Met) (place : ℕ) (one : Met) (old new : Noted) → IsAt met place one → new.turns ≡ old.turns + goers (world_of s one.plain) → HaveAllEnded (world_of s one.plain)
     → AddsText met place (tree_text (world_of s one.plain)) old.ends new.ends → new.stuck ≡ old.stuck → Notes s met place old new
 note_end s met place one old new at turns kind adds same = record {
   turns = turns_at s met place one old new at turns;
@@ -160,7 +162,7 @@ note_end s met place one old new at turns kind adds same = record {
   stuck = inl (is_other s met place one IsStuck old.stuck new.stuck at (λ stuck. stuck_no_end (world_of s one.plain) stuck kind) same);
 }
 
-pub note_stuck : (s : Setup) (met : List Met) (place : ℕ) (one : Met) (old new : Noted) → IsAt met place one → new.turns ≡ old.turns + goers (world_of s one.plain) → IsStuck (world_of s one.plain)
+note_stuck : (s : Setup) (met : List Met) (place : ℕ) (one : Met) (old new : Noted) → IsAt met place one → new.turns ≡ old.turns + goers (world_of s one.plain) → IsStuck (world_of s one.plain)
     → AddsText met place (wait_text (world_of s one.plain)) old.stuck new.stuck → new.ends ≡ old.ends → Notes s met place old new
 note_stuck s met place one old new at turns kind adds same = record {
   turns = turns_at s met place one old new at turns;
@@ -168,13 +170,58 @@ note_stuck s met place one old new at turns kind adds same = record {
   stuck = inr (record { one = one; at = at; kind = kind; adds = adds });
 }
 
-pub note_goes : (s : Setup) (met : List Met) (place : ℕ) (one : Met) (old new : Noted) → IsAt met place one → new.turns ≡ old.turns + goers (world_of s one.plain) → SomebodyDoes (world_of s one.plain)
+note_goes : (s : Setup) (met : List Met) (place : ℕ) (one : Met) (old new : Noted) → IsAt met place one → new.turns ≡ old.turns + goers (world_of s one.plain) → SomebodyDoes (world_of s one.plain)
     → new.ends ≡ old.ends → new.stuck ≡ old.stuck → Notes s met place old new
 note_goes s met place one old new at turns kind ends stuck = record {
   turns = turns_at s met place one old new at turns;
   ends = inl (is_other s met place one HaveAllEnded old.ends new.ends at (no_end (world_of s one.plain) kind) ends);
   stuck = inl (is_other s met place one IsStuck old.stuck new.stuck at (no_stuck (world_of s one.plain) kind) stuck);
 }
+
+-- the world at a place, with any other to read the list by
+pub here_at : (met : List Met) (place : ℕ) (d : Met) → place < length met → IsAt met place (get_or met place d)
+here_at met place d lt = (lt, get_or_default met place (get_or met place d) d lt)
+
+-- it is kept, by rules that are the same
+pub kept_at : (s t : Setup) (met : List Met) (place : ℕ) (d : Met) → t ≡ s → AreMet s met → place < length met → Kept (world_of t (get_or met place d).plain)
+kept_at s t met place d same all lt =
+    subst (λ (r : Setup). Kept (world_of r (get_or met place d).plain)) (sym same) (all.each place (get_or met place d) (here_at met place d lt)).kept
+
+-- n callers of a world can go on, counted by rules that are the same; and it is of a kind
+pub record IsOfKind (s t : Setup) (one : Met) (n : ℕ) (kind : Kind) : Type 0 where
+  pub same : t ≡ s
+  pub counted : n ≡ goers (world_of t one.plain)
+  pub known : (u : Setup) → n ≡ goers (world_of u one.plain) → IsKind (world_of u one.plain) kind
+
+counted_in : (s t : Setup) (one : Met) (n : ℕ) (kind : Kind) → IsOfKind s t one n kind → n ≡ goers (world_of s one.plain)
+counted_in s t one n kind so = subst (λ (r : Setup). n ≡ goers (world_of r one.plain)) so.same so.counted
+
+turns_in_all : (s t : Setup) (one : Met) (n m : ℕ) (kind : Kind) → IsOfKind s t one n kind → m + n ≡ m + goers (world_of s one.plain)
+turns_in_all s t one n m kind so = ap (λ (k : ℕ). m + k) (counted_in s t one n kind so)
+
+kind_in : (s t : Setup) (one : Met) (n : ℕ) (kind it : Kind) → IsOfKind s t one n kind → kind ≡ it → IsKind (world_of s one.plain) it
+kind_in s t one n kind it so is = subst (IsKind (world_of s one.plain)) is (so.known s (counted_in s t one n kind so))
+
+-- its text, told by those rules
+told_in : (s t : Setup) (met : List Met) (place : ℕ) (one : Met) (text_of : World → List ℕ) (text : List ℕ) (old new : Texts) → t ≡ s → text ≡ text_of (world_of t one.plain)
+    → AddsText met place text old new → AddsText met place (text_of (world_of s one.plain)) old new
+told_in s t met place one text_of text old new same told adds =
+    subst (λ (x : List ℕ). AddsText met place x old new) (subst (λ (r : Setup). text ≡ text_of (world_of r one.plain)) same told) adds
+
+pub end_noted : (s t : Setup) (met : List Met) (place : ℕ) (one : Met) (n : ℕ) (kind : Kind) (text : List ℕ) (old new : Noted) → IsOfKind s t one n kind → kind ≡ End → IsAt met place one
+    → text ≡ tree_text (world_of t one.plain) → new.turns ≡ old.turns + n → new.stuck ≡ old.stuck → AddsText met place text old.ends new.ends → Notes s met place old new
+end_noted s t met place one n kind text old new so is at told turns stuck adds =
+    note_end s met place one old new at (turns ∙ turns_in_all s t one n old.turns kind so) (kind_in s t one n kind End so is) (told_in s t met place one tree_text text old.ends new.ends so.same told adds) stuck
+
+pub stuck_noted : (s t : Setup) (met : List Met) (place : ℕ) (one : Met) (n : ℕ) (kind : Kind) (text : List ℕ) (old new : Noted) → IsOfKind s t one n kind → kind ≡ Stuck → IsAt met place one
+    → text ≡ wait_text (world_of t one.plain) → new.turns ≡ old.turns + n → new.ends ≡ old.ends → AddsText met place text old.stuck new.stuck → Notes s met place old new
+stuck_noted s t met place one n kind text old new so is at told turns ends adds =
+    note_stuck s met place one old new at (turns ∙ turns_in_all s t one n old.turns kind so) (kind_in s t one n kind Stuck so is) (told_in s t met place one wait_text text old.stuck new.stuck so.same told adds) ends
+
+pub goes_noted : (s t : Setup) (met : List Met) (place : ℕ) (one : Met) (n : ℕ) (kind : Kind) (old new : Noted) → IsOfKind s t one n kind → kind ≡ GoesOn → IsAt met place one
+    → new.turns ≡ old.turns + n → new.ends ≡ old.ends → new.stuck ≡ old.stuck → Notes s met place old new
+goes_noted s t met place one n kind old new so is at turns ends stuck =
+    note_goes s met place one old new at (turns ∙ turns_in_all s t one n old.turns kind so) (kind_in s t one n kind GoesOn so is) ends stuck
 
 -- ---- one after the other
 

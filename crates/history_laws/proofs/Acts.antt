@@ -11,8 +11,8 @@ use Rattle.run_rules.specs.declared.event.PowerKind.{PowerKind}
 use Rattle.run_rules.specs.declared.event.PowerKind.TheVariants as kind
 use Rattle.run_rules.specs.declared.deed.Deed.{Deed}
 use Rattle.run_rules.specs.declared.deed.Deed.TheVariants.{Search, EndScan, BeginInterrupts, Finalise, EndCaller, Drop, Refuse, Open, Close, Start, Done, Detach, Free, Rescan, BeginPower, Sleep, Wake, EndPower, Plug, Unplug, Tell}
-use Rattle.run_rules.specs.declared.deed.Refusal.{Refusal}
-use Rattle.run_rules.specs.declared.deed.Refusal.TheVariants as refusal
+use Rattle.run_rules.specs.declared.deed.CommandRefusal.{CommandRefusal}
+use Rattle.run_rules.specs.declared.deed.CommandRefusal.TheVariants as refusal
 use Rattle.run_rules.specs.declared.deed.Choice.TheVariants.{Does}
 use Rattle.run_rules.specs.World.{World}
 use Rattle.run_rules.specs.Laws.{attached_name, freed_name, is_ok, opens, opens_sole, returns, slept_name, woken_name}
@@ -43,7 +43,7 @@ plainly {a} come go sleep wake refs grant back = record {
 
 -- ---- replies
 
-pub refused : (w : World) (why : Refusal) → is_ok (reply_of w why) ≡ false
+pub refused : (w : World) (why : CommandRefusal) → is_ok (reply_of w why) ≡ false
 refused w refusal.NoDevice = refl
 refused w refusal.Gone = refl
 refused w refusal.Exclusive = refl
@@ -151,22 +151,16 @@ plain_line w k BeginInterrupts e h = bare refl refl refl refl (λ x. refl) (λ x
 plain_line w k (Finalise s shown None listed anew) e h = none_shown w s shown
 plain_line w k (Finalise s shown (Some a) listed anew) e h = absurd cc
 plain_line w k EndCaller e h = bare refl refl refl refl (λ x. refl) (λ x. refl) (λ x. refl) refl refl
-plain_line w k (Drop s) e h = absurd cc
 plain_line w k (Refuse why) e h =
     let b : Begins w k (Refuse why) = has_command_reason w k (Refuse why) e in
     plain_answer w k (reply_of w why) b.said b.command (off (is_ok (reply_of w why)) (is_of_refs b.said) (refused w why))
-plain_line w k (Open s sole) e h = absurd cc
-plain_line w k (Close s) e h = absurd cc
 plain_line w k (Start ticket) e h = let why = has_command_reason w k (Start ticket) e in plain_done w k (Start ticket) why.begins _ why.words refl
 plain_line w k (Done ticket) e h = bare refl refl refl refl (λ x. refl) (λ x. refl) (λ x. refl) refl refl
 plain_line w k (Detach s) e h = let why = has_command_reason w k (Detach s) e in plain_done w k (Detach s) why.begins _ why.words refl
-plain_line w k (Free s) e h = absurd cc
 plain_line w k (Rescan s only) e h = let why = has_command_reason w k (Rescan s only) e in plain_done w k (Rescan s only) why.begins _ why.words refl
 plain_line w k (BeginPower what s) e h =
     let why = has_command_reason w k (BeginPower what s) e in
     plain_done w k (BeginPower what s) why.begins (power_command what why.name) why.words (power_apart what why.name)
-plain_line w k (Sleep s) e h = absurd cc
-plain_line w k (Wake s) e h = absurd cc
 plain_line w k (EndPower end) e h = bare refl refl refl refl (λ x. refl) (λ x. refl) (λ x. refl) refl refl
 plain_line w k (Plug x) e h = let why = has_command_reason w k (Plug x) e in plain_done w k (Plug x) why.begins _ why.words refl
 plain_line w k (Unplug x None) e h = let why = has_command_reason w k (Unplug x None) e in plain_done w k (Unplug x None) why.begins _ why.words refl
@@ -174,3 +168,4 @@ plain_line w k (Unplug x (Some s)) e h = let why = has_command_reason w k (Unplu
 plain_line w k Tell e h =
     let why = has_command_reason w k Tell e in
     elim why.words [ inl list ↦ plain_done w k Tell why.begins _ list refl | inr tree ↦ plain_done w k Tell why.begins _ tree refl ]
+plain_line w k d e h = absurd cc

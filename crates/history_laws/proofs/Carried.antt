@@ -1,5 +1,5 @@
 -- What each step carries on holds of every run, and wherever an event stands.
-use Rattle.std.proofs.Common.{◌≡◌, List, [], ◌∷◌, ◌++◌, refl, sym, subst, append_assoc}
+use Rattle.std.proofs.Common.{List, [], ◌∷◌, ◌++◌, sym, subst, append_assoc}
 use Rattle.std.proofs.lemmas.List.{append-nil}
 use Rattle.run_rules.specs.declared.event.Event.{Event}
 use Rattle.run_rules.specs.declared.world.Setup.{Setup}
@@ -7,7 +7,7 @@ use Rattle.run_rules.specs.World.{World, opening}
 use Rattle.run_rules.specs.Run.{Run, Step}
 use Rattle.run_sound.specs.Kept.{MayRun}
 use Rattle.history_laws.specs.Always.{OfEveryEvent, OfEveryRun}
-use Rattle.history_laws.proofs.Always.{Ends, ends}
+use Rattle.history_laws.proofs.Always.{ends}
 use Rattle.history_laws.proofs.Stands.{Stands, stands_on, stands_open}
 
 -- it holds at the opening, and each step carries it on

@@ -20,7 +20,7 @@ use Rattle.run_rules.specs.declared.world.Activity.TheVariants as activity
 use Rattle.run_rules.specs.declared.world.Ref.{Ref}
 use Rattle.run_rules.specs.World.{World, caller_at, device_at, device_named, holds_in, is_live, name_of, parent_name, root_name}
 use Rattle.run_rules.specs.declared.deed.Deed.{Deed}
-use Rattle.run_rules.specs.declared.deed.Deed.TheVariants.{Search, EndScan, BeginInterrupts, Finalise, EndCaller, Drop, Refuse, Open, Close, Start, Done, Detach, Free, Rescan, BeginPower, Sleep, Wake, EndPower, Plug, Unplug, Tell}
+use Rattle.run_rules.specs.declared.deed.Deed.TheVariants.{Search, Finalise, Refuse, Open, Close, Start, Done, Detach, Free, Rescan, BeginPower, Plug, Unplug, Tell}
 use Rattle.run_rules.specs.declared.deed.Choice.TheVariants.{Does}
 use Rattle.run_rules.specs.After.{after, new_device}
 use Rattle.run_rules.specs.Laws.{attached_below, attached_name, freed_name, is_name, is_ok, transfers}
@@ -50,18 +50,7 @@ use Rattle.run_sound.proofs.Beside.{live_found, live_same, live_shown}
 
 told_leaves : (w : World) (said : Command) (r : Reply) (x : List ℕ) → LeavesTree (told w said r) x
 told_leaves w (command.OpenDev name) r x = record { attached = refl; freed = refl }
-told_leaves w (command.OpenSole name) r x = record { attached = refl; freed = refl }
-told_leaves w (command.CloseDev name) r x = record { attached = refl; freed = refl }
-told_leaves w (command.Io name value) r x = record { attached = refl; freed = refl }
-told_leaves w (command.Detach name) r x = record { attached = refl; freed = refl }
-told_leaves w (command.Rescan name attr given) r x = record { attached = refl; freed = refl }
-told_leaves w (command.ListDev name) r x = record { attached = refl; freed = refl }
-told_leaves w (command.TreeDev name) r x = record { attached = refl; freed = refl }
-told_leaves w (command.Suspend name) r x = record { attached = refl; freed = refl }
-told_leaves w (command.Resume name) r x = record { attached = refl; freed = refl }
-told_leaves w (command.ResumeTree name) r x = record { attached = refl; freed = refl }
-told_leaves w (command.Plug name) r x = record { attached = refl; freed = refl }
-told_leaves w (command.Unplug name) r x = record { attached = refl; freed = refl }
+told_leaves w said r x = record { attached = refl; freed = refl }
 
 answered_leaves : (w : World) (k : ℕ) (r : Reply) (x : List ℕ) → LeavesTree (answered w k r) x
 answered_leaves w k r x = cases (command_of w k)
@@ -81,29 +70,22 @@ tree_left : (w : World) (k : ℕ) (d : Deed) (x : List ℕ) → leaves_tree d �
 unfolding printed
 tree_left w k (Search p spot to None) x h = record { attached = refl; freed = refl }
 tree_left w k (Search p spot to (Some a)) x h = absurd cc
-tree_left w k (EndScan p) x h = record { attached = refl; freed = refl }
-tree_left w k BeginInterrupts x h = record { attached = refl; freed = refl }
 tree_left w k (Finalise s None None listed anew) x h = record { attached = refl; freed = refl }
 tree_left w k (Finalise s (Some y) None listed anew) x h = record { attached = refl; freed = refl }
 tree_left w k (Finalise s shown (Some a) listed anew) x h = absurd cc
-tree_left w k EndCaller x h = record { attached = refl; freed = refl }
-tree_left w k (Drop s) x h = record { attached = refl; freed = refl }
 tree_left w k (Refuse why) x h = answered_leaves w k (reply_of w why) x
 tree_left w k (Open s sole) x h = answered_leaves w k reply.Ok x
 tree_left w k (Close s) x h = answered_leaves w k reply.Ok x
 tree_left w k (Start t) x h = answered_leaves w k reply.Ok x
-tree_left w k (Done t) x h = record { attached = refl; freed = refl }
 tree_left w k (Detach s) x h = answered_leaves w k reply.Ok x
 tree_left w k (Free s) x h = absurd cc
 tree_left w k (Rescan s only) x h = answered_leaves w k reply.Ok x
 tree_left w k (BeginPower what s) x h = answered_leaves w k reply.Ok x
-tree_left w k (Sleep s) x h = record { attached = refl; freed = refl }
-tree_left w k (Wake s) x h = record { attached = refl; freed = refl }
-tree_left w k (EndPower end) x h = record { attached = refl; freed = refl }
 tree_left w k (Plug y) x h = answered_leaves w k reply.Ok x
 tree_left w k (Unplug y None) x h = answered_leaves w k reply.Ok x
 tree_left w k (Unplug y (Some s)) x h = answered_leaves w k reply.Ok x
 tree_left w k Tell x h = answered_leaves w k reply.Ok x
+tree_left w k d x h = record { attached = refl; freed = refl }
 
 never : {A : Type 0} (o : Option (List ℕ)) (x : List ℕ) → is_name o x ≡ false → o ≡ Some x → A
 never o x off is = clash (is_name o x) (rw is (same_bytes x x refl)) off
@@ -188,19 +170,8 @@ both_off true h = absurd cc
 both_off false h = refl
 
 told_still : (w : World) (said : Command) (r : Reply) (x : List ℕ) → (is_ok r && is_io said) ≡ false → transfers (told w said r) x ≡ false
-told_still w (command.OpenDev name) r x h = refl
-told_still w (command.OpenSole name) r x h = refl
-told_still w (command.CloseDev name) r x h = refl
 told_still w (command.Io name value) r x h = rw (both_off (is_ok r) h) refl
-told_still w (command.Detach name) r x h = refl
-told_still w (command.Rescan name attr given) r x h = refl
-told_still w (command.ListDev name) r x h = refl
-told_still w (command.TreeDev name) r x h = refl
-told_still w (command.Suspend name) r x h = refl
-told_still w (command.Resume name) r x h = refl
-told_still w (command.ResumeTree name) r x h = refl
-told_still w (command.Plug name) r x h = refl
-told_still w (command.Unplug name) r x h = refl
+told_still w said r x h = refl
 
 -- a command that does what it was asked to, and that asks for no transfer
 done_still : (w : World) (k : ℕ) (d : Deed) (b : Begins w k d) (said : Command) (x : List ℕ) → b.said ≡ said → is_io said ≡ false → transfers (answered w k reply.Ok) x ≡ false

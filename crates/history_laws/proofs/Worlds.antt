@@ -1,8 +1,8 @@
 -- What each deed leaves of the devices that are held solely.
-use Rattle.std.proofs.Common.{◌≡◌, ℕ, Bool, true, false, List, Option, Some, None, refl, ◌∙◌}
+use Rattle.std.proofs.Common.{◌≡◌, ℕ, Bool, true, false, Some, None, refl}
 use Rattle.std.specs.Prelude.{if◌then◌else◌}
 use Rattle.run_rules.specs.declared.deed.Deed.{Deed}
-use Rattle.run_rules.specs.declared.deed.Deed.TheVariants.{Search, EndScan, BeginInterrupts, Finalise, EndCaller, Drop, Refuse, Open, Close, Start, Done, Detach, Free, Rescan, BeginPower, Sleep, Wake, EndPower, Plug, Unplug, Tell}
+use Rattle.run_rules.specs.declared.deed.Deed.TheVariants.{Search, Finalise, Drop, Open, Close, Free, Unplug}
 use Rattle.run_rules.specs.declared.world.Arrival.{Arrival}
 use Rattle.run_rules.specs.World.{World, caller_at}
 use Rattle.run_rules.specs.After.{after, freed, freeing_target, listed, over, released}
@@ -28,19 +28,6 @@ sole_same w k (Free s) a b = freed_sole w k s (freeing_target (caller_at w k).do
 sole_same w k (Open s sole) a b = absurd cc
 sole_same w k (Close s) a b = absurd cc
 sole_same w k (Drop s) a b = absurd cc
-sole_same w k (EndScan p) a b = refl
-sole_same w k BeginInterrupts a b = refl
-sole_same w k EndCaller a b = refl
-sole_same w k (Refuse why) a b = refl
-sole_same w k (Start ticket) a b = refl
-sole_same w k (Done ticket) a b = refl
-sole_same w k (Detach s) a b = refl
-sole_same w k (Rescan s only) a b = refl
-sole_same w k (BeginPower kind s) a b = refl
-sole_same w k (Sleep s) a b = refl
-sole_same w k (Wake s) a b = refl
-sole_same w k (EndPower end) a b = refl
-sole_same w k (Plug x) a b = refl
 sole_same w k (Unplug x None) a b = refl
 sole_same w k (Unplug x (Some s)) a b = refl
-sole_same w k Tell a b = refl
+sole_same w k d a b = refl

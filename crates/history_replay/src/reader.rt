@@ -1,7 +1,8 @@
 //! The lines of a history, each compared with that of the event that its caller does next.
-ghost use Rattle.std.specs.Prelude.{◌≡◌, ◌<◌, ◌≤◌, ◌+◌, ◌-◌, ◌^◌, ◌++◌, [], IfOk, OnOk, length, bytes_eq};
+ghost use Rattle.std.specs.Prelude.{◌≡◌, ◌<◌, ◌≤◌, ◌+◌, ◌-◌, ◌^◌, ◌++◌, [], ℕ, IfOk, IfSome, OnOk, length, bytes_eq};
 ghost use Rattle.run_rules.specs.Next as rules;
 ghost use Rattle.run_rules.specs.Reread as rule;
+ghost use Rattle.run_rules.specs.Run.{printed};
 ghost use Rattle.run_rules.specs.declared.event.Format.TheVariants.{Second};
 ghost use Rattle.run_rules.specs.declared.world.Setup.{Setup};
 ghost use Rattle.plain_search.specs.Open.{Follows};
@@ -18,7 +19,7 @@ use cf_types::{List, Memory};
 use dev_event::{put_event, put_event_1, read_caller};
 use plain_choice::next;
 use plain_effect::apply;
-use plain_event::{Kept, event_of, number_of, told_before};
+use plain_event::{KnownAct, Teller, event_of, number_of, told_before};
 use plain_world::{Plain, Rules};
 use run_rules::{Choice, Deed, Event, Format};
 use std::alloc::Global;
@@ -71,33 +72,12 @@ fn event_if(
     }
 }
 
-/// The event of what a caller does next, if a line is that of it; the line is made for that.
-fn event_anew(
-    reader: &mut Reader,
-    plain: &Plain,
-    caller: u8,
-    deed: &Deed,
-    line: &[u8],
-) -> Result<Option<Event>, Memory>
-    requires going { IsGoing (setup_in reader.old) plain.now }
-    requires due { IsDue (setup_in reader.old) plain.now caller deed.now }
-    ensures told { IfOk result (λ e. event_in reader.old.format (world_in reader.old plain.now) caller deed.now line.now ≡ e) }
-    ensures same { IsSame reader.old reader.new }
-    ensures seeker { reader.new.seeker ≡ reader.old.seeker }
-{
-    reader.teller.rules.stands();
-    match event_of(&mut reader.teller, plain, caller, deed) {
-        Ok(event) => event_if(&mut reader.due, reader.format, event, line),
-        Err(memory) => Err(memory),
-    }
-}
-
 /// The event of an act that was kept, if a line is that of it: only its head is made again.
 fn event_again(
     heads: &mut Heads,
     plain: &Plain,
     caller: u8,
-    kept: &Kept,
+    kept: &KnownAct,
     line: &[u8],
 ) -> Result<Option<Event>, Memory>
     requires { HasCaller plain.now caller 500 }
@@ -115,25 +95,19 @@ fn event_again(
     }))
 }
 
-/// The event of what a caller does next, if a line of format 2 is that of it.
-fn event_by_text(
-    reader: &mut Reader,
+/// The act of a deed that was kept, for lines of format 2. A line of format 1 says less than a kept text.
+fn kept_in<'a>(
+    teller: &'a Teller,
+    format: Format,
     plain: &Plain,
-    caller: u8,
     deed: &Deed,
-    line: &[u8],
-) -> Result<Option<Event>, Memory>
-    requires going { IsGoing (setup_in reader.old) plain.now }
-    requires due { IsDue (setup_in reader.old) plain.now caller deed.now }
-    requires format { reader.old.format ≡ Second }
-    ensures told { IfOk result (λ e. event_in reader.old.format (world_in reader.old plain.now) caller deed.now line.now ≡ e) }
-    ensures same { IsSame reader.old reader.new }
-    ensures seeker { reader.new.seeker ≡ reader.old.seeker }
+) -> Option<&'a KnownAct>
+    ensures format { IfSome result (λ kept. format ≡ Second) }
+    ensures act { (k : ℕ) → IfSome result (λ kept. kept.now.act ≡ printed (world_of teller.now.rules.now plain.now) k deed.now) }
 {
-    reader.teller.rules.stands();
-    match told_before(&reader.teller, plain, deed) {
-        Some(kept) => event_again(&mut reader.heads, plain, caller, kept, line),
-        None => event_anew(reader, plain, caller, deed, line),
+    match format {
+        Format::First => None,
+        Format::Second => told_before(teller, plain, deed),
     }
 }
 
@@ -151,9 +125,13 @@ fn event_told(
     ensures same { IsSame reader.old reader.new }
     ensures seeker { reader.new.seeker ≡ reader.old.seeker }
 {
-    match reader.format {
-        Format::First => event_anew(reader, plain, caller, deed, line),
-        Format::Second => event_by_text(reader, plain, caller, deed, line),
+    reader.teller.rules.stands();
+    if let Some(kept) = kept_in(&reader.teller, reader.format, plain, deed) {
+        return event_again(&mut reader.heads, plain, caller, kept, line);
+    }
+    match event_of(&mut reader.teller, plain, caller, deed) {
+        Ok(event) => event_if(&mut reader.due, reader.format, event, line),
+        Err(memory) => Err(memory),
     }
 }
 

@@ -10,7 +10,7 @@ use Rattle.run_rules.specs.Sound.{EachLater, IsApart, IsPlaced, HasSoundDevices}
 use Rattle.run_rules.proofs.Devices.{all_both, all_imp}
 use Rattle.run_rules.proofs.Free.{find_true}
 use Rattle.run_sound.proofs.Members.{found_of, of_each}
-use Rattle.live_rules.specs.Live.{Site, is_doomed, is_in, is_member}
+use Rattle.live_rules.specs.Live.{LiveSite, is_doomed, is_in, is_member}
 
 -- ---- a device by its serial
 
@@ -64,14 +64,14 @@ any_chain live m h out (suc k) (suc j) (suc s) a b =
     step : (i : ℕ) → list_any m (lineage (suc i) live (suc s)) ≡ (m (suc s) || list_any m (lineage i live (parent_of live (suc s))))
     step i = chain_step live m i (suc s)
 
-member_root : (t : Site) (live : List Dev) (g : ℕ) → AllByRecursion (λ (d : Dev). d.parent < d.serial) live → is_member t live g 0 ≡ false
+member_root : (t : LiveSite) (live : List Dev) (g : ℕ) → AllByRecursion (λ (d : Dev). d.parent < d.serial) live → is_member t live g 0 ≡ false
 member_root t live g h = rw (no_root live h) refl
 
-pub doomed_root : (t : Site) (live : List Dev) (g : ℕ) → is_doomed t live g 0 ≡ false
+pub doomed_root : (t : LiveSite) (live : List Dev) (g : ℕ) → is_doomed t live g 0 ≡ false
 unfolding is_doomed lineage
 doomed_root t live g = refl
 
-pub doomed_step : (t : Site) (live : List Dev) (g s : ℕ) → AllByRecursion (λ (d : Dev). d.parent < d.serial) live → 0 < s
+pub doomed_step : (t : LiveSite) (live : List Dev) (g s : ℕ) → AllByRecursion (λ (d : Dev). d.parent < d.serial) live → 0 < s
     → is_doomed t live g s ≡ (is_member t live g s || is_doomed t live g (parent_of live s))
 unfolding is_doomed
 doomed_step t live g zero h low = absurd (omega arith)
@@ -82,7 +82,7 @@ doomed_step t live g (suc s) h low =
     first : list_any (is_member t live g) (lineage (suc s) live (suc s)) ≡ (is_member t live g (suc s) || list_any (is_member t live g) (lineage s live (parent_of live (suc s))))
     first = chain_step live (is_member t live g) s (suc s)
 
-pub doomed_device : (t : Site) (live : List Dev) (next g : ℕ) (d : Dev) → HasSoundDevices t.setup live next → Contains live d
+pub doomed_device : (t : LiveSite) (live : List Dev) (next g : ℕ) (d : Dev) → HasSoundDevices t.setup live next → Contains live d
     → is_doomed t live g d.serial ≡ (is_in t g d.row || is_doomed t live g d.parent)
 doomed_device t live next g d h here =
     let after = after_parents t.setup live next h in

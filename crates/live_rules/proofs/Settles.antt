@@ -16,7 +16,7 @@ use Rattle.run_rules.proofs.Devices.{all_imp}
 use Rattle.run_sound.proofs.Callers.{clash}
 use Rattle.run_sound.proofs.Members.{each_of, of_each}
 use Rattle.live_rules.specs.declared.plan.LiveReply.TheVariants as reply
-use Rattle.live_rules.specs.Live.{Answer, IsBare, LiveWorld, Settled, Site, add, after, attach, is_candidate_on, is_free, is_known, is_on, new_device, opening, pass, places_below, scan, search_below, search_place, search_spot, spots_below, turned_on, winner_on}
+use Rattle.live_rules.specs.Live.{Answer, IsBare, LiveWorld, Settled, LiveSite, add, after, attach, is_candidate_on, is_free, is_known, is_on, new_device, opening, pass, places_below, scan, search_below, search_place, search_spot, spots_below, turned_on, winner_on}
 use Rattle.live_rules.specs.Laws.{AddsSettle, IsSound, ScansSettle}
 use Rattle.run_sound.proofs.Candidates.{fewer_candidates}
 use Rattle.live_rules.proofs.Candidates.{no_candidate}
@@ -27,10 +27,10 @@ use Rattle.live_rules.proofs.Steps.{Comes, IsAt, IsKept, below_keeps, device_mor
 -- ---- one spot
 
 -- where the spot is still bare no row would take it
-abbrev pub IsDone : Site → LiveWorld → ℕ → Place → ℕ → Type 0
+abbrev pub IsDone : LiveSite → LiveWorld → ℕ → Place → ℕ → Type 0
 IsDone t w q place y = IsBare t w q place y → (r : ℕ) → is_candidate_on t w q place y r ≡ false
 
-abbrev pub KeepsDone : Site → ℕ → Place → ℕ → LiveWorld → Type 0
+abbrev pub KeepsDone : LiveSite → ℕ → Place → ℕ → LiveWorld → Type 0
 KeepsDone t q place y w = IsSound t w × (q < w.next) × IsDone t w q place y
 
 known_before : (a b c : Bool) → c ≡ false → (a || (b || (c || false))) ≡ true → (a || b) ≡ true
@@ -43,14 +43,14 @@ bare_before true true c h = absurd cc
 bare_before true false c h = refl
 bare_before false b c h = absurd cc
 
-free_before : (t : Site) (w : LiveWorld) (p x r y : ℕ) → is_free t (attach t w p x r) y ≡ true → is_free t w y ≡ true
+free_before : (t : LiveSite) (w : LiveWorld) (p x r y : ℕ) → is_free t (attach t w p x r) y ≡ true → is_free t w y ≡ true
 unfolding is_free
 free_before t w p x r y h =
     bare_before (option_map_or (λ (spot : Spot). not spot.absent && not spot.late) (slice_get t.setup.machine.spots y) false) (is_occupied w.live y) (is_occupied (new_device t w p x r ∷ []) y)
     (rw (list_any-append (λ (d : Dev). d.spot == y) w.live (new_device t w p x r ∷ [])) at h)
 
 -- another parent's spot that is bare once a device has come was bare before
-pub was_bare : (t : Site) (w : LiveWorld) (p x r q : ℕ) (place : Place) (y : ℕ) → q < w.next → IsBare t (attach t w p x r) q place y → IsBare t w q place y
+pub was_bare : (t : LiveSite) (w : LiveWorld) (p x r q : ℕ) (place : Place) (y : ℕ) → q < w.next → IsBare t (attach t w p x r) q place y → IsBare t w q place y
 was_bare t w p x r q place y less bare =
     let d : Dev = new_device t w p x r in
     let same : device_at (w.live ++ d ∷ []) q ≡ device_at w.live q = device_more w.live d q (λ e. absurd (omega (arith, less, e))) in
@@ -66,7 +66,7 @@ fewer_on false b c more h = refl
 fewer_on true false c more h = refl
 fewer_on true true c more h = clash c (more refl) h
 
-done_comes : (t : Site) (w : LiveWorld) (p : ℕ) (other : Place) (x r q : ℕ) (place : Place) (y : ℕ) → KeepsDone t q place y w → Comes t w p other x r → KeepsDone t q place y (attach t w p x r)
+done_comes : (t : LiveSite) (w : LiveWorld) (p : ℕ) (other : Place) (x r q : ℕ) (place : Place) (y : ℕ) → KeepsDone t q place y w → Comes t w p other x r → KeepsDone t q place y (attach t w p x r)
 done_comes t w p other x r q place y h comes =
     let d : Dev = new_device t w p x r in
     let less : q < w.next = h.1 in
@@ -78,7 +78,7 @@ done_comes t w p other x r q place y h comes =
           (fewer_candidates t.setup w.live (d ∷ []) (parent_ref t.setup w.live q) place y c) (h.2 (was_bare t w p x r q place y less bare) c)),
     )
 
-done_kept : (t : Site) (q : ℕ) (place : Place) (y : ℕ) → IsKept t (KeepsDone t q place y)
+done_kept : (t : LiveSite) (q : ℕ) (place : Place) (y : ℕ) → IsKept t (KeepsDone t q place y)
 done_kept t q place y = record { numbered = λ w h. numbered t w h.0; step = λ w p other x r h comes. done_comes t w p other x r q place y h comes }
 
 -- ---- a search
@@ -87,7 +87,7 @@ occupied_now : (a b : Bool) → b ≡ true → (a || (b || false)) ≡ true
 occupied_now true b e = refl
 occupied_now false b e = rw e refl
 
-spot_does : (t : Site) (p : ℕ) (o : Option Dev) (place : Place) (w : LiveWorld) (x : ℕ) → IsSound t w × IsAt p o w → Contains (spots t o place) x → IsDone t (search_spot t p place w x) p place x
+spot_does : (t : LiveSite) (p : ℕ) (o : Option Dev) (place : Place) (w : LiveWorld) (x : ℕ) → IsSound t w × IsAt p o w → Contains (spots t o place) x → IsDone t (search_spot t p place w x) p place x
 unfolding search_spot
 spot_does t p o place w x h child = cases (is_free t w x) refl (winner_on t w p place x) refl
   where
@@ -99,7 +99,7 @@ spot_does t p o place w x h child = cases (is_free t w x) refl (winner_on t w p 
         (list_any-append (λ (d : Dev). d.spot == x) w.live (new_device t w p x c ∷ []) ∙ occupied_now (is_occupied w.live x) (x == x) (eq-eqb x x refl))
         (bare_spot t (attach t w p x c) x bare.free)
 
-place_does : (t : Site) (p : ℕ) (o : Option Dev) (w : LiveWorld) (place : Place) → IsSound t w × IsAt p o w → Contains (places t o) place
+place_does : (t : LiveSite) (p : ℕ) (o : Option Dev) (w : LiveWorld) (place : Place) → IsSound t w × IsAt p o w → Contains (places t o) place
     → (x : ℕ) → Contains (spots t o place) x → IsDone t (search_place t p w place) p place x
 unfolding search_place
 place_does t p o w place h offered x here =
@@ -114,7 +114,7 @@ place_does t p o w place h offered x here =
     (subst (λ (u : Option Dev). Contains (spots t u place) x) (sym h.1.found) here)
 
 -- after the search below p no row would take a bare spot below it
-below_does : (t : Site) (w : LiveWorld) (p : ℕ) → IsSound t w → is_known w p ≡ true → (place : Place) (x : ℕ) → IsDone t (search_below t w p) p place x
+below_does : (t : LiveSite) (w : LiveWorld) (p : ℕ) → IsSound t w → is_known w p ≡ true → (place : Place) (x : ℕ) → IsDone t (search_below t w p) p place x
 unfolding search_below
 below_does t w p h known place x = rw known done
   where
@@ -147,14 +147,14 @@ below_does t w p h known place x = rw known done
 
 -- ---- a pass
 
-abbrev AreDone : Site → ℕ → LiveWorld → Type 0
+abbrev AreDone : LiveSite → ℕ → LiveWorld → Type 0
 AreDone t n v = IsSound t v × ((q : ℕ) → q < n → (place : Place) (y : ℕ) → IsDone t v q place y)
 
-pub unknown_same : (t : Site) (v : LiveWorld) (n : ℕ) → is_known v n ≡ false → search_below t v n ≡ v
+pub unknown_same : (t : LiveSite) (v : LiveWorld) (n : ℕ) → is_known v n ≡ false → search_below t v n ≡ v
 unfolding search_below
 unknown_same t v n e = rw e refl
 
-one_more : (t : Site) (v : LiveWorld) (n : ℕ) → AreDone t n v → AreDone t (suc n) (search_below t v n)
+one_more : (t : LiveSite) (v : LiveWorld) (n : ℕ) → AreDone t n v → AreDone t (suc n) (search_below t v n)
 one_more t v n h = (
   below_keeps t (IsSound t) (sound_kept t) v n h.0,
   λ q lt place y. elim (cases_lt q n) [
@@ -173,26 +173,26 @@ one_more t v n h = (
     now place y false e = subst (λ (u : LiveWorld). IsDone t u n place y) (sym (unknown_same t v n e)) (λ bare r. clash (is_known v n) bare.known e)
     now place y true e = below_does t v n h.0 e place y
 
-all_done : (t : Site) (w : LiveWorld) → IsSound t w → (n : ℕ) → AreDone t n (fold (search_below t) w (below n))
+all_done : (t : LiveSite) (w : LiveWorld) → IsSound t w → (n : ℕ) → AreDone t n (fold (search_below t) w (below n))
 all_done t w h zero = (h, λ q lt place y. absurd (omega (arith, lt)))
 all_done t w h (suc n) = subst (AreDone t (suc n)) (sym (fold-snoc (search_below t) (below n) w n)) (one_more t (fold (search_below t) w (below n)) n (all_done t w h n))
 
 -- ---- no serial is left
 
-abbrev IsCounted : Site → LiveWorld → LiveWorld → Type 0
+abbrev IsCounted : LiveSite → LiveWorld → LiveWorld → Type 0
 IsCounted t w v = IsSound t v × (v.next + length w.live ≡ w.next + length v.live)
 
-counted_kept : (t : Site) (w : LiveWorld) → IsKept t (IsCounted t w)
+counted_kept : (t : LiveSite) (w : LiveWorld) → IsKept t (IsCounted t w)
 counted_kept t w = record {
   numbered = λ v h. numbered t v h.0;
   step = λ v p place x r h comes. (sound_comes t v p place x r h.0 comes, omega (arith, h.1, one_longer v.live (new_device t v p x r)));
 }
 
-apart_spots : (t : Site) (live : List Dev) → EachLater (IsApart t.setup) live → EachLater (λ (d e : Dev). d.spot ≢ e.spot) live
+apart_spots : (t : LiveSite) (live : List Dev) → EachLater (IsApart t.setup) live → EachLater (λ (d e : Dev). d.spot ≢ e.spot) live
 apart_spots t [] h = tt
 apart_spots t (d ∷ ds) h = (all_imp (IsApart t.setup d) (λ (e : Dev). d.spot ≢ e.spot) (λ e a. a.spots) ds h.0, apart_spots t ds h.1)
 
-last_serial : (t : Site) (w : LiveWorld) → IsSound t w → (pass t w).next ≤ w.next + length t.setup.machine.spots
+last_serial : (t : LiveSite) (w : LiveWorld) → IsSound t w → (pass t w).next ≤ w.next + length t.setup.machine.spots
 last_serial t w h =
     let v : LiveWorld = pass t w in
     let counted : IsCounted t w v = pass_keeps t (IsCounted t w) (counted_kept t w) w (h, refl) in
@@ -200,10 +200,10 @@ last_serial t w h =
 
 -- ---- a pass that has come to the last serial is over
 
-past_known : (t : Site) (v : LiveWorld) (n : ℕ) → IsSound t v → v.next ≤ n → is_known v n ≡ false
+past_known : (t : LiveSite) (v : LiveWorld) (n : ℕ) → IsSound t v → v.next ≤ n → is_known v n ≡ false
 past_known t v n h past = false_from_ne_true (is_known v n) (λ e. absurd (omega (arith, past, known_below v n (numbered t v h) e)))
 
-past_last : (t : Site) (w v : LiveWorld) (n m : ℕ) → IsSound t v → v.next ≤ n → n ≤ m → fold (search_below t) w (below n) ≡ v → fold (search_below t) w (below m) ≡ v
+past_last : (t : LiveSite) (w v : LiveWorld) (n m : ℕ) → IsSound t v → v.next ≤ n → n ≤ m → fold (search_below t) w (below n) ≡ v → fold (search_below t) w (below m) ≡ v
 past_last t w v n zero h past le e = let same : n ≡ 0 = omega (arith, le) in ap (λ (i : ℕ). fold (search_below t) w (below i)) (sym same) ∙ e
 past_last t w v n (suc m) h past le e = elim (cases_lt m n) [
   | inl less ↦ let same : n ≡ suc m = omega (arith, le, less) in ap (λ (i : ℕ). fold (search_below t) w (below i)) (sym same) ∙ e
@@ -211,28 +211,28 @@ past_last t w v n (suc m) h past le e = elim (cases_lt m n) [
 ]
 
 -- as many numbers as there are serials serve
-pub pass_over : (t : Site) (w v : LiveWorld) (n : ℕ) → IsSound t v → v.next ≤ n → n ≤ w.next + length t.setup.machine.spots → fold (search_below t) w (below n) ≡ v → pass t w ≡ v
+pub pass_over : (t : LiveSite) (w v : LiveWorld) (n : ℕ) → IsSound t v → v.next ≤ n → n ≤ w.next + length t.setup.machine.spots → fold (search_below t) w (below n) ≡ v → pass t w ≡ v
 unfolding pass
 pass_over t w v n h past le e = past_last t w v n (w.next + length t.setup.machine.spots) h past le e
 
 -- ---- no bare spot is left
 
-pass_done : (t : Site) (w : LiveWorld) → IsSound t w → AreDone t (w.next + length t.setup.machine.spots) (pass t w)
+pass_done : (t : LiveSite) (w : LiveWorld) → IsSound t w → AreDone t (w.next + length t.setup.machine.spots) (pass t w)
 unfolding pass
 pass_done t w h = all_done t w h (w.next + length t.setup.machine.spots)
 
-pub pass_settles : (t : Site) (w : LiveWorld) → IsSound t w → Settled t (pass t w)
+pub pass_settles : (t : LiveSite) (w : LiveWorld) → IsSound t w → Settled t (pass t w)
 pass_settles t w h p place x r bare =
     let done = pass_done t w h in
     (done.1 p (omega (arith, known_below (pass t w) p (numbered t (pass t w) done.0) bare.known, last_serial t w h)) place x) bare r
 
 -- ---- commands
 
-pub scan_settles : (t : Site) (w : LiveWorld) → IsSound t w → Settled t (scan t w).world
+pub scan_settles : (t : LiveSite) (w : LiveWorld) → IsSound t w → Settled t (scan t w).world
 unfolding scan
 scan_settles t w h = pass_settles t w h
 
-pub add_settles : (t : Site) (w : LiveWorld) (g : ℕ) → IsSound t w → (add t w g).reply ≡ reply.Ok → Settled t (add t w g).world
+pub add_settles : (t : LiveSite) (w : LiveWorld) (g : ℕ) → IsSound t w → (add t w g).reply ≡ reply.Ok → Settled t (add t w g).world
 unfolding add
 add_settles t w g h = cases (has w.on g)
   where

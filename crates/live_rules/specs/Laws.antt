@@ -7,16 +7,16 @@ use Rattle.run_rules.specs.Sound.{EachLater, HasSoundDevices}
 use Rattle.live_rules.specs.declared.plan.PlanCommand.{PlanCommand}
 use Rattle.live_rules.specs.declared.plan.LiveReply.TheVariants as reply
 use Rattle.live_rules.specs.declared.plan.LiveLine.{LiveLine}
-use Rattle.live_rules.specs.Live.{LiveWorld, Settled, Site, Answer, add, after, attached_line, came, doomed, freed, freed_line, is_doomed, is_known, is_on, opening, pass, remove, scan}
+use Rattle.live_rules.specs.Live.{LiveWorld, Settled, LiveSite, Answer, add, after, attached_line, came, doomed, freed, freed_line, is_doomed, is_known, is_on, opening, pass, remove, scan}
 
 -- ---- invariants
 
 -- each live device came by a row that is on
-abbrev pub AreOn : Site → LiveWorld → Type 0
+abbrev pub AreOn : LiveSite → LiveWorld → Type 0
 AreOn t w = AllByRecursion (λ d. is_on t w.on d.row ≡ true) w.live
 
 -- serials rise, parents live, no two devices have a name or a spot in common, and each stands on a spot by a row that is on
-pub record IsSound (t : Site) (w : LiveWorld) : Type 0 where
+pub record IsSound (t : LiveSite) (w : LiveWorld) : Type 0 where
   pub low : 0 < w.next
   pub devices : HasSoundDevices t.setup w.live w.next
   pub spots : AllByRecursion (λ d. d.spot < length t.setup.machine.spots) w.live
@@ -24,19 +24,19 @@ pub record IsSound (t : Site) (w : LiveWorld) : Type 0 where
   pub on : AreOn t w
 
 abbrev pub StaysSound : Type 0
-StaysSound = (t : Site) (cs : List PlanCommand) → IsSound t (after t opening cs)
+StaysSound = (t : LiveSite) (cs : List PlanCommand) → IsSound t (after t opening cs)
 
 -- no live device has a row that is off
 abbrev pub NeverOff : Type 0
-NeverOff = (t : Site) (cs : List PlanCommand) → AreOn t (after t opening cs)
+NeverOff = (t : LiveSite) (cs : List PlanCommand) → AreOn t (after t opening cs)
 
 -- ---- what a pass leaves
 
 abbrev pub AddsSettle : Type 0
-AddsSettle = (t : Site) (cs : List PlanCommand) (g : ℕ) → let w = after t opening cs in (add t w g).reply ≡ reply.Ok → Settled t (add t w g).world
+AddsSettle = (t : LiveSite) (cs : List PlanCommand) (g : ℕ) → let w = after t opening cs in (add t w g).reply ≡ reply.Ok → Settled t (add t w g).world
 
 abbrev pub ScansSettle : Type 0
-ScansSettle = (t : Site) (cs : List PlanCommand) → Settled t (scan t (after t opening cs)).world
+ScansSettle = (t : LiveSite) (cs : List PlanCommand) → Settled t (scan t (after t opening cs)).world
 
 -- what came stands behind what lived, which is as it was, and serials are counted on
 pub record Appends (w v : LiveWorld) : Type 0 where
@@ -44,13 +44,13 @@ pub record Appends (w v : LiveWorld) : Type 0 where
   pub serials : v.next ≡ w.next + length (came w v)
 
 abbrev pub PassesAppend : Type 0
-PassesAppend = (t : Site) (cs : List PlanCommand) (g : ℕ) → let w = after t opening cs in Appends w (scan t w).world × Appends w (add t w g).world
+PassesAppend = (t : LiveSite) (cs : List PlanCommand) (g : ℕ) → let w = after t opening cs in Appends w (scan t w).world × Appends w (add t w g).world
 
 -- ---- what a removal leaves
 
 -- the devices that live are those that are not doomed, as they were; a child of a doomed device is doomed;
 -- the lines are those of the doomed, and each stands after those of its children; each parent that a live device has still lives
-pub record Frees (t : Site) (w : LiveWorld) (g : ℕ) (a : Answer) : Type 0 where
+pub record Frees (t : LiveSite) (w : LiveWorld) (g : ℕ) (a : Answer) : Type 0 where
   pub left : (d : Dev) → Contains a.world.live d ↔ (Contains w.live d × (is_doomed t w.live g d.serial ≡ false))
   pub next : a.world.next ≡ w.next
   pub on : (h : ℕ) → has a.world.on h ≡ true ↔ ((has w.on h ≡ true) × (h ≢ g))
@@ -61,12 +61,12 @@ pub record Frees (t : Site) (w : LiveWorld) (g : ℕ) (a : Answer) : Type 0 wher
   pub parents : AllByRecursion (λ d. is_known a.world d.parent ≡ true) a.world.live
 
 abbrev pub RemovesFree : Type 0
-RemovesFree = (t : Site) (cs : List PlanCommand) (g : ℕ) → let w = after t opening cs in (remove t w g).reply ≡ reply.Ok → Frees t w g (remove t w g)
+RemovesFree = (t : LiveSite) (cs : List PlanCommand) (g : ℕ) → let w = after t opening cs in (remove t w g).reply ≡ reply.Ok → Frees t w g (remove t w g)
 
 -- ---- a group that comes and goes
 
 -- where the world was settled, what a group brings is doomed, so that its removal, if no device hinders it, leaves the devices and the groups as they were
-pub record IsUndone (t : Site) (w : LiveWorld) (g : ℕ) (v : LiveWorld) : Type 0 where
+pub record IsUndone (t : LiveSite) (w : LiveWorld) (g : ℕ) (v : LiveWorld) : Type 0 where
   pub is_on : has v.on g ≡ true
   pub brought : doomed t v g ≡ came w v
   pub devices : (remove t v g).reply ≡ reply.Ok → (remove t v g).world.live ≡ w.live
@@ -74,12 +74,12 @@ pub record IsUndone (t : Site) (w : LiveWorld) (g : ℕ) (v : LiveWorld) : Type 
 
 abbrev pub AddsUndone : Type 0
 AddsUndone =
-    (t : Site) (cs : List PlanCommand) (g : ℕ) → let w = after t opening cs in Settled t w → (add t w g).reply ≡ reply.Ok → IsUndone t w g (add t w g).world
+    (t : LiveSite) (cs : List PlanCommand) (g : ℕ) → let w = after t opening cs in Settled t w → (add t w g).reply ≡ reply.Ok → IsUndone t w g (add t w g).world
 
 -- ---- a pass cut short
 
 -- what came is the beginning of what comes in a whole pass, and each device that came has its line behind those that were there
-pub record IsCutShort (t : Site) (w v : LiveWorld) (old new : List LiveLine) : Type 0 where
+pub record IsCutShort (t : LiveSite) (w v : LiveWorld) (old new : List LiveLine) : Type 0 where
   pub first : List Dev
   pub rest : List Dev
   pub came : v.live ≡ w.live ++ first

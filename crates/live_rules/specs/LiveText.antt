@@ -10,7 +10,7 @@ use Rattle.live_rules.specs.declared.plan.LiveReply.{LiveReply}
 use Rattle.live_rules.specs.declared.plan.LiveReply.TheVariants as reply
 use Rattle.live_rules.specs.declared.plan.LiveLine.{LiveLine}
 use Rattle.live_rules.specs.declared.plan.LiveLine.TheVariants.{Attached, Freed}
-use Rattle.live_rules.specs.Live.{Site, after, answers, opening, tree_lines}
+use Rattle.live_rules.specs.Live.{LiveSite, after, answers, opening, tree_lines}
 
 -- the name of a group
 abbrev pub group_name : List Group → ℕ → List ℕ
@@ -42,6 +42,6 @@ abbrev pub answer_texts : List Group → PlanCommand × (LiveReply × List LiveL
 answer_texts groups e = told_text groups e.0 e.1.0 ∷ map line_text e.1.1
 
 -- the head, each command with its reply and its lines, and the tree that is left
-unfoldable pub live_texts : Site → List PlanCommand → List (List ℕ)
+unfoldable pub live_texts : LiveSite → List PlanCommand → List (List ℕ)
 live_texts t cs =
     codes "live 1" ∷ (flat_map (answer_texts t.groups) (zip cs (answers t opening cs)) ++ codes "tree" ∷ map dev_text (tree_lines t (after t opening cs)))

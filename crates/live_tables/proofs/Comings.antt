@@ -7,7 +7,7 @@ use Rattle.std.proofs.lemmas.List.Folds.{find-append, list_any-append}
 use Rattle.cf_types.specs.declared.machine.Machine.{Machine}
 use Rattle.cf_types.specs.declared.machine.Spot.{Spot}
 use Rattle.cf_types.specs.declared.memory.Memory.{Memory}
-use Rattle.match_search.specs.Index.{hangs_at}
+use Rattle.run_rules.specs.Suits.{hangs_at}
 use Rattle.cf_types.specs.declared.tables.Place.{Place}
 use Rattle.run_rules.specs.declared.world.Dev.{Dev}
 use Rattle.run_rules.specs.declared.world.ParentRef.TheVariants as under
@@ -16,7 +16,7 @@ use Rattle.run_rules.proofs.Below.{and_both}
 use Rattle.run_rules.specs.Search.{is_candidate, is_child, parent_offers, parent_ref, same_spot, spot_of}
 use Rattle.live_rules.specs.declared.plan.LiveLine.{LiveLine}
 use Rattle.live_rules.specs.Laws.{IsSound}
-use Rattle.live_rules.specs.Live.{LiveWorld, Site, attach, attached_line, is_free, is_known, is_on, new_device, places_below, search_below, search_place, search_spot, spots_below, winner_on}
+use Rattle.live_rules.specs.Live.{LiveWorld, LiveSite, attach, attached_line, is_free, is_known, is_on, new_device, places_below, search_below, search_place, search_spot, spots_below, winner_on}
 use Rattle.live_rules.proofs.Appends.{append-assoc, append_nil}
 use Rattle.run_rules.proofs.Units.{candidate_free}
 use Rattle.live_rules.proofs.Candidates.{winner_candidate, winner_there}
@@ -32,7 +32,7 @@ begins_same w = record { rest = []; live = append_nil w.live }
 pub begins_trans : (u v w : LiveWorld) → Begins u v → Begins v w → Begins u w
 begins_trans u v w a b = record { rest = a.rest ++ b.rest; live = b.live ∙ ap (λ (l : List Dev). l ++ b.rest) a.live ∙ append-assoc u.live a.rest b.rest }
 
-pub spot_begins : (t : Site) (p : ℕ) (place : Place) (w : LiveWorld) (x : ℕ) → Begins w (search_spot t p place w x)
+pub spot_begins : (t : LiveSite) (p : ℕ) (place : Place) (w : LiveWorld) (x : ℕ) → Begins w (search_spot t p place w x)
 unfolding search_spot
 spot_begins t p place w x = cases (is_free t w x) (winner_on t w p place x)
   where
@@ -45,11 +45,11 @@ pub fold_begins : {A : Type 0} (f : LiveWorld → A → LiveWorld) → ((w : Liv
 fold_begins f one [] w = begins_same w
 fold_begins f one (x ∷ xs) w = begins_trans w (f w x) (fold f (f w x) xs) (one w x) (fold_begins f one xs (f w x))
 
-pub place_begins : (t : Site) (p : ℕ) (w : LiveWorld) (place : Place) → Begins w (search_place t p w place)
+pub place_begins : (t : LiveSite) (p : ℕ) (w : LiveWorld) (place : Place) → Begins w (search_place t p w place)
 unfolding search_place
 place_begins t p w place = fold_begins (search_spot t p place) (spot_begins t p place) (spots_below t w p place) w
 
-pub below_begins : (t : Site) (w : LiveWorld) (p : ℕ) → Begins w (search_below t w p)
+pub below_begins : (t : LiveSite) (w : LiveWorld) (p : ℕ) → Begins w (search_below t w p)
 unfolding search_below
 below_begins t w p = cases (is_known w p)
   where
@@ -59,7 +59,7 @@ below_begins t w p = cases (is_known w p)
 
 -- ---- what came
 
-lines_append : (t : Site) (live xs ys : List Dev) → lines_as_they_come t live (xs ++ ys) ≡ lines_as_they_come t live xs ++ lines_as_they_come t (live ++ xs) ys
+lines_append : (t : LiveSite) (live xs ys : List Dev) → lines_as_they_come t live (xs ++ ys) ≡ lines_as_they_come t live xs ++ lines_as_they_come t (live ++ xs) ys
 unfolding lines_as_they_come
 lines_append t live [] ys = ap (λ (l : List Dev). lines_as_they_come t l ys) (append_nil live)
 lines_append t live (x ∷ xs) ys =
@@ -80,7 +80,7 @@ brings_trans r u v a b c h k = record {
   lines = k.lines ∙ ap (λ (l : List LiveLine). l ++ lines_as_they_come u.site u.world.live k.came) h.lines
       ∙ append-assoc a (lines_as_they_come r.site r.world.live h.came) (lines_as_they_come u.site u.world.live k.came)
       ∙ ap (λ (l : List LiveLine). a ++ (lines_as_they_come r.site r.world.live h.came ++ l))
-      (ap (λ (t : Site). lines_as_they_come t u.world.live k.came) h.site ∙ ap (λ (l : List Dev). lines_as_they_come r.site l k.came) h.live)
+      (ap (λ (t : LiveSite). lines_as_they_come t u.world.live k.came) h.site ∙ ap (λ (l : List Dev). lines_as_they_come r.site l k.came) h.live)
       ∙ ap (λ (l : List LiveLine). a ++ l) (sym (lines_append r.site r.world.live h.came k.came));
 }
 
@@ -179,7 +179,7 @@ spot_stays r v old new p h k brings known = ap (option_map (λ (d : Dev). d.spot
 pub parent_stays : (r v : Running) (old new : List LiveLine) (p : ℕ) (place : Place) → IsSound r.site r.world → IsSound v.site v.world → Brings r v old new → IsParent r p place → IsParent v p place
 parent_stays r v old new p place h k brings parent = record {
   known = known_stays r v old new p brings parent.known;
-  offered = ap (λ (t : Site). parent_offers t.setup.tables (parent_ref t.setup v.world.live p) place) brings.site
+  offered = ap (λ (t : LiveSite). parent_offers t.setup.tables (parent_ref t.setup v.world.live p) place) brings.site
       ∙ ap (λ (o : Option Dev). parent_offers r.site.setup.tables (option_map_or (λ d. under.Dev (driver_of r.site.setup d.row) d.unit) o under.Root) place) (at_same r v old new p h k brings parent.known)
       ∙ parent.offered;
   serials = serials_stay r v old new brings parent.serials;

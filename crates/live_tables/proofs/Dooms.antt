@@ -7,16 +7,16 @@ use Rattle.run_rules.specs.World.{device_at, lineage, policy_of}
 use Rattle.run_rules.proofs.Devices.{found_in}
 use Rattle.run_rules.proofs.Free.{find_true}
 use Rattle.live_rules.specs.Laws.{IsSound}
-use Rattle.live_rules.specs.Live.{LiveWorld, Site, doomed, hinders, is_doomed, is_in}
+use Rattle.live_rules.specs.Live.{LiveWorld, LiveSite, doomed, hinders, is_doomed, is_in}
 use Rattle.live_rules.proofs.Doomed.{after_parents, doomed_step}
 use Rattle.live_tables.specs.Going.{dooms}
 use Rattle.live_tables.specs.Running.{Running}
 
-no_chain : (t : Site) (live : List Dev) (g : ℕ) → is_doomed t live g 0 ≡ false
+no_chain : (t : LiveSite) (live : List Dev) (g : ℕ) → is_doomed t live g 0 ≡ false
 unfolding is_doomed lineage
 no_chain t live g = refl
 
-pub doomed_up : (t : Site) (w : LiveWorld) (g s : ℕ) (d : Dev) → IsSound t w → device_at w.live s ≡ Some d → is_doomed t w.live g s ≡ (is_in t g d.row || is_doomed t w.live g d.parent)
+pub doomed_up : (t : LiveSite) (w : LiveWorld) (g s : ℕ) (d : Dev) → IsSound t w → device_at w.live s ≡ Some d → is_doomed t w.live g s ≡ (is_in t g d.row || is_doomed t w.live g d.parent)
 doomed_up t w g s d h at =
     let parents = after_parents t.setup w.live w.next h.devices in
     let less : d.parent < d.serial = found_in (λ (e : Dev). e.parent < e.serial) (λ (e : Dev). e.serial == s) w.live d parents at in
@@ -24,13 +24,13 @@ doomed_up t w g s d h at =
     doomed_step t w.live g s parents (omega (arith, less, same))
     ∙ ap (λ (o : Option Dev). option_map_or (λ e. is_in t g e.row) o false || is_doomed t w.live g (option_map_or (λ e. e.parent) o 0)) at
 
-pub parent_below : (t : Site) (w : LiveWorld) (s : ℕ) (d : Dev) → IsSound t w → device_at w.live s ≡ Some d → d.parent < s
+pub parent_below : (t : LiveSite) (w : LiveWorld) (s : ℕ) (d : Dev) → IsSound t w → device_at w.live s ≡ Some d → d.parent < s
 parent_below t w s d h at =
     let less : d.parent < d.serial = found_in (λ (e : Dev). e.parent < e.serial) (λ (e : Dev). e.serial == s) w.live d (after_parents t.setup w.live w.next h.devices) at in
     let same : d.serial ≡ s = eqb-true d.serial s (find_true (λ (e : Dev). e.serial == s) w.live d at) in
     omega (arith, less, same)
 
-pub doomed_none : (t : Site) (w : LiveWorld) (g s : ℕ) → IsSound t w → device_at w.live s ≡ None → is_doomed t w.live g s ≡ false
+pub doomed_none : (t : LiveSite) (w : LiveWorld) (g s : ℕ) → IsSound t w → device_at w.live s ≡ None → is_doomed t w.live g s ≡ false
 doomed_none t w g zero h at = no_chain t w.live g
 doomed_none t w g (suc s) h at =
     doomed_step t w.live g (suc s) (after_parents t.setup w.live w.next h.devices) (omega arith)
@@ -68,7 +68,7 @@ find_both p q (x ∷ xs) = cases (find_both p q xs) (p x)
     cases more true = ap (λ (o : Option Dev). cond (q x) (Some x) o) more
     cases more false = more
 
-pub hinders_is : (t : Site) (w : LiveWorld) (g : ℕ) → find (λ d. is_doomed t w.live g d.serial && (policy_of t.setup d.row).nodetach) w.live ≡ hinders t w g
+pub hinders_is : (t : LiveSite) (w : LiveWorld) (g : ℕ) → find (λ d. is_doomed t w.live g d.serial && (policy_of t.setup d.row).nodetach) w.live ≡ hinders t w g
 unfolding hinders doomed
 hinders_is t w g = sym (find_both (λ (d : Dev). is_doomed t w.live g d.serial) (λ (d : Dev). (policy_of t.setup d.row).nodetach) w.live)
 

@@ -12,7 +12,7 @@ use Rattle.run_rules.proofs.Devices.{all_both}
 use Rattle.run_sound.proofs.Callers.{all_append, all_filter, clash}
 use Rattle.run_sound.proofs.Members.{any_passed, each_passed, later_at, later_passed}
 use Rattle.live_rules.specs.Laws.{IsSound}
-use Rattle.live_rules.specs.Live.{LiveWorld, Site, is_doomed, is_on, spared}
+use Rattle.live_rules.specs.Live.{LiveWorld, LiveSite, is_doomed, is_on, spared}
 use Rattle.live_rules.proofs.Appends.{append-assoc, append_nil}
 use Rattle.live_rules.proofs.Doomed.{after_parents}
 use Rattle.live_rules.proofs.Lists.{filter_all, filter_none}
@@ -63,7 +63,7 @@ contains_at xs k lt = (k, lt, any_default xs k (get_or xs k blank) blank lt)
 
 -- ---- one device goes
 
-serial_rises : (t : Site) (w : LiveWorld) → IsSound t w → (a b : ℕ) → a < b → b < length w.live → (get_or w.live a blank).serial < (get_or w.live b blank).serial
+serial_rises : (t : LiveSite) (w : LiveWorld) → IsSound t w → (a b : ℕ) → a < b → b < length w.live → (get_or w.live a blank).serial < (get_or w.live b blank).serial
 serial_rises t w h a b lt there = later_at (λ (d e : Dev). d.serial < e.serial) w.live a b blank blank (serials_rise t w h) lt there
 
 -- the other serials
@@ -196,7 +196,7 @@ none_parent s (d ∷ ds) e = cases (λ k. none_parent s ds k) (d.parent == s) re
     cases more true is k = absurd cc
     cases more false is k = (is, more k)
 
-pub sound_without : (t : Site) (w : LiveWorld) (s : ℕ) → IsSound t w → children w.live s ≡ [] → IsSound t (record w { live = filter (λ d. not (d.serial == s)) w.live })
+pub sound_without : (t : LiveSite) (w : LiveWorld) (s : ℕ) → IsSound t w → children w.live s ≡ [] → IsSound t (record w { live = filter (λ d. not (d.serial == s)) w.live })
 sound_without t w s h bare = record {
   low = h.low;
   devices = record {

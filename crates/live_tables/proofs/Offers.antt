@@ -15,7 +15,7 @@ use Rattle.run_rules.specs.Search.{driver_at, parent_offers, parent_ref, places_
 use Rattle.run_rules.specs.World.{device_at, driver_of, is_live}
 use Rattle.live_rules.specs.declared.plan.LiveLine.{LiveLine}
 use Rattle.live_rules.specs.Laws.{IsSound}
-use Rattle.live_rules.specs.Live.{LiveWorld, Site, is_known, search_below, search_place}
+use Rattle.live_rules.specs.Live.{LiveWorld, LiveSite, is_known, search_below, search_place}
 use Rattle.live_tables.specs.Coming.{Begins, Brings, IsParent, Searched}
 use Rattle.live_tables.specs.Running.{HasSerials, Running, offered_of}
 use Rattle.live_tables.proofs.Comings.{at_same, begins_trans, brings_same, brings_trans, fold_begins, known_stays, place_begins, serials_stay}
@@ -43,7 +43,7 @@ device_more r l v old mid new p driver i place lt at sound h brings is = record 
   sound = sound;
   brings = brings_trans r l v old mid new h.brings brings;
   rest = ap (λ (w : LiveWorld). fold (search_place r.site p) w (drop (i + 1) (map At (offered_of r driver))))
-      (is ∙ ap (λ (t : Site). search_place t p l.world place) h.brings.site ∙ ap (search_place r.site p l.world) at)
+      (is ∙ ap (λ (t : LiveSite). search_place t p l.world place) h.brings.site ∙ ap (search_place r.site p l.world) at)
       ∙ ap (fold (search_place r.site p) l.world) (sym (at_mapped (offered_of r driver) i lt)) ∙ h.rest;
 }
 
@@ -54,7 +54,7 @@ device_cut r l v old mid new p driver i place e lt at h one = record {
   ok = tt;
   err =
       let some : Begins v.world (search_place r.site p l.world (At (get_or (offered_of r driver) i 0))) =
-      subst (λ (q : Place). Begins v.world (search_place r.site p l.world q)) at (subst (λ (t : Site). Begins v.world (search_place t p l.world place)) h.brings.site one.err) in
+      subst (λ (q : Place). Begins v.world (search_place r.site p l.world q)) at (subst (λ (t : LiveSite). Begins v.world (search_place t p l.world place)) h.brings.site one.err) in
       let first : LiveWorld = search_place r.site p l.world (At (get_or (offered_of r driver) i 0)) in
       subst (Begins v.world) (ap (fold (search_place r.site p) l.world) (sym (at_mapped (offered_of r driver) i lt)) ∙ h.rest)
       (begins_trans v.world first (fold (search_place r.site p) first (drop (i + 1) (map At (offered_of r driver)))) some
@@ -87,7 +87,7 @@ is_parent r l old new p driver i place h k brings known serials at lt is = recor
   known = known_stays r l old new p brings known;
   offered =
       ap (λ (q : Place). parent_offers l.site.setup.tables (parent_ref l.site.setup l.world.live p) q) is
-      ∙ ap (λ (t : Site). parent_offers t.setup.tables (parent_ref t.setup l.world.live p) (At (get_or (offered_of r driver) i 0))) brings.site
+      ∙ ap (λ (t : LiveSite). parent_offers t.setup.tables (parent_ref t.setup l.world.live p) (At (get_or (offered_of r driver) i 0))) brings.site
       ∙ ap (λ (o : Option Dev). parent_offers r.site.setup.tables (option_map_or (λ d. under.Dev (driver_of r.site.setup d.row) d.unit) o under.Root) (At (get_or (offered_of r driver) i 0))) (at_same r l old new p h k brings known)
       ∙ offered (device_at r.world.live p) at;
   serials = serials_stay r l old new brings serials;
@@ -120,7 +120,7 @@ live_at r p driver e = known (p == 0) (found r.world.live e)
     known true k = refl
     known false k = k
 
-none_live : (s : Site) (live : List Dev) (p : ℕ) → driver_at s.setup live p ≡ None → is_live live p ≡ false
+none_live : (s : LiveSite) (live : List Dev) (p : ℕ) → driver_at s.setup live p ≡ None → is_live live p ≡ false
 none_live s [] p e = refl
 none_live s (d ∷ ds) p e = cases (λ k. none_live s ds p k) (d.serial == p) e
   where

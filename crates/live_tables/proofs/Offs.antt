@@ -6,10 +6,10 @@ use Rattle.run_rules.specs.declared.world.Dev.{Dev}
 use Rattle.run_rules.specs.World.{driver_of}
 use Rattle.run_rules.proofs.Devices.{all_both}
 use Rattle.live_rules.specs.Laws.{IsSound}
-use Rattle.live_rules.specs.Live.{LiveWorld, Site, group_of, is_in, is_on}
+use Rattle.live_rules.specs.Live.{LiveWorld, LiveSite, group_of, is_in, is_on}
 use Rattle.live_rules.proofs.Kept.{on_without}
 
-pub off_sound : (t : Site) (w : LiveWorld) (g : ℕ) → IsSound t w → AllByRecursion (λ d. is_in t g d.row ≡ false) w.live → IsSound t (record w { on = filter (λ h. not (h == g)) w.on })
+pub off_sound : (t : LiveSite) (w : LiveWorld) (g : ℕ) → IsSound t w → AllByRecursion (λ d. is_in t g d.row ≡ false) w.live → IsSound t (record w { on = filter (λ h. not (h == g)) w.on })
 off_sound t w g h none = record {
   low = h.low;
   devices = h.devices;

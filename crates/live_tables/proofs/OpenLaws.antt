@@ -9,6 +9,7 @@ use Rattle.cf_types.specs.declared.tables.Place.{Place}
 use Rattle.cf_types.specs.declared.tables.Row.{Row}
 use Rattle.match_search.specs.Best.{best_row, live_rows, may_take}
 use Rattle.match_search.specs.Index as index
+use Rattle.run_rules.specs.Suits.{hangs_at}
 use Rattle.match_search.proofs.BestLaws.{row_is}
 use Rattle.match_search.proofs.ListedLaws.{listed_is}
 use Rattle.run_rules.specs.declared.world.Dev.{Dev}
@@ -17,7 +18,7 @@ use Rattle.run_rules.specs.declared.world.Setup.{Setup}
 use Rattle.run_rules.specs.Search.{fits, found_at, is_candidate, is_live_row, match_value, parent_offers, parent_ref, value_of}
 use Rattle.run_rules.specs.World.{device_at, is_live}
 use Rattle.run_rules.proofs.Winner.{best_alike, best_is, has_best}
-use Rattle.live_rules.specs.Live.{LiveWorld, Site, is_candidate_on, is_on, winner_on}
+use Rattle.live_rules.specs.Live.{LiveWorld, LiveSite, is_candidate_on, is_on, winner_on}
 use Rattle.live_rules.proofs.Lists.{one_longer}
 use Rattle.live_tables.specs.Open.{is_open, open_rows}
 
@@ -55,7 +56,7 @@ below_at (suc n) i lt = elim (cases_lt i n) [
       ap (slice_get (below n ++ n ∷ [])) same ∙ get_last (below n) n ∙ ap Some (omega (arith, lt, past))
 ]
 
-open_is : (t : Site) (w : LiveWorld) (r : ℕ) (row : Row) → slice_get t.setup.tables.rows r ≡ Some row
+open_is : (t : LiveSite) (w : LiveWorld) (r : ℕ) (row : Row) → slice_get t.setup.tables.rows r ≡ Some row
     → slice_index_or (open_rows t w) r false ≡ (is_on t w.on r && is_live_row t.setup w.live row)
 unfolding open_rows
 open_is t w r row at =
@@ -84,7 +85,7 @@ there [] i lt k = omega (arith, lt)
 there (x ∷ xs) zero lt k = cc
 there (x ∷ xs) (suc i) lt k = there xs i (omega (arith, lt)) k
 
-none_open : (t : Site) (w : LiveWorld) (r : ℕ) → slice_get t.setup.tables.rows r ≡ None → slice_index_or (open_rows t w) r false ≡ false
+none_open : (t : LiveSite) (w : LiveWorld) (r : ℕ) → slice_get t.setup.tables.rows r ≡ None → slice_index_or (open_rows t w) r false ≡ false
 unfolding open_rows
 none_open t w r e = elim (cases_lt r (length t.setup.tables.rows)) [
   | inl less ↦ absurd (there t.setup.tables.rows r less e)
@@ -94,7 +95,7 @@ none_open t w r e = elim (cases_lt r (length t.setup.tables.rows)) [
 ]
 
 -- a row that has a free unit is open where it is on
-pub open_mark : (t : Site) (w : LiveWorld) (marks : List Bool) (r : ℕ) (free : Bool) → marks ≡ live_rows t.setup w.live → free ≡ slice_index_or marks r false
+pub open_mark : (t : LiveSite) (w : LiveWorld) (marks : List Bool) (r : ℕ) (free : Bool) → marks ≡ live_rows t.setup w.live → free ≡ slice_index_or marks r false
     → (free && is_on t w.on r) ≡ slice_index_or (open_rows t w) r false
 open_mark t w marks r free are is = cases (slice_get t.setup.tables.rows r) refl
   where
@@ -113,7 +114,7 @@ open_mark t w marks r free are is = cases (slice_get t.setup.tables.rows r) refl
 
 -- ---- the winner
 
-may_take_is : (t : Site) (w : LiveWorld) (p : ℕ) (place : Place) (x q : ℕ)
+may_take_is : (t : LiveSite) (w : LiveWorld) (p : ℕ) (place : Place) (x q : ℕ)
     → is_candidate_on t w p place x q ≡ may_take t.setup.tables t.setup.machine (open_rows t w) (parent_ref t.setup w.live p) place x q
 unfolding is_candidate
 may_take_is t w p place x q = cases (slice_get t.setup.tables.rows q) refl
@@ -139,7 +140,7 @@ may_take_is t w p place x q = cases (slice_get t.setup.tables.rows q) refl
         rw (open_is t w q row e) (regroup (is_on t w.on q) (is_live_row t.setup w.live row) (fits t.setup.tables pref place row)
         (submatch (locators_at t.setup.tables.attrs place) row.locs (found_at t.setup.machine x)) (nat_lt 0 (match_value t.setup.machine row.attach x)))
 
-best_on : (t : Site) (w : LiveWorld) (p : ℕ) (place : Place) (x : ℕ)
+best_on : (t : LiveSite) (w : LiveWorld) (p : ℕ) (place : Place) (x : ℕ)
     → best_row t.setup.tables t.setup.machine (open_rows t w) (parent_ref t.setup w.live p) place x ≡ winner_on t w p place x
 unfolding winner_on
 best_on t w p place x =
@@ -152,8 +153,8 @@ best_on t w p place x =
     ∙ sym (best_is test value rows found.best found.is)
 
 -- the first open one of the rows that suit a spot, the best first
-pub first_wins : (t : Site) (w : LiveWorld) (p : ℕ) (place : Place) (x : ℕ) (listed : List (List ℕ)) → index.IsIndexOf t.setup.tables t.setup.machine listed
-    → index.hangs_at t.setup.machine x place ≡ true → parent_offers t.setup.tables (parent_ref t.setup w.live p) place ≡ true
+pub first_wins : (t : LiveSite) (w : LiveWorld) (p : ℕ) (place : Place) (x : ℕ) (listed : List (List ℕ)) → index.IsIndexOf t.setup.tables t.setup.machine listed
+    → hangs_at t.setup.machine x place ≡ true → parent_offers t.setup.tables (parent_ref t.setup w.live p) place ≡ true
     → find (index.is_open_to t.setup.tables (open_rows t w) (parent_ref t.setup w.live p)) (slice_index_or listed x []) ≡ winner_on t w p place x
 first_wins t w p place x listed of here offered =
     listed_is t.setup.tables t.setup.machine (open_rows t w) (parent_ref t.setup w.live p) place x listed of here offered ∙ best_on t w p place x

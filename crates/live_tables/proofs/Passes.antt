@@ -11,7 +11,7 @@ use Rattle.run_rules.specs.Sound.{EachLater, IsApart, IsPlaced}
 use Rattle.run_sound.proofs.Members.{later_at, live_contained}
 use Rattle.live_rules.specs.declared.plan.LiveLine.{LiveLine}
 use Rattle.live_rules.specs.Laws.{IsSound}
-use Rattle.live_rules.specs.Live.{LiveWorld, Site, is_known, pass, search_below}
+use Rattle.live_rules.specs.Live.{LiveWorld, LiveSite, is_known, pass, search_below}
 use Rattle.live_rules.proofs.Settles.{pass_over, unknown_same}
 use Rattle.live_rules.proofs.Steps.{fold-snoc}
 use Rattle.live_tables.specs.Coming.{Begins, Brings, Searched}
@@ -29,7 +29,7 @@ serial_after live (suc i) = suc (get_or live i blank).serial
 
 -- ---- serials that nobody has
 
-skip_unknown : (t : Site) (w v : LiveWorld) (n m : ℕ) → n ≤ m → ((k : ℕ) → n ≤ k → k < m → is_known v k ≡ false) → fold (search_below t) w (below n) ≡ v → fold (search_below t) w (below m) ≡ v
+skip_unknown : (t : LiveSite) (w v : LiveWorld) (n m : ℕ) → n ≤ m → ((k : ℕ) → n ≤ k → k < m → is_known v k ≡ false) → fold (search_below t) w (below n) ≡ v → fold (search_below t) w (below m) ≡ v
 skip_unknown t w v n zero le none e = let same : n ≡ 0 = omega (arith, le) in ap (λ (i : ℕ). fold (search_below t) w (below i)) (sym same) ∙ e
 skip_unknown t w v n (suc m) le none e = elim (cases_lt m n) [
   | inl less ↦ let same : n ≡ suc m = omega (arith, le, less) in ap (λ (i : ℕ). fold (search_below t) w (below i)) (sym same) ∙ e
@@ -41,7 +41,7 @@ skip_unknown t w v n (suc m) le none e = elim (cases_lt m n) [
 unknown : (w : LiveWorld) (k : ℕ) → 0 < k → (is_live w.live k ≡ true → ⊥) → is_known w k ≡ false
 unknown w k low none = rw (ne_eqb k 0 (λ e. absurd (omega (arith, low, e)))) (false_from_ne_true (is_live w.live k) (λ e. absurd (none e)))
 
-pub serials_rise : (t : Site) (w : LiveWorld) → IsSound t w → EachLater (λ (d e : Dev). d.serial < e.serial) w.live
+pub serials_rise : (t : LiveSite) (w : LiveWorld) → IsSound t w → EachLater (λ (d e : Dev). d.serial < e.serial) w.live
 serials_rise t w h = rise w.live h.devices.apart
   where
     less : (d : Dev) (ds : List Dev) → AllByRecursion (IsApart t.setup d) ds → AllByRecursion (λ (e : Dev). d.serial < e.serial) ds
@@ -62,16 +62,16 @@ each_at P [] i d h lt = absurd (omega (arith, lt))
 each_at P (x ∷ xs) zero d h lt = h.0
 each_at P (x ∷ xs) (suc i) d h lt = each_at P xs i d h.1 (omega (arith, lt))
 
-after_next : (t : Site) (w : LiveWorld) (i : ℕ) → IsSound t w → i ≤ length w.live → serial_after w.live i ≤ w.next
+after_next : (t : LiveSite) (w : LiveWorld) (i : ℕ) → IsSound t w → i ≤ length w.live → serial_after w.live i ≤ w.next
 after_next t w zero h le = omega (arith, h.low)
 after_next t w (suc i) h le = let placed = each_at (IsPlaced w.live w.next) w.live i blank h.devices.placed (omega (arith, le)) in omega (arith, placed.below_next)
 
-after_least : (t : Site) (w : LiveWorld) (i : ℕ) → IsSound t w → i < length w.live → serial_after w.live i ≤ (get_or w.live i blank).serial
+after_least : (t : LiveSite) (w : LiveWorld) (i : ℕ) → IsSound t w → i < length w.live → serial_after w.live i ≤ (get_or w.live i blank).serial
 after_least t w zero h lt = let placed = each_at (IsPlaced w.live w.next) w.live 0 blank h.devices.placed lt in omega (arith, placed.after_parent)
 after_least t w (suc i) h lt = let more = later_at (λ (d e : Dev). d.serial < e.serial) w.live i (suc i) blank blank (serials_rise t w h) (omega arith) lt in omega (arith, more)
 
 -- the device of a serial stands before the place from which on serials are greater
-none_between : (t : Site) (w : LiveWorld) (i k : ℕ) → IsSound t w → i ≤ length w.live → serial_after w.live i ≤ k → (i < length w.live → k < (get_or w.live i blank).serial) → is_known w k ≡ false
+none_between : (t : LiveSite) (w : LiveWorld) (i k : ℕ) → IsSound t w → i ≤ length w.live → serial_after w.live i ≤ k → (i < length w.live → k < (get_or w.live i blank).serial) → is_known w k ≡ false
 none_between t w i k h le from to = unknown w k (low i from) (λ live. clash (live_contained w.live k live))
   where
     low : (j : ℕ) → serial_after w.live j ≤ k → 0 < k
@@ -122,11 +122,11 @@ root_searched r v old new h brings is = record { sound = h; brings = brings; wit
 -- a serial that was given out is among those of the pass
 given_out : (r l : Running) (old new : List LiveLine) → IsSound l.site l.world → Brings r l old new → l.world.next ≤ r.world.next + length r.site.setup.machine.spots
 given_out r l old new h brings =
-    let few = subst (λ (t : Site). length l.world.live ≤ length t.setup.machine.spots) brings.site (few_live l.site l.world h) in
+    let few = subst (λ (t : LiveSite). length l.world.live ≤ length t.setup.machine.spots) brings.site (few_live l.site l.world h) in
     omega (arith, brings.next, few, ap length brings.live, length-append r.world.live brings.came)
 
 -- what the pass goes on with
-goes_on : (t : Site) (w : LiveWorld) (n m : ℕ) → n ≤ m → Begins (fold (search_below t) w (below n)) (fold (search_below t) w (below m))
+goes_on : (t : LiveSite) (w : LiveWorld) (n m : ℕ) → n ≤ m → Begins (fold (search_below t) w (below n)) (fold (search_below t) w (below m))
 goes_on t w n zero le = let same : n ≡ 0 = omega (arith, le) in subst (λ (k : ℕ). Begins (fold (search_below t) w (below k)) w) (sym same) (begins_same w)
 goes_on t w n (suc m) le = elim (cases_lt m n) [
   | inl less ↦ let same : n ≡ suc m = omega (arith, le, less) in
@@ -168,7 +168,7 @@ device_searched r l v old mid new i s lt is sound h brings done = record {
       let here : (get_or v.world.live i blank).serial ≡ s = ap (λ (live : List Dev). (get_or live i blank).serial) brings.live ∙ ap (λ (d : Dev). d.serial) (get_or-front l.world.live brings.came i blank lt) ∙ sym is in
       let next : i + 1 ≡ suc i = omega arith in
       ap (λ (k : ℕ). fold (search_below r.site) r.world (below (serial_after v.world.live k))) next ∙ ap (λ (k : ℕ). fold (search_below r.site) r.world (below (suc k))) here
-      ∙ one_on r l old mid i s lt is h ∙ ap (λ (t : Site). search_below t l.world s) (sym h.brings.site) ∙ sym done;
+      ∙ one_on r l old mid i s lt is h ∙ ap (λ (t : LiveSite). search_below t l.world s) (sym h.brings.site) ∙ sym done;
 }
 
 pub device_stopped : (r l v : Running) (old mid new : List LiveLine) (i s : ℕ) (e : Memory) → i < length l.world.live → s ≡ (get_or l.world.live i blank).serial
@@ -180,7 +180,7 @@ device_stopped r l v old mid new i s e lt is h one = record {
       let placed = each_at (IsPlaced l.world.live l.world.next) l.world.live i blank h.sound.devices.placed lt in
       let most = given_out r l old mid h.sound h.brings in
       let some : Begins v.world (fold (search_below r.site) r.world (below (suc s))) =
-      subst (Begins v.world) (ap (λ (t : Site). search_below t l.world s) h.brings.site ∙ sym (one_on r l old mid i s lt is h)) one.err in
+      subst (Begins v.world) (ap (λ (t : LiveSite). search_below t l.world s) h.brings.site ∙ sym (one_on r l old mid i s lt is h)) one.err in
       begins_trans v.world (fold (search_below r.site) r.world (below (suc s))) (pass r.site r.world) some (pass_begins r (suc s) (omega (arith, is, placed.below_next, most)));
 }
 
@@ -191,6 +191,6 @@ all_searched r l old new i past h = record {
       let whole : fold (search_below r.site) r.world (below l.world.next) ≡ l.world =
       skip_unknown r.site r.world l.world (serial_after l.world.live i) l.world.next (after_next l.site l.world i h.sound h.within)
       (λ k from to. none_between l.site l.world i k h.sound h.within from (λ lt. absurd (omega (arith, lt, past)))) h.so_far in
-      sym (pass_over r.site r.world l.world l.world.next (subst (λ (t : Site). IsSound t l.world) h.brings.site h.sound) (omega arith) (given_out r l old new h.sound h.brings) whole);
+      sym (pass_over r.site r.world l.world l.world.next (subst (λ (t : LiveSite). IsSound t l.world) h.brings.site h.sound) (omega arith) (given_out r l old new h.sound h.brings) whole);
   err = tt;
 }

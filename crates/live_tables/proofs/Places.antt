@@ -8,12 +8,12 @@ use Rattle.cf_types.specs.Numbers.{below}
 use Rattle.cf_types.specs.declared.memory.Memory.{Memory}
 use Rattle.cf_types.specs.declared.tables.Place.{Place}
 use Rattle.run_rules.specs.Search.{child_spots, is_child, spot_of}
-use Rattle.scan_engine.proofs.SpanLaws.{spans_hold}
+use Rattle.run_rules.proofs.Spans.{spans_hold}
 use Rattle.scan_engine.specs.Spans.{AreSpansOf, Covers, span_at}
-use Rattle.scan_engine.specs.declared.spans.Span.{Span}
+use Rattle.run_rules.specs.declared.world.Span.{Span}
 use Rattle.live_rules.specs.declared.plan.LiveLine.{LiveLine}
 use Rattle.live_rules.specs.Laws.{IsSound}
-use Rattle.live_rules.specs.Live.{LiveWorld, Site, search_place, search_spot}
+use Rattle.live_rules.specs.Live.{LiveWorld, LiveSite, search_place, search_spot}
 use Rattle.live_tables.specs.Coming.{Begins, Brings, Searched}
 use Rattle.live_tables.specs.Running.{Running}
 use Rattle.live_tables.proofs.Comings.{begins_trans, brings_same, brings_trans, fold_begins, spot_begins}
@@ -131,7 +131,7 @@ pub place_more : (r l v : Running) (old mid new : List LiveLine) (p : ℕ) (plac
 place_more r l v old mid new p place i lt child sound h brings is = record {
   sound = sound;
   brings = brings_trans r l v old mid new h.brings brings;
-  rest = ap (λ (w : LiveWorld). fold (search_spot r.site p place) w (left r p place (i + 1))) (is ∙ ap (λ (t : Site). search_spot t p place l.world i) h.brings.site)
+  rest = ap (λ (w : LiveWorld). fold (search_spot r.site p place) w (left r p place (i + 1))) (is ∙ ap (λ (t : LiveSite). search_spot t p place l.world i) h.brings.site)
       ∙ searched_first r l p place i lt child ∙ h.rest;
 }
 
@@ -143,7 +143,7 @@ place_cut r l v old mid new p place i e lt child h one = record {
   ok = tt;
   err =
       let spot : LiveWorld = search_spot r.site p place l.world i in
-      let some : Begins v.world spot = subst (λ (t : Site). Begins v.world (search_spot t p place l.world i)) h.brings.site one.err in
+      let some : Begins v.world spot = subst (λ (t : LiveSite). Begins v.world (search_spot t p place l.world i)) h.brings.site one.err in
       subst (Begins v.world) (searched_first r l p place i lt child ∙ h.rest)
       (begins_trans v.world spot (fold (search_spot r.site p place) spot (left r p place (i + 1))) some
       (fold_begins (search_spot r.site p place) (spot_begins r.site p place) (left r p place (i + 1)) spot));

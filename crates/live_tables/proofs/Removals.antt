@@ -11,7 +11,7 @@ use Rattle.std.proofs.lemmas.Bool.{not-true}
 use Rattle.live_rules.specs.declared.plan.LiveLine.{LiveLine}
 use Rattle.live_rules.specs.declared.plan.LiveReply.TheVariants as reply
 use Rattle.live_rules.specs.Laws.{IsSound}
-use Rattle.live_rules.specs.Live.{LiveWorld, Site, doomed, freed, freed_line, hinders, is_doomed, is_in, remove, remove_unless, removed, spared}
+use Rattle.live_rules.specs.Live.{LiveWorld, LiveSite, doomed, freed, freed_line, hinders, is_doomed, is_in, remove, remove_unless, removed, spared}
 use Rattle.live_rules.proofs.Appends.{append_nil}
 use Rattle.live_rules.proofs.Kept.{not_in}
 use Rattle.live_tables.specs.Answers.{Answers}
@@ -34,14 +34,14 @@ unfolding remove remove_unless removed
 is_removed r v g old new on none is told = rw (on, none) (record { reply = refl; leaves = record { running = is; lines = told } })
 
 -- what hinders came by a row that is there
-pub hindering_row : (t : Site) (w : LiveWorld) (g : ℕ) (d : Dev) → IsSound t w → hinders t w g ≡ Some d → d.row < length t.setup.tables.rows
+pub hindering_row : (t : LiveSite) (w : LiveWorld) (g : ℕ) (d : Dev) → IsSound t w → hinders t w g ≡ Some d → d.row < length t.setup.tables.rows
 unfolding hinders doomed
 hindering_row t w g d h some =
     found_in (λ (e : Dev). e.row < length t.setup.tables.rows) (λ (e : Dev). (policy_of t.setup e.row).nodetach) (filter (λ (e : Dev). is_doomed t w.live g e.serial) w.live) d
     (all_filter (λ (e : Dev). e.row < length t.setup.tables.rows) (λ (e : Dev). is_doomed t w.live g e.serial) w.live h.rows) some
 
 -- none of those that are left is in the group
-pub none_in : (t : Site) (w : LiveWorld) (g : ℕ) → IsSound t w → AllByRecursion (λ (d : Dev). is_in t g d.row ≡ false) (spared t w g)
+pub none_in : (t : LiveSite) (w : LiveWorld) (g : ℕ) → IsSound t w → AllByRecursion (λ (d : Dev). is_in t g d.row ≡ false) (spared t w g)
 unfolding spared
 none_in t w g h =
     each_passed (λ (d : Dev). is_in t g d.row ≡ false) (λ (d : Dev). not (is_doomed t w.live g d.serial)) w.live

@@ -14,7 +14,7 @@ use Rattle.run_rules.proofs.Devices.{all_imp}
 use Rattle.live_rules.specs.declared.plan.LiveLine.{LiveLine}
 use Rattle.live_rules.specs.declared.plan.LiveLine.TheVariants.{Attached}
 use Rattle.live_rules.specs.Laws.{IsCutShort, IsSound}
-use Rattle.live_rules.specs.Live.{LiveWorld, Settled, Site, attached_line, came, pass, scan}
+use Rattle.live_rules.specs.Live.{LiveWorld, Settled, LiveSite, attached_line, came, pass, scan}
 use Rattle.live_rules.proofs.Appends.{append-assoc, scan_appends}
 use Rattle.live_rules.proofs.Settles.{pass_settles}
 use Rattle.live_rules.proofs.Steps.{or_none}
@@ -29,7 +29,7 @@ none_at p [] h = refl
 none_at p (d ∷ ds) h = ap (λ (b : Bool). cond b (Some d) (device_at ds p)) (ne_eqb d.serial p (λ e. let less : p < d.serial = h.0 in absurd (omega (arith, less, e)))) ∙ none_at p ds h.1
 
 -- a parent is found among those that came before its child
-one_line : (t : Site) (live : List Dev) (d : Dev) (ds : List Dev) → d.parent < d.serial → AllByRecursion (λ (e : Dev). d.serial < e.serial) ds → attached_line t live d ≡ attached_line t (live ++ d ∷ ds) d
+one_line : (t : LiveSite) (live : List Dev) (d : Dev) (ds : List Dev) → d.parent < d.serial → AllByRecursion (λ (e : Dev). d.serial < e.serial) ds → attached_line t live d ≡ attached_line t (live ++ d ∷ ds) d
 unfolding parent_name
 one_line t live d ds less later =
     ap (λ (o : Option Dev). Attached (name_of t.setup d) (option_map_or (name_of t.setup) o root_name) d.row)
@@ -37,7 +37,7 @@ one_line t live d ds less later =
     ∙ ap (option_or (device_at live d.parent)) (none_at d.parent (d ∷ ds) (less, all_imp (λ (e : Dev). d.serial < e.serial) (λ (e : Dev). d.parent < e.serial) (λ e lt. omega (arith, less, lt)) ds later))
     ∙ or_none (device_at live d.parent)))
 
-lines_are : (t : Site) (live ds : List Dev) → AllByRecursion (λ (d : Dev). d.parent < d.serial) ds → EachLater (λ (d e : Dev). d.serial < e.serial) ds
+lines_are : (t : LiveSite) (live ds : List Dev) → AllByRecursion (λ (d : Dev). d.parent < d.serial) ds → EachLater (λ (d e : Dev). d.serial < e.serial) ds
     → lines_as_they_come t live ds ≡ map (attached_line t (live ++ ds)) ds
 unfolding lines_as_they_come
 lines_are t live [] parents later = refl
@@ -56,11 +56,11 @@ later_behind : {A : Type 0} (R : A → A → Type 0) (xs ys : List A) → EachLa
 later_behind R [] ys h = h
 later_behind R (x ∷ xs) ys h = later_behind R xs ys h.1
 
-rising : (t : Site) (live : List Dev) → EachLater (IsApart t.setup) live → EachLater (λ (d e : Dev). d.serial < e.serial) live
+rising : (t : LiveSite) (live : List Dev) → EachLater (IsApart t.setup) live → EachLater (λ (d e : Dev). d.serial < e.serial) live
 rising t [] h = tt
 rising t (d ∷ ds) h = (all_imp (IsApart t.setup d) (λ (e : Dev). d.serial < e.serial) (λ e a. a.later) ds h.0, rising t ds h.1)
 
-come_lines : (t : Site) (old new : List Dev) (v : LiveWorld) → IsSound t v → v.live ≡ old ++ new → lines_as_they_come t old new ≡ map (attached_line t v.live) new
+come_lines : (t : LiveSite) (old new : List Dev) (v : LiveWorld) → IsSound t v → v.live ≡ old ++ new → lines_as_they_come t old new ≡ map (attached_line t v.live) new
 come_lines t old new v h is =
     lines_are t old new
     (all_behind (λ (d : Dev). d.parent < d.serial) old new (subst (AllByRecursion (λ (d : Dev). d.parent < d.serial)) is (all_imp (IsPlaced v.live v.next) (λ (d : Dev). d.parent < d.serial) (λ d p. p.after_parent) v.live h.devices.placed)))
@@ -78,10 +78,10 @@ scan_done r v old new h k one =
     let appends = scan_appends r.site r.world h in
     let newer : came r.world (pass r.site r.world) ≡ one.brings.came = same_rest r.world.live (came r.world (pass r.site r.world)) one.brings.came (sym appends.behind ∙ ap (λ (w : LiveWorld). w.live) (sym one.ok) ∙ one.brings.live) in
     record {
-      running = ap (λ (t : Site). record { site = t; world = v.world }) one.brings.site ∙ ap (λ (w : LiveWorld). record { site = r.site; world = w }) one.ok;
+      running = ap (λ (t : LiveSite). record { site = t; world = v.world }) one.brings.site ∙ ap (λ (w : LiveWorld). record { site = r.site; world = w }) one.ok;
       lines = one.brings.lines
           ∙ ap (λ (ls : List LiveLine). old ++ ls)
-          (come_lines r.site r.world.live one.brings.came v.world (subst (λ (t : Site). IsSound t v.world) one.brings.site k) one.brings.live
+          (come_lines r.site r.world.live one.brings.came v.world (subst (λ (t : LiveSite). IsSound t v.world) one.brings.site k) one.brings.live
           ∙ ap (λ (w : LiveWorld). map (attached_line r.site w.live) one.brings.came) one.ok
           ∙ ap (map (attached_line r.site (pass r.site r.world).live)) (sym newer));
     }
@@ -95,7 +95,7 @@ scan_cut r v old new e k one = record {
   serials = one.brings.next;
   on = one.brings.on;
   lines = one.brings.lines
-      ∙ ap (λ (ls : List LiveLine). old ++ ls) (come_lines r.site r.world.live one.brings.came v.world (subst (λ (t : Site). IsSound t v.world) one.brings.site k) one.brings.live);
+      ∙ ap (λ (ls : List LiveLine). old ++ ls) (come_lines r.site r.world.live one.brings.came v.world (subst (λ (t : LiveSite). IsSound t v.world) one.brings.site k) one.brings.live);
 }
 
 -- ---- whether it was cut short or not

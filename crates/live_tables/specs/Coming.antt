@@ -6,11 +6,11 @@ use Rattle.run_rules.specs.declared.world.Dev.{Dev}
 use Rattle.run_rules.specs.Search.{is_taken, parent_offers, parent_ref, unit_of}
 use Rattle.run_rules.specs.World.{driver_of}
 use Rattle.live_rules.specs.declared.plan.LiveLine.{LiveLine}
-use Rattle.live_rules.specs.Live.{LiveWorld, Site, attach, attached_line, is_free, is_known, is_on}
+use Rattle.live_rules.specs.Live.{LiveWorld, LiveSite, attach, attached_line, is_free, is_known, is_on}
 use Rattle.live_tables.specs.Running.{HasSerials, Running}
 
 -- the lines of devices that come one after the other, each as it comes
-unfoldable pub lines_as_they_come : Site → List Dev → List Dev → List LiveLine
+unfoldable pub lines_as_they_come : LiveSite → List Dev → List Dev → List LiveLine
 lines_as_they_come t live [] = []
 lines_as_they_come t live (d ∷ ds) = attached_line t live d ∷ lines_as_they_come t (live ++ d ∷ []) ds
 

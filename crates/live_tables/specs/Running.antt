@@ -10,11 +10,11 @@ use Rattle.run_world.specs.UnitsOf.{AreUnitsOf}
 use Rattle.unit_alloc.specs.Taken.{NoneTaken}
 use Rattle.live_rules.specs.declared.plan.Group.{Group}
 use Rattle.live_rules.specs.Laws.{IsSound}
-use Rattle.live_rules.specs.Live.{LiveWorld, Site, group_of}
+use Rattle.live_rules.specs.Live.{LiveWorld, LiveSite, group_of}
 
 -- what no command changes, and the world
 pub record Running : Type 0 where
-  pub site : Site
+  pub site : LiveSite
   pub world : LiveWorld
 
 -- the world is sound, the rows are marked as they are live, exactly the units of live devices are taken, and the drivers of the devices and the

@@ -2,7 +2,7 @@
 ghost use Rattle.std.specs.Prelude.{◌≡◌, ◌&&◌, not, false, true, find, slice_get, slice_index_or};
 ghost use Rattle.std.specs.Option.{option_map_or};
 ghost use Rattle.run_rules.specs.Search as search;
-ghost use Rattle.match_search.specs.Index.{hangs_at};
+ghost use Rattle.run_rules.specs.Suits.{hangs_at};
 ghost use Rattle.live_rules.specs.Live as rule;
 ghost use Rattle.live_tables.specs.Open.{is_open_to, open_rows};
 

@@ -7,11 +7,11 @@ use Rattle.cf_types.specs.declared.machine.Command.{Command}
 use Rattle.cf_types.specs.declared.machine.Command.TheVariants as command
 use Rattle.config_rules.specs.ScriptText.{FormedCommand, is_operand}
 use Rattle.run_rules.specs.declared.deed.Deed.{Deed}
-use Rattle.run_rules.specs.declared.deed.Deed.TheVariants.{Search, EndScan, BeginInterrupts, Finalise, EndCaller, Drop, Refuse, Open, Close, Start, Done, Detach, Free, Rescan, BeginPower, Sleep, Wake, EndPower, Plug, Unplug, Tell}
+use Rattle.run_rules.specs.declared.deed.Deed.TheVariants.{Search, EndScan, BeginInterrupts, Finalise, EndCaller, Drop, Refuse, Done, Free, Sleep, Wake, EndPower}
 use Rattle.run_rules.specs.declared.deed.PowerEnd.{PowerEnd}
 use Rattle.run_rules.specs.declared.deed.PowerEnd.TheVariants as ends
-use Rattle.run_rules.specs.declared.deed.Refusal.{Refusal}
-use Rattle.run_rules.specs.declared.deed.Refusal.TheVariants as refusal
+use Rattle.run_rules.specs.declared.deed.CommandRefusal.{CommandRefusal}
+use Rattle.run_rules.specs.declared.deed.CommandRefusal.TheVariants as refusal
 use Rattle.run_rules.specs.declared.event.Act.TheVariants as act
 use Rattle.run_rules.specs.declared.event.Format.{Format}
 use Rattle.run_rules.specs.declared.event.Format.TheVariants as format
@@ -34,7 +34,7 @@ use Rattle.replay_laws.proofs.Acts.{PlainAct, PlainGot, PlainReply, PlainShown, 
 use Rattle.replay_laws.proofs.Names.{command_formed, live_line, operand_line, parent_line, spot_line, unit_line}
 use Rattle.replay_laws.proofs.OneLine.{decimal_line, joined, joined_4}
 
-reply_plain : (w : World) (why : Refusal) → MayRun w.setup → PlainReply (reply_of w why)
+reply_plain : (w : World) (why : CommandRefusal) → MayRun w.setup → PlainReply (reply_of w why)
 reply_plain w refusal.NoDevice may = tt
 reply_plain w refusal.Gone may = tt
 reply_plain w refusal.Exclusive may = tt
@@ -132,20 +132,12 @@ printed_plain w k (Finalise s spot got listed anew) play = (live_line w s play.m
 printed_plain w k EndCaller play = tt
 printed_plain w k (Drop s) play = live_line w s play.may
 printed_plain w k (Refuse why) play = answered_plain w k (reply_of w why) play (reply_plain w why play.may)
-printed_plain w k (Open s sole) play = answered_plain w k reply.Ok play tt
-printed_plain w k (Close s) play = answered_plain w k reply.Ok play tt
-printed_plain w k (Start ticket) play = answered_plain w k reply.Ok play tt
 printed_plain w k (Done ticket) play = live_line w ticket.serial play.may
-printed_plain w k (Detach s) play = answered_plain w k reply.Ok play tt
 printed_plain w k (Free s) play = live_line w s play.may
-printed_plain w k (Rescan s only) play = answered_plain w k reply.Ok play tt
-printed_plain w k (BeginPower kind s) play = answered_plain w k reply.Ok play tt
 printed_plain w k (Sleep s) play = live_line w s play.may
 printed_plain w k (Wake s) play = live_line w s play.may
 printed_plain w k (EndPower end) play = (power_line (command_of w k) (λ said is. command_formed w k said play.scripts is), end_plain w end play.may)
-printed_plain w k (Plug x) play = answered_plain w k reply.Ok play tt
-printed_plain w k (Unplug x of) play = answered_plain w k reply.Ok play tt
-printed_plain w k Tell play = answered_plain w k reply.Ok play tt
+printed_plain w k d play = answered_plain w k reply.Ok play tt
 
 pub headed : (caller number : ℕ) (text : List ℕ) → IsOneLine text → IsOneLine (decimal caller ++ codes "." ++ decimal number ++ codes " " ++ text)
 headed caller number text h =

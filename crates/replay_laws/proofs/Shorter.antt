@@ -10,7 +10,7 @@ use Rattle.cf_types.specs.declared.machine.Command.TheVariants as command
 use Rattle.config_rules.specs.MachineText.{is_free_name}
 use Rattle.config_rules.proofs.Parts.{cond_both}
 use Rattle.run_rules.specs.declared.deed.Deed.{Deed}
-use Rattle.run_rules.specs.declared.deed.Deed.TheVariants.{Search, EndScan, BeginInterrupts, Finalise, EndCaller, Drop, Refuse, Open, Close, Start, Done, Detach, Free, Rescan, BeginPower, Sleep, Wake, EndPower, Plug, Unplug, Tell}
+use Rattle.run_rules.specs.declared.deed.Deed.TheVariants.{Search, Finalise, Refuse, Open, Close, Start, Detach, Rescan, BeginPower, Plug, Unplug, Tell}
 use Rattle.run_rules.specs.declared.event.Act.{Act}
 use Rattle.run_rules.specs.declared.event.Act.TheVariants as act
 use Rattle.run_rules.specs.declared.event.Event.{Event}
@@ -254,18 +254,7 @@ shown_words s (Some x) got may = (spot_word s x may, got_word s got may)
 
 told_words : (w : World) (said : Command) (r : Reply) → HasWords (told w said r)
 told_words w (command.OpenDev name) r = tt
-told_words w (command.OpenSole name) r = tt
-told_words w (command.CloseDev name) r = tt
-told_words w (command.Io name value) r = tt
-told_words w (command.Detach name) r = tt
-told_words w (command.Rescan name attr given) r = tt
-told_words w (command.ListDev name) r = tt
-told_words w (command.TreeDev name) r = tt
-told_words w (command.Suspend name) r = tt
-told_words w (command.Resume name) r = tt
-told_words w (command.ResumeTree name) r = tt
-told_words w (command.Plug name) r = tt
-told_words w (command.Unplug name) r = tt
+told_words w said r = tt
 
 answered_words : (w : World) (k : ℕ) (r : Reply) → HasWords (answered w k r)
 answered_words w k r = option_both HasWords (λ said. told w said r) (command_of w k) act.End (λ said is. told_words w said r) (λ _. tt)
@@ -273,26 +262,18 @@ answered_words w k r = option_both HasWords (λ said. told w said r) (command_of
 printed_words : (w : World) (k : ℕ) (d : Deed) → MayRun w.setup → HasWords (printed w k d)
 unfolding printed
 printed_words w k (Search p spot to got) may = (parent_word w.setup w.live p may, spot_word w.setup spot may, got_word w.setup got may)
-printed_words w k (EndScan p) may = tt
-printed_words w k BeginInterrupts may = tt
 printed_words w k (Finalise s spot got listed anew) may = (live_word w s may, shown_words w.setup spot got may)
-printed_words w k EndCaller may = tt
-printed_words w k (Drop s) may = tt
 printed_words w k (Refuse why) may = answered_words w k (reply_of w why)
 printed_words w k (Open s sole) may = answered_words w k reply.Ok
 printed_words w k (Close s) may = answered_words w k reply.Ok
 printed_words w k (Start ticket) may = answered_words w k reply.Ok
-printed_words w k (Done ticket) may = tt
 printed_words w k (Detach s) may = answered_words w k reply.Ok
-printed_words w k (Free s) may = tt
 printed_words w k (Rescan s only) may = answered_words w k reply.Ok
 printed_words w k (BeginPower kind s) may = answered_words w k reply.Ok
-printed_words w k (Sleep s) may = tt
-printed_words w k (Wake s) may = tt
-printed_words w k (EndPower end) may = tt
 printed_words w k (Plug x) may = answered_words w k reply.Ok
 printed_words w k (Unplug x of) may = answered_words w k reply.Ok
 printed_words w k Tell may = answered_words w k reply.Ok
+printed_words w k d may = tt
 
 -- a formed event that is spelt in format 2 as what a caller does is spelt so in format 1 too
 pub same_shorter : (w : World) (k : ℕ) (d : Deed) (e : Event) → MayRun w.setup → IsFormedAct e.act → line_of (event_of w k d) ≡ line_of e → line_of_1 (event_of w k d) ≡ line_of_1 e

@@ -1,5 +1,5 @@
 -- The words that a statement keeps for the tables, or for the names of files, are each within one line.
-use Rattle.std.proofs.Common.{ℕ, ◌-◌, Bool, true, false, cond, ◌&&◌, ◌||◌, Option, Some, None, List, [], ◌∷◌, length, drop, map}
+use Rattle.std.proofs.Common.{ℕ, Bool, true, false, cond, ◌&&◌, ◌||◌, Option, Some, None, List, [], ◌∷◌, length, drop, map}
 use Rattle.std.specs.Prelude.{All, IfSome, ⊤, ◌==◌, codes, nat_le, nat_lt, option_and_then, option_map}
 use Rattle.std.specs.List.{before_first, list_all, onto_first, slice_split}
 use Rattle.std.proofs.lemmas.List.Elements.{All-cons, All-head, All-nil, All-tail}

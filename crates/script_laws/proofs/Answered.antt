@@ -92,18 +92,7 @@ other_off k j b other = ap (λ (a : Bool). a && b) (ne_eqb k j other)
 -- a command was told
 pub told_answers : (w : World) (said : Command) (r : Reply) → is_answer (told w said r) ≡ true
 told_answers w (command.OpenDev name) r = refl
-told_answers w (command.OpenSole name) r = refl
-told_answers w (command.CloseDev name) r = refl
-told_answers w (command.Io name value) r = refl
-told_answers w (command.Detach name) r = refl
-told_answers w (command.Rescan name attr given) r = refl
-told_answers w (command.ListDev name) r = refl
-told_answers w (command.TreeDev name) r = refl
-told_answers w (command.Suspend name) r = refl
-told_answers w (command.Resume name) r = refl
-told_answers w (command.ResumeTree name) r = refl
-told_answers w (command.Plug name) r = refl
-told_answers w (command.Unplug name) r = refl
+told_answers w said r = refl
 
 event_number : (w : World) (k : ℕ) (d : Deed) → k ≢ 0 → (event_of w k d).number ≡ (caller_at w k).over + 1
 unfolding event_of

@@ -88,18 +88,7 @@ Change w k d = Leaves w k d ⊎ (Marks w k d ⊎ (Comes w k d ⊎ Goes w k d))
 
 told_still : (w : World) (said : Command) (r : Reply) → IsStill (told w said r)
 told_still w (command.OpenDev name) r = record { comes = refl; goes = refl }
-told_still w (command.OpenSole name) r = record { comes = refl; goes = refl }
-told_still w (command.CloseDev name) r = record { comes = refl; goes = refl }
-told_still w (command.Io name value) r = record { comes = refl; goes = refl }
-told_still w (command.Detach name) r = record { comes = refl; goes = refl }
-told_still w (command.Rescan name attr given) r = record { comes = refl; goes = refl }
-told_still w (command.ListDev name) r = record { comes = refl; goes = refl }
-told_still w (command.TreeDev name) r = record { comes = refl; goes = refl }
-told_still w (command.Suspend name) r = record { comes = refl; goes = refl }
-told_still w (command.Resume name) r = record { comes = refl; goes = refl }
-told_still w (command.ResumeTree name) r = record { comes = refl; goes = refl }
-told_still w (command.Plug name) r = record { comes = refl; goes = refl }
-told_still w (command.Unplug name) r = record { comes = refl; goes = refl }
+told_still w said r = record { comes = refl; goes = refl }
 
 answered_still : (w : World) (k : ℕ) (r : Reply) → IsStill (answered w k r)
 answered_still w k r = cases (command_of w k)

@@ -137,18 +137,7 @@ sort_of w k d kept later e = elim (kind_of w k kept d e) [
 
 told_spared : (w : World) (said : Command) (r : Reply) → (closes (told w said r) ≡ false) × (is_end (told w said r) ≡ false)
 told_spared w (command.OpenDev name) r = (refl, refl)
-told_spared w (command.OpenSole name) r = (refl, refl)
-told_spared w (command.CloseDev name) r = (refl, refl)
-told_spared w (command.Io name value) r = (refl, refl)
-told_spared w (command.Detach name) r = (refl, refl)
-told_spared w (command.Rescan name attr given) r = (refl, refl)
-told_spared w (command.ListDev name) r = (refl, refl)
-told_spared w (command.TreeDev name) r = (refl, refl)
-told_spared w (command.Suspend name) r = (refl, refl)
-told_spared w (command.Resume name) r = (refl, refl)
-told_spared w (command.ResumeTree name) r = (refl, refl)
-told_spared w (command.Plug name) r = (refl, refl)
-told_spared w (command.Unplug name) r = (refl, refl)
+told_spared w said r = (refl, refl)
 
 pub event_number : (w : World) (k : ℕ) (d : Deed) → k ≢ 0 → (event_of w k d).number ≡ (caller_at w k).over + 1
 unfolding event_of

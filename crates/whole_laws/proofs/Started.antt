@@ -15,7 +15,7 @@ use Rattle.run_rules.specs.declared.event.Reply.TheVariants as reply
 use Rattle.run_rules.specs.declared.world.Activity.{Activity}
 use Rattle.run_rules.specs.declared.world.Activity.TheVariants as activity
 use Rattle.run_rules.specs.declared.deed.Deed.{Deed}
-use Rattle.run_rules.specs.declared.deed.Deed.TheVariants.{Search, EndScan, BeginInterrupts, Finalise, EndCaller, Drop, Refuse, Open, Close, Start, Done, Detach, Free, Rescan, BeginPower, Sleep, Wake, EndPower, Plug, Unplug, Tell}
+use Rattle.run_rules.specs.declared.deed.Deed.TheVariants.{Refuse, Open, Close, Start, Done, Detach, Rescan, BeginPower, Plug, Unplug, Tell}
 use Rattle.run_rules.specs.declared.deed.Choice.TheVariants.{Does}
 use Rattle.run_rules.specs.Laws.{is_ok, last_that}
 use Rattle.run_rules.specs.World.{World, Caller, caller_at, device_at, parent_name}
@@ -58,19 +58,8 @@ never true h = absurd cc
 never false h = refl
 
 told_apart : (w : World) (said : Command) (r : Reply) → (is_ok r && is_io said) ≡ false → starts_line (told w said r) ≡ false
-told_apart w (command.OpenDev name) r e = refl
-told_apart w (command.OpenSole name) r e = refl
-told_apart w (command.CloseDev name) r e = refl
 told_apart w (command.Io name value) r e = never (is_ok r) e
-told_apart w (command.Detach name) r e = refl
-told_apart w (command.Rescan name attr given) r e = refl
-told_apart w (command.ListDev name) r e = refl
-told_apart w (command.TreeDev name) r e = refl
-told_apart w (command.Suspend name) r e = refl
-told_apart w (command.Resume name) r e = refl
-told_apart w (command.ResumeTree name) r e = refl
-told_apart w (command.Plug name) r e = refl
-told_apart w (command.Unplug name) r e = refl
+told_apart w said r e = refl
 
 open_apart : (sole : Bool) (name : List ℕ) → is_io (open_command sole name) ≡ false
 open_apart true name = refl
@@ -90,12 +79,6 @@ answer_apart w k d b said r is e on = clash (starts_line (answered w k r)) on (a
 start_deed : (w : World) (k : ℕ) (d : Deed) → next w k ≡ Does d → starts_line (printed w k d) ≡ true → Begun d
 unfolding printed
 start_deed w k (Start t) e on = (t, refl)
-start_deed w k (Search p spot to got) e on = absurd cc
-start_deed w k (EndScan p) e on = absurd cc
-start_deed w k BeginInterrupts e on = absurd cc
-start_deed w k (Finalise s shown got listed anew) e on = absurd cc
-start_deed w k EndCaller e on = absurd cc
-start_deed w k (Drop s) e on = absurd cc
 start_deed w k (Refuse why) e on =
     let b : Begins w k (Refuse why) = has_command_reason w k (Refuse why) e in
     answer_apart w k (Refuse why) b b.said (reply_of w why) refl (off (is_ok (reply_of w why)) (is_io b.said) (refused w why)) on
@@ -103,22 +86,18 @@ start_deed w k (Open s sole) e on =
     let why : OpensFree w k s sole = has_command_reason w k (Open s sole) e in
     answer_apart w k (Open s sole) why.begins (open_command sole why.name) reply.Ok why.words (open_apart sole why.name) on
 start_deed w k (Close s) e on = let why = has_command_reason w k (Close s) e in answer_apart w k (Close s) why.begins _ reply.Ok why.words refl on
-start_deed w k (Done t) e on = absurd cc
 start_deed w k (Detach s) e on = let why = has_command_reason w k (Detach s) e in answer_apart w k (Detach s) why.begins _ reply.Ok why.words refl on
-start_deed w k (Free s) e on = absurd cc
 start_deed w k (Rescan s only) e on = let why = has_command_reason w k (Rescan s only) e in answer_apart w k (Rescan s only) why.begins _ reply.Ok why.words refl on
 start_deed w k (BeginPower what s) e on =
     let why = has_command_reason w k (BeginPower what s) e in
     answer_apart w k (BeginPower what s) why.begins (power_command what why.name) reply.Ok why.words (power_apart what why.name) on
-start_deed w k (Sleep s) e on = absurd cc
-start_deed w k (Wake s) e on = absurd cc
-start_deed w k (EndPower end) e on = absurd cc
 start_deed w k (Plug x) e on = let why = has_command_reason w k (Plug x) e in answer_apart w k (Plug x) why.begins _ reply.Ok why.words refl on
 start_deed w k (Unplug x None) e on = let why = has_command_reason w k (Unplug x None) e in answer_apart w k (Unplug x None) why.begins _ reply.Ok why.words refl on
 start_deed w k (Unplug x (Some s)) e on = let why = has_command_reason w k (Unplug x (Some s)) e in answer_apart w k (Unplug x (Some s)) why.begins _ reply.Ok why.words refl on
 start_deed w k Tell e on =
     let why = has_command_reason w k Tell e in
     elim why.words [ inl list ↦ answer_apart w k Tell why.begins _ reply.Ok list refl on | inr tree ↦ answer_apart w k Tell why.begins _ reply.Ok tree refl on ]
+start_deed w k d e on = absurd cc
 
 started_amid : (w : World) (k : ℕ) (t : Ticket) → next w k ≡ Does (Start t) → is_transfer (caller_at (after w k (Start t)) k).doing ≡ true
 unfolding after

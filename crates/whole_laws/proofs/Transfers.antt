@@ -18,7 +18,7 @@ use Rattle.run_rules.specs.declared.world.Activity.TheVariants as activity
 use Rattle.run_rules.specs.declared.world.Frame.{Frame}
 use Rattle.run_rules.specs.declared.world.Setup.{Setup}
 use Rattle.run_rules.specs.declared.deed.Deed.{Deed}
-use Rattle.run_rules.specs.declared.deed.Deed.TheVariants.{Search, EndScan, BeginInterrupts, Finalise, EndCaller, Drop, Refuse, Open, Close, Start, Done, Detach, Free, Rescan, BeginPower, Sleep, Wake, EndPower, Plug, Unplug, Tell}
+use Rattle.run_rules.specs.declared.deed.Deed.TheVariants.{Search, EndScan, BeginInterrupts, Finalise, EndCaller, Drop, Refuse, Open, Close, Start, Done, Detach, Free, Rescan, BeginPower, Sleep, Wake, Plug, Unplug, Tell}
 use Rattle.run_rules.specs.declared.deed.Choice.TheVariants.{Does}
 use Rattle.run_rules.specs.Laws.{last_that}
 use Rattle.run_rules.specs.World.{World, Caller, beginning, caller_at, device_at, is_live, nobody, opening, parent_name}
@@ -86,22 +86,16 @@ module _ (w : World) (k : ℕ) (old : Quiet (caller_at w k)) where
   own_quiet (Finalise s shown got listed anew) apart = own_after Quiet stays_quiet w k (Finalise s shown got listed anew) tt old
   own_quiet EndCaller apart = own_after Quiet stays_quiet w k EndCaller tt old
   own_quiet (Drop s) apart = old
-  own_quiet (Refuse why) apart = over_quiet
-  own_quiet (Open s sole) apart = over_quiet
-  own_quiet (Close s) apart = over_quiet
   own_quiet (Start t) apart = absurd (apart t refl)
-  own_quiet (Done t) apart = over_quiet
   own_quiet (Detach s) apart = turns_quiet (activity.Frees s) refl
   own_quiet (Free s) apart = freed_quiet s (freeing_target (caller_at w k).doing s)
   own_quiet (Rescan s only) apart = own_stack Quiet stays_quiet (doing w k activity.Scans) k _ (turns_quiet activity.Scans refl)
   own_quiet (BeginPower kind s) apart = turns_quiet (activity.Power kind s) refl
   own_quiet (Sleep s) apart = old
   own_quiet (Wake s) apart = old
-  own_quiet (EndPower end) apart = over_quiet
-  own_quiet (Plug x) apart = over_quiet
   own_quiet (Unplug x None) apart = over_quiet
   own_quiet (Unplug x (Some s)) apart = turns_quiet (activity.Frees s) refl
-  own_quiet Tell apart = over_quiet
+  own_quiet d apart = over_quiet
 
 -- one that ends is over
 done_quiet : (w : World) (k : ℕ) (t : Ticket) → next w k ≡ Does (Done t) → Quiet (caller_at (after w k (Done t)) k)
@@ -128,26 +122,8 @@ after_quiet w k d e apart = cases (caller_at w k).doing refl
 
 starts : (d : Deed) → ((t : Ticket) × (d ≡ Start t)) ⊎ ((t : Ticket) → d ≢ Start t)
 starts (Start t) = inl (t, refl)
-starts (Search p spot to got) = inr (λ t e. absurd cc)
-starts (EndScan p) = inr (λ t e. absurd cc)
-starts BeginInterrupts = inr (λ t e. absurd cc)
-starts (Finalise s shown got listed anew) = inr (λ t e. absurd cc)
-starts EndCaller = inr (λ t e. absurd cc)
-starts (Drop s) = inr (λ t e. absurd cc)
-starts (Refuse why) = inr (λ t e. absurd cc)
-starts (Open s sole) = inr (λ t e. absurd cc)
-starts (Close s) = inr (λ t e. absurd cc)
 starts (Done t) = inr (λ t e. absurd cc)
-starts (Detach s) = inr (λ t e. absurd cc)
-starts (Free s) = inr (λ t e. absurd cc)
-starts (Rescan s only) = inr (λ t e. absurd cc)
-starts (BeginPower kind s) = inr (λ t e. absurd cc)
-starts (Sleep s) = inr (λ t e. absurd cc)
-starts (Wake s) = inr (λ t e. absurd cc)
-starts (EndPower end) = inr (λ t e. absurd cc)
-starts (Plug x) = inr (λ t e. absurd cc)
-starts (Unplug x of) = inr (λ t e. absurd cc)
-starts Tell = inr (λ t e. absurd cc)
+starts d = inr (λ t e. absurd cc)
 
 -- ---- its start is the caller's last event
 
@@ -258,18 +234,7 @@ is_done_line _ = false
 
 told_no_done : (w : World) (said : Command) (r : Reply) → is_done_line (told w said r) ≡ false
 told_no_done w (command.OpenDev name) r = refl
-told_no_done w (command.OpenSole name) r = refl
-told_no_done w (command.CloseDev name) r = refl
-told_no_done w (command.Io name value) r = refl
-told_no_done w (command.Detach name) r = refl
-told_no_done w (command.Rescan name attr given) r = refl
-told_no_done w (command.ListDev name) r = refl
-told_no_done w (command.TreeDev name) r = refl
-told_no_done w (command.Suspend name) r = refl
-told_no_done w (command.Resume name) r = refl
-told_no_done w (command.ResumeTree name) r = refl
-told_no_done w (command.Plug name) r = refl
-told_no_done w (command.Unplug name) r = refl
+told_no_done w said r = refl
 
 no_done : (w : World) (k : ℕ) (r : Reply) → is_done_line (answered w k r) ≡ true → ⊥
 no_done w k r h = cases (command_of w k) h
@@ -281,26 +246,17 @@ no_done w k r h = cases (command_of w k) h
 done_deed : (w : World) (k : ℕ) (d : Deed) → is_done_line (printed w k d) ≡ true → (t : Ticket) × (d ≡ Done t)
 unfolding printed
 done_deed w k (Done t) h = (t, refl)
-done_deed w k (Search p spot to got) h = absurd cc
-done_deed w k (EndScan p) h = absurd cc
-done_deed w k BeginInterrupts h = absurd cc
-done_deed w k (Finalise s shown got listed anew) h = absurd cc
-done_deed w k EndCaller h = absurd cc
-done_deed w k (Drop s) h = absurd cc
 done_deed w k (Refuse why) h = absurd (no_done w k _ h)
 done_deed w k (Open s sole) h = absurd (no_done w k _ h)
 done_deed w k (Close s) h = absurd (no_done w k _ h)
 done_deed w k (Start t) h = absurd (no_done w k _ h)
 done_deed w k (Detach s) h = absurd (no_done w k _ h)
-done_deed w k (Free s) h = absurd cc
 done_deed w k (Rescan s only) h = absurd (no_done w k _ h)
 done_deed w k (BeginPower kind s) h = absurd (no_done w k _ h)
-done_deed w k (Sleep s) h = absurd cc
-done_deed w k (Wake s) h = absurd cc
-done_deed w k (EndPower end) h = absurd cc
 done_deed w k (Plug x) h = absurd (no_done w k _ h)
 done_deed w k (Unplug x of) h = absurd (no_done w k _ h)
 done_deed w k Tell h = absurd (no_done w k _ h)
+done_deed w k d h = absurd cc
 
 pub done_line : (w : World) (k : ℕ) (t : Ticket) → printed w k (Done t) ≡ act.IoDone (name_at w t.serial) (answer_of t)
 unfolding printed

@@ -1,4 +1,3 @@
-pub mod Named
 pub mod RowLines
 pub mod Puts
 pub mod Nears

@@ -1,7 +1,7 @@
 //! The lines of all rows at a spot.
 ghost use Rattle.std.specs.Prelude.{◌≡◌, IfOk, length, map, max};
-ghost use Rattle.why_text.specs.WhyText.{column, head_text, others_text, reason_lines, row_text, told_lines};
-ghost use Rattle.why_text.specs.Looks.{place_in, setup_in};
+ghost use Rattle.why_text.specs.WhyText.{column, head_text, others_text};
+ghost use Rattle.why_text.specs.Looks.{place_in, reason_lines_in, row_text_in, told_lines_in};
 
 use crate::head::put_head;
 use crate::look::Look;
@@ -52,7 +52,7 @@ fn row_lines(
     width: usize,
     rows: &[RowReason],
 ) -> Result<Vec<Text>, Memory>
-    ensures { IfOk result (λ lines. lines.items ≡ map (row_text takes.now width (setup_in look.now) look.now.live.now.devices look.now.parent look.now.spot) rows.now) }
+    ensures { IfOk result (λ lines. lines.items ≡ map (row_text_in takes.now width look.now) rows.now) }
 {
     let mut lines = Vec::new(alloc);
     for told in rows {
@@ -79,7 +79,7 @@ fn others_line(alloc: Global, look: &Look, others: u32) -> Result<Text, Memory>
 
 /// The lines of what is told of a spot.
 fn told_lines(alloc: Global, look: &Look, takes: &[u8], told: &Told) -> Result<Vec<Text>, Memory>
-    ensures { IfOk result (λ lines. lines.items ≡ told_lines takes.now (setup_in look.now) look.now.live.now.devices look.now.parent look.now.spot told.now) }
+    ensures { IfOk result (λ lines. lines.items ≡ told_lines_in takes.now look.now told.now) }
 {
     let rules = look.rules;
     let rows = told.rows.items();
@@ -94,7 +94,7 @@ fn told_lines(alloc: Global, look: &Look, takes: &[u8], told: &Told) -> Result<V
 /// A line for each row whose device has an attachment at the place of the spot, with the reason why the row does not take
 /// the spot, or with these words if it has none; then a line with the count of the other rows.
 pub fn reason_lines(alloc: Global, look: &Look, takes: &[u8]) -> Result<Vec<Text>, Memory>
-    ensures { IfOk result (λ lines. lines.items ≡ reason_lines takes.now (setup_in look.now) look.now.live.now.devices look.now.parent look.now.spot) }
+    ensures { IfOk result (λ lines. lines.items ≡ reason_lines_in takes.now look.now) }
 {
     let told = told_of(alloc, look.rules, look.live, look.parent, look.spot)?;
     told_lines(alloc, look, takes, &told)

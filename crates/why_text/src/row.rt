@@ -1,7 +1,7 @@
 //! The line of a row.
 ghost use Rattle.std.specs.Prelude.{◌≡◌, ◌++◌, IfOk, OnOk, replicate};
-ghost use Rattle.why_text.specs.WhyText.{padded, row_front, row_reason_text, row_text, why_text};
-ghost use Rattle.why_text.specs.Looks.{setup_in};
+ghost use Rattle.why_text.specs.WhyText.{padded, row_front};
+ghost use Rattle.why_text.specs.Looks.{row_reason_in, row_text_in, why_in};
 
 use crate::head::put_head;
 use crate::look::Look;
@@ -31,7 +31,7 @@ fn pad(line: &mut Vec<u8>, width: usize) -> Result<(), Memory>
 
 /// Why the row of a number does not take the spot; nothing if there is no such row.
 fn put_reason_of(out: &mut Vec<u8>, look: &Look, number: u32, reason: Reason) -> Result<(), Memory>
-    ensures { OnOk result (out.new.items ≡ out.old.items ++ row_reason_text (setup_in look.now) look.now.live.now.devices look.now.parent look.now.spot number reason) }
+    ensures { OnOk result (out.new.items ≡ out.old.items ++ row_reason_in look.now number reason) }
 {
     match row_at(look.rules, number) {
         Some(row) => put_reason(out, look, number, row, reason),
@@ -41,7 +41,7 @@ fn put_reason_of(out: &mut Vec<u8>, look: &Look, number: u32, reason: Reason) ->
 
 /// Why a row does not take the spot, or these words if it has no reason.
 pub fn put_why(out: &mut Vec<u8>, look: &Look, takes: &[u8], told: RowReason) -> Result<(), Memory>
-    ensures { OnOk result (out.new.items ≡ out.old.items ++ why_text takes.now (setup_in look.now) look.now.live.now.devices look.now.parent look.now.spot told) }
+    ensures { OnOk result (out.new.items ≡ out.old.items ++ why_in takes.now look.now told) }
 {
     match told.reason {
         Some(reason) => put_reason_of(out, look, told.row, reason),
@@ -73,7 +73,7 @@ pub fn row_line(
     width: usize,
     told: RowReason,
 ) -> Result<Text, Memory>
-    ensures { IfOk result (λ line. line ≡ row_text takes.now width (setup_in look.now) look.now.live.now.devices look.now.parent look.now.spot told) }
+    ensures { IfOk result (λ line. line ≡ row_text_in takes.now width look.now told) }
 {
     let rules = look.rules;
     let mut line = row_front(alloc, rules.tables, width, told.row)?;

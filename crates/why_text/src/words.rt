@@ -4,9 +4,9 @@ ghost use Rattle.std.specs.List.{slice_index_or};
 ghost use Rattle.cf_types.specs.Locators.{locators_at};
 ghost use Rattle.config_rules.specs.Listing as listing;
 ghost use Rattle.run_rules.specs.Search as rule;
-ghost use Rattle.why_text.specs.WhyText.{beaten_text, below_text, equal_text, locator_text, match_text, parent_text, reason_text, taken_text, unmatched_text};
+ghost use Rattle.why_text.specs.WhyText.{beaten_text, below_text, equal_text, locator_text, match_text, parent_text, taken_text, unmatched_text};
 ghost use Rattle.run_rules.specs.World.{name_of, parent_name};
-ghost use Rattle.why_text.specs.Looks.{place_in, setup_in};
+ghost use Rattle.why_text.specs.Looks.{place_in, reason_in, setup_in};
 
 use crate::head::put_at;
 use crate::look::Look;
@@ -197,7 +197,7 @@ pub fn put_reason(
     row: &Row,
     reason: Reason,
 ) -> Result<(), Memory>
-    ensures { OnOk result (out.new.items ≡ out.old.items ++ reason_text (setup_in look.now) look.now.live.now.devices look.now.parent look.now.spot number row.now reason) }
+    ensures { OnOk result (out.new.items ≡ out.old.items ++ reason_in look.now number row.now reason) }
 {
     match reason {
         Reason::Parent => put_other_parent(out, look, row),

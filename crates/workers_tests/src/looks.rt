@@ -10,7 +10,7 @@ use board_lock::{Done, DoneEnd, Finished, Naming, RunParts, Seat, SharedBoard};
 use cf_types::{List, Memory, Ticket};
 use deed_event::answer_for;
 use dev_board::{Board, IoResult};
-use lease_table::Word;
+use lease_table::SlotWord;
 use run_rules::Act;
 use sample_machine::booted;
 use std::alloc::Global;
@@ -24,8 +24,8 @@ use std::test::*;
 struct Looks {
     slot: u16,
     value: u32,
-    before: Word,
-    after: Word,
+    before: SlotWord,
+    after: SlotWord,
     gone: bool,
 }
 
@@ -184,7 +184,7 @@ fn looked<R: Wait>(rt: &R, alloc: Global) -> Option<(Looks, bool)> {
 
 #[test]
 fn a_look_sees_that_its_slot_was_condemned(rt: HostRuntime) -> Result<(), Fail> {
-    let held = Word {
+    let held = SlotWord {
         generation: 0,
         live: true,
         condemned: false,
@@ -194,7 +194,7 @@ fn a_look_sees_that_its_slot_was_condemned(rt: HostRuntime) -> Result<(), Fail> 
         slot: 2,
         value: 5,
         before: held,
-        after: Word {
+        after: SlotWord {
             condemned: true,
             ..held
         },

@@ -6,7 +6,7 @@ ghost use Rattle.board_lock.specs.Names.{AreNames};
 ghost use Rattle.board_lock.specs.Seats.{PartsFit};
 
 use crate::turns::{place_of, started};
-use board_lock::{Naming, RunParts, Seat, SharedBoard, Turn};
+use board_lock::{LockAnswer, Naming, RunParts, Seat, SharedBoard};
 use cf_types::Ticket;
 use deed_event::answer_for;
 use dev_board::{Board, IoResult};
@@ -29,7 +29,7 @@ fn kept_by<N: Naming, R: Wait>(
     ensures { IfSome result (λ _. seat.new ≡ seat.old) }
 {
     match shared.post(rt, seat, IoResult::make(other, answer_for(other))) {
-        Turn::Stale(kept, _) => kept,
+        LockAnswer::Stale(kept, _) => kept,
         _ => None,
     }
 }

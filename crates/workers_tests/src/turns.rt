@@ -1,13 +1,13 @@
 ghost use Rattle.std.specs.Prelude.{◌≡◌, IfSome};
 
-use board_lock::{Naming, Seat, SharedBoard, Turn};
+use board_lock::{LockAnswer, Naming, Seat, SharedBoard};
 use cf_types::Ticket;
 use std::sync::Wait;
 
 // The place of the event, if there was one.
-pub fn place_of(turn: Turn) -> Option<u64> {
+pub fn place_of(turn: LockAnswer) -> Option<u64> {
     match turn {
-        Turn::Did(place, _) => Some(place),
+        LockAnswer::Did(place, _) => Some(place),
         _ => None,
     }
 }
@@ -23,7 +23,7 @@ pub fn started<N: Naming, R: Wait>(
     let _ = place_of(shared.step(rt, seat));
     let _ = place_of(shared.step(rt, seat));
     match shared.step(rt, seat) {
-        Turn::Transfer(ticket, _) => Some(ticket),
+        LockAnswer::Transfer(ticket, _) => Some(ticket),
         _ => None,
     }
 }

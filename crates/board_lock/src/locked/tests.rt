@@ -5,7 +5,7 @@ ghost use Rattle.board_lock.specs.Names.{AreNames};
 ghost use Rattle.board_lock.specs.Seats.{PartsFit};
 
 use crate::locked::{Locked, settle};
-use crate::{Naming, RunParts, Seat, SharedBoard, Turn};
+use crate::{LockAnswer, Naming, RunParts, Seat, SharedBoard};
 use cf_types::Memory;
 use dev_board::{Board, LeaseStep};
 use lease_table::LeaseTable;
@@ -39,9 +39,9 @@ impl<N: Naming> Locked<N> {
 }
 
 // The place of the event, where there was one.
-fn place_of(turn: Turn) -> Option<u64> {
+fn place_of(turn: LockAnswer) -> Option<u64> {
     match turn {
-        Turn::Did(place, _) => Some(place),
+        LockAnswer::Did(place, _) => Some(place),
         _ => None,
     }
 }

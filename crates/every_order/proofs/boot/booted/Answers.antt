@@ -8,7 +8,7 @@ use Rattle.plain_search.specs.Open.{Follows}
 use Rattle.plain_world.specs.declared.rules.Rules.{Rules}
 use Rattle.plain_world.specs.Plain.{world_of}
 use Rattle.every_order.proofs.Booting.{booting_first, booting_more}
-use Rattle.every_order.proofs.Going.{none_first}
+use Rattle.plain_world.proofs.Going.{none_first}
 use Rattle.every_order.proofs.boot.booted.Goals as goal
 
 pub loop-event-init : goal.loop-event-init

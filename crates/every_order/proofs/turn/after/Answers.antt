@@ -7,7 +7,7 @@ use Rattle.run_sound.specs.Kept.{Kept}
 use Rattle.plain_world.specs.Plain.{world_of}
 use Rattle.plain_world.proofs.Ready.{has_caller}
 use Rattle.plain_effect.proofs.Places.{has_place}
-use Rattle.every_order.proofs.Going.{few_called}
+use Rattle.plain_world.proofs.Going.{few_called}
 use Rattle.every_order.proofs.turn.after.Goals as goal
 
 pub apply-requires : goal.apply-requires

@@ -1,5 +1,5 @@
 use Rattle.std.proofs.Common.{subst, sym}
-use Rattle.plain_world.specs.Stretches.{AreStretchesOf}
+use Rattle.run_rules.specs.Spans.{AreSpansOf}
 use Rattle.run_rules.specs.World.{setup_of}
 use Rattle.history_replay.proofs.Told.{lawful_told, may_replay, tree_tells}
 use Rattle.history_replay.proofs.history.reread.Goals as goal
@@ -7,7 +7,7 @@ use Rattle.history_replay.proofs.history.reread.Goals as goal
 pub invariant_of-rules : goal.invariant_of-rules
 invariant_of-rules c = rw c.tables.ensures (record {
   graph = c.graph.ensures;
-  stretches = subst (AreStretchesOf c.args.machine.now) (sym c.deref.ensures.value) c.in-Ok.ensures;
+  stretches = subst (AreSpansOf c.args.machine.now) (sym c.deref.ensures.value) c.in-Ok.ensures;
   may = may_replay c.args.tables.now c.args.machine.now c.args.scripts.now c.requires.tables c.requires.machine c.requires.few_scripts c.requires.scripts;
 })
 

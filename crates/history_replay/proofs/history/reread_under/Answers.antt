@@ -1,4 +1,5 @@
-use Rattle.history_replay.proofs.Goes.{going_first, next_first, none_first}
+use Rattle.plain_world.proofs.Going.{next_first, none_first}
+use Rattle.history_replay.proofs.Goes.{going_first}
 use Rattle.history_replay.proofs.history.reread_under.Goals as goal
 
 pub reread_by-requires : goal.reread_by-requires

@@ -1,6 +1,5 @@
-use Rattle.std.proofs.Common.{◌≡◌, List, refl, sym, ap, subst}
+use Rattle.std.proofs.Common.{List, refl, sym, ap, subst}
 use Rattle.run_rules.specs.declared.world.Dev.{Dev}
-use Rattle.run_rules.specs.After.{after}
 use Rattle.run_rules.specs.World.{World}
 use Rattle.plain_world.specs.Plain.{world_of}
 use Rattle.plain_world.proofs.Ready.{few_devices, has_caller}
@@ -8,7 +7,8 @@ use Rattle.plain_effect.proofs.Places.{has_place}
 use Rattle.plain_effect.proofs.CallerLaws.{ok_more}
 use Rattle.plain_search.specs.Open.{Follows}
 use Rattle.history_replay.specs.Readers.{setup_in}
-use Rattle.history_replay.proofs.Goes.{few_called, goes_on}
+use Rattle.plain_world.proofs.Going.{few_called}
+use Rattle.history_replay.proofs.Goes.{goes_on}
 use Rattle.history_replay.proofs.reader.perform.Goals as goal
 
 pub heed-requires-clause-few : goal.heed-requires-clause-few

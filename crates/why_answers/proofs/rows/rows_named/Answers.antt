@@ -1,6 +1,6 @@
 use Rattle.std.proofs.Common.{◌≡◌, ◌∙◌, ◌+◌, ◌++◌, ◌∷◌, [], ℕ, Bool, List, length, length-append, sym, ap, arith}
 use Rattle.why_answers.specs.Rows.{has_row}
-use Rattle.why_answers.proofs.Named.{one_fails, one_passes}
+use Rattle.gone_rows.proofs.Places.{one_fails, one_passes}
 use Rattle.why_answers.proofs.rows.rows_named.Goals as goal
 use Rattle.why_answers.proofs.rows.rows_named.Goals.{then-has_row+in_ok-push, else-has_row}
 

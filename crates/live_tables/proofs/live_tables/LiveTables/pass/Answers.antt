@@ -1,6 +1,6 @@
 use Rattle.std.proofs.Common.{◌≤◌, length, arith, subst}
 use Rattle.std.proofs.lemmas.Result.{err_from_is_err_and}
-use Rattle.live_rules.specs.Live.{Site}
+use Rattle.live_rules.specs.Live.{LiveSite}
 use Rattle.live_tables.proofs.Counts.{few_live}
 use Rattle.live_tables.proofs.Passes.{all_searched, blank, device_searched, device_stopped, root_cut}
 use Rattle.live_tables.proofs.live_tables.LiveTables.pass.Goals as goal
@@ -19,7 +19,7 @@ returns-in_err-search_below-2 c =
 
 pub loop-at-smaller : goal.loop-at-smaller
 loop-at-smaller c =
-    let few = subst (λ (t : Site). length c.loop-at.self.world.live ≤ length t.setup.machine.spots) c.loop-at.invariant.brings.site (few_live c.loop-at.self.site c.loop-at.self.world c.loop-at.invariant.sound) in
+    let few = subst (λ (t : LiveSite). length c.loop-at.self.world.live ≤ length t.setup.machine.spots) c.loop-at.invariant.brings.site (few_live c.loop-at.self.site c.loop-at.self.world c.loop-at.invariant.sound) in
     omega (arith, few, c.loop-at-test.true, c.count.ensures)
 
 pub loop-at-preserved : goal.loop-at-preserved

@@ -1,7 +1,7 @@
 use Rattle.std.proofs.Common.{◌≡◌, ◌∙◌, ◌<◌, ℕ, Option, true, length, ap, sym, arith}
 use Rattle.std.proofs.lemmas.Result.{err_from_is_err_and}
 use Rattle.run_rules.specs.Search.{is_child, spot_of}
-use Rattle.live_rules.specs.Live.{Site}
+use Rattle.live_rules.specs.Live.{LiveSite}
 use Rattle.live_tables.specs.Kept.{live_view}
 use Rattle.live_tables.specs.Running.{Running}
 use Rattle.live_tables.proofs.Comings.{parent_stays, spot_stays}
@@ -29,7 +29,7 @@ returns-in_err-search_spot c =
     let here = ap (λ (q : Running). length q.site.setup.machine.spots) c.self.view_is in
     let child : is_child c.args.self.now.site.setup.machine (spot_of c.args.self.now.world.live c.args.parent) c.args.place c.loop-spot.spot ≡ true =
     ap (λ (o : Option ℕ). is_child c.args.self.now.site.setup.machine o c.args.place c.loop-spot.spot) (sym c.spot_of-above.ensures)
-    ∙ ap (λ (t : Site). is_child t.setup.machine c.spot_of-above.result c.args.place c.loop-spot.spot) (sym c.loop-spot.invariant.brings.site)
+    ∙ ap (λ (t : LiveSite). is_child t.setup.machine c.spot_of-above.result c.args.place c.loop-spot.spot) (sym c.loop-spot.invariant.brings.site)
     ∙ ap (λ (q : Running). is_child q.site.setup.machine c.spot_of-above.result c.args.place c.loop-spot.spot) (sym c.self-in-loop-spot.view_is) ∙ sym c.is_child.ensures ∙ c.if-is_child.true in
     rw p.1
     (place_cut c.args.self.now c.loop-spot.self c.search_spot.new.self c.args.lines.now.items c.loop-spot.lines.items c.search_spot.new.lines.items c.args.parent c.args.place c.loop-spot.spot p.0
@@ -41,7 +41,7 @@ loop-spot-preserved c =
     let inside : c.loop-spot.spot < length c.args.self.now.site.setup.machine.spots = omega (arith, c.loop-spot-test.true, c.min-end.ensures, c.len.ensures, here) in
     let same : is_child c.args.self.now.site.setup.machine (spot_of c.args.self.now.world.live c.args.parent) c.args.place c.loop-spot.spot ≡ c.is_child.result =
     ap (λ (o : Option ℕ). is_child c.args.self.now.site.setup.machine o c.args.place c.loop-spot.spot) (sym c.spot_of-above.ensures)
-    ∙ ap (λ (t : Site). is_child t.setup.machine c.spot_of-above.result c.args.place c.loop-spot.spot) (sym c.loop-spot.invariant.brings.site)
+    ∙ ap (λ (t : LiveSite). is_child t.setup.machine c.spot_of-above.result c.args.place c.loop-spot.spot) (sym c.loop-spot.invariant.brings.site)
     ∙ ap (λ (q : Running). is_child q.site.setup.machine c.spot_of-above.result c.args.place c.loop-spot.spot) (sym c.self-in-loop-spot.view_is) ∙ sym c.is_child.ensures in
     elim c.if-is_child.branch [
       | then-is_child+in_ok-search_spot w ↦
