@@ -1,6 +1,6 @@
 #!/bin/sh
 # Plants the mistakes of bench/mutants, each on a copy of the repository, and says what refused it: a line each, and status 1
-# where one was not refused. They are edits as those of crates/*/must-fail, at most four of which stand in each crate, so that
+# where one was not refused. They are edits as those of crates/*/must-fail, at most three of which lie in each crate, so that
 # the gate stays short; these are the others. An edit that a contract can't refuse has a line `shown by: CRATE`: then the
 # tests of that crate, or what its program writes, have to be wrong with it.
 # With -n nothing is proved nor run: it only says which edits no longer fit their files.
