@@ -1,2 +1,3 @@
+pub mod Entries
 pub mod Seeking
 pub use Rattle.config_rules.specs.Listing

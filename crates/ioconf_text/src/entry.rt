@@ -1,223 +1,105 @@
-ghost use Rattle.std.specs.Prelude.{◌≡◌, ◌++◌, ◌<◌, ◌^◌, [], map, length, slice_get, codes, IfOk, OnErr};
-ghost use Rattle.std.specs.List.{enumerate_from};
-ghost use Rattle.config_rules.specs.Listing.{attr_line, device_line, attach_line, row_line, pseudo_line, item_line, file_system_line, warning_line, driver_lines, definition_lines, instance_lines, option_lines, rest_lines, end_lines, tail_lines, entry_lines, lines};
+ghost use Rattle.std.specs.Prelude.{◌≡◌, ◌++◌, ◌<◌, ◌^◌, [], option_map, slice_get, IfOk, OnOk, OnErr};
+ghost use Rattle.config_rules.specs.Listing.{end_lines, tail_lines, entry_lines, lines};
 ghost use Rattle.config_rules.specs.Formed.{FormedTables};
 ghost use Rattle.attr_graph.specs.Graphs.{IsGraphOf, declared_by};
-ghost use Rattle.ioconf_text.specs.Seeking.{Seeks, PutsLine};
+ghost use Rattle.ioconf_text.specs.Entries.{entry_text};
+ghost use Rattle.ioconf_text.specs.Seeking.{PutsLine};
 
 use crate::definition::{put_attach, put_attr, put_device};
 use crate::item::{put_file_system, put_item, put_pseudo, put_warning};
 use crate::row::put_row;
 use attr_graph::{Graph, graph_of};
-use cf_types::{ItemList, Memory, Tables};
+use cf_types::{Attach, Attr, Device, Item, Memory, Name, Pseudo, Row, Tables, Warning};
 
-// Each `seek_` puts line `n` of a section of the listing and returns `None`, or returns how far `n` is past the
-// section.
+/// An entry of the tables: each has one line of the listing, after the first line.
+#[derive(Clone, Copy)]
+pub enum Entry<'a> {
+    Attr(&'a Attr),
+    /// A device, with the attributes that it offers.
+    Device(&'a Device, &'a [u32]),
+    Attach(&'a Attach),
+    /// A row, by its number.
+    Row(usize, &'a Row),
+    Pseudo(&'a Pseudo),
+    /// An option or a makeoption, after its word.
+    Item(&'a [u8], &'a Item),
+    FileSystem(&'a Name),
+    Warning(&'a Warning),
+}
 
-fn seek_attr(out: &mut Vec<u8>, tables: &Tables, n: usize) -> Result<Option<usize>, Memory>
-    ensures { IfOk result (λ left. Seeks (map attr_line tables.now.attrs) n left out.old.items out.new.items) }
+/// Entry `n` of the items and warnings.
+#[inline]
+fn end_at<'a>(tables: &'a Tables, n: usize) -> Option<Entry<'a>>
+    ensures { slice_get (end_lines tables.now) n ≡ option_map (entry_text tables.now) result }
 {
-    let attrs = tables.attrs.items();
-    match attrs.get(n) {
-        Some(attr) => {
-            put_attr(out, attr)?;
-            Ok(None)
-        }
-        None => Ok(Some(n - attrs.len())),
+    if let [item, ..] = tables.options.from(n) {
+        return Some(Entry::Item(b"options", item));
+    }
+    let n = n - tables.options.len();
+    if let [item, ..] = tables.makeoptions.from(n) {
+        return Some(Entry::Item(b"makeoptions", item));
+    }
+    let n = n - tables.makeoptions.len();
+    if let Some(name) = tables.file_systems.items().get(n) {
+        return Some(Entry::FileSystem(name));
+    }
+    let n = n - tables.file_systems.len();
+    match tables.warnings.items().get(n) {
+        Some(warning) => Some(Entry::Warning(warning)),
+        None => None,
     }
 }
 
-fn seek_device(
-    out: &mut Vec<u8>,
-    tables: &Tables,
-    graph: &Graph,
-    n: usize,
-) -> Result<Option<usize>, Memory>
+/// Entry `n` after the definitions.
+#[inline]
+fn tail_at<'a>(tables: &'a Tables, n: usize) -> Option<Entry<'a>>
+    ensures { slice_get (tail_lines tables.now) n ≡ option_map (entry_text tables.now) result }
+{
+    if let Some(row) = tables.rows.items().get(n) {
+        return Some(Entry::Row(n, row));
+    }
+    let n = n - tables.rows.len();
+    if let Some(pseudo) = tables.pseudos.items().get(n) {
+        return Some(Entry::Pseudo(pseudo));
+    }
+    end_at(tables, n - tables.pseudos.len())
+}
+
+/// Entry `n` of the tables, counted from 0, if there are so many.
+#[inline]
+fn entry_at<'a>(tables: &'a Tables, graph: &'a Graph, n: usize) -> Option<Entry<'a>>
     requires graph { IsGraphOf (declared_by tables.now) graph.now }
     requires small { n < 2 ^ 32 }
-    ensures { IfOk result (λ left. Seeks (map (device_line tables.now) (enumerate_from 0 tables.now.devices)) n left out.old.items out.new.items) }
+    ensures { slice_get (entry_lines tables.now) n ≡ option_map (entry_text tables.now) result }
 {
-    let devices = tables.devices.items();
-    if n >= devices.len() {
-        return Ok(Some(n - devices.len()));
+    if let Some(attr) = tables.attrs.items().get(n) {
+        return Some(Entry::Attr(attr));
     }
-    put_device(out, tables, &devices[n], graph.interfaces(n as u32))?;
-    Ok(None)
-}
-
-fn seek_attach(out: &mut Vec<u8>, tables: &Tables, n: usize) -> Result<Option<usize>, Memory>
-    ensures { IfOk result (λ left. Seeks (map (attach_line tables.now) tables.now.attaches) n left out.old.items out.new.items) }
-{
-    let attaches = tables.attaches.items();
-    match attaches.get(n) {
-        Some(attach) => {
-            put_attach(out, tables, attach)?;
-            Ok(None)
-        }
-        None => Ok(Some(n - attaches.len())),
+    let n = n - tables.attrs.len();
+    if let Some(device) = tables.devices.items().get(n) {
+        return Some(Entry::Device(device, graph.interfaces(n as u32)));
     }
-}
-
-fn seek_row(out: &mut Vec<u8>, tables: &Tables, n: usize) -> Result<Option<usize>, Memory>
-    ensures { IfOk result (λ left. Seeks (map (row_line tables.now) (enumerate_from 0 tables.now.rows)) n left out.old.items out.new.items) }
-{
-    let rows = tables.rows.items();
-    if n >= rows.len() {
-        return Ok(Some(n - rows.len()));
+    let n = n - tables.devices.len();
+    if let Some(attach) = tables.attaches.items().get(n) {
+        return Some(Entry::Attach(attach));
     }
-    put_row(out, tables, n, &rows[n])?;
-    Ok(None)
+    tail_at(tables, n - tables.attaches.len())
 }
 
-fn seek_pseudo(out: &mut Vec<u8>, tables: &Tables, n: usize) -> Result<Option<usize>, Memory>
-    ensures { IfOk result (λ left. Seeks (map pseudo_line tables.now.pseudos) n left out.old.items out.new.items) }
+/// Appends the line of an entry.
+fn put_entry(out: &mut Vec<u8>, tables: &Tables, found: Entry) -> Result<(), Memory>
+    ensures { OnOk result (out.new.items ≡ out.old.items ++ entry_text tables.now found.entry) }
 {
-    let pseudos = tables.pseudos.items();
-    match pseudos.get(n) {
-        Some(pseudo) => {
-            put_pseudo(out, pseudo)?;
-            Ok(None)
-        }
-        None => Ok(Some(n - pseudos.len())),
+    match found {
+        Entry::Attr(attr) => put_attr(out, attr),
+        Entry::Device(device, offered) => put_device(out, tables, device, offered),
+        Entry::Attach(attach) => put_attach(out, tables, attach),
+        Entry::Row(n, row) => put_row(out, tables, n, row),
+        Entry::Pseudo(pseudo) => put_pseudo(out, pseudo),
+        Entry::Item(word, item) => put_item(out, word, item),
+        Entry::FileSystem(name) => put_file_system(out, name),
+        Entry::Warning(warning) => put_warning(out, warning),
     }
-}
-
-fn seek_item(
-    out: &mut Vec<u8>,
-    word: &[u8],
-    items: &ItemList,
-    n: usize,
-) -> Result<Option<usize>, Memory>
-    ensures { IfOk result (λ left. Seeks (map (item_line word.now) items.now) n left out.old.items out.new.items) }
-{
-    match items.from(n) {
-        [item, ..] => {
-            put_item(out, word, item)?;
-            Ok(None)
-        }
-        [] => Ok(Some(n - items.len())),
-    }
-}
-
-fn seek_file_system(out: &mut Vec<u8>, tables: &Tables, n: usize) -> Result<Option<usize>, Memory>
-    ensures { IfOk result (λ left. Seeks (map file_system_line tables.now.file_systems) n left out.old.items out.new.items) }
-{
-    let names = tables.file_systems.items();
-    match names.get(n) {
-        Some(name) => {
-            put_file_system(out, name)?;
-            Ok(None)
-        }
-        None => Ok(Some(n - names.len())),
-    }
-}
-
-fn seek_warning(out: &mut Vec<u8>, tables: &Tables, n: usize) -> Result<Option<usize>, Memory>
-    ensures { IfOk result (λ left. Seeks (map warning_line tables.now.warnings) n left out.old.items out.new.items) }
-{
-    let warnings = tables.warnings.items();
-    match warnings.get(n) {
-        Some(warning) => {
-            put_warning(out, warning)?;
-            Ok(None)
-        }
-        None => Ok(Some(n - warnings.len())),
-    }
-}
-
-fn seek_driver(
-    out: &mut Vec<u8>,
-    tables: &Tables,
-    graph: &Graph,
-    n: usize,
-) -> Result<Option<usize>, Memory>
-    requires graph { IsGraphOf (declared_by tables.now) graph.now }
-    requires small { n < 2 ^ 32 }
-    ensures { IfOk result (λ left. Seeks (driver_lines tables.now) n left out.old.items out.new.items) }
-{
-    let Some(n) = seek_device(out, tables, graph, n)? else {
-        return Ok(None);
-    };
-    seek_attach(out, tables, n)
-}
-
-fn seek_definition(
-    out: &mut Vec<u8>,
-    tables: &Tables,
-    graph: &Graph,
-    n: usize,
-) -> Result<Option<usize>, Memory>
-    requires graph { IsGraphOf (declared_by tables.now) graph.now }
-    requires small { n < 2 ^ 32 }
-    ensures { IfOk result (λ left. Seeks (definition_lines tables.now) n left out.old.items out.new.items) }
-{
-    let Some(n) = seek_attr(out, tables, n)? else {
-        return Ok(None);
-    };
-    seek_driver(out, tables, graph, n)
-}
-
-fn seek_instance(out: &mut Vec<u8>, tables: &Tables, n: usize) -> Result<Option<usize>, Memory>
-    ensures { IfOk result (λ left. Seeks (instance_lines tables.now) n left out.old.items out.new.items) }
-{
-    let Some(n) = seek_row(out, tables, n)? else {
-        return Ok(None);
-    };
-    seek_pseudo(out, tables, n)
-}
-
-fn seek_option(out: &mut Vec<u8>, tables: &Tables, n: usize) -> Result<Option<usize>, Memory>
-    ensures { IfOk result (λ left. Seeks (option_lines tables.now) n left out.old.items out.new.items) }
-{
-    let Some(n) = seek_item(out, b"options", &tables.options, n)? else {
-        return Ok(None);
-    };
-    seek_item(out, b"makeoptions", &tables.makeoptions, n)
-}
-
-fn seek_rest(out: &mut Vec<u8>, tables: &Tables, n: usize) -> Result<Option<usize>, Memory>
-    ensures { IfOk result (λ left. Seeks (rest_lines tables.now) n left out.old.items out.new.items) }
-{
-    let Some(n) = seek_file_system(out, tables, n)? else {
-        return Ok(None);
-    };
-    seek_warning(out, tables, n)
-}
-
-/// A line of an item or a warning.
-fn seek_end(out: &mut Vec<u8>, tables: &Tables, n: usize) -> Result<Option<usize>, Memory>
-    ensures { IfOk result (λ left. Seeks (end_lines tables.now) n left out.old.items out.new.items) }
-{
-    let Some(n) = seek_option(out, tables, n)? else {
-        return Ok(None);
-    };
-    seek_rest(out, tables, n)
-}
-
-fn seek_tail(out: &mut Vec<u8>, tables: &Tables, n: usize) -> Result<Option<usize>, Memory>
-    ensures { IfOk result (λ left. Seeks (tail_lines tables.now) n left out.old.items out.new.items) }
-{
-    let Some(n) = seek_instance(out, tables, n)? else {
-        return Ok(None);
-    };
-    seek_end(out, tables, n)
-}
-
-/// A line after the first.
-fn seek_line(
-    out: &mut Vec<u8>,
-    tables: &Tables,
-    graph: &Graph,
-    n: usize,
-) -> Result<Option<usize>, Memory>
-    requires graph { IsGraphOf (declared_by tables.now) graph.now }
-    requires small { n < 2 ^ 32 }
-    ensures { IfOk result (λ left. Seeks (entry_lines tables.now) n left out.old.items out.new.items) }
-{
-    let Some(n) = seek_definition(out, tables, graph, n)? else {
-        return Ok(None);
-    };
-    seek_tail(out, tables, n)
 }
 
 /// Appends line `n` of the listing of the tables, as `put_line_with` does, without a buffer of its own: if memory runs
@@ -235,8 +117,11 @@ pub fn put_line_at_once(
         out.extend_from_slice(b"tables")?;
         return Ok(true);
     }
-    let left = seek_line(out, tables, graph, n as usize - 1)?;
-    Ok(left.is_none())
+    let Some(found) = entry_at(tables, graph, n as usize - 1) else {
+        return Ok(false);
+    };
+    put_entry(out, tables, found)?;
+    Ok(true)
 }
 
 /// The room that is made for a line at first, in bytes. Most lines are shorter.
