@@ -1,26 +1,24 @@
 -- What a statement without a code adds fits what is declared.
-use Rattle.std.proofs.Common.{◌≡◌, ℕ, ◌+◌, ◌<◌, true, false, Option, Some, None, List, [], ◌∷◌, ◌++◌, length, map, refl, ap, sym, ◌∙◌, subst, arith, length-append, All}
-use Rattle.std.specs.Prelude.{unwrap_or, IfSome}
+use Rattle.std.proofs.Common.{◌≡◌, ℕ, ◌<◌, true, false, Option, Some, None, List, [], ◌∷◌, ◌++◌, length, map, refl, ap, sym, ◌∙◌, subst, All}
+use Rattle.std.specs.Prelude.{unwrap_or}
 use Rattle.std.specs.Option.{option_map_or, option_to_list}
 use Rattle.std.proofs.lemmas.List.{length-map}
 use Rattle.std.proofs.lemmas.List.Elements.{All-cons, All-nil, All-append}
-use Rattle.cf_types.specs.declared.code.configuration.TheConstants.{LOCATOR_TWICE, NAME_TAKEN, UNKNOWN_ATTRIBUTE}
-use Rattle.cf_types.proofs.ListLemmas.{all_below_more}
+use Rattle.cf_types.specs.declared.code.configuration.TheConstants.{LOCATOR_TWICE, NAME_TAKEN}
 use Rattle.config_rules.proofs.GivenLaws.{no_code}
 use Rattle.cf_types.specs.declared.stmt.Stmt.{Stmt}
 use Rattle.cf_types.specs.declared.stmt.Stmt.TheVariants as stmt
 use Rattle.cf_types.specs.declared.tables.Attr.{Attr}
-use Rattle.cf_types.specs.declared.tables.Locator.{Locator}
 use Rattle.cf_types.specs.declared.tables.Device.{Device}
 use Rattle.cf_types.specs.Offers.{named_by, node_of}
 use Rattle.attr_graph.specs.Graphs.{IsGraphOf}
 use Rattle.attr_graph.specs.Reach.{Shape}
 use Rattle.config_rules.specs.Declared.{Declared, attr}
-use Rattle.config_rules.specs.Fault.{attr_numbers, repeats, repeats_locator, lacks_attr, code_of}
-use Rattle.cf_declare.specs.Declare.{new_attr, new_device, declare}
+use Rattle.config_rules.specs.Fault.{attr_numbers, repeats, repeats_locator, code_of}
+use Rattle.cf_declare.specs.Declare.{declare, new_attr}
 use Rattle.cf_declare.specs.Graphs.{LocatorsFit}
+use Rattle.cf_declare.specs.Judging.{Takes}
 use Rattle.cf_declare.specs.Limits.{HasFewLocators}
-use Rattle.cf_declare.proofs.ClassLemmas.{numbers_within}
 use Rattle.cf_declare.proofs.LimitLaws.{few_locators_more}
 
 abbrev pub Differ : Attr → Type 0
@@ -48,30 +46,10 @@ locators_more d n s fit h few = record {
   differ = All-append Differ d.attrs (option_to_list (new_attr d s)) fit.differ (new_differ d n s h);
 }
 
--- a new attribute names attributes that are there
-pub new_needs : (d : Declared) (n : ℕ) (s : Stmt) → code_of d n s ≡ None → IfSome (new_attr d s) (λ a. All (λ b. b < length d.attrs) a.needs)
-new_needs d n (stmt.Define name locs needs) h = numbers_within d needs (no_code (lacks_attr d needs) UNKNOWN_ATTRIBUTE _ (no_code _ LOCATOR_TWICE _ (no_code _ NAME_TAKEN _ h).1).1).0
-new_needs d n (stmt.Class name) h = All-nil (λ b. b < length d.attrs)
-new_needs d n (stmt.DefPseudo name locs needs) h = numbers_within d needs (no_code (lacks_attr d needs) UNKNOWN_ATTRIBUTE _ (no_code _ LOCATOR_TWICE _ (no_code _ NAME_TAKEN _ h).1).1).0
-new_needs d n (stmt.Device name None needs) h = tt
-new_needs d n (stmt.Device name (Some locs) needs) h = All-nil (λ b. b < length d.attrs)
-new_needs d n _ h = tt
-
-device_needs : (d : Declared) (n : ℕ) (name : List ℕ) (locs : Option (List Locator)) (needs : List (List ℕ)) → code_of d n (stmt.Device name locs needs) ≡ None → All (λ b. b < length d.attrs) (attr_numbers d needs)
-device_needs d n name locs needs h = numbers_within d needs (no_code (lacks_attr d needs) UNKNOWN_ATTRIBUTE _ (no_code (repeats_locator locs) LOCATOR_TWICE _ (no_code _ NAME_TAKEN _ h).1).1).0
-
--- a new device names its own attribute and attributes that are there
-pub new_names : (d : Declared) (n : ℕ) (s : Stmt) → code_of d n s ≡ None → IfSome (new_device d s) (λ x. All (λ b. b < length (d.attrs ++ option_to_list (new_attr d s))) (named_by x))
-new_names d n (stmt.Device name None needs) h =
-    all_below_more (attr_numbers d needs) (length d.attrs) _ (omega (arith, length-append d.attrs (option_to_list (new_attr d (stmt.Device name None needs)))))
-    (device_needs d n name None needs h)
-new_names d n (stmt.Device name (Some locs) needs) h =
-    let m = length (d.attrs ++ option_to_list (new_attr d (stmt.Device name (Some locs) needs))) in
-    let size : m ≡ length d.attrs + 1 = length-append d.attrs (option_to_list (new_attr d (stmt.Device name (Some locs) needs))) in
-    All-cons (λ b. b < m) (length d.attrs) (attr_numbers d needs) (omega (arith, size))
-    (all_below_more (attr_numbers d needs) (length d.attrs) m (omega (arith, size))
-    (numbers_within d needs (no_code (lacks_attr d needs) UNKNOWN_ATTRIBUTE _ (no_code _ LOCATOR_TWICE _ (no_code _ NAME_TAKEN _ h).1).1).0))
-new_names d n _ h = tt
+-- so they do, whether a statement has a code or not
+pub locators_after : (d new : Declared) (s : Stmt) (code : Option ℕ) → LocatorsFit d → HasFewLocators s → Takes (code_of d 0 s) d (declare d s) new code → LocatorsFit new
+locators_after d new s None fit few h = subst (λ (e : Declared). LocatorsFit e) (sym h.1) (locators_more d 0 s fit h.0 few)
+locators_after d new s (Some code) fit few h = subst (λ (e : Declared). LocatorsFit e) (sym h.1) fit
 
 own_names : (own : Option ℕ) → option_map_or (λ a. a ∷ []) own [] ≡ option_to_list own
 own_names None = refl

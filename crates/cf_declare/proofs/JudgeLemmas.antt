@@ -1,29 +1,36 @@
--- What judging a statement finds, and that it names what is there.
-use Rattle.std.proofs.Common.{◌≡◌, ℕ, ◌<◌, Option, Some, None, List, length, ap, sym, ◌∙◌, subst, All}
-use Rattle.std.specs.Prelude.{IfOk, Result, Ok, Err, false}
-use Rattle.std.proofs.lemmas.List.{length-map}
-use Rattle.attr_graph.specs.Reach.{Shape}
-use Rattle.cf_types.specs.Offers.{node_of, nodes_of}
+-- What taking a statement leaves declared.
+use Rattle.std.proofs.Common.{◌≡◌, ℕ, Option, Some, None, [], ◌∷◌, ◌++◌, refl, sym, ◌∙◌}
+use Rattle.std.specs.Prelude.{IfOk, IfSome, Result, Ok, Err}
+use Rattle.std.proofs.lemmas.List.{append-nil}
+use Rattle.cf_types.specs.declared.tables.Attr.{Attr}
+use Rattle.cf_names.specs.Indexed.{with_attr}
 use Rattle.config_rules.specs.Declared.{Declared}
-use Rattle.config_rules.specs.Fault.{attr_numbers, lacks_attr}
-use Rattle.cf_declare.specs.Judging.{Judges}
-use Rattle.cf_declare.proofs.ClassLemmas.{numbers_within}
-
--- a code that no number of instances changes
-pub behind_any : {A E : Type 0} (fault : Option ℕ) (value : A) (r : Result (Result A ℕ) E) → IfOk r (Judges fault value) → IfOk r (λ found. (n : ℕ) → Judges fault value found)
-behind_any fault value (Ok found) h = λ n. h
-behind_any fault value (Err stop) h = tt
-
--- what is found where there is no code
-pub accepted_of : {A : Type 0} (fault : Option ℕ) (value : A) (found : Result A ℕ) (one : A) → found ≡ Ok one → Judges fault value found → (fault ≡ None) × (one ≡ value)
-accepted_of fault value found one e h = rw e at h
+use Rattle.cf_declare.specs.Judging.{Takes}
+use Rattle.cf_declare.proofs.DeclareLaws.{same_declared}
 
 -- the code that is found
-pub refused_of : {A : Type 0} (fault : Option ℕ) (value : A) (found : Result A ℕ) (code : ℕ) → found ≡ Err code → Judges fault value found → fault ≡ Some code
-refused_of fault value found code e h = rw e at h
+pub taken_code : (fault : Option ℕ) (old more new : Declared) (code : Option ℕ) → Takes fault old more new code → code ≡ fault
+taken_code fault old more new None h = sym h.0
+taken_code fault old more new (Some code) h = sym h.0
 
--- the numbers of attributes that are there are those of the graph
-pub numbers_there : (d : Declared) (g : Shape) (names : List (List ℕ)) (numbers items : List ℕ) → g.attrs ≡ nodes_of d.attrs → (lacks_attr d names ≡ false) × (numbers ≡ attr_numbers d names) → items ≡ numbers → All (λ a. a < length g.attrs) items
-numbers_there d g names numbers items graph known listed =
-    subst (λ (n : ℕ). All (λ a. a < n) items) (sym (ap length graph ∙ length-map d.attrs node_of))
-    (subst (λ (xs : List ℕ). All (λ a. a < length d.attrs) xs) (sym (listed ∙ known.1)) (numbers_within d names known.0))
+-- without a code there is more
+pub taken_more : (fault : Option ℕ) (old more new : Declared) (code : Option ℕ) → Takes fault old more new code → code ≡ None → new ≡ more
+taken_more fault old more new None h e = h.1
+taken_more fault old more new (Some code) h e = absurd (cc)
+
+-- with a code all is as before
+pub taken_same : (fault : Option ℕ) (old more new : Declared) (code : Option ℕ) → Takes fault old more new code → IfSome code (λ _. new ≡ old)
+taken_same fault old more new None h = tt
+taken_same fault old more new (Some code) h = h.1
+
+-- the same is declared, whatever the number of instances
+pub taken_any : {E : Type 0} (fault : Option ℕ) (old more same new : Declared) (r : Result (Option ℕ) E) → more ≡ same → IfOk r (Takes fault old more new)
+    → IfOk r (λ code. (n : ℕ) → Takes fault old same new code)
+taken_any fault old more same new (Ok None) e h = λ n. (h.0, h.1 ∙ e)
+taken_any fault old more same new (Ok (Some code)) e h = λ n. h
+taken_any fault old more same new (Err stop) e h = tt
+
+-- nothing but an attribute is added
+pub attr_alone : (d : Declared) (a : Attr) → with_attr d a ≡ record { attrs = d.attrs ++ a ∷ []; devices = d.devices ++ []; attaches = d.attaches ++ [] }
+attr_alone d a =
+    same_declared (d.attrs ++ a ∷ []) _ d.devices (d.devices ++ []) d.attaches (d.attaches ++ []) refl (sym (append-nil d.devices)) (sym (append-nil d.attaches))

@@ -1,4 +1,3 @@
-pub mod Additions
 pub mod Declare
 pub mod FirstSpots
 pub mod Graphs

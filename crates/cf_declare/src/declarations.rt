@@ -6,9 +6,8 @@ ghost use Rattle.attr_graph.specs.Graphs.{IsGraphOf};
 ghost use Rattle.cf_declare.specs.Graphs.{FitsDeclared};
 ghost use Rattle.cf_declare.specs.Limits.{HasFewLocators};
 
-use crate::grow::{add, declares};
 use crate::join::join;
-use crate::judge::{judged, other_fault};
+use crate::judge::{declares, other_fault, take_declared};
 use crate::names::{name_hash, room_of};
 use attr_graph::Graph;
 use cf_names::Catalog;
@@ -82,12 +81,8 @@ impl Declarations {
         if !declares(stmt) {
             return Ok(other_fault(&self.lists, stmt));
         }
-        let added = match judged(alloc, &self.lists, &mut self.graph, stmt)? {
-            Ok(added) => added,
-            Err(code) => return Ok(Some(code)),
-        };
-        match add(alloc, &mut self.lists, &mut self.graph, added) {
-            Ok(()) => Ok(None),
+        match take_declared(alloc, &mut self.lists, &mut self.graph, stmt) {
+            Ok(code) => Ok(code),
             Err(stop) => {
                 *self = Declarations::make(alloc, &[]);
                 Err(stop)

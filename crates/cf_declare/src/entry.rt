@@ -2,7 +2,7 @@ ghost use Rattle.std.specs.Prelude.{◌≡◌, ◌≤◌, [], true, false, is_so
 ghost use Rattle.config_rules.specs.Declared.{attr};
 
 use cf_names::Catalog;
-use cf_types::{Attr, Device, List, Locator, Memory, Name};
+use cf_types::{Attr, List, Locator, Memory, Name};
 use std::alloc::Global;
 
 /// What a statement says of an attribute or a device: the name, the locators, if there are braces, and the attributes
@@ -11,7 +11,7 @@ use std::alloc::Global;
 pub struct Entry<'a> {
     pub name: &'a Name,
     pub locators: &'a Option<List<Locator>>,
-    pub needs: &'a [Name],
+    pub needs: &'a List<Name>,
 }
 
 fn copied_locator(locator: &Locator) -> Result<Locator, Memory>
@@ -64,27 +64,6 @@ pub fn defined(
     })
 }
 
-/// The interface attribute of a device, if it has braces.
-pub fn own_attr(
-    alloc: Global,
-    name: &Name,
-    locators: &Option<List<Locator>>,
-) -> Result<Option<Attr>, Memory>
-    ensures { IfOk result (λ a. a ≡ option_map (λ l. attr name.now true false false l []) locators.now) }
-{
-    let Some(locators) = locators else {
-        return Ok(None);
-    };
-    Ok(Some(Attr {
-        name: name.clone()?,
-        iface: true,
-        class: false,
-        pseudo: false,
-        locs: copied_locators(alloc, locators.items())?,
-        needs: List::make(alloc),
-    }))
-}
-
 /// The attribute of a device class.
 pub fn class_attr(alloc: Global, name: &Name) -> Result<Attr, Memory>
     ensures { IfOk result (λ a. a ≡ attr name.now false true false [] []) }
@@ -99,25 +78,8 @@ pub fn class_attr(alloc: Global, name: &Name) -> Result<Attr, Memory>
     })
 }
 
-/// A device that names the attributes of these numbers; its own attribute is the next one.
-pub fn device_of(
-    declared: &Catalog,
-    name: &Name,
-    locators: &Option<List<Locator>>,
-    numbers: List<u32>,
-) -> Result<Device, Memory>
-    requires { length declared.now.attrs ≤ 65536 }
-    ensures { IfOk result (λ d. d ≡ record { name = name.now; own = option_map (λ l. length declared.now.attrs) locators.now; needs = numbers }) }
-{
-    Ok(Device {
-        name: name.clone()?,
-        own: own_number(declared, locators),
-        needs: numbers,
-    })
-}
-
 /// The number that a device's own attribute gets.
-fn own_number(declared: &Catalog, locators: &Option<List<Locator>>) -> Option<u32>
+pub fn own_number(declared: &Catalog, locators: &Option<List<Locator>>) -> Option<u32>
     requires { length declared.now.attrs ≤ 65536 }
     ensures { result ≡ option_map (λ l. length declared.now.attrs) locators.now }
 {

@@ -1,9 +1,10 @@
-ghost use Rattle.std.specs.Prelude.{◌≡◌, ◌≤◌, ◌∷◌, true, false, length, map, bytes_eq, IfOk, MatchOption};
+ghost use Rattle.std.specs.Prelude.{◌≡◌, ◌<◌, ◌≤◌, ◌∷◌, true, false, length, map, bytes_eq, All, IfOk, IfSome, MatchOption};
 ghost use Rattle.std.specs.List.{list_any};
+ghost use Rattle.cf_names.specs.Indexed.{with_attach};
 ghost use Rattle.config_rules.specs.Fault.{attr_numbers, has_attr, has_device, is_pseudo, lacks_attr};
 ghost use Rattle.config_rules.specs.Fault.{attach_fault, place_fault, places_fault, repeats, repeats_locator};
 ghost use Rattle.cf_declare.specs.Declare.{attach_named, place_named};
-ghost use Rattle.cf_declare.specs.Judging.{Judges};
+ghost use Rattle.cf_declare.specs.Judging.{Judges, Takes};
 
 use crate::lookup::{attr_named, is_root, numbered_attr};
 use cf_names::Catalog;
@@ -30,8 +31,9 @@ pub fn known_numbers(
     names: &[Name],
 ) -> Result<Option<List<u32>>, Memory>
     requires { length declared.now.attrs ≤ 65536 }
-    ensures { IfOk result (λ found. MatchOption found (lacks_attr declared.now names.now ≡ true)
+    ensures found { IfOk result (λ found. MatchOption found (lacks_attr declared.now names.now ≡ true)
         (λ numbers. (lacks_attr declared.now names.now ≡ false) × (numbers ≡ attr_numbers declared.now names.now))) }
+    ensures within { IfOk result (λ found. IfSome found (λ numbers. All (λ a. a < length declared.now.attrs) numbers)) }
 {
     let mut numbers = Vec::with_capacity(alloc, names.len())?;
     for name in names {
@@ -121,16 +123,16 @@ pub struct Attaching<'a> {
     pub needs: &'a [Name],
 }
 
-/// The attachment of a device under a name, or its first code.
-pub fn attached(
+/// Takes an attachment of a device under a name: its first code, or else it is added.
+pub fn take_attach(
     alloc: Global,
-    declared: &Catalog,
+    declared: &mut Catalog,
     said: &Attaching<'_>,
-) -> Result<Result<Attach, u8>, Memory>
-    requires attrs { length declared.now.attrs ≤ 65536 }
-    requires devices { length declared.now.devices ≤ 65536 }
-    ensures { IfOk result (Judges (attach_fault declared.now said.now.device.now said.now.places.now said.now.name.now said.now.needs.now)
-        (attach_named declared.now said.now.device.now said.now.places.now said.now.name.now said.now.needs.now)) }
+) -> Result<Option<u8>, Memory>
+    requires attrs { length declared.old.attrs ≤ 65536 }
+    requires devices { length declared.old.devices ≤ 65536 }
+    ensures { IfOk result (Takes (attach_fault declared.old said.now.device.now said.now.places.now said.now.name.now said.now.needs.now) declared.old
+        (with_attach declared.old (attach_named declared.old said.now.device.now said.now.places.now said.now.name.now said.now.needs.now)) declared.new) }
 {
     let Attaching {
         device,
@@ -139,24 +141,26 @@ pub fn attached(
         needs,
     } = *said;
     let Some(number) = declared.device_number(device) else {
-        return Ok(Err(code::UNKNOWN_DEVICE));
+        return Ok(Some(code::UNKNOWN_DEVICE));
     };
     let places = match places_found(alloc, declared, places)? {
         Ok(places) => places,
-        Err(code) => return Ok(Err(code)),
+        Err(code) => return Ok(Some(code)),
     };
     if is_root(name.bytes()) || declared.has_attach(name) {
-        return Ok(Err(code::NAME_TAKEN));
+        return Ok(Some(code::NAME_TAKEN));
     }
     let Some(needs) = known_numbers(alloc, declared, needs)? else {
-        return Ok(Err(code::UNKNOWN_ATTRIBUTE));
+        return Ok(Some(code::UNKNOWN_ATTRIBUTE));
     };
-    Ok(Ok(Attach {
+    let attach = Attach {
         name: name.clone()?,
         device: number as u32,
         places,
         needs,
-    }))
+    };
+    declared.add_attach(alloc, attach)?;
+    Ok(None)
 }
 
 /// Whether the attribute of this name is that of a pseudo-device.

@@ -13,5 +13,4 @@ mod names;
 mod spot;
 
 pub use declarations::Declarations;
-pub use grow::declares;
 pub use judge::MAX_INSTANCES;

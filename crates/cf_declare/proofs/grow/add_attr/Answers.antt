@@ -8,4 +8,4 @@ add_attr-requires-clause-known c =
     let attrs = c.args.declared.now.attrs in
     let size : length c.args.graph.now.attrs ≡ length attrs = ap length c.requires.graph.attrs ∙ length-map attrs node_of in
     subst (λ (n : ℕ). All (λ a. a < n) c.items.result.now) (sym size)
-    (subst (λ (needs : List ℕ). All (λ a. a < length attrs) needs) (sym c.items.ensures) (rw c.in-Some.is at c.requires.known))
+    (subst (λ (needs : List ℕ). All (λ a. a < length attrs) needs) (sym c.items.ensures) c.requires.known)

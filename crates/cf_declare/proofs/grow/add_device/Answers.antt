@@ -3,4 +3,4 @@ use Rattle.cf_declare.proofs.grow.add_device.Goals as goal
 
 pub add_device-requires-clause-known : goal.add_device-requires-clause-known
 add_device-requires-clause-known c =
-    names_there c.args.declared.now c.args.graph.now c.in-Some.device c.items.result.now c.requires.graph (rw c.in-Some.is at c.requires.known) c.items.ensures
+    names_there c.args.declared.now c.args.graph.now c.args.device c.items.result.now c.requires.graph c.requires.known c.items.ensures
