@@ -1,16 +1,11 @@
--- Two device classes among numbers of attributes, and the numbers of attributes that are there.
-use Rattle.std.proofs.Common.{◌≡◌, ℕ, ◌<◌, suc, Bool, true, false, cond, ◌&&◌, ◌||◌, Option, Some, None, List, [], ◌∷◌, length, refl, ap, sym, ◌∙◌, arith, All}
-use Rattle.std.specs.Prelude.{filter, find, not, ◌==◌, nat_lt, is_some, unwrap_or, bytes_eq}
+-- Two device classes among numbers of attributes.
+use Rattle.std.proofs.Common.{◌≡◌, ℕ, suc, Bool, true, false, cond, ◌&&◌, ◌||◌, Some, None, List, [], ◌∷◌, length, refl, ap, sym, ◌∙◌, arith}
+use Rattle.std.specs.Prelude.{filter, find, not, ◌==◌, nat_lt}
 use Rattle.std.specs.List.{list_any}
-use Rattle.std.proofs.lemmas.Bool.{eqb-true, eq-eqb, false≢true, or_parts}
+use Rattle.std.proofs.lemmas.Bool.{eqb-true, eq-eqb, false≢true}
 use Rattle.std.proofs.lemmas.Bool.Decides.{nat_tests}
-use Rattle.std.proofs.lemmas.List.Elements.{All-cons, All-nil}
 use Rattle.std.proofs.lemmas.Map.Views.{any-filter_same}
-use Rattle.cf_declare.proofs.ListFacts.{found_within}
-use Rattle.cf_types.specs.declared.declared.Declared.{Declared}
 use Rattle.cf_types.specs.Offers.{firsts}
-use Rattle.cf_types.specs.Lookups.{attr_number}
-use Rattle.config_rules.specs.Fault.{attr_numbers, has_attr, lacks_attr}
 
 differs_if : (q : ℕ → Bool) (x k : ℕ) (b : Bool) → (k == x) ≡ b → q x ≡ false → q k ≡ true → not b ≡ true
 differs_if q x k true e f t = absurd (false≢true (sym f ∙ ap q (sym (eqb-true k x e)) ∙ t))
@@ -72,19 +67,3 @@ some_if p x f xs false e ih = ih e
 pub some_class : (p : ℕ → Bool) (f : ℕ) (xs : List ℕ) → find p xs ≡ Some f → list_any (λ a. p a && not (a == f)) xs ≡ nat_lt 1 (length (firsts (filter p xs)))
 some_class p f [] e = cc
 some_class p f (x ∷ xs) e = some_if p x f xs (p x) e (λ h. some_class p f xs h)
-
-number_within : (d : Declared) (name : List ℕ) (o : Option ℕ) → attr_number d.attrs name ≡ o → not (is_some o) ≡ false → unwrap_or o 0 < length d.attrs
-number_within d name None e h = absurd (false≢true (sym h))
-number_within d name (Some n) e h = found_within (λ a. bytes_eq a.name name) d.attrs n e
-
-right_false : (a b : Bool) → (a || b) ≡ false → b ≡ false
-right_false true b e = absurd (false≢true (sym e))
-right_false false b e = e
-
--- the numbers of attributes that are there are in range
-pub numbers_within : (d : Declared) (names : List (List ℕ)) → lacks_attr d names ≡ false → All (λ a. a < length d.attrs) (attr_numbers d names)
-numbers_within d [] e = All-nil (λ a. a < length d.attrs)
-numbers_within d (name ∷ names) e =
-    All-cons (λ a. a < length d.attrs) (unwrap_or (attr_number d.attrs name) 0) (attr_numbers d names)
-    (number_within d name (attr_number d.attrs name) refl (or_parts (not (has_attr d name)) (lacks_attr d names) e).0)
-    (numbers_within d names (right_false (not (has_attr d name)) (lacks_attr d names) e))

@@ -2,7 +2,7 @@
 use Rattle.std.proofs.Common.{◌≡◌, ℕ, true, false, Some, None, List, [], ◌∷◌, ◌++◌, length, map, refl, ap, sym, ◌∙◌}
 use Rattle.std.specs.Prelude.{bytes_eq, filter_map, is_some, unwrap_or, if◌then◌else◌, count_by}
 use Rattle.std.specs.Option.{option_to_list}
-use Rattle.std.proofs.lemmas.List.{append-nil, length-map}
+use Rattle.std.proofs.lemmas.List.{length-map}
 use Rattle.std.proofs.lemmas.Slice.Eq.{bytes_eq-Decides}
 use Rattle.cf_types.specs.declared.stmt.Stmt.{Stmt}
 use Rattle.cf_types.specs.declared.stmt.Stmt.TheVariants as stmt
@@ -13,7 +13,7 @@ use Rattle.cf_types.specs.declared.tables.Place.TheVariants.{Root, At}
 use Rattle.cf_types.specs.Lookups.{device_number, place_of_name}
 use Rattle.config_rules.specs.Declared.{Declared, is_root, numbers_in, attr, attr_name, device_name, attr_of, device_of, attach_of, place_of, declared}
 use Rattle.config_rules.specs.Fault.{has_attr, attr_numbers, is_instance, fault_of}
-use Rattle.cf_declare.specs.Declare.{new_attr, new_device, new_attach, place_named, declare, declares}
+use Rattle.cf_declare.specs.Declare.{new_attr, new_device, new_attach, place_named, declare}
 use Rattle.cf_declare.specs.Settled.{names_among, Settled}
 use Rattle.cf_declare.proofs.ListFacts.{position_new, filter_map_push, filter_map_same}
 use Rattle.cf_declare.proofs.CodeLaws.{accepted_new}
@@ -74,16 +74,6 @@ device_added stmts _ h new = refl
 pub same_declared : (a b : List Attr) (c d : List Device) (e f : List Attach) → a ≡ b → c ≡ d → e ≡ f
     → ◌≡◌ {A = Declared} (record { attrs = a; devices = c; attaches = e }) (record { attrs = b; devices = d; attaches = f })
 same_declared a b c d e f p q r = cc
-
--- a statement that declares nothing leaves all as it is
-pub nothing_more : (d : Declared) (s : Stmt) → false ≡ declares s → d ≡ declare d s
-nothing_more d (stmt.Define name locs needs) h = cc
-nothing_more d (stmt.Class name) h = cc
-nothing_more d (stmt.DefPseudo name locs needs) h = cc
-nothing_more d (stmt.Device name locs needs) h = cc
-nothing_more d (stmt.Attach device places name needs) h = cc
-nothing_more d _ h =
-    same_declared d.attrs (d.attrs ++ []) d.devices (d.devices ++ []) d.attaches (d.attaches ++ []) (sym (append-nil d.attrs)) (sym (append-nil d.devices)) (sym (append-nil d.attaches))
 
 -- the attributes with one more statement
 attrs_more : (before : List Stmt) (s : Stmt) → Settled before → fault_of before s ≡ None → (declared (before ++ s ∷ [])).attrs ≡ (declare (declared before) s).attrs

@@ -1,5 +1,5 @@
 -- What one more statement adds to what is declared.
-use Rattle.std.specs.Prelude.{ℕ, Bool, true, false, List, [], ◌++◌, length, map, Option, Some, None, option_map, unwrap_or}
+use Rattle.std.specs.Prelude.{ℕ, true, false, List, [], ◌++◌, length, map, Option, Some, None, option_map, unwrap_or}
 use Rattle.std.specs.Option.{option_to_list}
 use Rattle.cf_types.specs.declared.stmt.Stmt.{Stmt}
 use Rattle.cf_types.specs.declared.stmt.Stmt.TheVariants as stmt
@@ -48,12 +48,3 @@ declare d s = record {
   devices = d.devices ++ option_to_list (new_device d s);
   attaches = d.attaches ++ option_to_list (new_attach d s);
 }
-
--- the statement declares something
-abbrev pub declares : Stmt → Bool
-declares (stmt.Define name locs needs) = true
-declares (stmt.Class name) = true
-declares (stmt.DefPseudo name locs needs) = true
-declares (stmt.Device name locs needs) = true
-declares (stmt.Attach device places name needs) = true
-declares _ = false

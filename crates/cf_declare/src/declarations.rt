@@ -7,7 +7,7 @@ ghost use Rattle.cf_declare.specs.Graphs.{FitsDeclared};
 ghost use Rattle.cf_declare.specs.Limits.{HasFewLocators};
 
 use crate::join::join;
-use crate::judge::{declares, other_fault, take_declared};
+use crate::judge::take;
 use crate::names::{name_hash, room_of};
 use attr_graph::Graph;
 use cf_names::Catalog;
@@ -78,10 +78,7 @@ impl Declarations {
         ensures declared { IfOk result (λ code. code ≡ None → self.new ≡ declare self.old stmt.now) }
         ensures same { IfOk result (λ code. IfSome code (λ _. self.new ≡ self.old)) }
     {
-        if !declares(stmt) {
-            return Ok(other_fault(&self.lists, stmt));
-        }
-        match take_declared(alloc, &mut self.lists, &mut self.graph, stmt) {
+        match take(alloc, &mut self.lists, &mut self.graph, stmt) {
             Ok(code) => Ok(code),
             Err(stop) => {
                 *self = Declarations::make(alloc, &[]);

@@ -1,7 +1,7 @@
-ghost use Rattle.std.specs.Prelude.{◌≡◌, ◌<◌, ℕ, false, true, IfOk, length};
+ghost use Rattle.std.specs.Prelude.{◌≡◌, ◌<◌, ℕ, false, IfOk, length};
 ghost use Rattle.config_rules.specs.Fault.{code_of, is_instance, pseudo_fault};
 ghost use Rattle.attr_graph.specs.Graphs.{IsGraphOf};
-ghost use Rattle.cf_declare.specs.Declare.{declare, declares};
+ghost use Rattle.cf_declare.specs.Declare.{declare};
 ghost use Rattle.cf_declare.specs.Judging.{Takes};
 
 use crate::define::{take_class, take_define, take_device};
@@ -33,8 +33,18 @@ fn entry_of<'a>(
     }
 }
 
-/// Takes a statement that declares something: its first code, or else what it declares is added.
-pub fn take_declared(
+/// The code of a pseudo-device.
+fn pseudo_fault(declared: &Catalog, name: &Name) -> Option<u8>
+    ensures { result ≡ pseudo_fault declared.now name.now }
+{
+    if is_pseudo(declared, name) {
+        return None;
+    }
+    Some(code::UNKNOWN_DEVICE)
+}
+
+/// Takes a statement that is not an instance: its first code, or else what it declares is added.
+pub fn take(
     alloc: Global,
     declared: &mut Catalog,
     graph: &mut Graph,
@@ -43,7 +53,7 @@ pub fn take_declared(
     requires attrs { length declared.old.attrs < 65536 }
     requires devices { length declared.old.devices < 65536 }
     requires graph { IsGraphOf declared.old graph.old }
-    requires declares { declares stmt.now ≡ true }
+    requires instance { is_instance stmt.now ≡ false }
     ensures takes { IfOk result (λ code. (n : ℕ) → Takes (code_of declared.old n stmt.now) declared.old (declare declared.old stmt.now) declared.new code) }
     ensures graph { IfOk result (λ _. IsGraphOf declared.new graph.new) }
 {
@@ -75,42 +85,7 @@ pub fn take_declared(
             };
             take_attach(alloc, declared, &said)
         }
-        _ => unreachable!(),
-    }
-}
-
-/// Whether a statement declares something.
-pub fn declares(stmt: &Stmt) -> bool
-    ensures { result ≡ declares stmt.now }
-{
-    matches!(
-        stmt,
-        Stmt::Define { .. }
-            | Stmt::Class { .. }
-            | Stmt::DefPseudo { .. }
-            | Stmt::Device { .. }
-            | Stmt::Attach { .. }
-    )
-}
-
-/// The code of a pseudo-device.
-fn pseudo_fault(declared: &Catalog, name: &Name) -> Option<u8>
-    ensures { result ≡ pseudo_fault declared.now name.now }
-{
-    if is_pseudo(declared, name) {
-        return None;
-    }
-    Some(code::UNKNOWN_DEVICE)
-}
-
-/// The code of a statement that declares nothing and is not an instance.
-pub fn other_fault(declared: &Catalog, stmt: &Stmt) -> Option<u8>
-    requires declares { declares stmt.now ≡ false }
-    requires instance { is_instance stmt.now ≡ false }
-    ensures { (n : ℕ) → result ≡ code_of declared.now n stmt.now }
-{
-    match stmt {
-        Stmt::PseudoDevice { name, .. } => pseudo_fault(declared, name),
-        _ => None,
+        Stmt::PseudoDevice { name, .. } => Ok(pseudo_fault(declared, name)),
+        _ => Ok(None),
     }
 }

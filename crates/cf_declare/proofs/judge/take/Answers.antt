@@ -5,7 +5,7 @@ use Rattle.config_rules.specs.Fault.{code_of}
 use Rattle.cf_declare.specs.Declare.{declare}
 use Rattle.cf_declare.specs.Judging.{Takes}
 use Rattle.cf_declare.proofs.JudgeLemmas.{attr_alone, taken_any}
-use Rattle.cf_declare.proofs.judge.take_declared.Goals as goal
+use Rattle.cf_declare.proofs.judge.take.Goals as goal
 
 pub returns-in-Define-clause-takes : goal.returns-in-Define-clause-takes
 returns-in-Define-clause-takes c =
