@@ -34,7 +34,7 @@ hit row device unit h = by row.star (device == row.device) (unit == row.unit) re
     by false true false a b c h = absurd cc
     by false false other a b c h = absurd cc
 
-self_in : (number : ℕ) (xs : List ℕ) → is_in number (xs ++ number ∷ []) ≡ true
+pub self_in : (number : ℕ) (xs : List ℕ) → is_in number (xs ++ number ∷ []) ≡ true
 self_in number xs = in_right number xs (number ∷ []) (or_here (number == number) (eq-eqb number number refl))
   where
     or_here : (b : Bool) → b ≡ true → (b || false) ≡ true

@@ -5,3 +5,4 @@ pub mod ListedLaws
 pub mod UnnamedLaws
 pub mod LeaderLaws
 pub mod FixedLaws
+pub mod PlaceListLaws

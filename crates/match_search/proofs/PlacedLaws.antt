@@ -1,12 +1,14 @@
 -- The rows of each place, with one more; and which of them may suit a spot.
-use Rattle.std.proofs.Common.{◌≡◌, ℕ, zero, suc, ◌+◌, ◌<◌, ℤ, Bool, true, false, ◌&&◌, ◌||◌, ◌==◌, nat_lt, List, [], ◌∷◌, ◌++◌, length, Option, Some, None, get_or, slice_get, cond, refl, subst, ◌∙◌, ap, inl, inr, add-one, eq-eqb, arith}
+use Rattle.std.proofs.Common.{◌≡◌, ℕ, ◌+◌, ◌<◌, ℤ, Bool, true, false, ◌&&◌, ◌||◌, nat_lt, List, [], ◌∷◌, ◌++◌, length, Option, Some, None, get_or, slice_get, cond, refl, subst, ◌∙◌, ap, inl, inr, add-one}
 use Rattle.std.specs.Option.{option_map_or}
 use Rattle.std.specs.Ordering.{int_eq}
-use Rattle.std.proofs.lemmas.Bool.{or_cases, or_left, or_right}
+use Rattle.std.proofs.lemmas.Bool.{eqb-true, or_cases, or_left, or_right}
 use Rattle.std.proofs.lemmas.List.Elements.{filter-append}
 use Rattle.std.proofs.lemmas.Option.{same_Some, slice_get_read, slice_get_within}
 use Rattle.cf_types.proofs.OfferLemmas.{is_in-append}
 use Rattle.cf_types.specs.declared.tables.Locator.{Locator}
+use Rattle.cf_types.specs.declared.tables.Place.{Place}
+use Rattle.cf_types.specs.declared.tables.Place.TheVariants.{Root, At}
 use Rattle.cf_types.specs.declared.tables.Row.{Row}
 use Rattle.cf_types.specs.Gather.{is_in}
 use Rattle.cf_types.specs.Locators.{fits_locator, locators_at, submatch}
@@ -16,6 +18,8 @@ use Rattle.run_rules.specs.World.{same_place}
 use Rattle.match_search.specs.declared.index.FirstLocator.{FirstLocator}
 use Rattle.match_search.specs.declared.index.Sought.{Sought}
 use Rattle.match_search.specs.declared.placed.PlaceKey.{PlaceKey}
+use Rattle.match_search.specs.declared.lists.PlaceLists.{PlaceLists}
+use Rattle.match_search.specs.Lists.{AreListed, rows_in}
 use Rattle.match_search.specs.Placed.{is_under, rows_under}
 use Rattle.match_search.specs.Sought.{HaveAll, first_locator, suits_at}
 use Rattle.run_rules.proofs.BestFirst.{in_below}
@@ -141,16 +145,15 @@ have_both s first d e at = λ r h.
       | inr there ↦ in_left r (under s (Some first.found)) (under s (Some d)) (with_value s r it has.v first.found has.rest has.is there)
     ]
 
--- among all rows are all that suit
-pub have_each : (s : Sought) (all : List ℕ) → ((r : ℕ) → r < length s.tables.now.rows → is_in r all ≡ true) → HaveAll s (all ++ [])
-have_each s all each = λ r h.
+same_is : (a b : Place) → same_place a b ≡ true → a ≡ b
+same_is Root Root h = refl
+same_is (At a) (At b) h = ap At (eqb-true a b h)
+same_is Root (At b) h = absurd cc
+same_is (At a) Root h = absurd cc
+
+-- in the list of a place are all that suit
+pub have_listed : (s : Sought) (lists : PlaceLists) → AreListed s.tables.now.rows lists → HaveAll s (rows_in lists s.place ++ [])
+have_listed s lists listed = λ r h.
     let it = suits_row s r h in
-    in_left r all [] (each r (slice_get_within s.tables.now.rows r it.row it.at))
-
--- ---- a list of all numbers
-
--- what is at a place of a list is in it
-pub in_at : (xs : List ℕ) (i r : ℕ) → i < length xs → get_or xs i 0 ≡ r → is_in r xs ≡ true
-in_at [] i r lt e = absurd (omega arith)
-in_at (x ∷ xs) zero r lt e = or_left (x == r) (is_in r xs) (eq-eqb x r e)
-in_at (x ∷ xs) (suc i) r lt e = or_right (x == r) (is_in r xs) (in_at xs i r (omega arith) e)
+    let here : is_in r (rows_in lists s.place) ≡ true = subst (λ (p : Place). is_in r (rows_in lists p) ≡ true) (same_is it.row.place s.place it.place) (listed r it.row it.at) in
+    in_left r (rows_in lists s.place) [] here

@@ -4,6 +4,7 @@ pub use Rattle.run_rules.specs.MatchLines
 pub use Rattle.run_rules.specs.Search
 pub use Rattle.run_rules.specs.Suits
 pub mod Found
+pub mod Lists
 pub mod Placed
 pub mod Sought
 pub mod Leaders

@@ -1,18 +1,18 @@
 -- The rows at a place, and of these the rows with a first value.
-use Rattle.std.specs.Prelude.{◌≡◌, ◌<◌, ℕ, ℤ, Bool, true, false, ◌&&◌, List, [], ◌∷◌, filter, length, slice_get, Option, Some, None, Vec}
+use Rattle.std.specs.Prelude.{◌≡◌, ℕ, ℤ, Bool, true, false, ◌&&◌, List, [], ◌∷◌, filter, length, slice_get, Option, Some, None, Vec}
 use Rattle.std.specs.Global.{Global}
 use Rattle.std.specs.HashMap.{HashMap, get}
 use Rattle.std.specs.Option.{option_map_or}
 use Rattle.std.specs.Ordering.{int_eq}
 use Rattle.cf_types.specs.declared.tables.Row.{Row}
-use Rattle.cf_types.specs.Gather.{is_in}
 use Rattle.cf_types.specs.Numbers.{below}
 use Rattle.run_rules.specs.World.{same_place}
 use Rattle.match_search.specs.contracts.placed.PlaceKeyPartialEq.TheImpl as block
 use Rattle.match_search.specs.declared.placed.Looked.{Looked}
-use Rattle.match_search.specs.declared.placed.Looked.TheVariants.{All, Placed}
+use Rattle.match_search.specs.declared.placed.Looked.TheVariants.{Listed, Placed}
 use Rattle.match_search.specs.declared.placed.PlaceKey.{PlaceKey}
 use Rattle.match_search.specs.declared.placed.PlacedRows.{PlacedRows}
+use Rattle.match_search.specs.Lists.{AreListed}
 
 -- the first value is the one that is asked for, if one is
 abbrev pub has_first : Option ℤ → List ℤ → Bool
@@ -39,7 +39,7 @@ rows_of key lists = rows_at block.ghosts.eq lists key
 abbrev pub ArePlaced : List Row → PlacedRows → Type 0
 ArePlaced rows placed = (key : PlaceKey) → rows_of key placed.lists ≡ rows_under rows key (length rows)
 
--- each row is among all of them, or the rows are by their places
+-- each row is in the list of its place, or each key has the rows that are under it
 abbrev pub AreLooked : List Row → Looked → Type 0
-AreLooked rows (All all) = (r : ℕ) → r < length rows → is_in r all.items ≡ true
+AreLooked rows (Listed lists) = AreListed rows lists
 AreLooked rows (Placed placed) = ArePlaced rows placed

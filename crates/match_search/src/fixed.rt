@@ -31,7 +31,7 @@ impl Model for FixedRows {
 }
 
 /// So many lists, without rows.
-fn no_lists(alloc: Global, count: usize) -> Result<Vec<Vec<u16>>, Memory>
+pub fn no_lists(alloc: Global, count: usize) -> Result<Vec<Vec<u16>>, Memory>
     ensures { IfOk result (λ lists. length lists.items ≡ count) }
 {
     let mut lists = Vec::with_capacity(alloc, count)?;

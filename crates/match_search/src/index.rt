@@ -144,7 +144,7 @@ fn rows_for<'a>(sought: &Sought, looked: &'a Looked) -> (&'a [u16], &'a [u16])
     ensures { HaveAll sought.now (result.0.now ++ result.1.now) }
 {
     match looked {
-        Looked::All(all) => (all, &[]),
+        Looked::Listed(lists) => (lists.rows(sought.place), &[]),
         Looked::Placed(placed) => placed_for(sought, placed),
     }
 }
@@ -224,7 +224,7 @@ impl RowIndex {
         requires few_spots { length machine.now.spots ≤ 65536 }
         ensures { IfOk result (IsIndexOf tables.now machine.now) }
     {
-        let looked = look_among(alloc, tables.rows.items())?;
+        let looked = look_among(alloc, tables)?;
         let lists = lists_by(alloc, tables, machine, &looked)?;
         Ok(RowIndex { lists })
     }

@@ -52,7 +52,7 @@ fn sorted(alloc: Global, rows: &[Row]) -> Result<Vec<Keyed>, Memory>
 }
 
 /// Each number below a count.
-pub fn numbers(alloc: Global, count: usize) -> Result<Vec<u16>, Memory>
+fn numbers(alloc: Global, count: usize) -> Result<Vec<u16>, Memory>
     requires { count ≤ 65536 }
     ensures { IfOk result (λ list. (length list.items ≡ count) × ((r : ℕ) → r < count → slice_index_or list.items r 0 ≡ r)) }
 {

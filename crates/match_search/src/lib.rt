@@ -7,6 +7,7 @@ mod fixed;
 mod index;
 mod kinds;
 mod leaders;
+mod lists;
 mod live;
 mod own;
 mod placed;

@@ -4,8 +4,8 @@ ghost use Rattle.cf_types.specs.Numbers.{below};
 ghost use Rattle.cf_types.specs.declared.tables.Row.{Row as Line};
 ghost use Rattle.match_search.specs.Placed.{AreLooked, ArePlaced, is_under, rows_at, rows_of, rows_under};
 
-use crate::kinds::numbers;
-use cf_types::{Memory, Place, Row};
+use crate::lists::PlaceLists;
+use cf_types::{Memory, Place, Row, Tables};
 use std::alloc::Global;
 use std::collections::HashMap;
 use std::hash::Hash;
@@ -85,23 +85,26 @@ impl PlacedRows {
     }
 }
 
-/// The rows among which those that suit a spot are looked for: all of them where they are few, else by their places.
+/// The rows among which those that suit a spot are looked for: by their places, and if they are many by their first
+/// values too.
 #[derive(Drop)]
 pub enum Looked {
-    All(Vec<u16>),
+    Listed(PlaceLists),
     Placed(PlacedRows),
 }
 
-/// From how many rows on they are looked for by their places.
-const MANY: usize = 16;
+/// From how many rows on they are looked for by their first values too.
+const MANY: usize = 1024;
 
-/// These rows, to look among them.
-pub fn look_among(alloc: Global, rows: &[Row]) -> Result<Looked, Memory>
-    requires { length rows.now ≤ 65536 }
-    ensures { IfOk result (AreLooked rows.now) }
+/// The rows of these tables, to look among them.
+pub fn look_among(alloc: Global, tables: &Tables) -> Result<Looked, Memory>
+    requires { length tables.now.rows ≤ 65536 }
+    ensures { IfOk result (AreLooked tables.now.rows) }
 {
+    let rows = tables.rows.items();
     if rows.len() < MANY {
-        return Ok(Looked::All(numbers(alloc, rows.len())?));
+        let lists = PlaceLists::make(alloc, tables.attrs.len(), rows)?;
+        return Ok(Looked::Listed(lists));
     }
     Ok(Looked::Placed(PlacedRows::make(alloc, rows)?))
 }
