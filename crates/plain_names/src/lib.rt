@@ -1,6 +1,7 @@
 //! What is printed of a world in plain lists: the names of its devices and spots, and the lines of its tree.
 #![tactic(auto)]
 
+mod kin;
 mod names;
 mod tree;
 

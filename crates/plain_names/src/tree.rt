@@ -4,8 +4,10 @@ ghost use Rattle.run_rules.specs.References as refs;
 ghost use Rattle.run_rules.specs.Run as run;
 ghost use Rattle.run_rules.specs.Tree as rule;
 ghost use Rattle.run_rules.specs.World as world;
+ghost use Rattle.plain_names.specs.Kin.{AreKin};
 ghost use Rattle.plain_world.specs.Plain.{world_of};
 
+use crate::kin::Kin;
 use crate::names::{device_named, parent_name, unit_name};
 use cf_types::{DevLine, Hold, List, Memory, Name};
 use plain_world::{Plain, Refs, Rules, is_sole};
@@ -58,23 +60,25 @@ pub fn list_names(
 
 /// Appends the devices below a parent, this many levels deep, each with its depth: depth first, children by serial.
 fn push_below(
-    live: &[Dev],
+    kin: &Kin,
     levels: u32,
     depth: u32,
     parent: u64,
     placed: &mut Vec<(u32, Dev)>,
 ) -> Result<(), Memory>
-    requires { depth + levels < 2 ^ 32 }
-    ensures { OnOk result (placed.new.items ≡ placed.old.items ++ map (λ e. e) (rule.tree_below levels live.now depth parent)) }
+    requires kin { AreKin kin.now }
+    requires shallow { depth + levels < 2 ^ 32 }
+    ensures { OnOk result (placed.new.items ≡ placed.old.items ++ rule.tree_below levels kin.now.live.now depth parent) }
 {
     if levels == 0 {
         return Ok(());
     }
-    for index in 0..live.len() {
-        let device = live[index];
+    let near = kin.near(parent);
+    for index in 0..near.len() {
+        let device = near[index];
         if device.parent == parent {
             placed.push((depth, device))?;
-            push_below(live, levels - 1, depth + 1, device.serial, placed)?;
+            push_below(kin, levels - 1, depth + 1, device.serial, placed)?;
         }
     }
     Ok(())
@@ -91,8 +95,9 @@ fn all_below(
     requires shallow { depth ≤ 1 }
     ensures { IfOk result (λ placed. placed.items ≡ rule.tree_below (length live.now) live.now depth parent) }
 {
+    let kin = Kin::make(alloc, live)?;
     let mut placed = Vec::new(alloc);
-    push_below(live, live.len() as u32, depth, parent, &mut placed)?;
+    push_below(&kin, live.len() as u32, depth, parent, &mut placed)?;
     Ok(placed)
 }
 
