@@ -23,8 +23,9 @@ pub record HaveChildren (live : List Dev) (lists : List (Vec Dev Global)) : Type
   pub some : 0 < length lists
   pub all : (p : ℕ) → children (list_for lists p) p ≡ children live p
 
+-- the same where there are lists
 abbrev pub AreKin : Kin → Type 0
-AreKin kin = HaveChildren kin.live.now kin.lists.items
+AreKin kin = 0 < length kin.lists.items → HaveChildren kin.live.now kin.lists.items
 
 -- the list of its parent has a device more
 pub record HasDevice (old new : List (Vec Dev Global)) (d : Dev) : Type 0 where

@@ -7,7 +7,8 @@ use cf_types::Memory;
 use run_rules::Dev;
 use std::alloc::Global;
 
-/// Live devices, and the same in lists by their parents: all children of a device are in one list, in their order.
+/// Live devices. Where they are apart they are in lists by their parents too: all children of a device are in one list,
+/// in their order.
 #[derive(Drop)]
 pub struct Kin<'a> {
     pub live: &'a [Dev],
@@ -46,12 +47,16 @@ fn add(lists: &mut Vec<Vec<Dev>>, device: Dev) -> Result<(), Memory>
 }
 
 impl<'a> Kin<'a> {
-    /// These devices by their parents.
-    pub fn make(alloc: Global, live: &'a [Dev]) -> Result<Kin<'a>, Memory>
+    /// These devices, apart by their parents or not. Lists pay off where most devices are asked for.
+    pub fn make(alloc: Global, live: &'a [Dev], apart: bool) -> Result<Kin<'a>, Memory>
         requires { length live.now < 2 ^ 32 }
         ensures made { IfOk result AreKin }
         ensures of { IfOk result (λ kin. kin.live.now ≡ live.now) }
     {
+        if !apart {
+            let lists = Vec::new(alloc);
+            return Ok(Kin { live, lists });
+        }
         let mut lists = no_lists(alloc, live.len() + 1)?;
         for device in live {
             add(&mut lists, *device)?;
@@ -64,6 +69,9 @@ impl<'a> Kin<'a> {
         requires { AreKin self.now }
         ensures { children result.now parent ≡ children self.now.live.now parent }
     {
+        if self.lists.is_empty() {
+            return self.live;
+        }
         let place = place_of(self.lists.len(), parent);
         match self.lists.get(place) {
             Some(list) => list,

@@ -95,7 +95,8 @@ fn all_below(
     requires shallow { depth ≤ 1 }
     ensures { IfOk result (λ placed. placed.items ≡ rule.tree_below (length live.now) live.now depth parent) }
 {
-    let kin = Kin::make(alloc, live)?;
+    let is_whole = parent == 0;
+    let kin = Kin::make(alloc, live, is_whole)?;
     let mut placed = Vec::new(alloc);
     push_below(&kin, live.len() as u32, depth, parent, &mut placed)?;
     Ok(placed)
