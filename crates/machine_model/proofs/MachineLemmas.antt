@@ -1,6 +1,6 @@
 -- The lines of a machine file, one after the other.
 use Rattle.std.proofs.Common.{◌≡◌, ℕ, ◌+◌, ◌-◌, ◌<◌, ◌≤◌, Bool, true, false, cond, length, get_or, take, drop, map, List, [], ◌∷◌, refl, ap, sym, ◌∙◌, arith, Some, None, Result, Ok, Err}
-use Rattle.std.specs.Prelude.{IfOk, filter, nat_lt}
+use Rattle.std.specs.Prelude.{IfOk, bytes_eq, codes, filter, nat_lt}
 use Rattle.std.specs.Borrow.{Bor}
 use Rattle.std.specs.List.{enumerate_from}
 use Rattle.std.specs.Option.{option_map_or}
@@ -11,7 +11,7 @@ use Rattle.cf_types.specs.declared.tables.Tables.{Tables}
 use Rattle.config_rules.specs.Cut.{at_line, ◌>>=◌}
 use Rattle.config_rules.specs.Formed.{FittingMachine}
 use Rattle.config_rules.proofs.MachineLaws.{machine_fits}
-use Rattle.config_rules.specs.MachineText.{WordLine, after_line, after_lines, bad_line, line_form, machine_of, match_line, no_machine, spot_line, word_lines, words_of}
+use Rattle.config_rules.specs.MachineText.{WordLine, after_line, after_lines, bad_line, line_form, machine_of, match_line, no_machine, spot_line, style_line, word_lines, words_of}
 use Rattle.machine_text.specs.declared.line.MachineStop.{MachineStop}
 use Rattle.machine_text.specs.declared.line.MachineStop.TheVariants.{Fault, Memory}
 use Rattle.machine_text.specs.Words.{seen}
@@ -24,24 +24,30 @@ three_words (x ∷ []) d h = absurd (omega arith)
 three_words (x ∷ y ∷ []) d h = absurd (omega arith)
 three_words (x ∷ y ∷ z ∷ ws) d h = ap (λ w. x.now ∷ y.now ∷ z.now ∷ seen w) (take_all (length (x ∷ y ∷ z ∷ ws) - 3) ws (omega arith))
 
-pub spot_few : (ws : List (Bor (List ℕ))) → length ws < 3 → spot_line (seen ws) ≡ None
-spot_few [] h = refl
-spot_few (a ∷ []) h = refl
-spot_few (a ∷ b ∷ []) h = refl
-spot_few (a ∷ b ∷ c ∷ ws) h = absurd (omega arith)
+-- too few or too many words behind the first one of a line
+pub few_words : (ws : List (Bor (List ℕ))) → length ws < 3 → (spot_line (seen ws) ≡ None) × (match_line (seen ws) ≡ None) × (style_line (seen ws) ≡ None)
+few_words [] h = (refl, refl, refl)
+few_words (a ∷ []) h = (refl, refl, refl)
+few_words (a ∷ b ∷ []) h = (refl, refl, refl)
+few_words (a ∷ b ∷ c ∷ ws) h = absurd (omega arith)
 
-pub match_few : (ws : List (Bor (List ℕ))) → length ws < 3 → match_line (seen ws) ≡ None
-match_few [] h = refl
-match_few (a ∷ []) h = refl
-match_few (a ∷ b ∷ []) h = refl
-match_few (a ∷ b ∷ c ∷ ws) h = absurd (omega arith)
+pub many_words : (ws : List (Bor (List ℕ))) → 3 < length ws → (match_line (seen ws) ≡ None) × (style_line (seen ws) ≡ None)
+many_words [] h = absurd (omega arith)
+many_words (a ∷ []) h = absurd (omega arith)
+many_words (a ∷ b ∷ []) h = absurd (omega arith)
+many_words (a ∷ b ∷ c ∷ []) h = absurd (omega arith)
+many_words (a ∷ b ∷ c ∷ d ∷ ws) h = (refl, refl)
 
-pub match_many : (ws : List (Bor (List ℕ))) → 3 < length ws → match_line (seen ws) ≡ None
-match_many [] h = absurd (omega arith)
-match_many (a ∷ []) h = absurd (omega arith)
-match_many (a ∷ b ∷ []) h = absurd (omega arith)
-match_many (a ∷ b ∷ c ∷ []) h = absurd (omega arith)
-match_many (a ∷ b ∷ c ∷ d ∷ ws) h = refl
+-- the form of a line by its first word
+pub spot_words : (word : List ℕ) (ws : List (List ℕ)) → bytes_eq word (codes "spot") ≡ true → line_form (word ∷ ws) ≡ spot_line ws
+spot_words word ws spot = rw spot refl
+
+pub match_words : (word : List ℕ) (ws : List (List ℕ)) → bytes_eq word (codes "spot") ≡ false → bytes_eq word (codes "match") ≡ true → line_form (word ∷ ws) ≡ match_line ws
+match_words word ws spot is = rw (spot, is) refl
+
+pub style_words : (word : List ℕ) (ws : List (List ℕ)) → bytes_eq word (codes "spot") ≡ false → bytes_eq word (codes "match") ≡ false → bytes_eq word (codes "style") ≡ true
+    → line_form (word ∷ ws) ≡ style_line ws
+style_words word ws spot other is = rw (spot, other, is) refl
 
 -- ---- the lines that have words
 

@@ -1,7 +1,7 @@
 ghost use Rattle.std.specs.Prelude.{◌≡◌, ◌<◌, ◌≤◌, ◌&&◌, IfOk, IsTrue, OnOk, if◌then◌else◌, [], ◌∷◌, Some, None, bytes_eq, codes, length, map, nat_lt, option_map};
 ghost use Rattle.std.specs.List.{list_all};
 ghost use Rattle.cf_types.specs.Lookups.{spot_number};
-ghost use Rattle.config_rules.specs.MachineText.{after_line, driver_form, driver_line, is_spot, is_one, line_form, match_form, match_line, policy_words, spot_form, spot_line, style_form, style_line};
+ghost use Rattle.config_rules.specs.MachineText.{after_line, driver_form, is_spot, is_one, line_form, match_form, policy_words, spot_form, style_form};
 ghost use Rattle.machine_model.specs.Found.{given_of};
 ghost use Rattle.machine_model.specs.Indexed.{IsDraft, IsIndex, with_spot};
 ghost use Rattle.machine_model.specs.Left.{Leaves, after_words};
@@ -213,70 +213,6 @@ fn add_driver(
     Ok(())
 }
 
-/// Adds what follows `spot`.
-fn add_spot_line<'t>(
-    alloc: Global,
-    index: &TableNames,
-    draft: &mut Draft<'t>,
-    words: &[&'t [u8]],
-) -> Result<(), LineStop>
-    requires index { IsIndex index.now }
-    requires draft { IsDraft draft.old }
-    ensures left { Leaves (after_line index.now.tables.now draft.old.machine (spot_line (seen words.now))) result draft.new.machine }
-    ensures draft { OnOk result (IsDraft draft.new) }
-{
-    match words {
-        [name, parent, attr, rest @ ..] => add_spot(
-            alloc, index, draft, *name, *parent, *attr, rest,
-        ),
-        _ => Err(LineStop::Code(code::BAD_LINE)),
-    }
-}
-
-/// Adds what follows `match`.
-fn add_match_line(index: &TableNames, draft: &mut Draft, words: &[&[u8]]) -> Result<(), LineStop>
-    requires index { IsIndex index.now }
-    requires draft { IsDraft draft.old }
-    ensures left { Leaves (after_line index.now.tables.now draft.old.machine (match_line (seen words.now))) result draft.new.machine }
-    ensures draft { OnOk result (IsDraft draft.new) }
-{
-    match words {
-        [attach, spot, value] => { add_match(index, draft, *attach, *spot, *value) }
-        _ => Err(LineStop::Code(code::BAD_LINE)),
-    }
-}
-
-/// Adds what follows `style`.
-fn add_style_line(index: &TableNames, draft: &mut Draft, words: &[&[u8]]) -> Result<(), LineStop>
-    requires index { IsIndex index.now }
-    requires draft { IsDraft draft.old }
-    ensures left { Leaves (after_line index.now.tables.now draft.old.machine (style_line (seen words.now))) result draft.new.machine }
-    ensures draft { OnOk result (IsDraft draft.new) }
-{
-    match words {
-        [attach, attr, style] => { add_style(index, draft, *attach, *attr, *style) }
-        _ => Err(LineStop::Code(code::BAD_LINE)),
-    }
-}
-
-/// Adds what follows `driver`.
-fn add_driver_line(
-    alloc: Global,
-    index: &TableNames,
-    draft: &mut Draft,
-    words: &[&[u8]],
-) -> Result<(), LineStop>
-    requires index { IsIndex index.now }
-    requires draft { IsDraft draft.old }
-    ensures left { Leaves (after_line index.now.tables.now draft.old.machine (driver_line (seen words.now))) result draft.new.machine }
-    ensures draft { OnOk result (IsDraft draft.new) }
-{
-    match words.split_first() {
-        Some((attach, policies)) => { add_driver(alloc, index, draft, *attach, policies) }
-        None => Err(LineStop::Code(code::BAD_LINE)),
-    }
-}
-
 /// Adds what follows the first word of a line.
 fn add_rest<'t>(
     alloc: Global,
@@ -291,18 +227,31 @@ fn add_rest<'t>(
     ensures draft { OnOk result (IsDraft draft.new) }
 {
     if spells(word, b"spot") {
-        return add_spot_line(alloc, index, draft, rest);
+        return match rest {
+            [name, parent, attr, rest @ ..] => add_spot(
+                alloc, index, draft, *name, *parent, *attr, rest,
+            ),
+            _ => Err(LineStop::Code(code::BAD_LINE)),
+        };
     }
     if spells(word, b"match") {
-        return add_match_line(index, draft, rest);
+        return match rest {
+            [attach, spot, value] => { add_match(index, draft, *attach, *spot, *value) }
+            _ => Err(LineStop::Code(code::BAD_LINE)),
+        };
     }
     if spells(word, b"style") {
-        return add_style_line(index, draft, rest);
+        return match rest {
+            [attach, attr, style] => { add_style(index, draft, *attach, *attr, *style) }
+            _ => Err(LineStop::Code(code::BAD_LINE)),
+        };
     }
-    if spells(word, b"driver") {
-        return add_driver_line(alloc, index, draft, rest);
+    match rest {
+        [attach, policies @ ..] if spells(word, b"driver") => {
+            add_driver(alloc, index, draft, *attach, policies)
+        }
+        _ => Err(LineStop::Code(code::BAD_LINE)),
     }
-    Err(LineStop::Code(code::BAD_LINE))
 }
 
 /// Adds what a line of these words says; nothing if there are none.
