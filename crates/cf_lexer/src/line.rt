@@ -1,5 +1,5 @@
-ghost use Rattle.std.specs.Prelude.{◌≡◌, ◌+◌, ◌<◌, ◌≤◌, ◌∷◌, [], ◌++◌, ◌^◌, true, drop, length, slice_index, IfOk, IfSome, OnOk};
-ghost use Rattle.config_rules.specs.Cut.{is_chunk_byte, parts_of};
+ghost use Rattle.std.specs.Prelude.{◌≡◌, ◌+◌, ◌<◌, ◌≤◌, ◌∷◌, [], ◌++◌, ◌^◌, drop, length, slice_index, IfOk, IfSome, OnOk};
+ghost use Rattle.config_rules.specs.Cut.{parts_of, token};
 ghost use Rattle.cf_lexer.specs.Line.{GoesOn, Leaves, PartGoes, span_tokens, with_line};
 ghost use Rattle.cf_lexer.specs.Lines.{bytes_behind, first_of, lines_from, rest_of};
 
@@ -65,30 +65,25 @@ fn push_span(
     Ok(())
 }
 
-/// Appends the chunk that begins with this byte at this place of the text, and returns how long it is.
+/// Appends the token of a part of this kind that begins at this place of the text and is so long.
 #[inline(always)]
-fn push_chunk(
+fn push_kind(
     tokens: &mut Vec<Token>,
     line: u32,
     at: u32,
-    first: u8,
-    more: &[u8],
-) -> Result<usize, LexStop>
-    requires chunk { is_chunk_byte first ≡ true }
-    requires short { at + length more.now + 1 < 2 ^ 32 }
-    ensures { GoesOn tokens.old.items line at (first ∷ first_of more.now) result tokens.new.items }
+    kind: TokenKind,
+    len: usize,
+) -> Result<(), NoMemory>
+    requires { at + len < 2 ^ 32 }
+    ensures { OnOk result (tokens.new.items ≡ tokens.old.items ++ token kind at (at + len) line ∷ []) }
 {
-    let len = chunk_len(more) + 1;
-    push_token(
-        tokens,
-        Token {
-            kind: TokenKind::Chunk,
-            start: at,
-            end: at + len as u32,
-            line,
-        },
-    )?;
-    Ok(len)
+    let token = Token {
+        kind,
+        start: at,
+        end: at + len as u32,
+        line,
+    };
+    push_token(tokens, token)
 }
 
 /// Appends the token of a part of a rare kind, and returns how long the part is.
@@ -111,33 +106,6 @@ fn push_rare(
     Ok(front.len)
 }
 
-/// Appends the token of a part that is no chunk and no blank, if it has one, and returns how long the part is.
-#[inline(always)]
-fn push_other(
-    tokens: &mut Vec<Token>,
-    line: u32,
-    at: u32,
-    first: u8,
-    more: &[u8],
-) -> Result<usize, LexStop>
-    requires { at + length more.now + 1 < 2 ^ 32 }
-    ensures { GoesOn tokens.old.items line at (first ∷ first_of more.now) result tokens.new.items }
-{
-    if !is_mark_byte(first) {
-        return push_rare(tokens, line, at, first, more);
-    }
-    push_token(
-        tokens,
-        Token {
-            kind: TokenKind::Mark,
-            start: at,
-            end: at + 1,
-            line,
-        },
-    )?;
-    Ok(1)
-}
-
 /// Appends the token of the part of a text that begins there, if it has one, and returns how long the part is; `None`
 /// for a newline, which is no part of a line.
 #[inline(always)]
@@ -152,11 +120,11 @@ fn push_part(
     ensures { PartGoes tokens.old.items line place (slice_index text.now place) (bytes_behind text.now place) result tokens.new.items }
 {
     let first = text[place];
+    let at = place as u32;
     if is_chunk_byte(first) {
-        return match push_chunk(tokens, line, place as u32, first, &text[place + 1..]) {
-            Ok(len) => Ok(Some(len)),
-            Err(stop) => Err(stop),
-        };
+        let len = chunk_len(&text[place + 1..]) + 1;
+        push_kind(tokens, line, at, TokenKind::Chunk, len)?;
+        return Ok(Some(len));
     }
     if is_blank_byte(first) {
         return Ok(Some(1));
@@ -164,7 +132,11 @@ fn push_part(
     if first == b'\n' {
         return Ok(None);
     }
-    match push_other(tokens, line, place as u32, first, &text[place + 1..]) {
+    if is_mark_byte(first) {
+        push_kind(tokens, line, at, TokenKind::Mark, 1)?;
+        return Ok(Some(1));
+    }
+    match push_rare(tokens, line, at, first, &text[place + 1..]) {
         Ok(len) => Ok(Some(len)),
         Err(stop) => Err(stop),
     }

@@ -1,4 +1,5 @@
-use Rattle.std.proofs.Common.{◌≡◌, ◌≤◌, ◌+◌, ◌++◌, ◌∙◌, [], ap, sym, append-nil, arith, length, drop, Ok, Some}
+use Rattle.std.proofs.Common.{rules, ◌≡◌, ◌≤◌, ◌+◌, ◌++◌, ◌∙◌, [], ap, sym, append-nil, arith, length, drop, Ok, Some}
+use Rattle.std.specs.Prelude.{Option}
 use Rattle.std.proofs.lemmas.Result.{err_from_is_err_and}
 use Rattle.config_rules.specs.Cut.{cut_of}
 use Rattle.cf_lexer.specs.Line.{Shows}
@@ -6,6 +7,7 @@ use Rattle.cf_lexer.specs.Lines.{first_of, lines_from, rest_of}
 use Rattle.cf_lexer.proofs.PlaceLemmas.{next_place, next_within, place_of, so_far_at, some_within, text_further}
 use Rattle.cf_lexer.proofs.TextWords.{finish}
 use Rattle.config_rules.proofs.CutText.{cut_sound}
+use Rattle.cf_lexer.specs.declared.rest.Rest.{Rest}
 use Rattle.cf_lexer.specs.Rest.{all_result, all_tokens, is_closed, rest_tokens}
 use Rattle.cf_lexer.proofs.RestLemmas.{check_fails, closed_statement, cut_up_to, fault_shown}
 use Rattle.cf_lexer.proofs.TextLemmas.{line_fails, lines_end, cut_is}
@@ -17,8 +19,8 @@ overflow_add-number c =
     let within : c.in-Some.start ≤ length text = some_within c.loop-left.left c.in-Some.start (length text) c.in-Some.is c.loop-left.invariant.within in
     omega (arith, within, c.loop-left.invariant.count, ap (place_of text) c.in-Some.is, c.requires)
 
-pub returns-in_err-left-clause-fault : goal.returns-in_err-left-clause-fault
-returns-in_err-left-clause-fault c =
+pub returns-in_err-left : goal.returns-in_err-left
+returns-in_err-left c =
     let text = c.args.text.now in
     let start = c.in-Some.start in
     let p = err_from_is_err_and c.from_residual-in_err-left.result c.from_residual-in_err-left.ensures.1 in
@@ -26,18 +28,7 @@ returns-in_err-left-clause-fault c =
     rw (p.1, p.2) (line_fails text c.loop-left.tokens.items c.end_statement.new.tokens.items c.cut_line.new.tokens.items c.loop-left.number start (first_of (drop start text)) (rest_of (drop start text)) _
     c.in_err-left.ensures.tokens
     (so_far_at text c.loop-left.tokens.items c.loop-left.number start c.loop-left.left _ c.in-Some.is c.loop-left.invariant.so_far)) in
-    fault_shown text c.from_residual-in_err-left.result shown
-
-pub returns-in_err-left-clause-exact : goal.returns-in_err-left-clause-exact
-returns-in_err-left-clause-exact c =
-    let text = c.args.text.now in
-    let start = c.in-Some.start in
-    let p = err_from_is_err_and c.from_residual-in_err-left.result c.from_residual-in_err-left.ensures.1 in
-    let shown : Shows (cut_of text) (all_result text c.from_residual-in_err-left.result) =
-    rw (p.1, p.2) (line_fails text c.loop-left.tokens.items c.end_statement.new.tokens.items c.cut_line.new.tokens.items c.loop-left.number start (first_of (drop start text)) (rest_of (drop start text)) _
-    c.in_err-left.ensures.tokens
-    (so_far_at text c.loop-left.tokens.items c.loop-left.number start c.loop-left.left _ c.in-Some.is c.loop-left.invariant.so_far)) in
-    shown
+    record { cut = search rules; fault = fault_shown text c.from_residual-in_err-left.result shown; exact = shown; closed = search rules; rest = search rules }
 
 pub loop-left-preserved : goal.loop-left-preserved
 loop-left-preserved c =
@@ -64,83 +55,47 @@ loop-left-smaller c =
     let most = next_within left start (length text) c.in_ok-left.ensures.further in
     omega (arith, within, ap (place_of text) c.in-Some.is, next_place text start left within most c.in_ok-left.ensures.behind)
 
-pub returns-clause-cut : goal.returns-clause-cut
-returns-clause-cut c =
+pub returns : goal.returns
+returns c =
     let text = c.args.text.now in
     let whole : cut_of text ≡ Ok c.push_stop.new.tokens.items =
     lines_end text c.loop-left.tokens.items c.push_stop.new.tokens.items c.loop-left.number (length text + 1) c.in_ok-push_stop.ensures
     (ap (λ o. finish c.loop-left.tokens.items c.loop-left.number (place_of text o) (lines_from text o)) (sym c.in_default.is) ∙ c.loop-left.invariant.so_far) in
-    cut_is text (Ok (c.from_vec-2.result ++ [])) (whole ∙ ap Ok (sym (append-nil c.from_vec-2.result ∙ c.from_vec-2.ensures)))
-
-pub returns-clause-exact : goal.returns-clause-exact
-returns-clause-exact c =
-    let text = c.args.text.now in
-    let whole : cut_of text ≡ Ok c.push_stop.new.tokens.items =
-    lines_end text c.loop-left.tokens.items c.push_stop.new.tokens.items c.loop-left.number (length text + 1) c.in_ok-push_stop.ensures
-    (ap (λ o. finish c.loop-left.tokens.items c.loop-left.number (place_of text o) (lines_from text o)) (sym c.in_default.is) ∙ c.loop-left.invariant.so_far) in
-    whole ∙ ap Ok (sym (append-nil c.from_vec-2.result ∙ c.from_vec-2.ensures))
-
-pub returns-clause-closed : goal.returns-clause-closed
-returns-clause-closed c = ap is_closed (c.from_vec-2.ensures ∙ c.in_ok-push_stop.ensures) ∙ closed_statement c.loop-left.tokens.items
+    let exact = whole ∙ ap Ok (sym (append-nil c.from_vec-2.result ∙ c.from_vec-2.ensures)) in
+    record {
+      cut = cut_is text (Ok (c.from_vec-2.result ++ [])) exact;
+      fault = tt;
+      exact = exact;
+      closed = ap is_closed (c.from_vec-2.ensures ∙ c.in_ok-push_stop.ensures) ∙ closed_statement c.loop-left.tokens.items;
+      rest = tt;
+    }
 
 pub check-requires-clause-number : goal.check-requires-clause-number
 check-requires-clause-number c = omega (arith, c.loop-left.invariant.count, ap (place_of c.args.text.now) c.in-Some.is)
 
-pub returns-in_err-check-clause-exact : goal.returns-in_err-check-clause-exact
-returns-in_err-check-clause-exact c =
+pub returns-in_err-check : goal.returns-in_err-check
+returns-in_err-check c =
     let text = c.args.text.now in
     let p = err_from_is_err_and c.from_residual-in_err-check.result c.from_residual-in_err-check.ensures.1 in
     let shown : Shows (cut_of text) (all_result text c.from_residual-in_err-check.result) =
     rw (p.1, p.2) (check_fails text c.loop-left.tokens.items c.loop-left.number c.in-Some.start _ c.in_err-check.ensures
     (so_far_at text c.loop-left.tokens.items c.loop-left.number c.in-Some.start c.loop-left.left _ c.in-Some.is c.loop-left.invariant.so_far)) in
-    shown
+    record { cut = search rules; fault = fault_shown text c.from_residual-in_err-check.result shown; exact = shown; closed = search rules; rest = search rules }
 
-pub returns-in_err-check-clause-fault : goal.returns-in_err-check-clause-fault
-returns-in_err-check-clause-fault c =
-    let text = c.args.text.now in
-    let p = err_from_is_err_and c.from_residual-in_err-check.result c.from_residual-in_err-check.ensures.1 in
-    let shown : Shows (cut_of text) (all_result text c.from_residual-in_err-check.result) =
-    rw (p.1, p.2) (check_fails text c.loop-left.tokens.items c.loop-left.number c.in-Some.start _ c.in_err-check.ensures
-    (so_far_at text c.loop-left.tokens.items c.loop-left.number c.in-Some.start c.loop-left.left _ c.in-Some.is c.loop-left.invariant.so_far)) in
-    fault_shown text c.from_residual-in_err-check.result shown
-
-pub returns-then-opens-clause-cut : goal.returns-then-opens-clause-cut
-returns-then-opens-clause-cut c =
+pub returns-then-opens : goal.returns-then-opens
+returns-then-opens c =
     let text = c.args.text.now in
     let start = c.in-Some.start in
     let within : start ≤ length text = some_within c.loop-left.left start (length text) c.in-Some.is c.loop-left.invariant.within in
     let counted : c.loop-left.number ≤ start + 1 = omega (arith, c.loop-left.invariant.count, ap (place_of text) c.in-Some.is) in
     let up = cut_up_to text c.loop-left.tokens.items c.end_statement.new.tokens.items c.loop-left.number start c.requires within counted (c.opens.ensures c.if-opens.true) c.in_ok-end_statement.ensures c.in_ok-check.ensures
     (so_far_at text c.loop-left.tokens.items c.loop-left.number start c.loop-left.left _ c.in-Some.is c.loop-left.invariant.so_far) in
-    cut_sound text (all_tokens text (record { tokens = c.from_vec.result; rest = Some (record { line = c.loop-left.number; place = start }) }))
-    (up.0 ∙ ap (λ ts. Ok (ts ++ rest_tokens text (Some (record { line = c.loop-left.number; place = start })))) (sym c.from_vec.ensures))
-
-pub returns-then-opens-clause-exact : goal.returns-then-opens-clause-exact
-returns-then-opens-clause-exact c =
-    let text = c.args.text.now in
-    let start = c.in-Some.start in
-    let within : start ≤ length text = some_within c.loop-left.left start (length text) c.in-Some.is c.loop-left.invariant.within in
-    let counted : c.loop-left.number ≤ start + 1 = omega (arith, c.loop-left.invariant.count, ap (place_of text) c.in-Some.is) in
-    let up = cut_up_to text c.loop-left.tokens.items c.end_statement.new.tokens.items c.loop-left.number start c.requires within counted (c.opens.ensures c.if-opens.true) c.in_ok-end_statement.ensures c.in_ok-check.ensures
-    (so_far_at text c.loop-left.tokens.items c.loop-left.number start c.loop-left.left _ c.in-Some.is c.loop-left.invariant.so_far) in
-    up.0 ∙ ap (λ ts. Ok (ts ++ rest_tokens text (Some (record { line = c.loop-left.number; place = start })))) (sym c.from_vec.ensures)
-
-pub returns-then-opens-clause-closed : goal.returns-then-opens-clause-closed
-returns-then-opens-clause-closed c =
-    let text = c.args.text.now in
-    let start = c.in-Some.start in
-    let within : start ≤ length text = some_within c.loop-left.left start (length text) c.in-Some.is c.loop-left.invariant.within in
-    let counted : c.loop-left.number ≤ start + 1 = omega (arith, c.loop-left.invariant.count, ap (place_of text) c.in-Some.is) in
-    let up = cut_up_to text c.loop-left.tokens.items c.end_statement.new.tokens.items c.loop-left.number start c.requires within counted (c.opens.ensures c.if-opens.true) c.in_ok-end_statement.ensures c.in_ok-check.ensures
-    (so_far_at text c.loop-left.tokens.items c.loop-left.number start c.loop-left.left _ c.in-Some.is c.loop-left.invariant.so_far) in
-    ap is_closed c.from_vec.ensures ∙ up.2
-
-pub returns-then-opens-clause-rest : goal.returns-then-opens-clause-rest
-returns-then-opens-clause-rest c =
-    let text = c.args.text.now in
-    let start = c.in-Some.start in
-    let within : start ≤ length text = some_within c.loop-left.left start (length text) c.in-Some.is c.loop-left.invariant.within in
-    let counted : c.loop-left.number ≤ start + 1 = omega (arith, c.loop-left.invariant.count, ap (place_of text) c.in-Some.is) in
-    let up = cut_up_to text c.loop-left.tokens.items c.end_statement.new.tokens.items c.loop-left.number start c.requires within counted (c.opens.ensures c.if-opens.true) c.in_ok-end_statement.ensures c.in_ok-check.ensures
-    (so_far_at text c.loop-left.tokens.items c.loop-left.number start c.loop-left.left _ c.in-Some.is c.loop-left.invariant.so_far) in
-    up.1
+    let rest : Option Rest = Some (record { line = c.loop-left.number; place = start }) in
+    let whole = up.0 ∙ ap (λ ts. Ok (ts ++ rest_tokens text rest)) (sym c.from_vec.ensures) in
+    record {
+      cut = cut_sound text (all_tokens text (record { tokens = c.from_vec.result; rest = rest })) whole;
+      fault = tt;
+      exact = whole;
+      closed = ap is_closed c.from_vec.ensures ∙ up.2;
+      rest = up.1;
+    }
