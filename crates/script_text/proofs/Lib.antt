@@ -1,4 +1,5 @@
 pub mod LeftLemmas
+pub mod LineLoop
 pub mod OperandLemmas
 pub mod OrderLemmas
 pub mod PairLemmas
