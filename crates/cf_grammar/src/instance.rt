@@ -1,7 +1,7 @@
 ghost use Rattle.std.specs.Prelude.{◌≡◌, ◌∷◌, IfOk, map, option_and_then, option_map, ◌==◌};
 ghost use Rattle.config_rules.specs.Form.{given, given_value, inst_stmt, pair_of, pairs_of, value_of};
 ghost use Rattle.cf_words.specs.Words.{piece_of};
-ghost use Rattle.cf_grammar.specs.Pairs.{parts_of};
+ghost use Rattle.cf_grammar.specs.Pairs.{opened_by, parts_of};
 
 use cf_types::{AtSpec, GivenLoc, List, Memory, Stmt};
 use cf_words::{Known, MarkedUnit, Word, known_name, place_of, unit_chunk, value_of};
@@ -123,7 +123,7 @@ fn instance_of(
     opening: Opening<'_>,
     words: &[Word],
 ) -> Result<Option<Stmt>, Memory>
-    ensures { IfOk result (λ s. s ≡ inst_stmt sized (piece_of opening.entry.unit ∷ piece_of opening.entry.at ∷ piece_of opening.entry.place ∷ map piece_of words.now)) }
+    ensures { IfOk result (λ s. s ≡ inst_stmt sized (opened_by opening.entry (map piece_of words.now))) }
 {
     let Opening { unit, at, place } = opening;
     if !at.is_word(b"at") {

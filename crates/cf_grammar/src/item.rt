@@ -1,7 +1,7 @@
 ghost use Rattle.std.specs.Prelude.{◌≡◌, ◌||◌, IfOk, Some, codes, map, option_and_then, option_map};
 ghost use Rattle.config_rules.specs.Form.{bytes_of, each, is_mark, item, make_item, name_of, option_item, parted};
 ghost use Rattle.cf_words.specs.Words.{piece_of};
-ghost use Rattle.cf_grammar.specs.Items.{item_form};
+ghost use Rattle.cf_grammar.specs.Items.{item_form, valued_item};
 
 use cf_types::{Item, Items, List, Memory, Stmt};
 use cf_words::{Word, bytes_of, count_parts, first_part, name_of};
@@ -10,7 +10,7 @@ use std::sync::Arc;
 
 /// An item with a value.
 fn valued(alloc: Global, name: Word, plus: bool, value: Word) -> Result<Option<Item>, Memory>
-    ensures { IfOk result (λ i. i ≡ option_and_then (λ name. option_map (λ value. item name plus (Some value)) (bytes_of (piece_of value.entry))) (name_of (piece_of name.entry))) }
+    ensures { IfOk result (λ i. i ≡ valued_item plus (piece_of name.entry) (piece_of value.entry)) }
 {
     let Some(name) = name_of(alloc, name)? else {
         return Ok(None);

@@ -1,8 +1,8 @@
 -- The part at the front of a line, as the code sees it.
-use Rattle.std.specs.Prelude.{ℕ, ◌+◌, ◌≤◌, Bool, ◌||◌, IfSome, List, length, Option, Some, None, Result, Ok, Err}
+use Rattle.std.specs.Prelude.{ℕ, ◌+◌, ◌≤◌, Bool, ◌||◌, IfSome, List, drop, length, prefix_len, take_while, Option, Some, None, Result, Ok, Err}
 use Rattle.cf_types.specs.declared.stmt.TokenKind.{TokenKind}
 use Rattle.cf_types.specs.declared.stmt.TokenKind.TheVariants as kind
-use Rattle.config_rules.specs.Cut.{Part, Space, Comment, Quoted, Chunk, Mark, first_part, is_chunk_byte, is_mark_byte, is_space}
+use Rattle.config_rules.specs.Cut.{Part, Space, Comment, Quoted, Chunk, Mark, first_part, is_chunk_byte, is_mark_byte, is_space, is_text_byte, quoted_part}
 use Rattle.cf_lexer.specs.declared.front.Front.{Front}
 use Rattle.cf_lexer.specs.declared.front.Span.{Span}
 
@@ -30,6 +30,10 @@ front_result (Err code) = Err code
 -- the part that begins with this byte, before these
 abbrev pub front_at : ℕ → List ℕ → Result Front ℕ
 front_at c cs = front_result (first_part c cs)
+
+-- a string after its first quote, up to the end of this line
+abbrev pub quoted_front : List ℕ → Result Front ℕ
+quoted_front line = front_result (quoted_part (take_while is_text_byte line) (drop (prefix_len is_text_byte line) line))
 
 -- it is not empty, at most so long, and its token lies in it
 pub record IsWithin (f : Front) (most : ℕ) : Type 0 where

@@ -1,7 +1,7 @@
 ghost use Rattle.std.specs.Prelude.{◌≡◌, ◌+◌, ◌==◌, ◌&&◌, slice_index, ◌≤◌, length, drop, take_while, Some, IfOk};
 ghost use Rattle.std.specs.List.{prefix_len};
-ghost use Rattle.config_rules.specs.Cut.{is_chunk_byte, is_space, is_text_byte, is_mark_byte, quoted_part};
-ghost use Rattle.cf_lexer.specs.Front.{IsWithin, front, front_at, front_result, is_plain_byte, span};
+ghost use Rattle.config_rules.specs.Cut.{is_chunk_byte, is_space, is_text_byte, is_mark_byte};
+ghost use Rattle.cf_lexer.specs.Front.{IsWithin, front, front_at, is_plain_byte, quoted_front, span};
 ghost use Rattle.cf_lexer.specs.Lines.{first_of};
 
 use cf_types::TokenKind;
@@ -107,7 +107,7 @@ fn first_line(text: &[u8]) -> &[u8]
 /// that.
 #[inline(always)]
 fn quoted(text: &[u8]) -> Result<Front, u8>
-    ensures front { result ≡ front_result (quoted_part (take_while is_text_byte (first_of text.now)) (drop (prefix_len is_text_byte (first_of text.now)) (first_of text.now))) }
+    ensures front { result ≡ quoted_front (first_of text.now) }
     ensures within { IfOk result (λ f. IsWithin f (length (first_of text.now) + 1)) }
 {
     let len = text_len(text);

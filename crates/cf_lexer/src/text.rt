@@ -14,7 +14,8 @@ use std::alloc::Global;
 #[inline(always)]
 fn end_statement(tokens: &mut Vec<Token>, text: &[u8], start: usize) -> Result<(), NoMemory>
     requires { start ≤ length text.now }
-    ensures { OnOk result (tokens.new.items ≡ cond (begins (first_of (drop start text.now))) (tokens.old.items ++ stop_behind tokens.old.items) tokens.old.items) }
+    ensures { OnOk result (tokens.new.items ≡ cond (begins (first_of (drop start text.now)))
+        (tokens.old.items ++ stop_behind tokens.old.items) tokens.old.items) }
 {
     if begins(text, start) {
         push_stop(tokens)?;

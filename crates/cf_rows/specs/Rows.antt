@@ -1,5 +1,5 @@
 -- Instances that are listed by reference, by device and by unit.
-use Rattle.std.specs.Prelude.{◌≡◌, ◌≤◌, ◌<◌, ℕ, not, List, [], length, map, filter, flat_map, slice_index, slice_index_or, Option, Some, IfSome}
+use Rattle.std.specs.Prelude.{◌≡◌, ◌≤◌, ◌<◌, ℕ, not, List, [], ◌∷◌, ◌++◌, length, map, filter, flat_map, slice_index, slice_index_or, Option, Some, IfSome}
 use Rattle.std.specs.List.{All, filter_map}
 use Rattle.std.specs.Borrow.{Bor}
 use Rattle.cf_types.specs.Offers.{firsts}
@@ -38,6 +38,10 @@ pub record AreGroups (insts : List Instance) (groups : List (List (Bor Instance)
   pub found : (unit p : ℕ) → place unit ≡ Some p → (p < length groups) × (slice_index (units_of insts) p ≡ unit)
   pub there : (p : ℕ) → p < length groups → place (slice_index (units_of insts) p) ≡ Some p
   pub own : (p : ℕ) → p < length groups → seen (slice_index_or groups p []) ≡ of_unit insts (slice_index (units_of insts) p)
+
+-- where those were the groups of some instances, these are the groups of them and of this one
+abbrev pub Joins : Instance → List (List (Bor Instance)) → (ℕ → Option ℕ) → List (List (Bor Instance)) → (ℕ → Option ℕ) → Type 0
+Joins i old was new is = (insts : List Instance) → AreGroups insts old was → AreGroups (insts ++ i ∷ []) new is
 
 -- the units ascend, so that the groups one after the other are the instances that are not starred; all are below this number
 pub record AreAscending (insts : List Instance) (least : ℕ) : Type 0 where

@@ -2,7 +2,7 @@ ghost use Rattle.std.specs.Prelude.{◌≡◌, ℕ, ◌<◌, [], ◌∷◌, ◌+
 ghost use Rattle.std.specs.List.{filter_map};
 ghost use Rattle.std.specs.HashMap.{get};
 ghost use Rattle.config_rules.specs.Meaning.{own_unit, first_unit, in_order};
-ghost use Rattle.cf_rows.specs.Rows.{seen, UnitFits, AreGroups, units_of, of_unit, fixed, starred};
+ghost use Rattle.cf_rows.specs.Rows.{seen, UnitFits, AreGroups, Joins, units_of, of_unit, fixed, starred};
 
 use crate::group::Group;
 use cf_types::{Instance, Memory, UnitMark};
@@ -43,7 +43,7 @@ fn add<'a>(
 ) -> Result<(), Memory>
     requires within { (u p : ℕ) → get nat_eq places.old u ≡ Some p → p < length groups.old.items }
     requires unit { own_unit instance.now ≡ Some unit }
-    ensures { OnOk result ((insts : _) → AreGroups insts groups.old.items (get nat_eq places.old) → AreGroups (insts ++ instance.now ∷ []) groups.new.items (get nat_eq places.new)) }
+    ensures { OnOk result (Joins instance.now groups.old.items (get nat_eq places.old) groups.new.items (get nat_eq places.new)) }
 {
     if let Some(place) = places.get(&unit).copied() {
         let group = &mut groups[place];

@@ -5,7 +5,7 @@ ghost use Rattle.config_rules.specs.Meaning.{inst_of};
 ghost use Rattle.config_rules.specs.Select.{AreRooted, RootedInsts, carries_at, is_at_root, is_at_root_at};
 ghost use Rattle.attr_graph.specs.Graphs.{IsGraphOf};
 ghost use Rattle.cf_types.specs.Gather.{is_in};
-ghost use Rattle.cf_select.specs.Carried.{RootedIn, interfaces_in, offered_in};
+ghost use Rattle.cf_select.specs.Carried.{ReachedIn, RootedIn, interfaces_in, offered_in};
 ghost use Rattle.cf_select.specs.Reached.{AllRooted, AreMarked, AreWaiting, AreWithin, Marks};
 ghost use Rattle.cf_select.specs.Spread.{Goes};
 ghost use Rattle.cf_select.specs.Wanted.{carriers_of, wants_at, wants_of};
@@ -125,12 +125,11 @@ fn spread(
     requires order { AreMarked reached.old.marks.items reached.old.order.items }
     requires within { AreWithin reached.old.waiting.lists reached.old.marks.items }
     requires waiting { AreWaiting (wants_at (map inst_of instances.now)) reached.old.waiting.lists reached.old.marks.items }
-    requires sound { AllRooted (is_at_root_at (map inst_of instances.now)) (carries_at (offered_in graph.now) (map inst_of instances.now)) (length instances.now)
-        reached.old.marks.items }
+    requires sound { AllRooted (is_at_root_at (map inst_of instances.now)) (carries_at (offered_in graph.now) (map inst_of instances.now))
+        (length instances.now) reached.old.marks.items }
     requires roots { (i : ℕ) → i < length instances.now → is_at_root_at (map inst_of instances.now) i ≡ true
         → slice_index_or reached.old.marks.items i false ≡ true }
-    ensures { OnOk result (AreRooted (is_at_root_at (map inst_of instances.now)) (carries_at (offered_in graph.now) (map inst_of instances.now)) (length instances.now)
-        reached.new.marks.items) }
+    ensures { OnOk result (ReachedIn graph.now (map inst_of instances.now) (length instances.now) reached.new.marks.items) }
 {
     let mut next = 0;
     while next < reached.order.len() {

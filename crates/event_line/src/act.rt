@@ -73,7 +73,8 @@ fn put_finaliser_1(out: &mut Vec<u8>, device: &Name, shown: &Option<Shown>) -> R
 
 /// Appends how a transfer begins.
 fn put_transfer(out: &mut Vec<u8>, device: &Name, value: u32, reply: &Reply) -> Result<(), Memory>
-    ensures { OnOk result (out.new.items ≡ out.old.items ++ (codes "io " ++ device.now ++ codes " " ++ decimal value ++ codes ": " ++ text.started_text reply.now)) }
+    ensures { OnOk result (out.new.items ≡ out.old.items
+        ++ (codes "io " ++ device.now ++ codes " " ++ decimal value ++ codes ": " ++ text.started_text reply.now)) }
 {
     put_named(out, b"io ", device)?;
     put_bytes(out, b" ")?;

@@ -4,9 +4,10 @@ use Rattle.cf_types.specs.declared.memory.Memory.{Memory}
 use Rattle.cf_types.specs.declared.tables.Place.{Place}
 use Rattle.run_rules.specs.declared.world.Dev.{Dev}
 use Rattle.run_rules.specs.Search.{is_taken, parent_offers, parent_ref, unit_of}
-use Rattle.run_rules.specs.World.{driver_of}
+use Rattle.run_rules.specs.World.{driver_of, parent_name, unit_name}
 use Rattle.live_rules.specs.declared.plan.LiveLine.{LiveLine}
-use Rattle.live_rules.specs.Live.{LiveWorld, LiveSite, attach, attached_line, is_free, is_known, is_on}
+use Rattle.live_rules.specs.declared.plan.LiveLine.TheVariants.{Attached}
+use Rattle.live_rules.specs.Live.{LiveWorld, LiveSite, attach, attached_line, is_free, is_known, is_on, new_device}
 use Rattle.live_tables.specs.Running.{HasSerials, Running}
 
 -- the lines of devices that come one after the other, each as it comes
@@ -36,6 +37,14 @@ pub record MayCome (r : Running) (p x by_row : ℕ) : Type 0 where
   pub on : is_on r.site r.world.on by_row ≡ true
   pub row : by_row < length r.site.setup.tables.rows
   pub serials : HasSerials r.world
+
+-- the line of a device that comes by a row, under a unit and below a parent
+abbrev pub line_of : Running → ℕ → ℕ → ℕ → LiveLine
+line_of r row unit p = Attached (unit_name r.site.setup row unit) (parent_name r.site.setup r.world.live p) row
+
+-- the same under the unit that its row gives
+abbrev pub coming_line : Running → ℕ → ℕ → ℕ → LiveLine
+coming_line r p x row = attached_line r.site r.world.live (new_device r.site r.world p x row)
 
 -- it came
 abbrev pub with_device : Running → ℕ → ℕ → ℕ → Running

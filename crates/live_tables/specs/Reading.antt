@@ -1,5 +1,5 @@
 -- What the calls that read a plan leave.
-use Rattle.std.specs.Prelude.{◌≡◌, ℕ, List, [], ◌∷◌, bytes_eq, codes, if◌then◌else◌, Option, Some, None, Result, Ok, Err, ⊤}
+use Rattle.std.specs.Prelude.{◌≡◌, ℕ, List, [], ◌∷◌, ◌++◌, bytes_eq, codes, if◌then◌else◌, Option, Some, None, Result, Ok, Err, ⊤}
 use Rattle.std.specs.Option.{option_map_or}
 use Rattle.cf_text.specs.Shapes.{is_written}
 use Rattle.cf_types.specs.declared.code.script.TheConstants.{NO_COMMAND, WRONG_WORDS}
@@ -19,6 +19,10 @@ abbrev pub Becomes : Result Plan ℕ → Plan → Result ⊤ LineStop → Type 0
 Becomes whole new (Ok done) = whole ≡ Ok new
 Becomes whole new (Err (Code code)) = whole ≡ Err code
 Becomes whole new (Err Memory) = ⊤
+
+-- a group more
+abbrev pub with_group : Plan → List ℕ → List ℕ → Plan
+with_group p name devices = record p { groups = p.groups ++ record { name = name; devices = devices } ∷ [] }
 
 -- the words with which lines begin
 abbrev pub verb_of : List ℕ → Option Verb

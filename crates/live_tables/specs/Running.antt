@@ -2,15 +2,17 @@
 use Rattle.std.specs.Prelude.{◌≡◌, ◌<◌, ◌+◌, ◌^◌, ℕ, Bool, true, List, [], length, map, Option, None}
 use Rattle.std.specs.List.{slice_index_or}
 use Rattle.cf_types.specs.Offers.{interfaces}
+use Rattle.cf_types.specs.declared.tree.DevLine.{DevLine}
 use Rattle.match_search.specs.Best.{live_rows}
 use Rattle.run_rules.specs.declared.world.Setup.{Setup}
+use Rattle.run_rules.specs.Tree.{tree_below}
 use Rattle.run_rules.specs.World.{driver_of}
 use Rattle.live_tables.specs.Groups.{Switches}
 use Rattle.run_world.specs.UnitsOf.{AreUnitsOf}
 use Rattle.unit_alloc.specs.Taken.{NoneTaken}
 use Rattle.live_rules.specs.declared.plan.Group.{Group}
 use Rattle.live_rules.specs.Laws.{IsSound}
-use Rattle.live_rules.specs.Live.{LiveWorld, LiveSite, group_of}
+use Rattle.live_rules.specs.Live.{LiveWorld, LiveSite, group_of, tree_line}
 
 -- what no command changes, and the world
 pub record Running : Type 0 where
@@ -25,6 +27,10 @@ pub record Keeps (r : Running) (its_drivers : List ℕ) (marks : List Bool) (tak
   pub units : AreUnitsOf r.site.setup r.world.live taken
   pub drivers : its_drivers ≡ map (λ d. driver_of r.site.setup d.row) r.world.live
   pub groups : (d : ℕ) → slice_index_or table d None ≡ group_of r.site.groups d
+
+-- the lines of what is below a parent, so many levels deep
+abbrev pub lines_below : Running → ℕ → ℕ → ℕ → List DevLine
+lines_below r levels depth p = map (tree_line r.site r.world) (tree_below levels r.world.live depth p)
 
 -- so many serials are left that each spot may be taken once more
 abbrev pub HasSerials : LiveWorld → Type 0

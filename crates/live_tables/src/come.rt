@@ -4,7 +4,7 @@ ghost use Rattle.run_rules.specs.Search as search;
 ghost use Rattle.run_rules.specs.World as world;
 ghost use Rattle.live_rules.specs.declared.plan.LiveLine.TheVariants as line;
 ghost use Rattle.live_rules.specs.Live as rule;
-ghost use Rattle.live_tables.specs.Coming.{MayCome, with_device};
+ghost use Rattle.live_tables.specs.Coming.{MayCome, coming_line, line_of, with_device};
 
 use crate::live_tables::LiveTables;
 use crate::names::unit_name;
@@ -17,7 +17,7 @@ impl LiveTables {
     /// The line of a device that comes by a row, under a unit and below a parent.
     fn line_of(&self, row: u32, unit: u32, parent: u64) -> Result<LiveLine, Memory>
         requires row { row < length self.now.site.setup.tables.rows }
-        ensures { IfOk result (λ l. l ≡ line.Attached (world.unit_name self.now.site.setup row unit) (world.parent_name self.now.site.setup self.now.world.live parent) row) }
+        ensures { IfOk result (λ l. l ≡ line_of self.now row unit parent) }
     {
         let name = unit_name(self.alloc, &self.site.setup, row, unit)?;
         let parent = self.parent_name(parent)?;
@@ -57,7 +57,7 @@ impl LiveTables {
     ) -> Result<(), Memory>
         requires may { MayCome self.old parent spot row }
         ensures ok { OnOk result (self.new ≡ with_device self.old parent spot row) }
-        ensures line { OnOk result (lines.new.items ≡ lines.old.items ++ rule.attached_line self.old.site self.old.world.live (rule.new_device self.old.site self.old.world parent spot row) ∷ []) }
+        ensures line { OnOk result (lines.new.items ≡ lines.old.items ++ coming_line self.old parent spot row ∷ []) }
         ensures err { OnErr result (self.new ≡ self.old) }
         ensures no_line { OnErr result (lines.new.items ≡ lines.old.items) }
     {

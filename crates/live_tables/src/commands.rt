@@ -2,9 +2,9 @@
 ghost use Rattle.std.specs.Prelude.{◌≡◌, ◌<◌, ◌^◌, ◌∷◌, false, length, IfOk, OnOk, OnErr};
 ghost use Rattle.run_rules.specs.World.{has};
 ghost use Rattle.live_rules.specs.declared.plan.LiveReply.TheVariants as replies;
-ghost use Rattle.live_rules.specs.Laws.{IsCutShort, IsUndone};
+ghost use Rattle.live_rules.specs.Laws.{IsCutShort};
 ghost use Rattle.live_rules.specs.Live as rule;
-ghost use Rattle.live_tables.specs.Answers.{Answers, Leaves};
+ghost use Rattle.live_tables.specs.Answers.{Answers, Leaves, MayUndo};
 
 use crate::live_tables::LiveTables;
 use cf_types::{List, Memory};
@@ -45,7 +45,7 @@ impl LiveTables {
         requires serials { self.old.world.next < 2 ^ 63 }
         ensures ok { IfOk result (Answers self.old self.new lines.old lines.new (rule.add self.old.site self.old.world group)) }
         ensures settled { IfOk result (λ reply. reply ≡ replies.Ok → rule.Settled self.new.site self.new.world) }
-        ensures undone { IfOk result (λ reply. reply ≡ replies.Ok → rule.Settled self.old.site self.old.world → IsUndone self.old.site self.old.world group self.new.world) }
+        ensures undone { IfOk result (λ reply. reply ≡ replies.Ok → MayUndo self.old group self.new) }
         ensures err { OnErr result (IsCutShort self.old.site (rule.turned_on self.old.world group) self.new.world lines.old lines.new) }
         ensures site { self.new.site ≡ self.old.site }
     {

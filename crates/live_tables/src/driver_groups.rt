@@ -2,7 +2,7 @@
 ghost use Rattle.std.specs.Prelude.{◌≡◌, ◌<◌, ◌^◌, ℕ, ◌==◌, None, if◌then◌else◌, length, IfOk, OnOk};
 ghost use Rattle.std.specs.List.{slice_index_or};
 ghost use Rattle.live_rules.specs.Live.{group_of};
-ghost use Rattle.live_tables.specs.Joining.{first_number, joined_by};
+ghost use Rattle.live_tables.specs.Joining.{joined, joined_by};
 
 use cf_types::Memory;
 use live_rules::Group;
@@ -10,7 +10,7 @@ use std::alloc::Global;
 
 /// Puts a driver into a group, if it is in none.
 fn join(table: &mut Vec<Option<u32>>, driver: u32, group: u32) -> Result<(), Memory>
-    ensures { OnOk result ((d : ℕ) → slice_index_or table.new.items d None ≡ (if driver == d then first_number (slice_index_or table.old.items d None) group else slice_index_or table.old.items d None)) }
+    ensures { OnOk result ((d : ℕ) → slice_index_or table.new.items d None ≡ joined driver group d (slice_index_or table.old.items d None)) }
 {
     let place = driver as usize;
     if table.len() <= place {

@@ -6,7 +6,7 @@ ghost use Rattle.machine_text.specs.Words.{seen};
 ghost use Rattle.script_text.specs.Left.{Gives, Leaves};
 ghost use Rattle.live_rules.specs.PlanText as rule;
 ghost use Rattle.live_rules.specs.PlanText.{FormedPlan};
-ghost use Rattle.live_tables.specs.Reading.{Becomes, group_named, line_by, one_group};
+ghost use Rattle.live_tables.specs.Reading.{Becomes, group_named, line_by, one_group, with_group};
 ghost use Rattle.live_tables.specs.declared.verb.Verb.TheVariants as verbs;
 
 use crate::members::{are_written, group_number, is_written, members_of};
@@ -81,7 +81,7 @@ fn one_group(groups: &[Group], words: &[&[u8]]) -> Result<u32, LineStop>
 /// Adds a group, if there is room.
 fn push_group(plan: &mut Plan, name: Name, devices: List<u32>) -> Result<(), LineStop>
     requires few { length plan.old.groups + length plan.old.commands ≤ 500 }
-    ensures { Becomes (rule.unless_full plan.old (record plan.old { groups = plan.old.groups ++ record { name = name; devices = devices } ∷ [] })) plan.new result }
+    ensures { Becomes (rule.unless_full plan.old (with_group plan.old name devices)) plan.new result }
 {
     if is_full(plan) {
         return Err(LineStop::Code(code::TOO_MANY_COMMANDS));

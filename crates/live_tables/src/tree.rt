@@ -3,6 +3,7 @@ ghost use Rattle.std.specs.Prelude.{◌≡◌, ◌<◌, ◌+◌, ◌++◌, ◌^�
 ghost use Rattle.run_rules.specs.Tree.{tree_below};
 ghost use Rattle.dev_tree.specs.Branching.{AreBranches};
 ghost use Rattle.live_rules.specs.Live as rule;
+ghost use Rattle.live_tables.specs.Running.{lines_below};
 
 use crate::live_tables::LiveTables;
 use cf_types::{DevLine, List, Memory};
@@ -39,7 +40,7 @@ impl LiveTables {
     ) -> Result<(), Memory>
         requires branches { AreBranches self.now.world.live branches.now }
         requires shallow { depth + levels < 2 ^ 32 }
-        ensures { OnOk result (lines.new ≡ lines.old ++ map (rule.tree_line self.now.site self.now.world) (tree_below levels self.now.world.live depth parent)) }
+        ensures { OnOk result (lines.new ≡ lines.old ++ lines_below self.now levels depth parent) }
     {
         if levels == 0 {
             return Ok(());

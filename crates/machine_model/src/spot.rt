@@ -199,7 +199,8 @@ pub fn fitting_site<'t>(
 ) -> Result<SpotSite<'t>, u8>
     requires index { IsIndex index.now }
     requires draft { IsDraft draft.now }
-    ensures fault { IfErr result (λ code. spot_fault index.now.tables.now draft.now.machine.spots name.now parent.now attr.now (map given_of found.now) ≡ Some code) }
+    ensures fault { IfErr result (λ code. spot_fault index.now.tables.now draft.now.machine.spots name.now parent.now attr.now (map given_of found.now)
+        ≡ Some code) }
     ensures none { IfOk result (λ site. spot_fault index.now.tables.now draft.now.machine.spots name.now parent.now attr.now (map given_of found.now) ≡ None) }
     ensures site { IfOk result (IsSite index.now.tables.now draft.now name.now parent.now attr.now) }
     ensures not_full { IfOk result (λ site. length draft.now.machine.spots < 1024) }

@@ -1,5 +1,5 @@
 -- The live devices as contracts see them, with the serial of the next one.
-use Rattle.std.specs.Prelude.{◌≡◌, ℕ, ◌<◌, ◌+◌, ◌-◌, ◌==◌, if◌then◌else◌, List, [], ◌∷◌, ◌++◌, None, false}
+use Rattle.std.specs.Prelude.{◌≡◌, ℕ, ◌<◌, ◌+◌, ◌-◌, ◌==◌, if◌then◌else◌, List, [], ◌∷◌, ◌++◌, length, None, false}
 use Rattle.std.specs.List.{AllByRecursion, count_by, slice_index_or}
 use Rattle.run_rules.specs.declared.world.Arrival.{Arrival}
 use Rattle.run_rules.specs.declared.world.Dev.{Dev}
@@ -16,6 +16,10 @@ pub record AreInOrder (devices : List Dev) (next : ℕ) : Type 0 where
   pub above : AllByRecursion (λ d. 0 < d.serial) devices
   pub below : AllByRecursion (λ d. d.serial < next) devices
   pub later : EachLater (λ d e. d.serial < e.serial) devices
+
+-- the place is that of the device of a serial
+abbrev pub IsPlaceOf : List Dev → ℕ → ℕ → Type 0
+IsPlaceOf devices serial i = (i < length devices) × ((d : Dev) → (slice_index_or devices i d).serial ≡ serial)
 
 -- the device that comes by an arrival, awake
 abbrev pub device_of : ℕ → Arrival → Dev

@@ -6,7 +6,7 @@ ghost use Rattle.run_rules.specs.Search.{is_occupied};
 ghost use Rattle.run_rules.specs.Sound.{EachLater};
 ghost use Rattle.run_rules.specs.World as world;
 ghost use Rattle.run_rules.specs.declared.world.Dev.{Dev};
-ghost use Rattle.plain_world.specs.LiveDevices.{AreInOrder, IsLeft, with_device};
+ghost use Rattle.plain_world.specs.LiveDevices.{AreInOrder, IsLeft, IsPlaceOf, with_device};
 
 use crate::look::is_under;
 use crate::tally::Tally;
@@ -38,7 +38,7 @@ impl Model for Live {
 /// The place of the device of a serial, found by binary search.
 fn place_by_halves(devices: &[Dev], serial: u64) -> Option<usize>
     requires { EachLater (λ d e. d.serial < e.serial) devices.now }
-    ensures { MatchOption result (world.is_live devices.now serial ≡ false) (λ i. (i < length devices.now) × ((d : Dev) → (slice_index_or devices.now i d).serial ≡ serial)) }
+    ensures { MatchOption result (world.is_live devices.now serial ≡ false) (IsPlaceOf devices.now serial) }
 {
     devices
         .binary_search_by_key(&serial, |device| device.serial)
@@ -49,7 +49,7 @@ fn place_by_halves(devices: &[Dev], serial: u64) -> Option<usize>
 #[inline(always)]
 fn place_of(devices: &[Dev], serial: u64) -> Option<usize>
     requires { EachLater (λ d e. d.serial < e.serial) devices.now }
-    ensures { MatchOption result (world.is_live devices.now serial ≡ false) (λ i. (i < length devices.now) × ((d : Dev) → (slice_index_or devices.now i d).serial ≡ serial)) }
+    ensures { MatchOption result (world.is_live devices.now serial ≡ false) (IsPlaceOf devices.now serial) }
 {
     let place = serial.saturating_sub(1) as usize;
     if place < devices.len() && devices[place].serial == serial {
