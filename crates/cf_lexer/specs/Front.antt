@@ -1,5 +1,6 @@
 -- The part at the front of a line, as the code sees it.
-use Rattle.std.specs.Prelude.{ℕ, ◌+◌, ◌≤◌, Bool, ◌||◌, IfSome, List, drop, length, prefix_len, take_while, Option, Some, None, Result, Ok, Err}
+use Rattle.std.specs.Prelude.{ℕ, ◌+◌, ◌≤◌, Bool, ◌||◌, IfSome, List, drop, length, take_while, Option, Some, None, Result, Ok, Err}
+use Rattle.std.specs.List.{prefix_len}
 use Rattle.cf_types.specs.declared.stmt.TokenKind.{TokenKind}
 use Rattle.cf_types.specs.declared.stmt.TokenKind.TheVariants as kind
 use Rattle.config_rules.specs.Cut.{Part, Space, Comment, Quoted, Chunk, Mark, first_part, is_chunk_byte, is_mark_byte, is_space, is_text_byte, quoted_part}
