@@ -1,15 +1,16 @@
 -- One more attribute keeps the lists of the graph.
 use Rattle.std.proofs.Common.{◌≡◌, ℕ, zero, suc, ◌-◌, ◌<◌, Bool, List, [], ◌∷◌, ◌++◌, length, get_or, ap, sym, ◌∙◌, subst, arith, inl, inr, ◌⊎◌, length-append}
-use Rattle.std.specs.Prelude.{slice_get, All, Ok}
+use Rattle.std.specs.Prelude.{slice_get, All, Ok, Option, Some, None}
 use Rattle.std.specs.Option.{option_map_or}
 use Rattle.std.proofs.lemmas.List.{length-map, map-append}
+use Rattle.std.proofs.lemmas.List.Elements.{All-nil}
 use Rattle.std.proofs.lemmas.Option.{slice_get_past}
 use Rattle.cf_types.specs.Offers.{Node, AreEarlier, interfaces_of}
 use Rattle.cf_types.proofs.ListLemmas.{slice_get-append_front, slice_get-append_back}
 use Rattle.cf_types.proofs.OfferLemmas.{earlier_more, interfaces_kept, compare_numbers}
 use Rattle.attr_graph.specs.declared.entry.AttrEntry.{AttrEntry}
 use Rattle.attr_graph.specs.declared.entry.DeviceEntry.{DeviceEntry}
-use Rattle.attr_graph.specs.Reach.{KeptAttrs, KeptDevices, MakesAttr, node_of, nodes_of, new_list, reach_at, names_at}
+use Rattle.attr_graph.specs.Reach.{KeptAttrs, KeptDevices, MakesAttr, node_of, nodes_of, device_reach, new_list, reach_at, names_at}
 
 abbrev pub Cases : ℕ → ℕ → Type 0
 Cases a n = (a < n) ⊎ ((a ≡ n) ⊎ (n < a))
@@ -70,4 +71,37 @@ pub more_devices : (attrs : List AttrEntry) (devices : List DeviceEntry) (e : At
 more_devices attrs devices e node earlier is kept = record {
   known = λ d k x p. let h : get_or (names_at devices d) k x < length attrs = kept.known d k x p in omega (arith, h, length-append attrs (e ∷ []));
   lists = λ d p. kept.lists d p ∙ same_offer attrs e node (names_at devices d) earlier is (kept.known d);
+}
+
+-- one more device keeps the lists of the graph
+device_behind : (devices : List DeviceEntry) (e : DeviceEntry) (d : ℕ) → d ≡ length devices → slice_get (devices ++ e ∷ []) d ≡ Some e
+device_behind devices e d h =
+    let z : d - length devices ≡ 0 = omega arith in
+    slice_get-append_back devices (e ∷ []) d (omega arith) ∙ ap (slice_get (e ∷ [])) z
+
+device_past : (devices : List DeviceEntry) (e : DeviceEntry) (d : ℕ) → length devices < d → slice_get (devices ++ e ∷ []) d ≡ None
+device_past devices e d h = slice_get_past (devices ++ e ∷ []) d (omega (arith, length-append devices (e ∷ [])))
+
+known_at : (attrs : List AttrEntry) (devices : List DeviceEntry) (e : DeviceEntry) (d : ℕ) → KeptDevices attrs devices → All (λ a. a < length attrs) e.names → Cases d (length devices)
+    → All (λ a. a < length attrs) (names_at (devices ++ e ∷ []) d)
+known_at attrs devices e d kept known (inl p) =
+    subst (λ (o : Option DeviceEntry). All (λ a. a < length attrs) (option_map_or (λ x. x.names) o [])) (sym (slice_get-append_front devices (e ∷ []) d p)) (kept.known d)
+known_at attrs devices e d kept known (inr (inl p)) =
+    subst (λ (o : Option DeviceEntry). All (λ a. a < length attrs) (option_map_or (λ x. x.names) o [])) (sym (device_behind devices e d p)) known
+known_at attrs devices e d kept known (inr (inr p)) =
+    subst (λ (o : Option DeviceEntry). All (λ a. a < length attrs) (option_map_or (λ x. x.names) o [])) (sym (device_past devices e d p)) (All-nil (λ a. a < length attrs))
+
+listed_at : (attrs : List AttrEntry) (devices : List DeviceEntry) (e : DeviceEntry) (d : ℕ) → KeptDevices attrs devices → e.reach ≡ interfaces_of (nodes_of attrs) e.names → d < length (devices ++ e ∷ []) → Cases d (length devices)
+    → device_reach (devices ++ e ∷ []) d ≡ interfaces_of (nodes_of attrs) (names_at (devices ++ e ∷ []) d)
+listed_at attrs devices e d kept list h (inl p) =
+    subst (λ (o : Option DeviceEntry). option_map_or (λ x. x.reach) o [] ≡ interfaces_of (nodes_of attrs) (option_map_or (λ x. x.names) o [])) (sym (slice_get-append_front devices (e ∷ []) d p)) (kept.lists d p)
+listed_at attrs devices e d kept list h (inr (inl p)) =
+    subst (λ (o : Option DeviceEntry). option_map_or (λ x. x.reach) o [] ≡ interfaces_of (nodes_of attrs) (option_map_or (λ x. x.names) o [])) (sym (device_behind devices e d p)) list
+listed_at attrs devices e d kept list h (inr (inr p)) = absurd (omega (arith, h, p, length-append devices (e ∷ [])))
+
+pub one_device : (attrs : List AttrEntry) (devices : List DeviceEntry) (e : DeviceEntry) → KeptDevices attrs devices → All (λ a. a < length attrs) e.names → e.reach ≡ interfaces_of (nodes_of attrs) e.names
+    → KeptDevices attrs (devices ++ e ∷ [])
+one_device attrs devices e kept known list = record {
+  known = λ d. known_at attrs devices e d kept known (compare_numbers d (length devices));
+  lists = λ d p. listed_at attrs devices e d kept list p (compare_numbers d (length devices));
 }

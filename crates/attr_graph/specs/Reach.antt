@@ -1,10 +1,10 @@
 -- What contracts see of a graph of attributes and devices, and what it keeps.
-use Rattle.std.specs.Prelude.{◌≡◌, ◌⊎◌, ℕ, Option, Some, None, ◌<◌, ◌≤◌, Bool, false, List, [], ◌∷◌, ◌++◌, length, flat_map, map, slice_get, Result, Ok, Err, Vec}
+use Rattle.std.specs.Prelude.{◌≡◌, ◌⊎◌, ℕ, Option, Some, None, ◌<◌, ◌≤◌, Bool, false, List, [], ◌∷◌, ◌++◌, length, flat_map, map, slice_get, Result, Ok, Err}
 use Rattle.std.specs.List.{slice_index_or, All}
 use Rattle.std.specs.Option.{option_map_or}
 use Rattle.cf_types.specs.Gather.{is_in, with_all}
 use Rattle.cf_types.specs.Offers.{Node, AreEarlier, interfaces_of}
-use Rattle.std.specs.Global.{Global}
+use Rattle.smallvec.specs.SmallVec.{SmallVec}
 use Rattle.attr_graph.specs.declared.gather.GraphStop.{GraphStop}
 use Rattle.attr_graph.specs.declared.gather.GraphStop.TheVariants.{TooMany, Memory}
 use Rattle.attr_graph.specs.declared.gather.TheConstants.{MAX_INTERFACES}
@@ -65,7 +65,7 @@ pub record KeptDevices (attrs : List AttrEntry) (devices : List DeviceEntry) : T
   pub lists : (d : ℕ) → d < length devices → device_reach devices d ≡ interfaces_of (nodes_of attrs) (names_at devices d)
 
 -- the list, or that it has too many entries
-abbrev pub Gathers : List ℕ → Result (Vec ℕ Global) GraphStop → Type 0
+abbrev pub Gathers : List ℕ → Result (SmallVec ℕ) GraphStop → Type 0
 Gathers list (Ok v) = (v.items ≡ list) × (length list ≤ MAX_INTERFACES)
 Gathers list (Err TooMany) = MAX_INTERFACES < length list
 Gathers list (Err Memory) = Unit {0}

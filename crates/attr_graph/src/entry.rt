@@ -1,16 +1,17 @@
-ghost use Rattle.std.specs.Prelude.{◌≡◌, ◌++◌, IfOk};
+ghost use Rattle.std.specs.Prelude.{◌≡◌, ◌++◌, IfOk, length};
 ghost use Rattle.std.specs.Option.{option_to_list};
 
-use cf_types::List;
 use smallvec::SmallVec;
 use std::alloc::{AllocError, Global};
 use std::marker::Model;
 
-/// A few numbers. Up to four, which is enough for most attributes and devices, are kept in the entry itself. Contracts
-/// see the list of them.
+/// Numbers in a vector that has room for four in itself, which is enough for most attributes and devices.
+pub type NumberVec = SmallVec<u32, 4>;
+
+/// A few numbers, which mostly take no memory of their own. Contracts see the list of them.
 #[derive(Drop)]
 pub struct Numbers {
-    items: SmallVec<u32, 4>,
+    items: NumberVec,
 }
 
 impl Model for Numbers {
@@ -34,6 +35,20 @@ impl Numbers {
         Ok(Numbers { items })
     }
 
+    /// The numbers of a vector.
+    pub fn from_vec(items: NumberVec) -> Numbers
+        ensures { result ≡ items.items }
+    {
+        Numbers { items }
+    }
+
+    /// How many numbers there are.
+    pub fn len(&self) -> usize
+        ensures { result ≡ length self.now }
+    {
+        self.items().len()
+    }
+
     /// The numbers in order.
     pub fn items(&self) -> &[u32]
         ensures { result.now ≡ self.now }
@@ -47,12 +62,12 @@ impl Numbers {
 pub struct AttrEntry {
     pub iface: bool,
     pub needs: Numbers,
-    pub reach: List<u32>,
+    pub reach: Numbers,
 }
 
 /// A device: the attributes that it names, its own first, and its interface list.
 #[derive(Drop)]
 pub struct DeviceEntry {
     pub names: Numbers,
-    pub reach: List<u32>,
+    pub reach: Numbers,
 }

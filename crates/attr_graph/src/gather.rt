@@ -3,7 +3,7 @@ ghost use Rattle.std.specs.Option.{option_to_list};
 ghost use Rattle.cf_types.specs.Gather.{with_all};
 ghost use Rattle.attr_graph.specs.Reach.{AreMarks, Gathers, IsSplit, StandOnce, reach_at};
 
-use crate::entry::AttrEntry;
+use crate::entry::{AttrEntry, NumberVec};
 use crate::merge::{add_all, add_new, add_reach, are_unmarked, unmark};
 use std::alloc::{AllocError, AllocFailed, Global};
 use thiserror::Error;
@@ -66,7 +66,7 @@ pub fn gather(
     attrs: &[AttrEntry],
     own: Option<u32>,
     names: &[u32],
-) -> Result<Vec<u32>, GraphStop>
+) -> Result<NumberVec, GraphStop>
     requires own { All (λ a. a < length marks.old.items) (option_to_list own) }
     requires named { All (λ a. a < length attrs.now) names.now }
     requires within { (a : ℕ) → All (λ x. x < length marks.old.items) (reach_at attrs.now a) }
@@ -78,7 +78,7 @@ pub fn gather(
     ensures size { length marks.new.items ≡ length marks.old.items }
 {
     let room = list_count(attrs, own.is_some(), names).unwrap_or(MAX_INTERFACES);
-    let mut list = Vec::with_capacity(alloc, room)?;
+    let mut list = NumberVec::with_capacity(alloc, room)?;
     gather_into(&mut list, marks, attrs, own, names)?;
     if list.len() > MAX_INTERFACES {
         return Err(GraphStop::TooMany);
@@ -101,7 +101,7 @@ fn split_last<'a>(attrs: &'a [AttrEntry], names: &'a [u32]) -> (&'a [u32], &'a [
 /// Appends those of the numbers that are not there, and clears the marks. If none of them is there, as in most cases,
 /// they are copied at once.
 #[inline(always)]
-fn add_last(list: &mut Vec<u32>, marks: &mut Vec<bool>, numbers: &[u32]) -> Result<(), AllocError>
+fn add_last(list: &mut NumberVec, marks: &mut Vec<bool>, numbers: &[u32]) -> Result<(), AllocError>
     requires within { All (λ x. x < length marks.old.items) numbers.now }
     requires once { StandOnce numbers.now }
     requires marked { AreMarks list.old.items marks.old.items }
@@ -111,12 +111,12 @@ fn add_last(list: &mut Vec<u32>, marks: &mut Vec<bool>, numbers: &[u32]) -> Resu
     ensures size { length marks.new.items ≡ length marks.old.items }
 {
     if are_unmarked(marks, numbers) {
-        unmark(list, marks);
+        unmark(list.as_slice(), marks);
         list.extend_from_slice(numbers)?;
         return Ok(());
     }
     let added = add_all(list, marks, numbers);
-    unmark(list, marks);
+    unmark(list.as_slice(), marks);
     added
 }
 
@@ -124,7 +124,7 @@ fn add_last(list: &mut Vec<u32>, marks: &mut Vec<bool>, numbers: &[u32]) -> Resu
 /// that.
 #[inline(always)]
 fn gather_into(
-    list: &mut Vec<u32>,
+    list: &mut NumberVec,
     marks: &mut Vec<bool>,
     attrs: &[AttrEntry],
     own: Option<u32>,
@@ -144,7 +144,7 @@ fn gather_into(
     let (front, last) = split_last(attrs, names);
     let added = add_own(list, marks, attrs, own, front);
     if let Err(stop) = added {
-        unmark(list, marks);
+        unmark(list.as_slice(), marks);
         return Err(stop);
     }
     add_last(list, marks, last)
@@ -152,7 +152,7 @@ fn gather_into(
 
 /// Appends an attribute's own number to an empty list, and then what the named ones offer.
 fn add_own(
-    list: &mut Vec<u32>,
+    list: &mut NumberVec,
     marks: &mut Vec<bool>,
     attrs: &[AttrEntry],
     own: Option<u32>,

@@ -3,12 +3,12 @@ ghost use Rattle.std.specs.List.{list_all, slice_index_or};
 ghost use Rattle.cf_types.specs.Gather.{with_new, with_all};
 ghost use Rattle.attr_graph.specs.Reach.{AreMarks, reach_at};
 
-use crate::entry::AttrEntry;
+use crate::entry::{AttrEntry, NumberVec};
 use std::alloc::AllocError;
 
 /// Appends a number that is not marked, and marks it.
 #[inline(always)]
-pub fn add_new(list: &mut Vec<u32>, marks: &mut Vec<bool>, number: u32) -> Result<(), AllocError>
+pub fn add_new(list: &mut NumberVec, marks: &mut Vec<bool>, number: u32) -> Result<(), AllocError>
     requires within { number < length marks.old.items }
     requires marked { AreMarks list.old.items marks.old.items }
     ensures ok { OnOk result (list.new.items ≡ with_new list.old.items number) }
@@ -27,7 +27,7 @@ pub fn add_new(list: &mut Vec<u32>, marks: &mut Vec<bool>, number: u32) -> Resul
 /// Appends those of the numbers that are not there yet.
 #[inline(always)]
 pub fn add_all(
-    list: &mut Vec<u32>,
+    list: &mut NumberVec,
     marks: &mut Vec<bool>,
     numbers: &[u32],
 ) -> Result<(), AllocError>
@@ -45,7 +45,7 @@ pub fn add_all(
 
 /// Appends what the named attributes offer, each unless it is already there.
 pub fn add_reach(
-    list: &mut Vec<u32>,
+    list: &mut NumberVec,
     marks: &mut Vec<bool>,
     attrs: &[AttrEntry],
     names: &[u32],

@@ -6,7 +6,6 @@ ghost use Rattle.attr_graph.specs.Reach.{AreMarks, CountsReach, KeptAttrs, Makes
 
 use crate::entry::{AttrEntry, DeviceEntry, Numbers};
 use crate::gather::{GraphStop, gather};
-use cf_types::List;
 use std::alloc::{AllocError, Global};
 
 /// Makes room for the mark of a number.
@@ -54,7 +53,7 @@ pub fn attr_entry(
     Ok(AttrEntry {
         iface,
         needs,
-        reach: List::from_vec(reach),
+        reach: Numbers::from_vec(reach),
     })
 }
 
@@ -73,7 +72,7 @@ pub fn device_entry(
     match gather(alloc, marks, attrs, None, names.items()) {
         Ok(reach) => Ok(DeviceEntry {
             names,
-            reach: List::from_vec(reach),
+            reach: Numbers::from_vec(reach),
         }),
         Err(stop) => Err(stop),
     }
@@ -93,7 +92,7 @@ pub fn reach_count(
 {
     match gather(alloc, marks, attrs, None, names) {
         Ok(reach) => {
-            let list = List::from_vec(reach);
+            let list = Numbers::from_vec(reach);
             let count = list.len();
             Ok(Some(count))
         }

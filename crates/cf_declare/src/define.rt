@@ -17,7 +17,7 @@ use crate::lookup::is_root;
 use attr_graph::Graph;
 use cf_names::Catalog;
 use cf_types::code::configuration as code;
-use cf_types::{Device, List, Memory, Name};
+use cf_types::{Device, Few, Memory, Name};
 use std::alloc::Global;
 
 /// Whether the interface list of these attributes, with its own if there is one, would have more than 64 entries.
@@ -142,7 +142,7 @@ fn add_own(
     if entry.locators.is_none() {
         return Ok(());
     }
-    let attr = defined(alloc, entry.name, false, entry.locators, List::make(alloc))?;
+    let attr = defined(alloc, entry.name, false, entry.locators, Few::none(alloc))?;
     add_attr(alloc, declared, graph, attr)
 }
 
@@ -152,7 +152,7 @@ fn add_entry(
     declared: &mut Catalog,
     graph: &mut Graph,
     entry: &Entry<'_>,
-    numbers: List<u32>,
+    numbers: Few<u32>,
 ) -> Result<(), Memory>
     requires attrs { length declared.old.attrs < 65536 }
     requires devices { length declared.old.devices < 65536 }

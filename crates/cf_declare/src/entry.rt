@@ -2,7 +2,7 @@ ghost use Rattle.std.specs.Prelude.{◌≡◌, ◌≤◌, [], true, false, is_so
 ghost use Rattle.config_rules.specs.Declared.{attr};
 
 use cf_names::Catalog;
-use cf_types::{Attr, List, Locator, Memory, Name};
+use cf_types::{Attr, Few, List, Locator, Memory, Name};
 use std::alloc::Global;
 
 /// What a statement says of an attribute or a device: the name, the locators, if there are braces, and the attributes
@@ -11,7 +11,7 @@ use std::alloc::Global;
 pub struct Entry<'a> {
     pub name: &'a Name,
     pub locators: &'a Option<List<Locator>>,
-    pub needs: &'a List<Name>,
+    pub needs: &'a Few<Name>,
 }
 
 fn copied_locator(locator: &Locator) -> Result<Locator, Memory>
@@ -50,7 +50,7 @@ pub fn defined(
     name: &Name,
     pseudo: bool,
     locators: &Option<List<Locator>>,
-    numbers: List<u32>,
+    numbers: Few<u32>,
 ) -> Result<Attr, Memory>
     ensures { IfOk result (λ a. a ≡ attr name.now (is_some locators.now) false pseudo (unwrap_or locators.now []) numbers) }
 {
@@ -74,7 +74,7 @@ pub fn class_attr(alloc: Global, name: &Name) -> Result<Attr, Memory>
         class: true,
         pseudo: false,
         locs: List::make(alloc),
-        needs: List::make(alloc),
+        needs: Few::none(alloc),
     })
 }
 

@@ -9,7 +9,7 @@ ghost use Rattle.cf_declare.specs.Judging.{Judges, Takes};
 use crate::lookup::{attr_named, is_root, numbered_attr};
 use cf_names::Catalog;
 use cf_types::code::configuration as code;
-use cf_types::{Attach, List, Locator, Memory, Name, Place};
+use cf_types::{Attach, Few, List, Locator, Memory, Name, Place};
 use std::alloc::Global;
 
 pub fn has_attr(declared: &Catalog, name: &Name) -> bool
@@ -24,17 +24,32 @@ pub fn has_device(declared: &Catalog, name: &Name) -> bool
     declared.device_number(name).is_some()
 }
 
+/// The number of an attribute, as the only one of a list; `None` if the attribute is not there.
+#[inline(always)]
+fn only_number(declared: &Catalog, name: &Name) -> Option<Few<u32>>
+    requires { length declared.now.attrs ≤ 65536 }
+    ensures { result ≡ option_map (λ number. number ∷ []) (attr_number declared.now.attrs name.now) }
+{
+    match declared.attr_number(name) {
+        Some(number) => Some(Few::one(number as u32)),
+        None => None,
+    }
+}
+
 /// The numbers of these attributes; `None` if one of them is not there.
 pub fn known_numbers(
     alloc: Global,
     declared: &Catalog,
     names: &[Name],
-) -> Result<Option<List<u32>>, Memory>
+) -> Result<Option<Few<u32>>, Memory>
     requires { length declared.now.attrs ≤ 65536 }
     ensures found { IfOk result (λ found. MatchOption found (lacks_attr declared.now names.now ≡ true)
         (λ numbers. (lacks_attr declared.now names.now ≡ false) × (numbers ≡ attr_numbers declared.now names.now))) }
     ensures within { IfOk result (λ found. IfSome found (λ numbers. All (λ a. a < length declared.now.attrs) numbers)) }
 {
+    if let [name] = names {
+        return Ok(only_number(declared, name));
+    }
     let mut numbers = Vec::with_capacity(alloc, names.len())?;
     for name in names {
         let Some(number) = declared.attr_number(name) else {
@@ -42,7 +57,7 @@ pub fn known_numbers(
         };
         numbers.push(number as u32)?;
     }
-    Ok(Some(List::from_vec(numbers)))
+    Ok(Some(Few::from_vec(numbers)))
 }
 
 /// Whether a locator is given twice in a list.
@@ -95,15 +110,30 @@ fn place_found(declared: &Catalog, name: &Name) -> Result<Place, u8>
     }
 }
 
+/// The place of a name, as the only one of a list, or its code.
+#[inline(always)]
+fn only_place(declared: &Catalog, name: &Name) -> Result<Few<Place>, u8>
+    requires { length declared.now.attrs ≤ 65536 }
+    ensures { Judges (place_fault declared.now name.now) (place_named declared.now name.now ∷ []) result }
+{
+    match place_found(declared, name) {
+        Ok(place) => Ok(Few::one(place)),
+        Err(code) => Err(code),
+    }
+}
+
 /// The places of these names, or the first code of them.
 fn places_found(
     alloc: Global,
     declared: &Catalog,
     names: &[Name],
-) -> Result<Result<List<Place>, u8>, Memory>
+) -> Result<Result<Few<Place>, u8>, Memory>
     requires { length declared.now.attrs ≤ 65536 }
     ensures { IfOk result (Judges (places_fault declared.now names.now) (map (place_named declared.now) names.now)) }
 {
+    if let [name] = names {
+        return Ok(only_place(declared, name));
+    }
     let mut places = Vec::with_capacity(alloc, names.len())?;
     for name in names {
         match place_found(declared, name) {
@@ -111,7 +141,7 @@ fn places_found(
             Err(code) => return Ok(Err(code)),
         }
     }
-    Ok(Ok(List::from_vec(places)))
+    Ok(Ok(Few::from_vec(places)))
 }
 
 /// What an `attach` statement says: the device, the places, the name of the attachment, and the attributes that it names.

@@ -10,7 +10,7 @@ use crate::fault::{Attaching, is_pseudo, take_attach};
 use attr_graph::Graph;
 use cf_names::Catalog;
 use cf_types::code::configuration as code;
-use cf_types::{List, Locator, Memory, Name, Stmt};
+use cf_types::{Few, List, Locator, Memory, Name, Stmt};
 use std::alloc::Global;
 
 /// How many instance statements there may be.
@@ -20,7 +20,7 @@ pub const MAX_INSTANCES: usize = 8_192;
 fn entry_of<'a>(
     name: &'a Name,
     locators: &'a Option<List<Locator>>,
-    needs: &'a List<Name>,
+    needs: &'a Few<Name>,
 ) -> Entry<'a>
     ensures name { result.name.now ≡ name.now }
     ensures locators { result.locators.now ≡ locators.now }

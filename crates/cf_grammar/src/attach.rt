@@ -4,7 +4,7 @@ ghost use Rattle.cf_words.specs.Words.{piece_of};
 ghost use Rattle.cf_grammar.specs.Places.{is_before_last};
 
 use crate::define::needs_of;
-use cf_types::{List, Memory, Name, Stmt};
+use cf_types::{Few, Memory, Name, Stmt};
 use cf_words::{Known, Word, alone_name, known_name, names_of, split_before};
 
 /// Whether a statement's places end with `with` and one word more.
@@ -23,7 +23,7 @@ fn is_named(words: &[Word]) -> bool
 fn attached(
     known: &mut Known,
     device: Name,
-    needs: List<Name>,
+    needs: Few<Name>,
     words: &[Word],
 ) -> Result<Option<Stmt>, Memory>
     ensures { IfOk result (λ s. s ≡ attached device needs (map piece_of words.now)) }

@@ -4,7 +4,7 @@ ghost use Rattle.config_rules.specs.Form.{defining, device_stmt, locators_of, ne
 ghost use Rattle.cf_words.specs.Words.{piece_of};
 ghost use Rattle.cf_grammar.specs.Define.{made};
 
-use cf_types::{List, Locator, Memory, Name, Stmt};
+use cf_types::{Few, List, Locator, Memory, Name, Stmt};
 use cf_words::{Known, Word, known_name, locators_of, names_of, parted_at};
 
 /// What a statement with a list of locators and of attributes defines.
@@ -16,7 +16,7 @@ pub enum Defines {
 }
 
 #[inline(always)]
-fn make(defines: Defines, name: Name, locs: Option<List<Locator>>, needs: List<Name>) -> Stmt
+fn make(defines: Defines, name: Name, locs: Option<List<Locator>>, needs: Few<Name>) -> Stmt
     ensures { result ≡ made defines name locs needs }
 {
     match defines {
@@ -28,11 +28,11 @@ fn make(defines: Defines, name: Name, locs: Option<List<Locator>>, needs: List<N
 
 /// The attributes after a colon, or none.
 #[inline(always)]
-pub fn needs_of(known: &mut Known, words: &[Word]) -> Result<Option<List<Name>>, Memory>
+pub fn needs_of(known: &mut Known, words: &[Word]) -> Result<Option<Few<Name>>, Memory>
     ensures { IfOk result (λ needs. needs ≡ needs_of (map piece_of words.now)) }
 {
     match words {
-        [] => Ok(Some(List::make(known.alloc()))),
+        [] => Ok(Some(Few::none(known.alloc()))),
         [colon, names @ ..] => {
             if !colon.is_mark(b":") {
                 return Ok(None);

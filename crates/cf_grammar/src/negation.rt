@@ -3,7 +3,7 @@ ghost use Rattle.config_rules.specs.Form.{alone, at_place, is_word, name_of, nam
 ghost use Rattle.cf_words.specs.Words.{piece_of};
 ghost use Rattle.cf_grammar.specs.Negation.{negated_of, negated_spelling, no_by_unit, no_by_word};
 
-use cf_types::{AtSpec, ItemKind, List, Memory, Name, Stmt, UnitMark};
+use cf_types::{AtSpec, Few, ItemKind, Memory, Name, Stmt, UnitMark};
 use cf_words::{Known, MarkedUnit, Word, alone_name, names_of, place_of, unit_chunk};
 
 /// `at` and what an instance attaches to.
@@ -67,11 +67,9 @@ fn no_pseudo_device(known: &mut Known, words: &[Word]) -> Result<Option<Stmt>, M
     let Some(name) = alone_name(known.alloc(), words)? else {
         return Ok(None);
     };
-    let mut names = List::make(known.alloc());
-    names.push(name)?;
     Ok(Some(Stmt::NoItems {
         kind: ItemKind::PseudoDevice,
-        names,
+        names: Few::one(name),
     }))
 }
 

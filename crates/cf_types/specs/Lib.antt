@@ -1,3 +1,4 @@
+pub mod Few
 pub mod Gather
 pub mod Held
 pub mod ItemParts

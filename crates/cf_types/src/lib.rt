@@ -4,6 +4,7 @@
 
 pub mod code;
 mod declared;
+mod few;
 mod held;
 mod instance;
 mod item_list;
@@ -21,6 +22,7 @@ mod tables;
 mod tree;
 
 pub use declared::Declared;
+pub use few::Few;
 pub use held::{Held, Items, Pieces};
 pub use instance::{AttachPlace, Instance, Joined, Target};
 pub use item_list::ItemList;

@@ -1,4 +1,4 @@
-use crate::{Items, List, Locator, Name, Pieces, Refusal, Text};
+use crate::{Few, Items, List, Locator, Name, Pieces, Refusal, Text};
 
 /// What a token of a configuration file is.
 #[derive(Clone, Copy, Debug, PartialEq, Eq)]
@@ -99,7 +99,7 @@ pub enum Stmt {
     Define {
         name: Name,
         locs: Option<List<Locator>>,
-        needs: List<Name>,
+        needs: Few<Name>,
     },
     /// `devclass`.
     Class {
@@ -109,20 +109,20 @@ pub enum Stmt {
     DefPseudo {
         name: Name,
         locs: Option<List<Locator>>,
-        needs: List<Name>,
+        needs: Few<Name>,
     },
     /// `device`.
     Device {
         name: Name,
         locs: Option<List<Locator>>,
-        needs: List<Name>,
+        needs: Few<Name>,
     },
     /// `attach`; the place `root` is the name `root`.
     Attach {
         device: Name,
-        places: List<Name>,
+        places: Few<Name>,
         attach_name: Option<Name>,
-        needs: List<Name>,
+        needs: Few<Name>,
     },
     /// A device instance, as `com0 at isa?`; the flags are 0 if none are written.
     Inst {
@@ -145,7 +145,7 @@ pub enum Stmt {
     /// `no` and items by name.
     NoItems {
         kind: ItemKind,
-        names: List<Name>,
+        names: Few<Name>,
     },
     /// `options`.
     Options {
@@ -157,7 +157,7 @@ pub enum Stmt {
     },
     /// `file-system`.
     FileSystems {
-        names: List<Name>,
+        names: Few<Name>,
     },
     /// `pseudo-device`; the count is 1 if none is written.
     PseudoDevice {

@@ -1,4 +1,4 @@
-use crate::{ItemList, List, Locs, Name, SharedText, Text};
+use crate::{Few, ItemList, List, Locs, Name, SharedText, Text};
 
 /// A locator of an attribute, with its default; an instance may leave it out if it is optional.
 #[derive(Drop)]
@@ -21,7 +21,7 @@ pub struct Attr {
     /// At most 16, of different names.
     pub locs: List<Locator>,
     /// The numbers of the attributes that it names, all of them earlier.
-    pub needs: List<u32>,
+    pub needs: Few<u32>,
 }
 
 /// A device definition. Its number is its place in the tables.
@@ -31,7 +31,7 @@ pub struct Device {
     /// The interface attribute of its own name, if braces are written.
     pub own: Option<u32>,
     /// The attributes that it names.
-    pub needs: List<u32>,
+    pub needs: Few<u32>,
 }
 
 /// Where a device attaches: at the root, or at an interface attribute.
@@ -47,8 +47,8 @@ pub struct Attach {
     pub name: Name,
     pub device: u32,
     /// Where it may attach, in written order.
-    pub places: List<Place>,
-    pub needs: List<u32>,
+    pub places: Few<Place>,
+    pub needs: Few<u32>,
 }
 
 /// The parent device that a row names; the unit is `None` if `?` is written.

@@ -1,4 +1,4 @@
-ghost use Rattle.std.specs.Prelude.{◌≡◌, ◌≤◌, IfOk, IsTrue, is_some, length, map};
+ghost use Rattle.std.specs.Prelude.{◌≡◌, ◌≤◌, [], ◌∷◌, IfOk, IsTrue, is_some, length, map};
 ghost use Rattle.cf_text.specs.Shapes.{is_written};
 ghost use Rattle.config_rules.specs.Form.{alone, bytes_of, name_of, names_of, path_of};
 ghost use Rattle.cf_words.specs.Words.{piece_of};
@@ -6,7 +6,7 @@ ghost use Rattle.cf_words.specs.Words.{piece_of};
 use crate::known::Known;
 use crate::word::{Word, count_parts, first_part};
 use cf_text::is_name;
-use cf_types::{List, Memory, Name, Text};
+use cf_types::{Few, Memory, Name, Text};
 use std::alloc::Global;
 
 /// The greatest length of a written name.
@@ -65,10 +65,25 @@ fn alone_known(known: &mut Known, words: &[Word]) -> Result<Option<Name>, Memory
     }
 }
 
+/// Reads a word as the only name of a list.
+#[tactic(auto, using(crate::proofs::NameLemmas::one_name))]
+#[inline(always)]
+fn only_name(known: &mut Known, word: Word) -> Result<Option<Few<Name>>, Memory>
+    ensures { IfOk result (λ names. names ≡ names_of (piece_of word.entry ∷ [])) }
+{
+    match known_name(known, word)? {
+        Some(name) => Ok(Some(Few::one(name))),
+        None => Ok(None),
+    }
+}
+
 /// Reads one or more names, separated by commas.
-pub fn names_of(known: &mut Known, words: &[Word]) -> Result<Option<List<Name>>, Memory>
+pub fn names_of(known: &mut Known, words: &[Word]) -> Result<Option<Few<Name>>, Memory>
     ensures { IfOk result (λ names. names ≡ names_of (map piece_of words.now)) }
 {
+    if let [word] = words {
+        return only_name(known, *word);
+    }
     let mut names = Vec::with_capacity(known.alloc(), count_parts(words))?;
     let mut left = Some(words);
     while let Some(rest) = left {
@@ -79,7 +94,7 @@ pub fn names_of(known: &mut Known, words: &[Word]) -> Result<Option<List<Name>>,
         }
         left = behind;
     }
-    Ok(Some(List::from_vec(names)))
+    Ok(Some(Few::from_vec(names)))
 }
 
 /// Reads a word as the value of an option: a chunk, or a string, which may be empty.

@@ -7,5 +7,5 @@ use Rattle.attr_graph.proofs.gather.add_last.Goals as goal
 pub returns-then-are_unmarked-clause-ok : goal.returns-then-are_unmarked-clause-ok
 returns-then-are_unmarked-clause-ok c =
     let unmarked = subst (λ (marks : List Bool). list_all (λ x. not (slice_index_or marks x false)) c.args.numbers.now ≡ true) c.deref.ensures.value (c.if-are_unmarked.ensures refl) in
-    c.in_ok-extend_from_slice.ensures.items
+    c.in_ok-extend_from_slice.ensures.ok
     ∙ sym (apart_all c.args.list.now.items c.args.numbers.now c.requires.once (unmarked_apart c.args.list.now.items c.args.marks.now.items c.args.numbers.now c.requires.marked unmarked c.requires.within))

@@ -18,4 +18,4 @@ loop-left-preserved c =
     (sym c.in-Some-2.is ∙ c.in_ok-name.ensures) c.in_ok-push-in-Some-2.ensures.items
 
 pub returns : goal.returns
-returns c = ap Some c.from_vec.ensures ∙ part_all (alone name_of) c.loop-left.names.items _ _ c.loop-left.invariant (ap parts_left c.in_default.is)
+returns c = ap Some c.from_vec.ensures ∙ part_all (alone name_of) c.loop-left.names.items _ _ c.loop-left.invariant (ap parts_left c.in_default-left.is)
