@@ -1,5 +1,5 @@
 -- Tests of lists that are gone through in a loop.
-use Rattle.std.proofs.Common.{◌≡◌, ℕ, ◌+◌, ◌<◌, Bool, ◌||◌, List, [], ◌∷◌, length, get_or, drop, map, refl, ap, sym, ◌∙◌}
+use Rattle.std.proofs.Common.{◌≡◌, ℕ, ◌+◌, ◌<◌, ◌≤◌, Bool, ◌||◌, List, [], ◌∷◌, length, get_or, drop, map, refl, ap, sym, ◌∙◌, arith}
 use Rattle.std.specs.Prelude.{bytes_eq}
 use Rattle.std.specs.List.{list_any}
 use Rattle.std.proofs.lemmas.List.{drop_more}
@@ -25,3 +25,9 @@ repeats_here locs i l h is =
 pub places_here : (d : Declared) (places : List (List ℕ)) (i : ℕ) (x : List ℕ) → i < length places → x ≡ get_or places i x → places_fault d (drop i places) ≡ place_fault d x or places_fault d (drop (i + 1) places)
 places_here d places i x h is =
     ap (places_fault d) (drop_more places i x h) ∙ ap (λ (y : List ℕ). place_fault d y or places_fault d (drop (i + 1) places)) (sym is)
+
+-- a list of one value is that value alone
+pub only_one : (xs : List (List ℕ)) (x : List ℕ) → 1 ≤ length xs → length xs < 2 → x ≡ get_or xs 0 x → xs ≡ x ∷ []
+only_one [] x some few is = absurd (omega (arith, some))
+only_one (y ∷ []) x some few is = ap (λ (z : List ℕ). z ∷ []) (sym is)
+only_one (y ∷ z ∷ zs) x some few is = absurd (omega (arith, few))

@@ -1,6 +1,7 @@
-ghost use Rattle.std.specs.Prelude.{◌≡◌, ◌<◌, ◌≤◌, ◌∷◌, true, false, length, map, bytes_eq, All, IfOk, IfSome, MatchOption};
+ghost use Rattle.std.specs.Prelude.{◌≡◌, ◌<◌, ◌≤◌, [], ◌∷◌, true, false, length, map, option_map, bytes_eq, All, IfOk, IfSome, MatchOption};
 ghost use Rattle.std.specs.List.{list_any};
 ghost use Rattle.cf_names.specs.Indexed.{with_attach};
+ghost use Rattle.cf_types.specs.Lookups.{attr_number};
 ghost use Rattle.config_rules.specs.Fault.{attr_numbers, has_attr, has_device, is_pseudo, lacks_attr};
 ghost use Rattle.config_rules.specs.Fault.{attach_fault, place_fault, places_fault, repeats, repeats_locator};
 ghost use Rattle.cf_declare.specs.Declare.{attach_named, place_named};
@@ -114,7 +115,7 @@ fn place_found(declared: &Catalog, name: &Name) -> Result<Place, u8>
 #[inline(always)]
 fn only_place(declared: &Catalog, name: &Name) -> Result<Few<Place>, u8>
     requires { length declared.now.attrs ≤ 65536 }
-    ensures { Judges (place_fault declared.now name.now) (place_named declared.now name.now ∷ []) result }
+    ensures { Judges (places_fault declared.now (name.now ∷ [])) (map (place_named declared.now) (name.now ∷ [])) result }
 {
     match place_found(declared, name) {
         Ok(place) => Ok(Few::one(place)),
