@@ -98,6 +98,20 @@ goes_further before after line place len first text more lt is differs goes =
       behind = ap lines_behind left;
     }
 
+-- the same by the place that was reached
+pub record Reached (before after : List Token) (line place next : ℕ) (text : List ℕ) : Type 0 where
+  pub further : place < next
+  pub within : next ≤ length text
+  pub so_far : with_line after line next (parts_of (first_of (drop next text))) ≡ with_line before line place (parts_of (first_of (drop place text)))
+  pub behind : rest_of (drop next text) ≡ rest_of (drop place text)
+
+pub part_reached : (before after : List Token) (line place next first : ℕ) (text more : List ℕ) → place < length text → drop place text ≡ first ∷ more
+    → PartGoes before line place first more (Ok (Some next)) after → Reached before after line place next text
+part_reached before after line place next first text more lt is (len, there, goes, differs) =
+    let f : Further before after line place len text = goes_further before after line place len first text more lt is differs goes in
+    subst (λ (end : ℕ). Reached before after line place end text) (sym there)
+    (record { further = omega (arith, goes.0); within = f.within; so_far = f.so_far; behind = f.behind })
+
 pub part_is : (before after : List Token) (line place first : ℕ) (more : List ℕ) (o p : Option ℕ) → o ≡ p → PartGoes before line place first more (Ok o) after → PartGoes before line place first more (Ok p) after
 part_is before after line place first more o p is goes = let Q : Option ℕ → Type 0 = λ q. PartGoes before line place first more (Ok q) after in subst Q is goes
 

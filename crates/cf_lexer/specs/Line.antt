@@ -29,10 +29,11 @@ GoesOn before line at rest (Ok len) after =
 GoesOn before line at rest (Err (Fault l code)) after = (l ≡ line) × (with_line before line at (parts_of rest) ≡ Err code)
 GoesOn before line at rest (Err Memory) after = Unit {0}
 
--- what becomes of a part by its first byte and the bytes of the text behind it; a newline is none
+-- where a part leads to by its first byte and the bytes of the text behind it: the place behind it; a newline is none
 abbrev pub PartGoes : List Token → ℕ → ℕ → ℕ → List ℕ → Result (Option ℕ) LexStop → List Token → Type 0
 PartGoes before line at first more (Ok None) after = ((first == 10) ≡ true) × (after ≡ before)
-PartGoes before line at first more (Ok (Some len)) after = GoesOn before line at (first ∷ first_of more) (Ok len) after × ((first == 10) ≡ false)
+PartGoes before line at first more (Ok (Some next)) after =
+    (len : ℕ) × (next ≡ at + len) × GoesOn before line at (first ∷ first_of more) (Ok len) after × ((first == 10) ≡ false)
 PartGoes before line at first more (Err stop) after = GoesOn before line at (first ∷ first_of more) (Err stop) after × ((first == 10) ≡ false)
 
 -- what a function answers is what the text gives, unless memory ran out

@@ -1,4 +1,4 @@
-ghost use Rattle.std.specs.Prelude.{◌≡◌, ◌+◌, ◌==◌, ◌&&◌, slice_index, ◌≤◌, length, drop, take_while, Some, IfOk};
+ghost use Rattle.std.specs.Prelude.{◌≡◌, ◌+◌, ◌==◌, ◌&&◌, slice_index, ◌≤◌, length, drop, min, take_while, Some, IfOk};
 ghost use Rattle.std.specs.List.{prefix_len};
 ghost use Rattle.config_rules.specs.Cut.{is_chunk_byte, is_space, is_text_byte, is_mark_byte};
 ghost use Rattle.cf_lexer.specs.Front.{IsWithin, front, front_at, is_plain_byte, quoted_front, span};
@@ -71,6 +71,44 @@ fn is_text_byte(byte: u8) -> bool
     ensures { result ≡ is_text_byte byte }
 {
     matches!(byte, b'\t' | b' '..=b'~') && byte != b'"'
+}
+
+/// How many of the four bytes that begin there make a chunk: all up to the first that may not be part of one.
+#[inline(always)]
+fn four_len(text: &[u8], place: usize) -> usize
+    requires { place + 4 ≤ length text.now }
+    ensures { result ≡ min 4 (prefix_len is_chunk_byte (drop place text.now)) }
+{
+    if !is_chunk_byte(text[place]) {
+        0
+    } else if !is_chunk_byte(text[place + 1]) {
+        1
+    } else if !is_chunk_byte(text[place + 2]) {
+        2
+    } else if !is_chunk_byte(text[place + 3]) {
+        3
+    } else {
+        4
+    }
+}
+
+/// Where the chunk ends whose bytes from this place on are looked at. Four at a time take less than one after the other.
+#[inline(always)]
+pub fn chunk_end(text: &[u8], start: usize) -> usize
+    requires start { start ≤ length text.now }
+    requires short { length text.now ≤ 1048576 }
+    ensures end { result ≡ start + prefix_len is_chunk_byte (drop start text.now) }
+    ensures within { result ≤ length text.now }
+{
+    let mut end = start;
+    while end + 4 <= text.len() {
+        let more = four_len(text, end);
+        end += more;
+        if more < 4 {
+            return end;
+        }
+    }
+    end + chunk_len(&text[end..])
 }
 
 /// The length in bytes of the chunk at the beginning.

@@ -1,9 +1,9 @@
-ghost use Rattle.std.specs.Prelude.{◌≡◌, ◌+◌, ◌<◌, ◌≤◌, ◌∷◌, [], ◌++◌, ◌^◌, drop, length, slice_index, IfOk, IfSome, OnOk};
+ghost use Rattle.std.specs.Prelude.{◌≡◌, ◌==◌, false, ◌+◌, ◌<◌, ◌≤◌, ◌∷◌, [], ◌++◌, ◌^◌, drop, length, slice_index, IfOk, IfSome, OnOk};
 ghost use Rattle.config_rules.specs.Cut.{parts_of, token};
 ghost use Rattle.cf_lexer.specs.Line.{GoesOn, Leaves, PartGoes, span_tokens, with_line};
 ghost use Rattle.cf_lexer.specs.Lines.{bytes_behind, first_of, lines_from, rest_of};
 
-use crate::front::{Span, chunk_len, front_part, is_blank_byte, is_chunk_byte, is_mark_byte};
+use crate::front::{Span, chunk_end, front_part, is_blank_byte, is_chunk_byte, is_mark_byte};
 use cf_types::{Memory as NoMemory, Token, TokenKind};
 use thiserror::Error;
 
@@ -65,22 +65,22 @@ fn push_span(
     Ok(())
 }
 
-/// Appends the token of a part of this kind that begins at this place of the text and is so long.
+/// Appends the token of a part of this kind that begins at this place of the text and ends there.
 #[inline(always)]
 fn push_kind(
     tokens: &mut Vec<Token>,
     line: u32,
-    at: u32,
     kind: TokenKind,
-    len: usize,
+    start: usize,
+    end: usize,
 ) -> Result<(), NoMemory>
-    requires { at + len < 2 ^ 32 }
-    ensures { OnOk result (tokens.new.items ≡ tokens.old.items ++ token kind at (at + len) line ∷ []) }
+    requires { (start < 2 ^ 32) × (end < 2 ^ 32) }
+    ensures { OnOk result (tokens.new.items ≡ tokens.old.items ++ token kind start end line ∷ []) }
 {
     let token = Token {
         kind,
-        start: at,
-        end: at + len as u32,
+        start: start as u32,
+        end: end as u32,
         line,
     };
     push_token(tokens, token)
@@ -106,8 +106,28 @@ fn push_rare(
     Ok(front.len)
 }
 
-/// Appends the token of the part of a text that begins there, if it has one, and returns how long the part is; `None`
-/// for a newline, which is no part of a line.
+/// The same by the place of the part in its text; returns the place behind it. Only a rare part makes room for what
+/// `push_rare` answers.
+#[inline(always)]
+fn push_rare_at(
+    tokens: &mut Vec<Token>,
+    line: u32,
+    text: &[u8],
+    place: usize,
+) -> Result<Option<usize>, LexStop>
+    requires within { place < length text.now }
+    requires short { length text.now ≤ 1048576 }
+    requires first { (slice_index text.now place == 10) ≡ false }
+    ensures { PartGoes tokens.old.items line place (slice_index text.now place) (bytes_behind text.now place) result tokens.new.items }
+{
+    match push_rare(tokens, line, place as u32, text[place], &text[place + 1..]) {
+        Ok(len) => Ok(Some(place + len)),
+        Err(stop) => Err(stop),
+    }
+}
+
+/// Appends the token of the part of a text that begins there, if it has one, and returns the place behind the part;
+/// `None` for a newline, which is no part of a line.
 #[inline(always)]
 fn push_part(
     tokens: &mut Vec<Token>,
@@ -120,26 +140,22 @@ fn push_part(
     ensures { PartGoes tokens.old.items line place (slice_index text.now place) (bytes_behind text.now place) result tokens.new.items }
 {
     let first = text[place];
-    let at = place as u32;
     if is_chunk_byte(first) {
-        let len = chunk_len(&text[place + 1..]) + 1;
-        push_kind(tokens, line, at, TokenKind::Chunk, len)?;
-        return Ok(Some(len));
+        let end = chunk_end(text, place + 1);
+        push_kind(tokens, line, TokenKind::Chunk, place, end)?;
+        return Ok(Some(end));
     }
     if is_blank_byte(first) {
-        return Ok(Some(1));
+        return Ok(Some(place + 1));
     }
     if first == b'\n' {
         return Ok(None);
     }
     if is_mark_byte(first) {
-        push_kind(tokens, line, at, TokenKind::Mark, 1)?;
-        return Ok(Some(1));
+        push_kind(tokens, line, TokenKind::Mark, place, place + 1)?;
+        return Ok(Some(place + 1));
     }
-    match push_rare(tokens, line, at, first, &text[place + 1..]) {
-        Ok(len) => Ok(Some(len)),
-        Err(stop) => Err(stop),
-    }
+    push_rare_at(tokens, line, text, place)
 }
 
 /// Appends the tokens of the line that begins there, and returns where the next line begins, if there is one.
@@ -159,7 +175,7 @@ pub fn cut_line(
     let mut place = start;
     while place < text.len() {
         match push_part(tokens, line, text, place) {
-            Ok(Some(len)) => place += len,
+            Ok(Some(next)) => place = next,
             Ok(None) => return Ok(Some(place + 1)),
             Err(stop) => return Err(stop),
         }
