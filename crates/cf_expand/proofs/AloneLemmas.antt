@@ -1,5 +1,5 @@
 -- A text that is one statement.
-use Rattle.std.proofs.Common.{◌≡◌, ℕ, ◌+◌, ◌<◌, cond, Bool, true, false, None, List, [], ◌∷◌, ◌++◌, length, map, refl, ap, sym, subst, ◌∙◌, append-nil}
+use Rattle.std.proofs.Common.{◌≡◌, ℕ, ◌+◌, cond, Bool, true, false, None, List, [], ◌∷◌, ◌++◌, length, map, refl, ap, sym, subst, ◌∙◌, append-nil}
 use Rattle.std.specs.Prelude.{◌==◌, Ok, is_some, Option, Some}
 use Rattle.std.proofs.lemmas.Bool.{eqb-true}
 use Rattle.std.proofs.lemmas.List.{nil_from_length}
@@ -13,9 +13,9 @@ use Rattle.config_rules.specs.Cut.{cut_of, statements}
 use Rattle.config_rules.specs.Form.{Form}
 use Rattle.config_rules.specs.Reading.{Files, Here, Reader, Reading, Statement, condition_of, place, reader, statements_in}
 use Rattle.cf_expand.specs.Alone.{IsPlacedAtOnce, ReadsAs, placed_alone}
-use Rattle.cf_expand.specs.Levels.{levels_behind, read_placed, read_statement, read_statements, treat}
+use Rattle.cf_expand.specs.Levels.{levels_behind, read_statement, read_statements}
 use Rattle.cf_expand.specs.Lines.{Parts, statement_of}
-use Rattle.cf_expand.proofs.ReadLemmas.{placed_form, placed_here}
+use Rattle.cf_expand.proofs.ReadLemmas.{formed_here}
 use Rattle.cf_expand.proofs.ReaderLemmas.{first_here, opened_reads, with_file}
 
 same_both : (b : Bool) (r : Reading) → cond b r r ≡ r
@@ -51,7 +51,7 @@ alone_reads text c first rest s line form cut none parts empty is quiet here for
     let one : read_statements files (reader n files) place_of [] (statements_in text (all_tokens text c)) between ≡ read_statement files (reader n files) place_of [] s between =
     ap (λ ss. read_statements files (reader n files) place_of [] ss between) (only_one text c first rest none parts empty ∙ ap (λ (x : Statement). x ∷ []) (sym is)) ∙ one_read files (reader n files) place_of s between quiet in
     let read : read_statement files (reader n files) place_of [] s between ≡ place place_of s form between =
-    sym (placed_here files (reader n files) place_of [] s (condition_of s) between refl refl) ∙ sym (placed_form files (reader n files) place_of [] s form between between few formed refl) ∙ at_once files (reader n files) place_of s between in
+    sym (formed_here files (reader n files) place_of [] s (condition_of s) form between between few refl refl formed refl) ∙ at_once files (reader n files) place_of [] s between in
     sym opened ∙ one ∙ read ∙ ap (λ l. placed_alone name l form r) (sym here)
 
 none_of : {A : Type 0} (o : Option A) → false ≡ is_some o → o ≡ None

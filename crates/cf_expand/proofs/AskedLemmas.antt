@@ -14,7 +14,10 @@ use Rattle.cf_types.specs.declared.stmt.Token.{Token}
 use Rattle.cf_grammar.specs.Statement.{AreWithin, IsWithin}
 use Rattle.cf_io.specs.Asked.{Asks, AsksFront}
 use Rattle.cf_io.specs.Load.{asked_behind}
+use Rattle.cf_expand.specs.declared.source.Include.{Include}
+use Rattle.cf_expand.specs.declared.source.Source.{Source}
 use Rattle.cf_expand.specs.Asked.{AsksStep}
+use Rattle.cf_expand.specs.Steps.{here_of, include_at}
 use Rattle.cf_expand.specs.Lines.{statement_of}
 use Rattle.cf_expand.proofs.ItemLaws.{items_read}
 use Rattle.cf_io.proofs.AskedLemmas.{front_all, front_behind, front_more}
@@ -171,7 +174,7 @@ asked_whole true old x y is h = absurd (cc is)
 asked_whole false old x y is h = h
 
 -- a front of what an include asks for, where its file is the last that was asked for
-pub include_front : (files : Files) (below : Reader) → ReadsOn below → (here : Here) (levels : List Level) (s : Statement) (path : List ℕ) (optional : Bool) (r : Reading) (name : List ℕ) (start before after : Option (List (List ℕ)))
+include_front : (files : Files) (below : Reader) → ReadsOn below → (here : Here) (levels : List Level) (s : Statement) (path : List ℕ) (optional : Bool) (r : Reading) (name : List ℕ) (start before after : Option (List (List ℕ)))
     → (here.deepest || nat_le 4096 (length r.files)) ≡ false → name ≡ under_prefix r.prefixes path → before ≡ asked_behind start r.asked → AsksFront (name ∷ []) before after
     → AsksFront (include files below here levels s path optional r).asked start after
 include_front files below on here levels s path optional r name start before after few is since front =
@@ -189,8 +192,17 @@ stopped P due told (Ok done) start asked is front = absurd is
 stopped P due told (Err stop) start asked is front = front
 
 -- a file below the greatest depth, and not one too many
-pub within_limits : (levels count : ℕ) → 1 ≤ levels → count < 4096 → (levels == 0 || nat_le 4096 count) ≡ false
+within_limits : (levels count : ℕ) → 1 ≤ levels → count < 4096 → (levels == 0 || nat_le 4096 count) ≡ false
 within_limits levels count some few = grind (arith, nat_tests)
+
+-- an include that stopped once its file was asked for
+pub include_stopped : {A E : Type 0} (P : E → Type 0) (named : Files) (source : Source) (around : ℕ) (levels : List Level) (s : Statement) (wanted : Include) (old : Reading) (told : List (List ℕ)) (name : List ℕ) (result : Result A E) (start before after : Option (List (List ℕ)))
+    → 1 ≤ source.levels → length old.files < 4096 → name ≡ under_prefix old.prefixes wanted.path → IsErrAnd result P → before ≡ asked_behind start old.asked → AsksFront (name ∷ []) before after
+    → AsksStep (include_at named around source levels s wanted old).asked told result start after
+include_stopped P named source around levels s wanted old told name result start before after some few is stop since front =
+    stopped P (include_at named around source levels s wanted old).asked told result start after stop
+    (include_front named (reader source.levels named) (reader_grows source.levels named) (here_of around source) levels s wanted.path wanted.optional old name start before after
+    (within_limits source.levels (length old.files) some few) is since front)
 
 -- the same of a call that asks for all that is due
 pub stopped_all : {A E : Type 0} (P : E → Type 0) (due : List (List ℕ)) (result : Result A E) (start asked : Option (List (List ℕ))) → IsErrAnd result P → AsksFront due start asked → Asks due result start asked

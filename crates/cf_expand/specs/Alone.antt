@@ -2,7 +2,7 @@
 use Rattle.std.specs.Prelude.{◌≡◌, ℕ, ◌+◌, ◌<◌, List, [], ◌∷◌, ◌++◌, length}
 use Rattle.cf_types.specs.declared.stmt.Stmt.{Stmt}
 use Rattle.config_rules.specs.Reading.{Files, Here, Reader, Reading, Statement, place, reader}
-use Rattle.cf_expand.specs.Levels.{treat}
+use Rattle.cf_expand.specs.Levels.{Level, treat}
 
 -- a text with the line and the form of the statement that it is
 pub record Spoken : Type 0 where
@@ -21,4 +21,4 @@ ReadsAs text line form = (n : ℕ) (files : Files) (around : ℕ) (name : List �
 
 -- a statement of this form is placed, and does nothing else
 abbrev pub IsPlacedAtOnce : Stmt → Type 0
-IsPlacedAtOnce form = (files : Files) (below : Reader) (here : Here) (s : Statement) (r : Reading) → treat files below here [] s form r ≡ place here s form r
+IsPlacedAtOnce form = (files : Files) (below : Reader) (here : Here) (levels : List Level) (s : Statement) (r : Reading) → treat files below here levels s form r ≡ place here s form r

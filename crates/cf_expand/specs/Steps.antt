@@ -7,7 +7,7 @@ use Rattle.cf_expand.specs.declared.statement.Head.{Head}
 use Rattle.cf_expand.specs.Asked.{AsksIn}
 use Rattle.cf_grammar.specs.Statement.{AreWithin}
 use Rattle.config_rules.specs.Reading.{Files, Here, condition_of, Statement, Reader, Reading, statements_in, place, pop_prefix, reader, refused, under_prefix}
-use Rattle.cf_expand.specs.Levels.{Level, include, read_placed, read_statement, read_statements, treat}
+use Rattle.cf_expand.specs.Levels.{Level, include, read_statement, read_statements, treat}
 use Rattle.cf_lexer.specs.Rest.{MayRest, all_tokens, is_closed}
 use Rattle.cf_lexer.specs.declared.rest.Cutting.{Cutting}
 use Rattle.cf_expand.specs.declared.source.Include.{Include}
@@ -46,10 +46,6 @@ include_at named around source levels s i r = include named (reader source.level
 -- of a statement there
 abbrev pub statement_at : Files → ℕ → Source → List Level → Statement → Reading → Reading
 statement_at named around source levels s r = read_statement named (reader source.levels named) (here_of around source) levels s r
-
--- of one that stands in a part that is not left out
-abbrev pub placed_at : Files → ℕ → Source → List Level → Statement → Reading → Reading
-placed_at named around source levels s r = read_placed named (reader source.levels named) (here_of around source) levels s r
 
 -- where a file was opened, its statements are still to be read
 abbrev pub entered : Files → ℕ → Option Opened → Reading → Reading

@@ -69,8 +69,9 @@ fn ask<F: Files>(
     load(alloc, files, name)
 }
 
-/// Opens a file that was loaded, and cuts it. `None` if it cannot be cut into tokens; that is noted as the fault.
-fn open_cut(
+/// Opens a file that was loaded. `None` if it cannot be cut into tokens, which is noted as the fault; or if it is one
+/// statement, which is read at once.
+fn open(
     alloc: Global,
     progress: &mut Progress,
     name: Text,
@@ -83,6 +84,9 @@ fn open_cut(
     ensures asked { OnOk result (progress.new.asked ≡ progress.old.asked) }
     ensures read { IfOk result (λ opened. Opens limits.levels name text.items progress.old opened progress.new) }
 {
+    if read_alone(alloc, progress, name.items(), &text)? {
+        return Ok(None);
+    }
     let Limits { room, levels } = limits;
     let number = progress.files_len() as u32;
     progress.push_file(alloc, name.items())?;
@@ -103,27 +107,6 @@ fn open_cut(
         }
         Err(LexStop::Memory) => Err(Memory),
     }
-}
-
-/// Opens a file that was loaded. `None` if it cannot be cut into tokens, which is noted as the fault; or if it is one
-/// statement, which is read at once.
-fn open(
-    alloc: Global,
-    progress: &mut Progress,
-    name: Text,
-    text: Vec<u8>,
-    limits: Limits,
-) -> Result<Option<Opened>, Memory>
-    requires short { length text.items ≤ 1048576 }
-    requires few { length progress.old.files < 4096 }
-    ensures below { IfOk result (λ opened. IsBelow limits.room limits.levels opened) }
-    ensures asked { OnOk result (progress.new.asked ≡ progress.old.asked) }
-    ensures read { IfOk result (λ opened. Opens limits.levels name text.items progress.old opened progress.new) }
-{
-    if read_alone(alloc, progress, name.items(), &text)? {
-        return Ok(None);
-    }
-    open_cut(alloc, progress, name, text, limits)
 }
 
 /// Opens the named file.

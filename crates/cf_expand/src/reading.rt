@@ -1,11 +1,12 @@
-ghost use Rattle.std.specs.Prelude.{◌≡◌, ℕ, ◌-◌, ◌<◌, IfOk, IfSome, OnOk, Some, length};
+ghost use Rattle.std.specs.Prelude.{◌≡◌, ℕ, false, ◌-◌, ◌<◌, IfOk, IfSome, OnOk, Some, length};
 ghost use Rattle.cf_io.specs.Asked.{Asks};
 ghost use Rattle.config_rules.specs.Written.{AreWritten, IsWritten};
 ghost use Rattle.config_rules.specs.Reading.{nothing_read, reading};
+ghost use Rattle.cf_expand.specs.Alone.{IsPlacedAtOnce};
 ghost use Rattle.cf_expand.specs.Levels.{read_end};
 ghost use Rattle.cf_expand.specs.Asked.{AsksIn};
 ghost use Rattle.cf_expand.specs.Stop.{Counted};
-ghost use Rattle.cf_expand.specs.Steps.{AsksTreating, IsCutting, Treats, WhereTold, entered, expanded, here_of, placed_at, statement_at};
+ghost use Rattle.cf_expand.specs.Steps.{AsksTreating, IsCutting, Treats, WhereTold, entered, expanded, here_of, statement_at};
 
 use crate::conditions::Conditions;
 use crate::open::{open_first, open_include};
@@ -38,6 +39,17 @@ fn read_end(
         Some(line) => progress.refuse(alloc, source.name.items(), line, code::BAD_NESTING),
         None => Ok(()),
     }
+}
+
+/// Whether a statement says how to read on. All others are placed, and do nothing else.
+#[inline(always)]
+fn is_directive(stmt: &Stmt) -> bool
+    ensures { result ≡ false → IsPlacedAtOnce stmt.now }
+{
+    matches!(
+        stmt,
+        Stmt::Include { .. } | Stmt::Prefix { .. } | Stmt::Cond { .. }
+    )
 }
 
 /// Reads a statement of this form, with the file that it includes. It is a function of its own so that those which read
@@ -73,75 +85,6 @@ fn read_directive<F: Files>(
     read_source(alloc, files, progress, &inner, cutting)
 }
 
-/// Reads a statement that has this form. A few say how to read on; all others are placed.
-#[cycle(statements)]
-#[inline(always)]
-fn read_formed<F: Files>(
-    files: &mut F,
-    progress: &mut Progress,
-    place: Place<'_>,
-    head: Head,
-    stmt: Stmt,
-) -> Result<(), ExpandStop>
-    requires few { length progress.old.placed < 65536 }
-    requires written { IsWritten stmt }
-    ensures told { F.told files.new ≡ F.told files.old }
-    ensures counted { Counted (F.faults files.old) (F.faults files.new) result }
-    ensures read { Treats (F.told files.old) place.entry.source.now place.entry.conditions.now head stmt progress.old result progress.new }
-    ensures asked { AsksTreating (F.told files.old) place.entry.source.now place.entry.conditions.now head stmt progress.old result
-        (F.asked files.old) (F.asked files.new) }
-{
-    match &stmt {
-        Stmt::Include { .. } | Stmt::Prefix { .. } | Stmt::Cond { .. } => {
-            read_directive(files, progress, place, head, stmt)
-        }
-        _ => {
-            progress.place(place.source.number, head.line, stmt)?;
-            Ok(())
-        }
-    }
-}
-
-/// Reads a statement of a part that is not left out.
-#[cycle(statements)]
-#[inline(always)]
-fn read_placed<'a, F: Files>(
-    files: &mut F,
-    progress: &mut Progress,
-    place: Place<'_>,
-    statement: &Statement<'a, '_>,
-    words: &mut Vec<Word<'a>>,
-) -> Result<(), ExpandStop>
-    ensures told { F.told files.new ≡ F.told files.old }
-    ensures counted { Counted (F.faults files.old) (F.faults files.new) result }
-    ensures read { WhereTold (F.told files.old) (λ named. OnOk result ((around : ℕ) → place.entry.source.now.room ≡ 16 - around
-        → progress.new ≡ placed_at named around place.entry.source.now place.entry.conditions.now statement.now progress.old)) }
-    ensures asked { AsksIn (F.told files.old) place.entry.source.now progress.old
-        (λ named around. placed_at named around place.entry.source.now place.entry.conditions.now statement.now progress.old)
-        result (F.asked files.old) (F.asked files.new) }
-{
-    let line = statement.line();
-    if progress.placed_len() >= MAX_PLACED {
-        let alloc = progress.alloc();
-        progress.refuse(
-            alloc,
-            place.source.name.items(),
-            line,
-            code::TOO_MANY_STATEMENTS,
-        )?;
-        return Ok(());
-    }
-    match statement.read(progress, words) {
-        Ok(stmt) => read_formed(files, progress, place, statement.head(), stmt),
-        Err(GrammarStop::Fault { code }) => {
-            let alloc = progress.alloc();
-            progress.refuse(alloc, place.source.name.items(), line, code)?;
-            Ok(())
-        }
-        Err(GrammarStop::Memory) => Err(ExpandStop::Memory),
-    }
-}
-
 /// Reads a statement, with the file that it includes. The words are room for those of the statement.
 #[cycle(statements)]
 #[inline(always)]
@@ -160,13 +103,26 @@ fn read_with_include<'a, F: Files>(
         (λ named around. statement_at named around place.entry.source.now place.entry.conditions.now statement.now progress.old)
         result (F.asked files.old) (F.asked files.new) }
 {
-    let word = statement.word();
-    if place.conditions.is_placed(word) {
-        return read_placed(files, progress, place, statement, words);
+    let head = statement.head();
+    if !place.conditions.is_placed(head.word) {
+        return Ok(pass_over(progress, place, head)?);
     }
-    let line = statement.line();
-    pass_over(progress, place, Head { word, line })?;
-    Ok(())
+    let alloc = progress.alloc();
+    if progress.placed_len() >= MAX_PLACED {
+        let code = code::TOO_MANY_STATEMENTS;
+        return Ok(progress.refuse(alloc, place.source.name.items(), head.line, code)?);
+    }
+    match statement.read(progress, words) {
+        Ok(stmt) => if is_directive(&stmt) {
+            read_directive(files, progress, place, head, stmt)
+        } else {
+            Ok(progress.place(place.source.number, head.line, stmt)?)
+        },
+        Err(GrammarStop::Fault { code }) => {
+            Ok(progress.refuse(alloc, place.source.name.items(), head.line, code)?)
+        }
+        Err(GrammarStop::Memory) => Err(ExpandStop::Memory),
+    }
 }
 
 /// Reads the statements of a file whose text was cut, up to the first fault.

@@ -1,15 +1,15 @@
-use Rattle.std.proofs.Common.{◌≡◌, ◌+◌, ◌<◌, ◌∙◌, ◌++◌, arith, List, [], length, ap, refl, sym, subst, Some}
+use Rattle.std.proofs.Common.{◌≡◌, ◌+◌, ◌∙◌, ◌++◌, arith, List, [], length, ap, refl, sym, subst, Some}
 use Rattle.cf_types.specs.declared.stmt.Token.{Token}
 use Rattle.cf_grammar.specs.Statement.{AreWithin}
+use Rattle.cf_io.proofs.AskedLemmas.{front_all}
 use Rattle.config_rules.specs.Reading.{Reading, Statement, holds, names_declared, reader, statements_in}
-use Rattle.cf_expand.specs.Levels.{Level, levels_behind, read_placed, read_statement, read_statements, treat}
-use Rattle.cf_expand.proofs.AskedLemmas.{all_grown, asked_still, at_end, at_fault, asks_same, beyond, follows, front_grown, front_same, reader_grows, rest_grows, statements_grow, placed_grows, stopped_all, treat_grows, whole_grows}
+use Rattle.cf_expand.specs.Levels.{Level, levels_behind, read_statements, treat}
+use Rattle.cf_expand.proofs.AskedLemmas.{all_grown, asked_still, at_end, at_fault, asks_same, beyond, follows, front_same, reader_grows, statement_grows, statements_grow, stopped_all, treat_grows, whole_grows}
 use Rattle.cf_lexer.specs.Rest.{all_tokens, is_closed}
 use Rattle.cf_expand.specs.Unread.{Uncut, all_left}
 use Rattle.cf_expand.proofs.UnreadLemmas.{fewer_left, first_within, kept_only, last_kept, none_left, passed_left, passed_reads, rest_closed, split_within, started, suffix_within, whole_splits}
-use Rattle.cf_expand.proofs.ReadLemmas.{included, included_whole, on_ok, placed_form, placed_here, room_below}
-use Rattle.cf_expand.specs.Lines.{statement_of}
-use Rattle.cf_expand.specs.Steps.{entered, here_of, treated}
+use Rattle.cf_expand.proofs.ReadLemmas.{formed_here, included, included_whole, on_ok, placed_so, room_below, step_stopped}
+use Rattle.cf_expand.specs.Steps.{entered, here_of, statement_at, treated}
 use Rattle.cf_expand.proofs.reading.+statements.Goals as goal
 
 pub read_directive-returns-clause-read : goal.read_directive-returns-clause-read
@@ -61,64 +61,60 @@ read_directive-returns-clause-asked g t c = λ s begins named e start around roo
     asks_same (entered named (around + length levels) (Some c.in-Some-2.below) inner) _ _ _ _ (rw c.in-Some-2.is at whole)
     (c.read_source.ensures.asked named (c.in_ok-below.ensures.told ∙ e) start (around + length levels) room' (c.in_ok-below.ensures.asked named e start around s begins.0 since))
 
-pub read_placed-returns-in-Ok-clause-read : goal.read_placed-returns-in-Ok-clause-read
-read_placed-returns-in-Ok-clause-read g t c = λ named e.
+pub read_with_include-returns-then-is_directive-clause-read : goal.read_with_include-returns-then-is_directive-clause-read
+read_with_include-returns-then-is_directive-clause-read g t c = λ named e.
     let source = c.args.place.source.now in
-    let few : length c.args.progress.now.placed < 65536 = omega arith in
-    on_ok c.read_formed.result (c.read_formed.ensures.read named e)
-    (λ h. λ around room. h around c.args.statement.now room c.head.ensures
-    ∙ placed_form named (reader source.levels named) (here_of around source) c.args.place.conditions.now c.args.statement.now c.in-Ok.stmt c.args.progress.now c.read.new.progress few c.in-Ok.ensures.form c.read.ensures.same)
+    on_ok c.read_directive.result (c.read_directive.ensures.read named e)
+    (λ h. λ around room. h around c.args.statement.now room c.head-head.ensures
+    ∙ formed_here named (reader source.levels named) (here_of around source) c.args.place.conditions.now c.args.statement.now c.head-head.result.word c.in-Ok.stmt c.args.progress.now c.read.new.progress
+    (omega arith) (sym c.head-head.ensures.1) (sym c.is_placed.ensures ∙ c.if-not-is_placed.false) c.in-Ok.ensures.form c.read.ensures.same)
 
-pub read_placed-returns-in-Ok-clause-asked : goal.read_placed-returns-in-Ok-clause-asked
-read_placed-returns-in-Ok-clause-asked g t c = λ named e start around room before.
+pub read_with_include-returns-then-is_directive-clause-asked : goal.read_with_include-returns-then-is_directive-clause-asked
+read_with_include-returns-then-is_directive-clause-asked g t c = λ named e start around room before.
+    let source = c.args.place.source.now in
+    let formed = formed_here named (reader source.levels named) (here_of around source) c.args.place.conditions.now c.args.statement.now c.head-head.result.word c.in-Ok.stmt c.args.progress.now c.read.new.progress
+    (omega arith) (sym c.head-head.ensures.1) (sym c.is_placed.ensures ∙ c.if-not-is_placed.false) c.in-Ok.ensures.form c.read.ensures.same in
+    asks_same (treated named around source c.args.place.conditions.now c.args.statement.now c.in-Ok.stmt c.read.new.progress) _ c.read_directive.result start _ formed
+    (c.read_directive.ensures.asked c.args.statement.now c.head-head.ensures named e start around room (asked_still _ _ start _ (ap (λ (r : Reading). r.asked) c.read.ensures.same) before))
+
+pub read_with_include-returns-in_ok-place-in-Ok-clause-read : goal.read_with_include-returns-in_ok-place-in-Ok-clause-read
+read_with_include-returns-in_ok-place-in-Ok-clause-read g t c = λ named e around room.
+    let source = c.args.place.source.now in
+    placed_so named (reader source.levels named) (here_of around source) c.args.place.conditions.now c.args.statement.now c.head-head.result c.in-Ok.stmt c.args.progress.now c.read.new.progress c.place.new.self
+    (omega arith) c.head-head.ensures (sym c.is_placed.ensures ∙ c.if-not-is_placed.false) c.in-Ok.ensures.form c.read.ensures.same (c.is_directive.ensures c.if-is_directive.false) c.in_ok-place-in-Ok.ensures
+
+pub read_with_include-returns-in_ok-place-in-Ok-clause-asked : goal.read_with_include-returns-in_ok-place-in-Ok-clause-asked
+read_with_include-returns-in_ok-place-in-Ok-clause-asked g t c = λ named e start around room before.
+    let source = c.args.place.source.now in
+    let whole = placed_so named (reader source.levels named) (here_of around source) c.args.place.conditions.now c.args.statement.now c.head-head.result c.in-Ok.stmt c.args.progress.now c.read.new.progress c.place.new.self
+    (omega arith) c.head-head.ensures (sym c.is_placed.ensures ∙ c.if-not-is_placed.false) c.in-Ok.ensures.form c.read.ensures.same (c.is_directive.ensures c.if-is_directive.false) c.in_ok-place-in-Ok.ensures in
+    asked_still c.args.progress.now.asked _ start _ (ap (λ (r : Reading). r.asked) (sym whole) ∙ ap (λ (r : Reading). r.asked) c.in_ok-place-in-Ok.ensures ∙ ap (λ (r : Reading). r.asked) c.read.ensures.same) before
+
+pub read_with_include-returns-in_err-place-in-Ok-clause-asked : goal.read_with_include-returns-in_err-place-in-Ok-clause-asked
+read_with_include-returns-in_err-place-in-Ok-clause-asked g t c = λ named e start around room before.
     let source = c.args.place.source.now in
     let s = c.args.statement.now in
-    let few : length c.args.progress.now.placed < 65536 = omega arith in
-    asks_same (treated named around source c.args.place.conditions.now s c.in-Ok.stmt c.read.new.progress) (read_placed named (reader source.levels named) (here_of around source) c.args.place.conditions.now s c.args.progress.now) c.read_formed.result start _
-    (placed_form named (reader source.levels named) (here_of around source) c.args.place.conditions.now s c.in-Ok.stmt c.args.progress.now c.read.new.progress few c.in-Ok.ensures.form c.read.ensures.same)
-    (c.read_formed.ensures.asked s c.head.ensures named e start around room (asked_still _ _ start _ (ap (λ (r : Reading). r.asked) c.read.ensures.same) before))
+    let whole = statement_at named around source c.args.place.conditions.now s c.args.progress.now in
+    stopped_all _ whole.asked _ _ _ c.from_residual-in_err-place-in-Ok.ensures.1 (all_grown c.args.progress.now whole _ _ (statement_grows named (reader source.levels named) (reader_grows source.levels named) (here_of around source) c.args.place.conditions.now s c.args.progress.now) before)
 
-pub read_placed-returns-in-Err-Memory-clause-asked : goal.read_placed-returns-in-Err-Memory-clause-asked
-read_placed-returns-in-Err-Memory-clause-asked g t c = λ named e start around room before.
+pub read_with_include-returns-in-Err-Memory-clause-asked : goal.read_with_include-returns-in-Err-Memory-clause-asked
+read_with_include-returns-in-Err-Memory-clause-asked g t c = λ named e start around room before.
     let source = c.args.place.source.now in
     let s = c.args.statement.now in
-    let whole = read_placed named (reader source.levels named) (here_of around source) c.args.place.conditions.now s c.args.progress.now in
-    all_grown c.args.progress.now whole _ _ (placed_grows named (reader source.levels named) (reader_grows source.levels named) (here_of around source) c.args.place.conditions.now s c.args.progress.now) before
-
-pub read_with_include-returns-then-is_placed-clause-read : goal.read_with_include-returns-then-is_placed-clause-read
-read_with_include-returns-then-is_placed-clause-read g t c = λ named e.
-    let source = c.args.place.source.now in
-    on_ok c.read_placed.result (c.read_placed.ensures.read named e)
-    (λ h. λ around room. h around room
-    ∙ placed_here named (reader source.levels named) (here_of around source) c.args.place.conditions.now c.args.statement.now c.word-word.result c.args.progress.now c.word-word.ensures (sym c.is_placed.ensures ∙ c.if-is_placed.true))
-
-pub read_with_include-returns-then-is_placed-clause-asked : goal.read_with_include-returns-then-is_placed-clause-asked
-read_with_include-returns-then-is_placed-clause-asked g t c = λ named e start around room before.
-    let source = c.args.place.source.now in
-    let s = c.args.statement.now in
-    asks_same (read_placed named (reader source.levels named) (here_of around source) c.args.place.conditions.now s c.args.progress.now) (read_statement named (reader source.levels named) (here_of around source) c.args.place.conditions.now s c.args.progress.now) c.read_placed.result start _
-    (placed_here named (reader source.levels named) (here_of around source) c.args.place.conditions.now s c.word-word.result c.args.progress.now c.word-word.ensures (sym c.is_placed.ensures ∙ c.if-is_placed.true))
-    (c.read_placed.ensures.asked named e start around room before)
+    let whole = statement_at named around source c.args.place.conditions.now s c.args.progress.now in
+    all_grown c.args.progress.now whole _ _ (statement_grows named (reader source.levels named) (reader_grows source.levels named) (here_of around source) c.args.place.conditions.now s c.args.progress.now) before
 
 pub read_source-returns-in_err-read_with_include-clause-asked : goal.read_source-returns-in_err-read_with_include-clause-asked
 read_source-returns-in_err-read_with_include-clause-asked g t c = λ named e start around room before.
-    let source = c.args.source.now in
     let so_far = c.loop-first.invariant in
-    let whole = entered named around (Some (record { source = source; cutting = c.args.cutting })) c.args.progress.now in
-    stopped_all _ whole.asked _ _ _ c.from_residual-in_err-read_with_include.ensures.1
-    (front_grown (read_statement named (reader source.levels named) (here_of around source) c.loop-first.conditions (statement_of source.text c.in-Some.first.now) c.loop-first.progress) whole _ _
-    (rest_grows named (reader source.levels named) (reader_grows source.levels named) (here_of around source) c.loop-first.conditions source.text (all_left c.loop-first.left) c.in-Some.first.now (c.in-Some.rest.now ++ c.loop-first.left.more) c.loop-first.progress whole (whole_splits c.loop-first.left.kept c.loop-first.left.more c.in-Some.first.now c.in-Some.rest.now so_far.closed c.in-Some.ensures) (so_far.so_far named e around room))
-    (rw c.statement-statement.ensures at (c.in_err-read_with_include.ensures.asked named (so_far.told ∙ e) start around room (so_far.asked named e start around room before))))
+    step_stopped _ named c.args.source.now around c.loop-first.conditions c.loop-first.left c.in-Some.first.now c.in-Some.rest.now c.statement-statement.result c.loop-first.progress _ _ _ _
+    so_far.closed c.in-Some.ensures c.statement-statement.ensures (so_far.so_far named e around room) c.from_residual-in_err-read_with_include.ensures.1 (c.in_err-read_with_include.ensures.asked named (so_far.told ∙ e) start around room (so_far.asked named e start around room before))
 
 pub read_source-returns-in_err-follow-clause-asked : goal.read_source-returns-in_err-follow-clause-asked
 read_source-returns-in_err-follow-clause-asked g t c = λ named e start around room before.
-    let source = c.args.source.now in
     let so_far = c.loop-first.invariant in
-    let whole = entered named around (Some (record { source = source; cutting = c.args.cutting })) c.args.progress.now in
-    stopped_all _ whole.asked _ _ _ c.from_residual-in_err-follow.ensures.1
-    (all_grown (read_statement named (reader source.levels named) (here_of around source) c.loop-first.conditions (statement_of source.text c.in-Some.first.now) c.loop-first.progress) whole _ _
-    (rest_grows named (reader source.levels named) (reader_grows source.levels named) (here_of around source) c.loop-first.conditions source.text (all_left c.loop-first.left) c.in-Some.first.now (c.in-Some.rest.now ++ c.loop-first.left.more) c.loop-first.progress whole (whole_splits c.loop-first.left.kept c.loop-first.left.more c.in-Some.first.now c.in-Some.rest.now so_far.closed c.in-Some.ensures) (so_far.so_far named e around room))
-    (rw c.statement-statement.ensures at (c.in_ok-read_with_include.ensures.asked named (so_far.told ∙ e) start around room (so_far.asked named e start around room before))))
+    step_stopped _ named c.args.source.now around c.loop-first.conditions c.loop-first.left c.in-Some.first.now c.in-Some.rest.now c.statement-statement.result c.loop-first.progress _ _ _ _
+    so_far.closed c.in-Some.ensures c.statement-statement.ensures (so_far.so_far named e around room) c.from_residual-in_err-follow.ensures.1 (front_all _ _ _ (c.in_ok-read_with_include.ensures.asked named (so_far.told ∙ e) start around room (so_far.asked named e start around room before)))
 
 pub read_source-returns-in_err-refill-clause-asked : goal.read_source-returns-in_err-refill-clause-asked
 read_source-returns-in_err-refill-clause-asked g t c = λ named e start around room before.
@@ -159,13 +155,9 @@ read_source-loop-first-smaller g t c =
 
 pub read_source-returns-in_err-refill-2-clause-asked : goal.read_source-returns-in_err-refill-2-clause-asked
 read_source-returns-in_err-refill-2-clause-asked g t c = λ named e start around room before.
-    let source = c.args.source.now in
     let so_far = c.loop-first.invariant in
-    let whole = entered named around (Some (record { source = source; cutting = c.args.cutting })) c.args.progress.now in
-    stopped_all _ whole.asked _ _ _ c.from_residual-in_err-refill-2.ensures.1
-    (all_grown (read_statement named (reader source.levels named) (here_of around source) c.loop-first.conditions (statement_of source.text c.in-Some.first.now) c.loop-first.progress) whole _ _
-    (rest_grows named (reader source.levels named) (reader_grows source.levels named) (here_of around source) c.loop-first.conditions source.text (all_left c.loop-first.left) c.in-Some.first.now (c.in-Some.rest.now ++ c.loop-first.left.more) c.loop-first.progress whole (whole_splits c.loop-first.left.kept c.loop-first.left.more c.in-Some.first.now c.in-Some.rest.now so_far.closed c.in-Some.ensures) (so_far.so_far named e around room))
-    (rw c.statement-statement.ensures at (c.in_ok-read_with_include.ensures.asked named (so_far.told ∙ e) start around room (so_far.asked named e start around room before))))
+    step_stopped _ named c.args.source.now around c.loop-first.conditions c.loop-first.left c.in-Some.first.now c.in-Some.rest.now c.statement-statement.result c.loop-first.progress _ _ _ _
+    so_far.closed c.in-Some.ensures c.statement-statement.ensures (so_far.so_far named e around room) c.from_residual-in_err-refill-2.ensures.1 (front_all _ _ _ (c.in_ok-read_with_include.ensures.asked named (so_far.told ∙ e) start around room (so_far.asked named e start around room before)))
 
 pub read_source-returns-in_err-read_end-clause-asked : goal.read_source-returns-in_err-read_end-clause-asked
 read_source-returns-in_err-read_end-clause-asked g t c = λ named e start around room before.

@@ -9,19 +9,13 @@ use Rattle.cf_expand.specs.Unread.{all_left}
 use Rattle.cf_expand.proofs.reading.+statements.Given as goal
 
 abbrev pub decreases-read_directive : goal.decreases-read_directive
-decreases-read_directive g l = 5 * l.place.source.now.levels
-
-abbrev pub decreases-read_formed : goal.decreases-read_formed
-decreases-read_formed g l = 5 * l.place.source.now.levels + 1
-
-abbrev pub decreases-read_placed : goal.decreases-read_placed
-decreases-read_placed g l = 5 * l.place.source.now.levels + 2
+decreases-read_directive g l = 3 * l.place.source.now.levels
 
 abbrev pub decreases-read_with_include : goal.decreases-read_with_include
-decreases-read_with_include g l = 5 * l.place.source.now.levels + 3
+decreases-read_with_include g l = 3 * l.place.source.now.levels + 1
 
 abbrev pub decreases-read_source : goal.decreases-read_source
-decreases-read_source g l = 5 * l.source.now.levels + 4
+decreases-read_source g l = 3 * l.source.now.levels + 2
 
 abbrev pub invariant-read_source-loop-first : goal.invariant-read_source-loop-first
 invariant-read_source-loop-first g l = record {
